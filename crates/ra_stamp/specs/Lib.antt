@@ -1,0 +1,6 @@
+pub mod NodeId
+pub mod Mode
+pub mod Name
+pub mod Sequence
+pub mod Stamp
+pub mod Message

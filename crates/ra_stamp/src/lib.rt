@@ -1,0 +1,26 @@
+//! The values that the whole project speaks of: node numbers, stamps, modes, names, messages, marks, and lists
+//! of them.
+#![tactic(auto)]
+
+mod entry;
+mod laws;
+mod memory;
+mod message;
+mod mode;
+mod name;
+mod node_id;
+mod sequence;
+mod stamp;
+
+pub use entry::{Entry, Mark, Marks};
+pub use laws::{conflict_is_symmetric, equal_is_same, stamps_are_totally_ordered};
+pub use memory::Memory;
+pub use message::{Message, Messages};
+pub use mode::{Mode, conflicts};
+pub use name::{Name, NameError};
+pub use node_id::NodeId;
+pub use sequence::Sequence;
+pub use stamp::Stamp;
+
+#[cfg(test)]
+mod tests;

@@ -1,0 +1,140 @@
+ghost use Rattle.std.specs.Prelude.{◌≡◌, ◌<◌, ◌≤◌, ◌↔◌, ◌==◌, List, ℕ, [], length, take, IsTrue, IsErrOf, IsOk, IfOk};
+ghost use Rattle.std.specs.List.{AllPass};
+ghost use Rattle.std.specs.Ordering.{nat_cmp, as_partial_cmp};
+ghost use Rattle.std.specs.Cmp.Lexicographic.{pointwise, slice_cmp};
+ghost use Rattle.std.specs.Cmp.{partial_order_from_own_ties};
+ghost use Rattle.std.specs.Cmp.Rules.{comparing};
+ghost use Rattle.std.proofs.Common.{rules};
+ghost use Rattle.ra_stamp.specs.Name.{IsName, is_name_byte};
+
+use std::cmp::Ordering;
+use std::marker::Model;
+use thiserror::Error;
+
+/// Why bytes are no name.
+#[derive(Clone, Copy, Debug, PartialEq, Eq, Error)]
+pub enum NameError {
+    /// There is no byte.
+    #[error("Empty")]
+    Empty,
+    /// There are more than 32 bytes.
+    #[error("TooLong")]
+    TooLong,
+    /// A byte is none of `A` to `Z`, `a` to `z`, `0` to `9`, `_`, `-` and `.`.
+    #[error("BadByte")]
+    BadByte,
+}
+
+/// The name of a resource: 1 to 32 of the bytes `A` to `Z`, `a` to `z`, `0` to `9`, `_`, `-` and `.`. Contracts
+/// see the bytes, and names are ordered by them.
+#[derive(Clone, Copy, Debug)]
+pub struct Name {
+    bytes: [u8; 32],
+    len: usize,
+}
+
+impl Model for Name {
+    ghost use Rattle.std.specs.Prelude.{List, ℕ, length, take};
+    ghost use Rattle.std.specs.Coded.{coded_list, coded_ℕ};
+
+    ghost Value = { List ℕ };
+
+    ghost coded = { coded_list coded_ℕ };
+
+    ghost use Rattle.ra_stamp.specs.Name.{IsPadded, padded};
+
+    ghost view = { λ name. take name.len name.bytes };
+
+    ghost invariant = { λ name. IsPadded name.len name.bytes };
+
+    ghost inverse = { λ bytes. record { bytes = padded bytes; len = length bytes } };
+
+    ghost inverse_ok = { λ name h. λ i. record { bytes = h.bytes_is i; len = h.len_is i } };
+}
+
+fn is_name_byte(byte: u8) -> bool
+    ensures { result ≡ is_name_byte byte }
+{
+    byte.is_ascii_alphanumeric() || matches!(byte, b'_' | b'-' | b'.')
+}
+
+fn are_name_bytes(bytes: &[u8]) -> bool
+    ensures { IsTrue result ↔ AllPass is_name_byte bytes.now }
+{
+    bytes.iter().all(|&byte| is_name_byte(byte))
+}
+
+impl Name {
+    /// The most bytes that a name may have.
+    pub const MAX_LEN: usize = 32;
+
+    /// The name of these bytes. Errors, the first that holds: `Empty`, `TooLong`, `BadByte`.
+    pub fn new(bytes: &[u8]) -> Result<Name, NameError>
+        ensures valid { IsOk result ↔ IsName bytes.now }
+        ensures value { IfOk result (λ name. name ≡ bytes.now) }
+        ensures empty { IsErrOf result NameError.Empty ↔ (bytes.now ≡ []) }
+        ensures too_long { IsErrOf result NameError.TooLong ↔ (32 < length bytes.now) }
+        ensures bad_byte { IsErrOf result NameError.BadByte
+            ↔ ((1 ≤ length bytes.now) × (length bytes.now ≤ 32) × ¬ (AllPass is_name_byte bytes.now)) }
+    {
+        if bytes.is_empty() {
+            return Err(NameError::Empty);
+        }
+        if bytes.len() > Name::MAX_LEN {
+            return Err(NameError::TooLong);
+        }
+        if !are_name_bytes(bytes) {
+            return Err(NameError::BadByte);
+        }
+        let len = bytes.len();
+        let mut padded = [0; 32];
+        padded[..len].copy_from_slice(bytes);
+        Ok(Name { bytes: padded, len })
+    }
+
+    /// The bytes.
+    pub fn bytes(&self) -> &[u8]
+        ensures value { result.now ≡ self.now }
+        ensures valid { IsName result.now }
+    {
+        &self.bytes[..self.len]
+    }
+}
+
+impl PartialEq for Name {
+    ghost eq = { pointwise ◌==◌ };
+
+    ghost laws = { Prim.search (comparing, rules) };
+
+    fn eq(&self, other: &Name) -> bool {
+        self.bytes() == other.bytes()
+    }
+}
+
+impl Eq for Name {
+    ghost laws = { Prim.search (comparing, rules) };
+}
+
+impl Ord for Name {
+    ghost cmp = { slice_cmp nat_cmp };
+
+    ghost total = { Prim.search (comparing, rules) };
+
+    ghost matches_partial_cmp = { Prim.search (comparing, rules) };
+
+    ghost matches_eq = { Prim.search (comparing, rules) };
+
+    fn cmp(&self, other: &Name) -> Ordering {
+        self.bytes().cmp(other.bytes())
+    }
+}
+
+impl PartialOrd for Name {
+    ghost partial_cmp = { as_partial_cmp (slice_cmp nat_cmp) };
+
+    ghost laws = { partial_order_from_own_ties (Prim.search (comparing, rules)) (Prim.search (comparing, rules)) };
+
+    fn partial_cmp(&self, other: &Name) -> Option<Ordering> {
+        Some(self.cmp(other))
+    }
+}

@@ -1,0 +1,45 @@
+ghost use Rattle.std.specs.Prelude.{◌≡◌, ℕ, ◌↔◌, IsSome, IfSome};
+ghost use Rattle.ra_stamp.specs.NodeId.{IsNodeNumber};
+
+use std::marker::Model;
+
+/// The number of a node, 1 to 16. Contracts see the number.
+#[derive(Clone, Copy, Debug, PartialEq, Eq, PartialOrd, Ord)]
+pub struct NodeId {
+    number: u16,
+}
+
+impl Model for NodeId {
+    ghost Value = { ℕ };
+
+    ghost view = { λ node. node.number };
+
+    ghost invariant = { λ node. IsNodeNumber node.number };
+
+    ghost inverse = { λ number. record { number = number } };
+}
+
+impl NodeId {
+    /// The greatest number that a node may have.
+    pub const MAX: u16 = 16;
+
+    /// The node with this number, or `None` where it is not 1 to 16.
+    pub fn new(number: u16) -> Option<NodeId>
+        ensures valid { IsSome result ↔ IsNodeNumber number }
+        ensures value { IfSome result (λ node. node ≡ number) }
+    {
+        if 1 <= number && number <= NodeId::MAX {
+            Some(NodeId { number })
+        } else {
+            None
+        }
+    }
+
+    /// The number, 1 to 16.
+    pub fn get(self) -> u16
+        ensures value { result ≡ self }
+        ensures valid { IsNodeNumber result }
+    {
+        self.number
+    }
+}

@@ -1,0 +1,73 @@
+ghost use Rattle.std.specs.Prelude.{◌≡◌, ◌+◌, ◌≤◌, [], ◌∷◌, ◌++◌, length, OnOk, OnErr, IsOk, slice_get};
+
+use crate::Memory;
+use std::alloc::Global;
+use std::marker::Model;
+
+/// A list that grows at its end. Contracts see its items in order and its spare, which is how many more it has
+/// room for already.
+#[derive(Debug, Drop)]
+pub struct Sequence<T> {
+    items: Vec<T>,
+}
+
+impl<T> Model for Sequence<T> {
+    ghost use Rattle.std.specs.Prelude.{◌-◌, vec_len, vec_capacity};
+    ghost use Rattle.ra_stamp.specs.Sequence.{Listed};
+
+    ghost Value = { Listed T };
+
+    ghost view = { λ s. record { items = s.items.items; spare = vec_capacity s.items - vec_len s.items } };
+}
+
+impl<T: Copy> Sequence<T> {
+    /// The empty list. It takes no memory until the first item comes, and then from `alloc`.
+    pub fn new(alloc: Global) -> Self
+        ensures { result.items ≡ [] }
+    {
+        Sequence {
+            items: Vec::new(alloc),
+        }
+    }
+
+    /// How many items there are.
+    pub fn len(&self) -> u64
+        ensures { result ≡ length self.now.items }
+    {
+        self.items.len() as u64
+    }
+
+    /// The item at this place, counted from 0, or `None` past the end.
+    pub fn at(&self, place: u64) -> Option<T>
+        ensures { result ≡ slice_get self.now.items place }
+    {
+        self.items.get(place as usize).copied()
+    }
+
+    /// Adds an item at the end, in amortized constant time. Where there is spare room it cannot fail. Errors: `Memory`,
+    /// and the list is as before.
+    pub fn push(&mut self, item: T) -> Result<(), Memory>
+        ensures ok { OnOk result (self.new.items ≡ self.old.items ++ item ∷ []) }
+        ensures err { OnErr result (self.new.items ≡ self.old.items) }
+        ensures succeeds { 1 ≤ self.old.spare → IsOk result }
+        ensures spare { 1 ≤ self.old.spare → self.new.spare + 1 ≡ self.old.spare }
+    {
+        if self.items.len() == self.items.capacity() {
+            self.items.reserve(1)?;
+        }
+        self.items.push_reserved(item);
+        Ok(())
+    }
+
+    /// Makes room for this many more items, in time linear in the number of items. Errors: `Memory`, and the list is as
+    /// before.
+    pub fn reserve(&mut self, more: u64) -> Result<(), Memory>
+        ensures same { self.new.items ≡ self.old.items }
+        ensures ok { OnOk result (more ≤ self.new.spare) }
+        ensures succeeds { more ≤ self.old.spare → IsOk result }
+        ensures grows { self.old.spare ≤ self.new.spare }
+    {
+        self.items.reserve(more as usize)?;
+        Ok(())
+    }
+}
