@@ -1,0 +1,3 @@
+pub mod Fits
+pub mod FrameText
+pub mod Faults

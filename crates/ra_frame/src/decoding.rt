@@ -1,0 +1,163 @@
+ghost use Rattle.std.specs.Prelude.{◌≡◌, ℕ, ◌+◌, ◌≤◌, ◌<◌, List, length, slice_index, slice_range, All, IfOk, IfErr};
+ghost use Rattle.std.specs.List.{list_all};
+ghost use Rattle.ra_stamp.specs.NodeId.{IsNodeNumber};
+ghost use Rattle.ra_stamp.specs.Name.{is_name_byte};
+ghost use Rattle.ra_frame.specs.Fits.{Fits};
+ghost use Rattle.ra_frame.specs.FrameText.{IsFrameText, IsMessageText, mode_byte};
+ghost use Rattle.ra_frame.specs.Faults as spec;
+
+use crate::format::{
+    CLOCK, FROM, KIND, MAX_NAME, MAX_NODE, MODE, NAME, NAME_LENGTH, REPLY, REQUEST, SEQ, TO,
+    VERSION,
+};
+use crate::{Frame, FrameError};
+use ra_stamp::{Message, Mode, Name, NodeId};
+
+/// Eight bytes from a place on, the highest first.
+fn number_at(bytes: &[u8], place: usize) -> u64
+    requires { place + 8 ≤ length bytes.now }
+    ensures { result ≡ spec.number_at bytes.now place }
+{
+    let mut eight = [0; 8];
+    eight.copy_from_slice(&bytes[place..place + 8]);
+    u64::from_be_bytes(eight)
+}
+
+fn is_within(low: u64, high: u64, n: u64) -> bool
+    ensures { result ≡ spec.is_within low high n }
+{
+    low <= n && n <= high
+}
+
+/// Whether all bytes of a name are such as names may have.
+fn are_name_bytes(name: &[u8]) -> bool
+    requires not_empty { 1 ≤ length name.now }
+    requires not_long { length name.now ≤ 32 }
+    ensures { result ≡ list_all is_name_byte name.now }
+{
+    Name::new(name).is_ok()
+}
+
+/// Tests the fields in their order: each row says how many bytes there must be, what must hold of them, and the
+/// fault where it does not.
+macro_rules! first_failing {
+    ($bytes:ident; $($end:expr, $is_right:expr => $fault:ident;)*) => {{
+        $(
+            if $bytes.len() < $end {
+                return Some(FrameError::Short);
+            }
+            if !($is_right) {
+                return Some(FrameError::$fault);
+            }
+        )*
+        None
+    }};
+}
+
+/// The first field that is short or not right, in the order of the fields.
+fn first_fault(bytes: &[u8]) -> Option<FrameError>
+    ensures { result ≡ spec.first_fault bytes.now }
+{
+    first_failing! { bytes;
+        1, bytes[0] == VERSION => Version;
+        2, bytes[KIND] == REQUEST || bytes[KIND] == REPLY => Kind;
+        3, is_within(1, MAX_NODE, u64::from(bytes[FROM])) => From;
+        4, is_within(1, MAX_NODE, u64::from(bytes[TO])) => To;
+        4, bytes[FROM] != bytes[TO] => SameNode;
+        5, bytes[MODE] <= u8::from(bytes[KIND] == REQUEST) => Mode;
+        13, number_at(bytes, SEQ) >= 1 => Seq;
+        21, is_within(1, Frame::MAX_CLOCK, number_at(bytes, CLOCK)) => Clock;
+        22, is_within(1, MAX_NAME, u64::from(bytes[NAME_LENGTH])) => NameLength;
+        NAME + usize::from(bytes[NAME_LENGTH]), are_name_bytes(&bytes[NAME..NAME + usize::from(bytes[NAME_LENGTH])]) => NameByte;
+        NAME + usize::from(bytes[NAME_LENGTH]), bytes.len() == NAME + usize::from(bytes[NAME_LENGTH]) => Trailing;
+    }
+}
+
+/// The node whose number is the byte at a place.
+fn node_at(bytes: &[u8], place: usize) -> NodeId
+    requires there { place < length bytes.now }
+    requires valid { IsNodeNumber (slice_index bytes.now place) }
+    ensures { result ≡ slice_index bytes.now place }
+{
+    NodeId::new(u16::from(bytes[place])).unwrap()
+}
+
+/// The mode of a byte.
+fn mode_of(byte: u8) -> Mode
+    requires { byte ≤ 1 }
+    ensures { mode_byte result ≡ byte }
+{
+    if byte == 0 {
+        Mode::Shared
+    } else {
+        Mode::Exclusive
+    }
+}
+
+/// The name, behind its length.
+fn name_at(bytes: &[u8]) -> Name
+    requires { spec.first_fault bytes.now ≡ None }
+    ensures { result ≡ slice_range bytes.now 22 (22 + slice_index bytes.now 21) }
+{
+    Name::new(&bytes[NAME..NAME + usize::from(bytes[NAME_LENGTH])]).unwrap()
+}
+
+/// The message whose text has no fault.
+fn message_of(bytes: &[u8]) -> Message
+    requires { spec.first_fault bytes.now ≡ None }
+    ensures { IsMessageText bytes.now (spec.number_at bytes.now 13) result }
+{
+    let from = node_at(bytes, FROM);
+    let to = node_at(bytes, TO);
+    let name = name_at(bytes);
+    let seq = number_at(bytes, SEQ);
+    if bytes[KIND] == REQUEST {
+        Message::Request {
+            from,
+            to,
+            name,
+            mode: mode_of(bytes[MODE]),
+            seq,
+        }
+    } else {
+        Message::Reply {
+            from,
+            to,
+            name,
+            seq,
+        }
+    }
+}
+
+/// The frame that the bytes are the text of. Errors: the first field, in their order, that is not all there
+/// (`Short`) or not right. It takes no memory.
+pub fn decode(bytes: &[u8]) -> Result<Frame, FrameError>
+    // It is Ok exactly on frame texts, and gives their frame.
+    ensures found { IfOk result (IsFrameText bytes.now) }
+    ensures only { (frame : Frame) → IsFrameText bytes.now frame → result ≡ Ok frame }
+    ensures fits { IfOk result Fits }
+
+    ensures fault { IfErr result (λ fault. spec.first_fault bytes.now ≡ Some fault) }
+{
+    match first_fault(bytes) {
+        Some(fault) => Err(fault),
+        None => Ok(Frame {
+            clock: number_at(bytes, CLOCK),
+            message: message_of(bytes),
+        }),
+    }
+}
+
+/// No two texts stand for one frame.
+pub fn one_spelling()
+    ensures { (a b : List ℕ) (frame : Frame) → IsFrameText a frame → IsFrameText b frame → a ≡ b }
+{}
+
+/// What is written is read again, and what is read is written again: a text has no fault and stands for one frame, and
+/// bytes with no fault are the text of a frame, whose one text they are.
+pub fn round_trip()
+    ensures no_fault { (bytes : List ℕ) (frame : Frame) → IsFrameText bytes frame → spec.first_fault bytes ≡ None }
+    ensures one_frame { (bytes : List ℕ) (a b : Frame) → IsFrameText bytes a → IsFrameText bytes b → a ≡ b }
+    ensures has_frame { (bytes : List ℕ) → All (λ byte. byte < 256) bytes → spec.first_fault bytes ≡ None
+        → (frame : Frame) × IsFrameText bytes frame × ((other : List ℕ) → IsFrameText other frame → other ≡ bytes) }
+{}

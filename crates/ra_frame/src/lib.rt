@@ -1,0 +1,16 @@
+//! Frames: messages with the clock at which they are sent, as bytes.
+#![tactic(auto)]
+
+mod decoding;
+mod encoding;
+mod fault;
+mod format;
+mod frame;
+
+pub use decoding::{decode, one_spelling, round_trip};
+pub use encoding::encode;
+pub use fault::FrameError;
+pub use frame::Frame;
+
+#[cfg(test)]
+mod tests;
