@@ -1,0 +1,274 @@
+-- Each step leads from a consistent state to a consistent one.
+use Rattle.std.proofs.Common.{◌≡◌, ◌≢◌, ◌⊎◌, ℕ, zero, suc, ◌+◌, ◌-◌, ◌<◌, ◌≤◌, ◌^◌, max, Bool, true, false, cond, not, ◌&&◌, List, [], ◌∷◌, length, filter, Option, Some, None, refl, sym, ap, ◌∙◌, subst, arith, inl, inr, nat_eq}
+use Rattle.std.specs.Prelude.{◌==◌, IsTrue}
+use Rattle.std.specs.List.{list_any, range_with_len}
+use Rattle.std.specs.Ordering.{nat_cmp, eq_by_cmp}
+use Rattle.std.specs.Cmp.{nat_cmp_total}
+use Rattle.std.specs.FinSet as set
+use Rattle.std.specs.FinMap as map
+use Rattle.std.proofs.lemmas.Bool.{cases_lt}
+use Rattle.std.proofs.lemmas.Bool.Decides.{nat_tests}
+use Rattle.ra_stamp.specs.declared.mode.Mode.{Mode}
+use Rattle.ra_stamp.specs.declared.message.Message.{Message}
+use Rattle.ra_stamp.specs.declared.message.Message.TheVariants.{Request, Reply}
+use Rattle.ra_stamp.specs.Message.{from_of}
+use Rattle.ra_automaton.specs.declared.phase.Phase.{Phase}
+use Rattle.ra_automaton.specs.declared.phase.Phase.TheVariants.{Idle, Waiting, Inside}
+use Rattle.ra_automaton.specs.State.{State, IsOther, IsWaiting, IsInside, HasNumber, IsConsistent}
+use Rattle.ra_automaton.specs.Steps.{others_of, later_of, AsksOthers, EntersAlone, Begins, RequestStep, Defers, RepliesAtOnce, Awaits, Enters, WaitsOn, IsStray, TakesReply, ReceiveStep, LeaveStep, OwnGoesFirst}
+use Rattle.ra_automaton.proofs.SlotLemmas.{tied, untied, cases_same, eq_at, eq_apart}
+
+-- a number of a filtered range is in the range and passes
+any_in_range : (p : ℕ → Bool) (first n q : ℕ) → list_any (λ y. nat_eq y q) (filter p (range_with_len first n)) ≡ true → (first ≤ q) × (q < first + n) × (p q ≡ true)
+any_in_range p first zero q h = absurd cc
+any_in_range p first (suc n) q h =
+    elim (cases_same first q) [
+      | inl same ↦
+          elim (p first) as (λ b. p first ≡ b → list_any (λ y. nat_eq y q) (cond b (first ∷ filter p (range_with_len (first + 1) n)) (filter p (range_with_len (first + 1) n))) ≡ true → (first ≤ q) × (q < first + suc n) × (p q ≡ true)) [
+            | true ↦ λ e _. (omega arith, omega arith, rw (← same) e)
+            | false ↦ λ e k. let rest = any_in_range p (first + 1) n q k in absurd (omega (arith, rest.0))
+          ] refl h
+      | inr apart ↦
+          let rest : list_any (λ y. nat_eq y q) (filter p (range_with_len (first + 1) n)) ≡ true =
+          elim (p first) as (λ b. list_any (λ y. nat_eq y q) (cond b (first ∷ filter p (range_with_len (first + 1) n)) (filter p (range_with_len (first + 1) n))) ≡ true → list_any (λ y. nat_eq y q) (filter p (range_with_len (first + 1) n)) ≡ true) [
+            | true ↦ λ k. rw (eq_apart first q apart) at k
+            | false ↦ λ k. k
+          ] h in
+          let found = any_in_range p (first + 1) n q rest in
+          (omega (arith, found.0), omega (arith, found.1), found.2)
+    ]
+
+in_range_any : (p : ℕ → Bool) (first n q : ℕ) → first ≤ q → q < first + n → p q ≡ true → list_any (λ y. nat_eq y q) (filter p (range_with_len first n)) ≡ true
+in_range_any p first zero q low high pass = absurd (omega arith)
+in_range_any p first (suc n) q low high pass =
+    elim (cases_same first q) [
+      | inl same ↦
+          let here : p first ≡ true = rw same pass in
+          rw here (rw (eq_at first q same) refl)
+      | inr apart ↦
+          let rest = in_range_any p (first + 1) n q (omega (arith, low)) (omega (arith, high)) pass in
+          elim (p first) as (λ b. list_any (λ y. nat_eq y q) (cond b (first ∷ filter p (range_with_len (first + 1) n)) (filter p (range_with_len (first + 1) n))) ≡ true) [
+            | true ↦ rw (eq_apart first q apart) rest
+            | false ↦ rest
+          ]
+    ]
+
+not_me : (q me : ℕ) → not (q == me) ≡ true → q ≢ me
+not_me q me h e = grind (arith, nat_tests)
+
+is_not : (q me : ℕ) → q ≢ me → not (q == me) ≡ true
+is_not q me h = grind (arith, nat_tests)
+
+-- who is asked is another node
+asked_is_other : (s : State) (node : ℕ) → IsTrue (set.contains (set.from_list {R = nat_cmp} (others_of s.me s.nodes)) node) → IsOther s node
+asked_is_other s node h =
+    let found = any_in_range (λ k. not (k == s.me)) 1 s.nodes node (sym (set.contains-from_list_nat (others_of s.me s.nodes) node) ∙ h) in
+    record { first = found.0; last = omega (arith, found.1); other = not_me node s.me found.2 }
+
+other_is_asked : (me nodes node : ℕ) → 1 ≤ node → node ≤ nodes → node ≢ me → set.contains (set.from_list {R = nat_cmp} (others_of me nodes)) node ≡ true
+other_is_asked me nodes node low high apart =
+    set.contains-from_list_nat (others_of me nodes) node ∙ in_range_any (λ k. not (k == me)) 1 nodes node low (omega (arith, high)) (is_not node me apart)
+
+true_is_not_false : true ≡ false → ⊥
+true_is_not_false e = cc
+
+somebody_is_asked : (me nodes : ℕ) → 1 < nodes → set.from_list {R = nat_cmp} (others_of me nodes) ≡ set.empty → ⊥
+somebody_is_asked me nodes many e =
+    let nobody = λ (q : ℕ). ap (λ (s : set.FinSet nat_cmp). set.contains s q) e ∙ set.contains-empty nat_cmp q in
+    elim (cases_same 1 me) [
+      | inl same ↦ true_is_not_false (sym (other_is_asked me nodes 2 (omega arith) (omega arith) (λ k. omega arith)) ∙ nobody 2)
+      | inr apart ↦ true_is_not_false (sym (other_is_asked me nodes 1 (omega arith) (omega arith) apart) ∙ nobody 1)
+    ]
+
+-- another node of the same nodes
+moved_other : (s t : State) (node : ℕ) → t.me ≡ s.me → t.nodes ≡ s.nodes → IsOther s node → IsOther t node
+moved_other s t node me nodes h =
+    record { first = h.first; last = omega (arith, h.last, nodes); other = λ e. h.other (e ∙ me) }
+
+pub consistent_asked : (old : State) (mode : Mode) → IsConsistent old → old.phase ≡ Idle → 1 < old.nodes
+    → IsConsistent (record old { highest = old.highest + 1; phase = Waiting (old.highest + 1) mode; awaited = set.from_list (others_of old.me old.nodes) })
+consistent_asked old mode h idle many =
+    record {
+      count = h.count;
+      member = h.member;
+      awaited_others = λ node k. moved_other old _ node refl refl (asked_is_other old node k);
+      deferred_others = λ node number k. moved_other old _ node refl refl (h.deferred_others node number k);
+      awaits = λ _. somebody_is_asked old.me old.nodes many;
+      awaits_only = λ k. absurd (k tt);
+      defers_only = λ e. absurd cc;
+      numbered = (omega arith, omega arith);
+    }
+
+idle_awaits_nobody : (s : State) → IsConsistent s → s.phase ≡ Idle → s.awaited ≡ set.empty
+idle_awaits_nobody s h idle = h.awaits_only (λ w. subst IsWaiting idle w)
+
+pub consistent_alone : (old : State) (mode : Mode) → IsConsistent old → old.phase ≡ Idle
+    → IsConsistent (record old { highest = old.highest + 1; phase = Inside (old.highest + 1) mode })
+consistent_alone old mode h idle =
+    record {
+      count = h.count;
+      member = h.member;
+      awaited_others = λ node k. moved_other old _ node refl refl (h.awaited_others node k);
+      deferred_others = λ node number k. moved_other old _ node refl refl (h.deferred_others node number k);
+      awaits = λ w. absurd w;
+      awaits_only = λ _. idle_awaits_nobody old h idle;
+      defers_only = λ e. absurd cc;
+      numbered = (omega arith, omega arith);
+    }
+
+pub consistent_begins : (old : State) (mode : Mode) (entered : Bool) (new : State) → IsConsistent old → old.phase ≡ Idle → Begins old mode entered new → IsConsistent new
+consistent_begins old mode entered new h idle begins =
+    elim begins [
+      | inl asks ↦ subst IsConsistent (sym asks.new_is) (consistent_asked old mode h idle asks.others)
+      | inr alone ↦ subst IsConsistent (sym alone.new_is) (consistent_alone old mode h idle)
+    ]
+
+numbered_higher : (phase : Phase) (highest higher : ℕ) → highest ≤ higher → HasNumber phase highest → HasNumber phase higher
+numbered_higher Idle highest higher le h = tt
+numbered_higher (Waiting seq mode) highest higher le h = (h.0, omega (arith, h.1))
+numbered_higher (Inside seq mode) highest higher le h = (h.0, omega (arith, h.1))
+
+pub consistent_meet : (s : State) (seq : ℕ) → IsConsistent s → IsConsistent (record s { highest = max s.highest seq })
+consistent_meet s seq h =
+    record {
+      count = h.count;
+      member = h.member;
+      awaited_others = λ node k. moved_other s _ node refl refl (h.awaited_others node k);
+      deferred_others = λ node number k. moved_other s _ node refl refl (h.deferred_others node number k);
+      awaits = h.awaits;
+      awaits_only = h.awaits_only;
+      defers_only = h.defers_only;
+      numbered = numbered_higher s.phase s.highest (max s.highest seq) (omega arith) h.numbered;
+    }
+
+put_in : (s : State) (other number later node : ℕ) → IsConsistent s → IsOther s other → map.get (map.insert s.deferred other later) node ≡ Some number → IsOther s node
+put_in s other number later node h is k =
+    elim (cases_same node other) [
+      | inl same ↦ subst (IsOther s) (sym same) is
+      | inr apart ↦ h.deferred_others node number (sym (map.get-insert nat_cmp_total s.deferred other later node ∙ ap (λ b. cond b (Some later) (map.get s.deferred node)) (untied node other apart)) ∙ k)
+    ]
+
+pub consistent_put_off : (s : State) (other seq later : ℕ) → IsConsistent s → IsOther s other → s.phase ≢ Idle
+    → IsConsistent (record s { highest = max s.highest seq; deferred = map.insert s.deferred other later })
+consistent_put_off s other seq later h is busy =
+    record {
+      count = h.count;
+      member = h.member;
+      awaited_others = λ node k. moved_other s _ node refl refl (h.awaited_others node k);
+      deferred_others = λ node number k. moved_other s _ node refl refl (put_in s other number later node h is k);
+      awaits = h.awaits;
+      awaits_only = h.awaits_only;
+      defers_only = λ e. absurd (busy e);
+      numbered = numbered_higher s.phase s.highest (max s.highest seq) (omega arith) h.numbered;
+    }
+
+still_awaited : (s : State) (other node : ℕ) → IsTrue (set.contains (set.remove s.awaited other) node) → IsTrue (set.contains s.awaited node)
+still_awaited s other node k =
+    let both : (not (eq_by_cmp nat_cmp node other) && set.contains s.awaited node) ≡ true = sym (set.contains-remove nat_cmp_total s.awaited other node) ∙ k in
+    second_true (not (eq_by_cmp nat_cmp node other)) (set.contains s.awaited node) both
+  where
+    second_true : (a b : Bool) → (a && b) ≡ true → b ≡ true
+    second_true true b e = e
+    second_true false b e = absurd cc
+
+is_waiting : (phase : Phase) (seq : ℕ) (mode : Mode) → phase ≡ Waiting seq mode → IsWaiting phase
+is_waiting phase seq mode e = subst IsWaiting (sym e) tt
+
+not_waiting_idle : (phase : Phase) (seq : ℕ) (mode : Mode) → phase ≡ Waiting seq mode → phase ≡ Idle → ⊥
+not_waiting_idle phase seq mode e k = cc
+
+pub consistent_waits_on : (s : State) (other : ℕ) → IsConsistent s → (set.remove s.awaited other ≡ set.empty → ⊥) → IsWaiting s.phase → IsConsistent (record s { awaited = set.remove s.awaited other })
+consistent_waits_on s other h left waiting =
+    record {
+      count = h.count;
+      member = h.member;
+      awaited_others = λ node k. moved_other s _ node refl refl (h.awaited_others node (still_awaited s other node k));
+      deferred_others = λ node number k. moved_other s _ node refl refl (h.deferred_others node number k);
+      awaits = λ _. left;
+      awaits_only = λ k. absurd (k waiting);
+      defers_only = h.defers_only;
+      numbered = h.numbered;
+    }
+
+pub consistent_enters : (s : State) (number : ℕ) (mode : Mode) → IsConsistent s → s.phase ≡ Waiting number mode → IsConsistent (record s { phase = Inside number mode; awaited = set.empty })
+consistent_enters s number mode h waits =
+    record {
+      count = h.count;
+      member = h.member;
+      awaited_others = λ node k. absurd (true_is_not_false (sym k ∙ set.contains-empty nat_cmp node));
+      deferred_others = λ node seq k. moved_other s _ node refl refl (h.deferred_others node seq k);
+      awaits = λ w. absurd w;
+      awaits_only = λ _. refl;
+      defers_only = λ e. absurd cc;
+      numbered = subst (λ phase. HasNumber phase s.highest) waits h.numbered;
+    }
+
+pub consistent_reply : (s : State) (other number : ℕ) (entered : Bool) (new : State) → IsConsistent s → TakesReply s other number entered new → IsConsistent new
+consistent_reply s other number entered new h takes =
+    elim takes [
+      | inl stray ↦ subst IsConsistent (sym stray.new_is) h
+      | inr awaited ↦ elim awaited.1 [
+        | inl enters ↦ subst IsConsistent (sym enters.new_is) (consistent_enters s number awaited.0 h enters.awaits.waits)
+        | inr waits ↦ subst IsConsistent (sym waits.new_is) (consistent_waits_on s other h waits.not_last (is_waiting s.phase number awaited.0 waits.awaits.waits))
+      ]
+    ]
+
+inside_is_not_waiting : (phase : Phase) → IsInside phase → IsWaiting phase → ⊥
+inside_is_not_waiting Idle i w = i
+inside_is_not_waiting (Waiting seq mode) i w = i
+inside_is_not_waiting (Inside seq mode) i w = w
+
+pub consistent_end : (s : State) → IsConsistent s → IsInside s.phase → IsConsistent (record s { phase = Idle; deferred = map.empty })
+consistent_end s h inside =
+    record {
+      count = h.count;
+      member = h.member;
+      awaited_others = λ node k. moved_other s _ node refl refl (h.awaited_others node k);
+      deferred_others = λ node number k. absurd (some_is_not_none number (sym k ∙ map.get-empty nat_cmp node));
+      awaits = λ w. absurd w;
+      awaits_only = λ _. h.awaits_only (inside_is_not_waiting s.phase inside);
+      defers_only = λ _. refl;
+      numbered = tt;
+    }
+  where
+    some_is_not_none : (number : ℕ) → ◌≡◌ {A = Option ℕ} (Some number) None → ⊥
+    some_is_not_none number e = cc
+
+own_is_busy : (phase : Phase) (me other number : ℕ) (wanted : Mode) → OwnGoesFirst phase me other number wanted → phase ≢ Idle
+own_is_busy Idle me other number wanted h e = h
+own_is_busy (Waiting seq mode) me other number wanted h e = absurd cc
+own_is_busy (Inside seq mode) me other number wanted h e = absurd cc
+
+pub consistent_taken : (old : State) (other number : ℕ) (wanted : Mode) (sends : List Message) (new : State) → IsConsistent old → IsOther old other
+    → Defers old other number wanted sends new ⊎ RepliesAtOnce old other number wanted sends new → IsConsistent new
+consistent_taken old other number wanted sends new h is takes =
+    elim takes [
+      | inl defers ↦ subst IsConsistent (sym defers.new_is) (consistent_put_off old other number _ h is (own_is_busy old.phase old.me other number wanted defers.own_first))
+      | inr replies ↦ subst IsConsistent (sym replies.new_is) (consistent_meet old number h)
+    ]
+
+pub busy_where_own_first : (s : State) (other number : ℕ) (wanted : Mode) → OwnGoesFirst s.phase s.me other number wanted → s.phase ≢ Idle
+busy_where_own_first s other number wanted h = own_is_busy s.phase s.me other number wanted h
+
+-- each step keeps a state consistent
+pub consistent_request : (old : State) (mode : Mode) (sends : List Message) (entered : Bool) (new : State) → IsConsistent old → RequestStep old mode sends entered new → IsConsistent new
+consistent_request old mode sends entered new h step = consistent_begins old mode entered new h step.idle step.begins
+
+pub consistent_receive : (old : State) (message : Message) (sends : List Message) (entered : Bool) (new : State) → IsConsistent old → IsOther old (from_of message) → ReceiveStep old message sends entered new → IsConsistent new
+consistent_receive old (Request from to name mode seq) sends entered new h is step = consistent_taken old from seq mode sends new h is step.1
+consistent_receive old (Reply from to name seq) sends entered new h is step = consistent_reply old from seq entered new h step.1
+
+pub consistent_leave : (old : State) (sends : List Message) (new : State) → IsConsistent old → LeaveStep old sends new → IsConsistent new
+consistent_leave old sends new h step =
+    subst IsConsistent (sym step.new_is) (consistent_end old h (subst IsInside (sym step.inside) tt))
+
+-- nothing stands in the slot for 0
+pub no_node_zero : (s : State) (slot : Option ℕ) → IsConsistent s → map.get s.deferred 0 ≡ slot → slot ≡ None
+no_node_zero s None h e = refl
+no_node_zero s (Some number) h e = let zeroth = h.deferred_others 0 number e in let first : 1 ≤ 0 = zeroth.first in absurd (omega arith)
+
+-- what a node inside holds
+pub inside_is : (phase : Phase) → IsInside phase → (seq : ℕ) × (mode : Mode) × (phase ≡ Inside seq mode)
+inside_is Idle h = absurd h
+inside_is (Waiting seq mode) h = absurd h
+inside_is (Inside seq mode) h = (seq, mode, refl)

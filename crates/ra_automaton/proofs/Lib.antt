@@ -1,0 +1,5 @@
+mod Opening
+mod SlotLemmas
+mod Sent
+mod Marks
+mod Consistent

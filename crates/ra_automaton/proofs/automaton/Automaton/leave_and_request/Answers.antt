@@ -1,0 +1,45 @@
+use Rattle.std.proofs.Common.{◌≡◌, ℕ, ◌+◌, Option, None, List, [], ◌++◌, map, get_or, subst, sym, ap, ◌∙◌, refl, rules}
+use Rattle.std.specs.FinMap as finmap
+use Rattle.ra_stamp.specs.declared.message.Message.TheVariants.{Request, Reply}
+use Rattle.ra_automaton.specs.Slots.{filled, filled_from}
+use Rattle.ra_automaton.specs.Steps.{LeaveStep, others_of}
+use Rattle.ra_automaton.specs.State.{State, IsConsistent, IsInside}
+use Rattle.ra_automaton.proofs.Consistent.{consistent_end, consistent_begins, no_node_zero, inside_is}
+use Rattle.ra_automaton.proofs.SlotLemmas.{get-filled, entries-filled}
+use Rattle.ra_automaton.specs.View.{state_of}
+use Rattle.ra_automaton.proofs.automaton.Automaton.leave_and_request.Goals as goal
+
+pub push_replies-requires-clause-first : goal.push_replies-requires-clause-first
+push_replies-requires-clause-first c =
+    let slots = c.self.inside.deferred.items in
+    ap (λ (xs : List (Option ℕ)). get_or xs 0 None) c.deref.ensures.value
+    ∙ no_node_zero (state_of c.self.inside) _ c.self.invariant.consistent (get-filled slots 0)
+
+pub returns-clause-ok : goal.returns-clause-ok
+returns-clause-ok c =
+    let slots = c.self.inside.deferred.items in
+    let inside : IsInside c.args.self.now.phase = search rules in
+    let held = inside_is c.args.self.now.phase inside in
+    let sent : c.push_replies.new.sends.items ≡ [] ++ map (λ entry. Reply c.self.inside.me entry.0 c.self.inside.name entry.1) (filled_from 0 c.deref.result.now) = search rules in
+    let here : c.push_replies.new.sends.items ≡ map (λ entry. Reply c.self.inside.me entry.0 c.self.inside.name entry.1) (finmap.entries (filled slots)) =
+    sent ∙ ap (λ (es : List (ℕ × ℕ)). map (λ entry. Reply c.self.inside.me entry.0 c.self.inside.name entry.1) es) (ap (filled_from 0) c.deref.ensures.value ∙ sym (entries-filled slots)) in
+    let sends = subst (λ (s : State). c.push_replies.new.sends.items ≡ map (λ entry. Reply s.me entry.0 s.name entry.1) (finmap.entries s.deferred)) c.self.view_is here in
+    let leaves : LeaveStep c.args.self.now c.push_replies.new.sends.items c.end.new.self =
+    record { seq = held.0; mode = held.1; inside = held.2; sends_are = sends; new_is = c.end.ensures } in
+    let more : c.push_requests.new.sends.items ≡ c.push_replies.new.sends.items ++ map (λ other. Request c.self.inside.me other c.self.inside.name c.args.mode (c.self.inside.highest + 1)) (others_of c.self.inside.me c.self.inside.nodes) = search rules in
+    let Adds = λ (s : State). c.push_requests.new.sends.items ≡ c.push_replies.new.sends.items ++ map (λ other. Request s.me other s.name c.args.mode (s.highest + 1)) (others_of s.me s.nodes) in
+    let both = subst Adds (sym c.end.ensures) (subst Adds c.self.view_is more) in
+    record {
+      between = c.end.new.self;
+      replies = c.push_replies.new.sends.items;
+      requests = map (λ other. Request c.end.new.self.me other c.end.new.self.name c.args.mode (c.end.new.self.highest + 1)) (others_of c.end.new.self.me c.end.new.self.nodes);
+      leaves = leaves;
+      asks = record { idle = search rules; number_left = search rules; sends_are = refl; begins = c.begin-entered.ensures };
+      sends_are = both;
+    }
+
+pub returns-clause-consistent : goal.returns-clause-consistent
+returns-clause-consistent c =
+    let old = subst IsConsistent c.self.view_is c.self.invariant.consistent in
+    let ended = subst IsConsistent (sym c.end.ensures) (consistent_end c.args.self.now old (search rules)) in
+    consistent_begins c.end.new.self c.args.mode c.begin-entered.result c.begin-entered.new.self ended (search rules) c.begin-entered.ensures

@@ -1,0 +1,24 @@
+use Rattle.std.proofs.Common.{◌≡◌, ◌≢◌, ℕ, Option, List, length, subst, sym, ap, ◌∙◌}
+use Rattle.std.specs.FinMap as map
+use Rattle.std.proofs.lemmas.List.{with_items_is}
+use Rattle.ra_automaton.specs.declared.phase.Phase.TheVariants.{Idle}
+use Rattle.ra_automaton.specs.State.{State, IsConsistent, IsOther}
+use Rattle.ra_automaton.specs.Slots.{filled}
+use Rattle.ra_automaton.specs.View.{state_of}
+use Rattle.ra_automaton.proofs.Consistent.{consistent_put_off}
+use Rattle.ra_automaton.proofs.automaton.Automaton.put_off.Goals as goal
+
+pub invariant_of-self : goal.invariant_of-self
+invariant_of-self c =
+    let old = state_of c.self.inside in
+    let kept = c.self.invariant in
+    let items = with_items_is c.self.inside.deferred c.fill.new.slots (c.fill.auto.slots ∙ c.deref_mut.ensures.len) in
+    let is = ap filled items ∙ (c.fill.ensures ∙ ap (λ (slots : List (Option ℕ)). map.insert (filled slots) c.args.other c.match-number_of.later) c.deref_mut.ensures.value) in
+    let other = subst (λ (s : State). IsOther s c.args.other) (sym c.self.view_is) c.requires.other in
+    let busy = subst (λ (s : State). s.phase ≢ Idle) (sym c.self.view_is) c.requires.busy in
+    record {
+      awaited_slots = kept.awaited_slots;
+      deferred_slots = ap (λ (xs : List (Option ℕ)). length xs) items ∙ (c.fill.auto.slots ∙ (ap (λ (xs : List (Option ℕ)). length xs) c.deref_mut.ensures.value ∙ kept.deferred_slots));
+      consistent = subst IsConsistent (λ i. record old { highest = sym c.max-self-inside.ensures i; deferred = sym is i })
+          (consistent_put_off old c.args.other c.args.seq c.match-number_of.later kept.consistent other busy);
+    }

@@ -1,0 +1,5 @@
+pub mod State
+pub mod Steps
+pub mod Slots
+pub mod View
+pub mod Cases

@@ -1,0 +1,101 @@
+-- One resource at one node, as the algorithm sees it (G. Ricart and A. K. Agrawala, CACM 24(1), 1981).
+use Rattle.std.specs.Prelude.{◌≡◌, ℕ, ◌<◌, ◌≤◌, ◌^◌, List, Some, IsTrue, refl}
+use Rattle.std.specs.Coded.{Coded, code_by, coded×, coded_ℕ, coded_list}
+use Rattle.std.specs.Ordering.{nat_cmp}
+use Rattle.std.specs.FinSet as set
+use Rattle.std.specs.FinMap as map
+use Rattle.ra_stamp.specs.declared.message.Message.{Message}
+use Rattle.ra_stamp.specs.Message.{from_of, to_of}
+use Rattle.ra_stamp.specs.NodeId.{IsNodeNumber}
+use Rattle.ra_automaton.specs.declared.phase.Phase.{Phase}
+use Rattle.ra_automaton.specs.declared.phase.Phase.TheVariants.{Idle, Waiting, Inside}
+
+-- the node's number, how many nodes there are, the resource's name, the highest number that the node has met, what
+-- the node is doing, the nodes whose REPLY it awaits, and the nodes whose REPLY it has deferred, each with the number
+-- of its request
+pub record State : Type 0 where
+  pub me : ℕ
+  pub nodes : ℕ
+  pub name : List ℕ
+  pub highest : ℕ
+  pub phase : Phase
+  pub awaited : set.FinSet nat_cmp
+  pub deferred : map.FinMap nat_cmp ℕ
+
+-- another node of those that there are
+pub record IsOther (s : State) (node : ℕ) : Type 0 where
+  pub first : 1 ≤ node
+  pub last : node ≤ s.nodes
+  pub other : node ≡ s.me → ⊥
+
+-- the message is for this node and from another one
+pub record IsAddressed (s : State) (message : Message) : Type 0 where
+  pub to : to_of message ≡ s.me
+  pub from : IsOther s (from_of message)
+
+abbrev pub IsWaiting : Phase → Type 0
+IsWaiting Idle = ⊥
+IsWaiting (Waiting seq mode) = Unit {0}
+IsWaiting (Inside seq mode) = ⊥
+
+abbrev pub IsInside : Phase → Type 0
+IsInside Idle = ⊥
+IsInside (Waiting seq mode) = ⊥
+IsInside (Inside seq mode) = Unit {0}
+
+-- the phase of a node that enters
+abbrev pub entered_phase : Phase → Phase
+entered_phase Idle = Idle
+entered_phase (Waiting seq mode) = Inside seq mode
+entered_phase (Inside seq mode) = Inside seq mode
+
+-- the number of the node's request is 1 or more, and at most the highest that it has met
+abbrev pub HasNumber : Phase → ℕ → Type 0
+HasNumber Idle highest = Unit {0}
+HasNumber (Waiting seq mode) highest = (1 ≤ seq) × (seq ≤ highest)
+HasNumber (Inside seq mode) highest = (1 ≤ seq) × (seq ≤ highest)
+
+-- a node that has met nothing yet
+abbrev pub opening : ℕ → ℕ → List ℕ → ℕ → State
+opening me nodes name start =
+    record {
+      me = me;
+      nodes = nodes;
+      name = name;
+      highest = start;
+      phase = Idle;
+      awaited = set.empty;
+      deferred = map.empty;
+    }
+
+-- what holds of every state that a node can be in
+pub record IsConsistent (s : State) : Type 0 where
+  pub count : IsNodeNumber s.nodes
+  pub member : (1 ≤ s.me) × (s.me ≤ s.nodes)
+  -- who is awaited or deferred is another node
+  pub awaited_others : (node : ℕ) → IsTrue (set.contains s.awaited node) → IsOther s node
+  pub deferred_others : (node number : ℕ) → map.get s.deferred node ≡ Some number → IsOther s node
+  -- a node awaits replies exactly while it waits, and defers none while it is idle
+  pub awaits : IsWaiting s.phase → s.awaited ≡ set.empty → ⊥
+  pub awaits_only : (IsWaiting s.phase → ⊥) → s.awaited ≡ set.empty
+  pub defers_only : s.phase ≡ Idle → s.deferred ≡ map.empty
+  -- the number of its request is one that it has met
+  pub numbered : HasNumber s.phase s.highest
+
+-- a state is stored as its fields
+abbrev pub state_code : Coded Phase → Coded State
+state_code phase =
+    code_by
+    (ℕ × (ℕ × (List ℕ × (ℕ × (Phase × (set.FinSet nat_cmp × map.FinMap nat_cmp ℕ))))))
+    (coded× coded_ℕ (coded× coded_ℕ (coded× (coded_list coded_ℕ) (coded× coded_ℕ (coded× phase (coded× (set.code coded_ℕ) (map.code coded_ℕ coded_ℕ)))))))
+    (λ s. (s.me, (s.nodes, (s.name, (s.highest, (s.phase, (s.awaited, s.deferred)))))))
+    (λ p. record {
+      me = p.0;
+      nodes = p.1.0;
+      name = p.1.1.0;
+      highest = p.1.1.1.0;
+      phase = p.1.1.1.1.0;
+      awaited = p.1.1.1.1.1.0;
+      deferred = p.1.1.1.1.1.1;
+    })
+    (λ _. refl)

@@ -1,0 +1,147 @@
+-- The rules of the algorithm: what a node does when its client asks for the resource, when a message comes, and when
+-- its client leaves. Whatever a rule does not mention stays as it was.
+--
+-- The rules are those of G. Ricart and A. K. Agrawala, CACM 24(1), 1981. This project's own are: that shared requests
+-- do not exclude each other, that a request sets the number and the highest number at once, that a REPLY carries the
+-- number of its request, so that strays are told apart, that a deferral keeps the greater of two numbers, that messages
+-- go out in ascending order of the nodes with the REPLYs of a leave first, and that no request comes after the last
+-- number.
+use Rattle.std.specs.Prelude.{◌≡◌, ℕ, ◌+◌, ◌-◌, ◌<◌, ◌^◌, ◌⊎◌, max, Bool, true, false, not, List, [], ◌∷◌, ◌++◌, filter, map, Option, Some, None, IsTrue, ◌==◌}
+use Rattle.std.specs.List.{range_with_len}
+use Rattle.std.specs.Ordering.{nat_cmp}
+use Rattle.std.specs.FinSet as set
+use Rattle.std.specs.FinMap as finmap
+use Rattle.ra_stamp.specs.declared.mode.Mode.{Mode}
+use Rattle.ra_stamp.specs.declared.message.Message.{Message}
+use Rattle.ra_stamp.specs.declared.message.Message.TheVariants.{Request, Reply}
+use Rattle.ra_stamp.specs.Mode.{Conflict}
+use Rattle.ra_stamp.specs.Stamp.{IsEarlier}
+use Rattle.ra_automaton.specs.declared.phase.Phase.{Phase}
+use Rattle.ra_automaton.specs.declared.phase.Phase.TheVariants.{Idle, Waiting, Inside}
+use Rattle.ra_automaton.specs.State.{State}
+
+-- no request is numbered after this one
+abbrev pub last_number : ℕ
+last_number = 2 ^ 64 - 1
+
+-- the nodes from 1 up but this one, in ascending order
+abbrev pub others_of : ℕ → ℕ → List ℕ
+others_of me nodes = filter (λ node. not (node == me)) (range_with_len 1 nodes)
+
+-- ---- A client asks: the request takes the next number, and a REQUEST goes to each other node, in ascending order.
+
+-- where there are other nodes, each REPLY is awaited
+pub record AsksOthers (old : State) (mode : Mode) (entered : Bool) (new : State) : Type 0 where
+  pub others : 1 < old.nodes
+  pub entered_is : entered ≡ false
+  pub new_is : new ≡ record old {
+    highest = old.highest + 1;
+    phase = Waiting (old.highest + 1) mode;
+    awaited = set.from_list (others_of old.me old.nodes);
+  }
+
+-- the only node there is enters at once
+pub record EntersAlone (old : State) (mode : Mode) (entered : Bool) (new : State) : Type 0 where
+  pub alone : old.nodes ≡ 1
+  pub entered_is : entered ≡ true
+  pub new_is : new ≡ record old { highest = old.highest + 1; phase = Inside (old.highest + 1) mode }
+
+abbrev pub Begins : State → Mode → Bool → State → Type 0
+Begins old mode entered new = AsksOthers old mode entered new ⊎ EntersAlone old mode entered new
+
+-- where the node is idle and a number is left
+pub record RequestStep (old : State) (mode : Mode) (sends : List Message) (entered : Bool) (new : State) : Type 0 where
+  pub idle : old.phase ≡ Idle
+  pub number_left : old.highest < last_number
+  pub sends_are : sends ≡ map (λ other. Request old.me other old.name mode (old.highest + 1)) (others_of old.me old.nodes)
+  pub begins : Begins old mode entered new
+
+-- ---- A REQUEST comes.
+
+-- a node's own request, with its number and mode, excludes another node's request and is earlier
+pub record GoesFirst (me seq : ℕ) (mode : Mode) (other number : ℕ) (wanted : Mode) : Type 0 where
+  pub excludes : Conflict mode wanted
+  pub earlier : IsEarlier (record { seq = seq; node = me }) (record { seq = number; node = other })
+
+-- a node that waits or is inside has a request of its own, which may go first; an idle one has none
+abbrev pub OwnGoesFirst : Phase → ℕ → ℕ → ℕ → Mode → Type 0
+OwnGoesFirst Idle me other number wanted = ⊥
+OwnGoesFirst (Waiting seq mode) me other number wanted = GoesFirst me seq mode other number wanted
+OwnGoesFirst (Inside seq mode) me other number wanted = GoesFirst me seq mode other number wanted
+
+-- the number that a node is deferred with: of two requests of one node the greater number counts
+abbrev pub later_of : Option ℕ → ℕ → ℕ
+later_of None number = number
+later_of (Some before) number = max before number
+
+-- where the own request goes first, the REPLY is deferred until the node leaves
+pub record Defers (old : State) (other number : ℕ) (wanted : Mode) (sends : List Message) (new : State) : Type 0 where
+  pub own_first : OwnGoesFirst old.phase old.me other number wanted
+  pub sends_are : sends ≡ []
+  pub new_is : new ≡ record old {
+    highest = max old.highest number;
+    deferred = finmap.insert old.deferred other (later_of (finmap.get old.deferred other) number);
+  }
+
+-- otherwise the REPLY goes out at once
+pub record RepliesAtOnce (old : State) (other number : ℕ) (wanted : Mode) (sends : List Message) (new : State) : Type 0 where
+  pub not_first : OwnGoesFirst old.phase old.me other number wanted → ⊥
+  pub sends_are : sends ≡ Reply old.me other old.name number ∷ []
+  pub new_is : new ≡ record old { highest = max old.highest number }
+
+-- ---- A REPLY comes. It carries the number of the request that it answers.
+
+-- the node waits with this number and mode, and awaits the REPLY of the other node
+pub record Awaits (old : State) (other number : ℕ) (mode : Mode) : Type 0 where
+  pub waits : old.phase ≡ Waiting number mode
+  pub awaited : IsTrue (set.contains old.awaited other)
+
+-- the last REPLY lets the node enter
+pub record Enters (old : State) (other number : ℕ) (mode : Mode) (entered : Bool) (new : State) : Type 0 where
+  pub awaits : Awaits old other number mode
+  pub last : set.remove old.awaited other ≡ set.empty
+  pub entered_is : entered ≡ true
+  pub new_is : new ≡ record old { phase = Inside number mode; awaited = set.empty }
+
+-- after another one the node waits on
+pub record WaitsOn (old : State) (other number : ℕ) (mode : Mode) (entered : Bool) (new : State) : Type 0 where
+  pub awaits : Awaits old other number mode
+  pub not_last : set.remove old.awaited other ≡ set.empty → ⊥
+  pub entered_is : entered ≡ false
+  pub new_is : new ≡ record old { awaited = set.remove old.awaited other }
+
+-- a REPLY that is not awaited is a stray, and changes nothing
+pub record IsStray (old : State) (other number : ℕ) (entered : Bool) (new : State) : Type 0 where
+  pub not_awaited : (mode : Mode) → Awaits old other number mode → ⊥
+  pub entered_is : entered ≡ false
+  pub new_is : new ≡ old
+
+abbrev pub TakesReply : State → ℕ → ℕ → Bool → State → Type 0
+TakesReply old other number entered new =
+    IsStray old other number entered new
+    ⊎ ((mode : Mode) × (Enters old other number mode entered new ⊎ WaitsOn old other number mode entered new))
+
+abbrev pub ReceiveStep : State → Message → List Message → Bool → State → Type 0
+ReceiveStep old (Request from to name mode seq) sends entered new =
+    (entered ≡ false) × (Defers old from seq mode sends new ⊎ RepliesAtOnce old from seq mode sends new)
+ReceiveStep old (Reply from to name seq) sends entered new =
+    (sends ≡ []) × TakesReply old from seq entered new
+
+-- ---- The client leaves: each deferred REPLY goes out, in ascending order of the nodes, and none is deferred any more.
+
+pub record LeaveStep (old : State) (sends : List Message) (new : State) : Type 0 where
+  pub seq : ℕ
+  pub mode : Mode
+  pub inside : old.phase ≡ Inside seq mode
+  pub sends_are : sends ≡ map (λ deferred. Reply old.me deferred.0 old.name deferred.1) (finmap.entries old.deferred)
+  pub new_is : new ≡ record old { phase = Idle; deferred = finmap.empty }
+
+-- ---- The client leaves and another one asks, in one event: the REPLYs come first.
+
+pub record LeaveAndRequestStep (old : State) (mode : Mode) (sends : List Message) (entered : Bool) (new : State) : Type 0 where
+  pub between : State
+  pub replies : List Message
+  pub requests : List Message
+  pub leaves : LeaveStep old replies between
+  pub asks : RequestStep between mode requests entered new
+  pub sends_are : sends ≡ replies ++ requests

@@ -1,0 +1,409 @@
+ghost use Rattle.std.specs.Prelude.{◌≡◌, ◌≢◌, ◌+◌, ◌<◌, ◌⊎◌, ◌↔◌, max, true, false, IsTrue, IsErrOf, IfOk, IfErr, OnOk, OnErr};
+
+use crate::cases::{
+    Answer, Doing, Effect, answer_when_idle, answer_when_inside, answer_when_waiting,
+    effect_of_reply, place_of,
+};
+use crate::sends::{push_replies, push_requests};
+use crate::slots::{
+    fill, is_marked, is_only, mark_others, number_of, unfill, unfilled, unmark, unmarked,
+};
+use crate::{LeaveError, NewError, Phase, Reaction, ReceiveError, RequestError};
+use ra_stamp::{Message, Messages, Mode, Name, NodeId, Stamp};
+use std::alloc::Global;
+use std::marker::Model;
+
+/// One resource at one node. Contracts see its state.
+#[derive(Debug, Drop)]
+pub struct Automaton {
+    me: NodeId,
+    nodes: u16,
+    name: Name,
+    highest: u64,
+    phase: Phase,
+    /// Whether a node is awaited, by its number; the first slot stays empty.
+    awaited: Vec<bool>,
+    /// The number with which a node is deferred, by its number; the first slot stays empty.
+    deferred: Vec<Option<u64>>,
+}
+
+impl Model for Automaton {
+    ghost use Rattle.ra_automaton.specs.State.{State, state_code};
+    ghost use Rattle.ra_automaton.specs.contracts.phase.Phase as phases;
+
+    ghost Value = { State };
+
+    ghost coded = { state_code phases.the_row.coded };
+
+    ghost use Rattle.ra_automaton.specs.View.{state_of, IsKept};
+
+    ghost view = { state_of };
+
+    ghost invariant = { IsKept };
+}
+
+impl Automaton {
+    ghost use Rattle.std.specs.Ordering.{nat_cmp};
+    ghost use Rattle.std.specs.FinSet as set;
+    ghost use Rattle.std.specs.FinMap as finmap;
+    ghost use Rattle.ra_stamp.specs.NodeId.{IsNodeNumber};
+    ghost use Rattle.ra_stamp.specs.Message.{from_of, to_of, name_of};
+    ghost use Rattle.ra_automaton.specs.State.{opening, IsOther, IsAddressed, IsConsistent, IsInside, IsWaiting, entered_phase};
+    ghost use Rattle.ra_automaton.specs.Steps.{last_number, later_of, OwnGoesFirst, Begins, Defers, RepliesAtOnce, Awaits, TakesReply, RequestStep, ReceiveStep, LeaveStep, LeaveAndRequestStep};
+
+    /// The automaton of node `me` of `nodes` for a resource, where the highest number met so far is `start`. The start
+    /// is 0 to 2^64-1. Errors, the first that holds: `BadCount`, `nodes` is not 1 to 16; `BadNode`, `me` is above
+    /// `nodes`; `Memory`. The cost is linear in the number of nodes.
+    pub fn new(
+        alloc: Global,
+        me: NodeId,
+        nodes: u16,
+        name: Name,
+        start: u64,
+    ) -> Result<Automaton, NewError>
+        ensures ok { IfOk result (λ automaton. automaton ≡ opening me nodes name start) }
+        ensures consistent { IfOk result IsConsistent }
+        ensures bad_count { IsErrOf result NewError.BadCount ↔ ((nodes < 1) ⊎ (16 < nodes)) }
+        ensures bad_node { IsErrOf result NewError.BadNode ↔ (IsNodeNumber nodes × (nodes < me)) }
+    {
+        if NodeId::new(nodes).is_none() {
+            return Err(NewError::BadCount);
+        }
+        if me.get() > nodes {
+            return Err(NewError::BadNode);
+        }
+        let slots = usize::from(nodes) + 1;
+        let Ok(awaited) = unmarked(alloc, slots) else {
+            return Err(NewError::Memory);
+        };
+        let Ok(deferred) = unfilled(alloc, slots) else {
+            return Err(NewError::Memory);
+        };
+        Ok(Automaton {
+            me,
+            nodes,
+            name,
+            highest: start,
+            phase: Phase::Idle,
+            awaited,
+            deferred,
+        })
+    }
+
+    /// Makes a request, which takes the next number. Errors, the first that holds: `NotIdle`, the node
+    /// waits or is inside; `Exhausted`, the highest number is 2^64-1; `Memory`. The cost is linear in the number of nodes.
+    pub fn request(&mut self, alloc: Global, mode: Mode) -> Result<Reaction, RequestError>
+        ensures ok { IfOk result (λ reaction. RequestStep self.old mode reaction.sends.items reaction.entered self.new) }
+        ensures consistent { IsConsistent self.new }
+        ensures not_idle { IsErrOf result RequestError.NotIdle ↔ (self.old.phase ≢ Phase.Idle) }
+        ensures exhausted { IsErrOf result RequestError.Exhausted
+            ↔ ((self.old.phase ≡ Phase.Idle) × (self.old.highest ≡ last_number)) }
+        ensures err { OnErr result (self.new ≡ self.old) }
+    {
+        if self.phase != Phase::Idle {
+            return Err(RequestError::NotIdle);
+        }
+        if self.highest == u64::MAX {
+            return Err(RequestError::Exhausted);
+        }
+        let seq = self.highest + 1;
+        let mut sends = Messages::new(alloc);
+        push_requests(&mut sends, self.me, self.nodes, self.name, mode, seq).map_err(
+            |_| RequestError::Memory,
+        )?;
+        let entered = self.begin(mode);
+        Ok(Reaction { sends, entered })
+    }
+
+    /// Takes a message from another node. It must be about this resource. Errors, the first that holds: `WrongNode`,
+    /// it is for another node; `Stranger`, its sender is this node or above the number of nodes; `Memory`. A REPLY that
+    /// is not awaited is a stray, which is taken and changes nothing. The cost is linear in the number of nodes.
+    pub fn receive(&mut self, alloc: Global, message: &Message) -> Result<Reaction, ReceiveError>
+        requires { name_of message.now ≡ self.old.name }
+        ensures ok { IfOk result (λ reaction.
+            ReceiveStep self.old message.now reaction.sends.items reaction.entered self.new) }
+        ensures addressed { OnOk result (IsAddressed self.old message.now) }
+        ensures consistent { IsConsistent self.new }
+
+        ensures wrong_node { IsErrOf result ReceiveError.WrongNode ↔ (to_of message.now ≢ self.old.me) }
+        ensures stranger { IsErrOf result ReceiveError.Stranger
+            ↔ ((to_of message.now ≡ self.old.me)
+            × ((from_of message.now ≡ self.old.me) ⊎ (self.old.nodes < from_of message.now))) }
+        ensures err { OnErr result (self.new ≡ self.old) }
+    {
+        if message.to() != self.me {
+            return Err(ReceiveError::WrongNode);
+        }
+        let sender = message.from();
+        if sender == self.me || sender.get() > self.nodes {
+            return Err(ReceiveError::Stranger);
+        }
+        match *message {
+            Message::Request {
+                from,
+                mode,
+                seq,
+                ..
+            } => {
+                let sends = self.take_request(alloc, from, mode, seq)?;
+                let entered = false;
+                Ok(Reaction { sends, entered })
+            }
+            Message::Reply { from, seq, .. } => {
+                let sends = Messages::new(alloc);
+                let entered = self.take_reply(from, seq);
+                Ok(Reaction { sends, entered })
+            }
+        }
+    }
+
+    /// Leaves the resource. Errors, the first that holds: `NotHeld`, the node is not inside; `Memory`. The cost is linear
+    /// in the number of nodes.
+    pub fn leave(&mut self, alloc: Global) -> Result<Reaction, LeaveError>
+        ensures ok { IfOk result (λ reaction. LeaveStep self.old reaction.sends.items self.new × (reaction.entered ≡ false)) }
+        ensures consistent { IsConsistent self.new }
+        ensures not_held { IsErrOf result LeaveError.NotHeld ↔ (IsInside self.old.phase → ⊥) }
+        ensures err { OnErr result (self.new ≡ self.old) }
+    {
+        if !self.is_inside() {
+            return Err(LeaveError::NotHeld);
+        }
+        let mut sends = Messages::new(alloc);
+        push_replies(&mut sends, self.me, self.name, &self.deferred).map_err(
+            |_| LeaveError::Memory,
+        )?;
+        self.end();
+        let entered = false;
+        Ok(Reaction { sends, entered })
+    }
+
+    /// Leaves the resource and makes a request, in one event: the REPLYs come first. A number must be left. Errors, the
+    /// first that holds: `NotHeld`, the node is not inside; `Memory`. The cost is linear in the number of nodes.
+    pub fn leave_and_request(&mut self, alloc: Global, mode: Mode) -> Result<Reaction, LeaveError>
+        requires { self.old.highest < last_number }
+        ensures ok { IfOk result (λ reaction. LeaveAndRequestStep self.old mode reaction.sends.items reaction.entered self.new) }
+        ensures consistent { IsConsistent self.new }
+        ensures not_held { IsErrOf result LeaveError.NotHeld ↔ (IsInside self.old.phase → ⊥) }
+        ensures err { OnErr result (self.new ≡ self.old) }
+    {
+        if !self.is_inside() {
+            return Err(LeaveError::NotHeld);
+        }
+        let seq = self.highest + 1;
+        let mut sends = Messages::new(alloc);
+        push_replies(&mut sends, self.me, self.name, &self.deferred).map_err(
+            |_| LeaveError::Memory,
+        )?;
+        push_requests(&mut sends, self.me, self.nodes, self.name, mode, seq).map_err(
+            |_| LeaveError::Memory,
+        )?;
+        self.end();
+        let entered = self.begin(mode);
+        Ok(Reaction { sends, entered })
+    }
+
+    /// What this node is doing with the resource.
+    pub fn phase(&self) -> Phase
+        ensures value { result ≡ self.now.phase }
+        ensures consistent { IsConsistent self.now }
+    {
+        self.phase
+    }
+
+    /// The highest number that this node has met, 0 to 2^64-1.
+    pub fn highest(&self) -> u64
+        ensures { result ≡ self.now.highest }
+    {
+        self.highest
+    }
+
+    /// The resource.
+    pub fn name(&self) -> Name
+        ensures { result ≡ self.now.name }
+    {
+        self.name
+    }
+
+    /// Whether this node awaits the REPLY of a node.
+    pub fn waits_for(&self, node: NodeId) -> bool
+        ensures { result ≡ set.contains self.now.awaited node }
+    {
+        is_marked(&self.awaited, node)
+    }
+
+    /// The number of the request of a node whose REPLY is deferred, or `None` where it is not.
+    pub fn deferred(&self, node: NodeId) -> Option<u64>
+        ensures { result ≡ finmap.get self.now.deferred node }
+    {
+        number_of(&self.deferred, node)
+    }
+
+    fn is_inside(&self) -> bool
+        ensures { IsTrue result ↔ IsInside self.now.phase }
+    {
+        matches!(self.phase, Phase::Inside { .. })
+    }
+
+    /// Begins a request, once its messages are made. Answers whether it is granted at once.
+    fn begin(&mut self, mode: Mode) -> bool
+        requires idle { self.old.phase ≡ Phase.Idle }
+        requires number_left { self.old.highest < last_number }
+        ensures { Begins self.old mode result self.new }
+    {
+        let seq = self.highest + 1;
+        self.highest = seq;
+        if self.nodes == 1 {
+            self.phase = Phase::Inside { seq, mode };
+            return true;
+        }
+        self.phase = Phase::Waiting { seq, mode };
+        mark_others(&mut self.awaited, self.me, usize::from(self.nodes));
+        false
+    }
+
+    /// Ends a request that was granted, once the REPLYs are made.
+    fn end(&mut self)
+        requires { IsInside self.old.phase }
+        ensures { self.new ≡ record self.old { phase = Phase.Idle; deferred = finmap.empty } }
+    {
+        self.phase = Phase::Idle;
+        unfill(&mut self.deferred);
+    }
+
+    /// What a REQUEST leads to.
+    fn answer(&self, other: NodeId, wanted: Mode, seq: u64) -> Answer
+        ensures defer { result ≡ Answer.Defer → OwnGoesFirst self.now.phase self.now.me other seq wanted }
+        ensures reply { result ≡ Answer.Reply → OwnGoesFirst self.now.phase self.now.me other seq wanted → ⊥ }
+    {
+        let theirs = Stamp { seq, node: other };
+        match self.phase {
+            Phase::Idle => answer_when_idle(wanted),
+            Phase::Waiting { seq, mode } => {
+                let own = Stamp { seq, node: self.me };
+                answer_when_waiting(mode, wanted, place_of(theirs, own))
+            }
+            Phase::Inside { seq, mode } => {
+                let own = Stamp { seq, node: self.me };
+                answer_when_inside(mode, wanted, place_of(theirs, own))
+            }
+        }
+    }
+
+    /// Takes a REQUEST of another node.
+    fn take_request(
+        &mut self,
+        alloc: Global,
+        other: NodeId,
+        wanted: Mode,
+        seq: u64,
+    ) -> Result<Messages, ReceiveError>
+        requires { IsOther self.old other }
+        ensures ok { IfOk result (λ sends. Defers self.old other seq wanted sends.items self.new
+            ⊎ RepliesAtOnce self.old other seq wanted sends.items self.new) }
+        ensures err { OnErr result (self.new ≡ self.old) }
+        ensures memory { IfErr result (λ fault. fault ≡ ReceiveError.Memory) }
+    {
+        let mut sends = Messages::new(alloc);
+        match self.answer(other, wanted, seq) {
+            Answer::Reply => {
+                let reply = Message::Reply {
+                    from: self.me,
+                    to: other,
+                    name: self.name,
+                    seq,
+                };
+                sends.push(reply).map_err(|_| ReceiveError::Memory)?;
+                self.meet(seq);
+            }
+            Answer::Defer => self.put_off(other, seq),
+        }
+        Ok(sends)
+    }
+
+    /// Raises the highest number to one that came.
+    fn meet(&mut self, seq: u64)
+        ensures { self.new ≡ record self.old { highest = max self.old.highest seq } }
+    {
+        self.highest = self.highest.max(seq);
+    }
+
+    /// Defers the REPLY to another node. Of two requests of one node the greater number counts.
+    fn put_off(&mut self, other: NodeId, seq: u64)
+        requires other { IsOther self.old other }
+        requires busy { self.old.phase ≢ Phase.Idle }
+        ensures { self.new ≡ record self.old {
+          highest = max self.old.highest seq;
+          deferred = finmap.insert self.old.deferred other (later_of (finmap.get self.old.deferred other) seq);
+        } }
+    {
+        let later = match number_of(&self.deferred, other) {
+            None => seq,
+            Some(before) => before.max(seq),
+        };
+        fill(&mut self.deferred, other, later);
+        self.highest = self.highest.max(seq);
+    }
+
+    /// What a REPLY leads to.
+    fn effect(&self, other: NodeId, number: u64) -> Effect
+        ensures enter { result ≡ Effect.Enter → (mode : Mode) × Awaits self.now other number mode × (set.remove self.now.awaited other ≡ set.empty) }
+        ensures wait { result ≡ Effect.WaitOn → (mode : Mode) × Awaits self.now other number mode × (set.remove self.now.awaited other ≡ set.empty → ⊥) }
+        ensures stray { result ≡ Effect.Stray → (mode : Mode) → Awaits self.now other number mode → ⊥ }
+    {
+        let awaited = is_marked(&self.awaited, other);
+        let others = !is_only(&self.awaited, other);
+        match self.phase {
+            Phase::Idle => effect_of_reply(Doing::Nothing, false, awaited, others),
+            Phase::Waiting { seq, .. } => effect_of_reply(
+                Doing::Waits,
+                seq == number,
+                awaited,
+                others,
+            ),
+            Phase::Inside { seq, .. } => effect_of_reply(
+                Doing::Holds,
+                seq == number,
+                awaited,
+                others,
+            ),
+        }
+    }
+
+    /// Takes a REPLY of another node. Answers whether the request is granted by it.
+    fn take_reply(&mut self, other: NodeId, number: u64) -> bool
+        ensures { TakesReply self.old other number result self.new }
+    {
+        match self.effect(other, number) {
+            Effect::Stray => false,
+            Effect::WaitOn => {
+                self.count_reply(other);
+                false
+            }
+            Effect::Enter => {
+                self.enter(other);
+                true
+            }
+        }
+    }
+
+    /// Takes one of several REPLYs.
+    fn count_reply(&mut self, other: NodeId)
+        requires waits { IsWaiting self.old.phase }
+        requires not_last { set.remove self.old.awaited other ≡ set.empty → ⊥ }
+        ensures { self.new ≡ record self.old { awaited = set.remove self.old.awaited other } }
+    {
+        unmark(&mut self.awaited, other);
+    }
+
+    /// Takes the last REPLY, and enters.
+    fn enter(&mut self, other: NodeId)
+        requires waits { IsWaiting self.old.phase }
+        requires last { set.remove self.old.awaited other ≡ set.empty }
+        ensures { self.new ≡ record self.old { phase = entered_phase self.old.phase; awaited = set.empty } }
+    {
+        unmark(&mut self.awaited, other);
+        if let Phase::Waiting { seq, mode } = self.phase {
+            self.phase = Phase::Inside { seq, mode };
+        }
+    }
+}

@@ -1,0 +1,19 @@
+//! One resource at one node: the algorithm of G. Ricart and A. K. Agrawala, CACM 24(1), 1981, with a shared mode.
+//! An event goes in, and the messages that it sends come out; nothing is read or written.
+#![tactic(auto)]
+
+mod automaton;
+mod cases;
+mod error;
+mod phase;
+mod reaction;
+mod sends;
+mod slots;
+
+pub use automaton::Automaton;
+pub use error::{LeaveError, NewError, ReceiveError, RequestError};
+pub use phase::Phase;
+pub use reaction::Reaction;
+
+#[cfg(test)]
+mod tests;

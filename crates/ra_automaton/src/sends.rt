@@ -1,0 +1,69 @@
+//! The messages that events send.
+ghost use Rattle.std.specs.Prelude.{◌≡◌, ◌≤◌, ◌++◌, length, map, None, OnOk};
+ghost use Rattle.std.specs.List.{slice_index_or};
+ghost use Rattle.ra_stamp.specs.NodeId.{IsNodeNumber};
+ghost use Rattle.ra_automaton.specs.Slots.{filled_from};
+ghost use Rattle.ra_automaton.specs.Steps.{others_of};
+
+use ra_stamp::{Memory, Message, Messages, Mode, Name, NodeId};
+
+/// The node with a number that is known to be one.
+fn node(number: u16) -> NodeId
+    requires { IsNodeNumber number }
+    ensures { result ≡ number }
+{
+    NodeId::new(number).unwrap()
+}
+
+/// Adds a REQUEST to each other node, in ascending order.
+pub fn push_requests(
+    sends: &mut Messages,
+    me: NodeId,
+    nodes: u16,
+    name: Name,
+    mode: Mode,
+    seq: u64,
+) -> Result<(), Memory>
+    requires { nodes ≤ 16 }
+    ensures { OnOk result (sends.new.items ≡ sends.old.items
+        ++ map (λ other. Message.Request me other name mode seq) (others_of me nodes)) }
+{
+    for place in 0..nodes {
+        let number = place + 1;
+        if number != me.get() {
+            sends.push(Message::Request {
+                from: me,
+                to: node(number),
+                name,
+                mode,
+                seq,
+            })?;
+        }
+    }
+    Ok(())
+}
+
+/// Adds a REPLY to each deferred node, in ascending order.
+pub fn push_replies(
+    sends: &mut Messages,
+    me: NodeId,
+    name: Name,
+    deferred: &[Option<u64>],
+) -> Result<(), Memory>
+    requires slots { length deferred.now ≤ 17 }
+    requires first { slice_index_or deferred.now 0 None ≡ None }
+    ensures { OnOk result (sends.new.items ≡ sends.old.items
+        ++ map (λ entry. Message.Reply me entry.0 name entry.1) (filled_from 0 deferred.now)) }
+{
+    for place in 1..deferred.len() {
+        if let Some(seq) = deferred[place] {
+            sends.push(Message::Reply {
+                from: me,
+                to: node(place as u16),
+                name,
+                seq,
+            })?;
+        }
+    }
+    Ok(())
+}
