@@ -1,0 +1,3 @@
+pub mod Table
+pub mod Refusals
+pub mod Laws

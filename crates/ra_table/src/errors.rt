@@ -1,0 +1,40 @@
+use thiserror::Error;
+
+/// Why a request was refused.
+#[derive(Clone, Copy, Debug, PartialEq, Eq, Error)]
+pub enum RequestError {
+    /// The entry's node waits or holds on its name.
+    #[error("NodeBusy")]
+    NodeBusy,
+    /// The entry's number is not above that of each entry granted so far on its name.
+    #[error("NotAbove")]
+    NotAbove,
+    /// Memory ran out.
+    #[error("Memory")]
+    Memory,
+}
+
+/// Why an entry was not granted.
+#[derive(Clone, Copy, Debug, PartialEq, Eq, Error)]
+pub enum EnterError {
+    /// The entry does not wait.
+    #[error("NotWaiting")]
+    NotWaiting,
+    /// A conflicting entry on the name holds.
+    #[error("Held")]
+    Held,
+    /// A conflicting entry on the name with an earlier stamp waits.
+    #[error("Earlier")]
+    Earlier,
+    /// Memory ran out.
+    #[error("Memory")]
+    Memory,
+}
+
+/// Why an entry was not given back.
+#[derive(Clone, Copy, Debug, PartialEq, Eq, Error)]
+pub enum LeaveError {
+    /// The entry does not hold.
+    #[error("NotHeld")]
+    NotHeld,
+}

@@ -1,0 +1,20 @@
+//! The lock table: what a user of the cluster believes in. Entries wait, hold and have been granted; it knows no
+//! messages, replies, deferrals or queues.
+#![tactic(auto)]
+
+mod errors;
+mod laws;
+mod lists;
+mod table;
+
+pub use errors::{EnterError, LeaveError, RequestError};
+pub use laws::{
+    conflicting_entries_never_hold_at_once, granted_entries_have_entered,
+    grants_come_in_stamp_order, holders_were_requested_and_entered_and_have_not_left,
+    runs_go_on_by_steps, steps_exist_where_they_are_allowed,
+    tables_of_one_run_have_the_same_entries, waiting_entries_were_requested_and_have_not_entered,
+};
+pub use table::Table;
+
+#[cfg(test)]
+mod tests;

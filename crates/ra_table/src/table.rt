@@ -1,0 +1,167 @@
+ghost use Rattle.std.specs.Prelude.{◌≡◌, ◌<◌, ◌↔◌, length, slice_index_or, Contains, IsTrue, IsOk, IsErrOf, IsOkUnless, IfOk, OnOk, OnErr};
+ghost use Rattle.ra_stamp.specs.declared.entry.Mark.{Mark};
+ghost use Rattle.ra_table.specs.Table.{empty_table, MayRequest, MayEnter, TableStep};
+ghost use Rattle.ra_table.specs.Refusals.{IsNodeBusy, IsNotAbove, IsHeld, HasEarlier};
+ghost use Rattle.ra_table.specs.Laws.{IsConflictFree};
+
+use crate::errors::{EnterError, LeaveError, RequestError};
+use crate::lists::{has_earlier, has_excluding, has_node_of, place_of, reaches_number_of};
+use ra_stamp::{Entry, Memory};
+use std::alloc::Global;
+use std::marker::Model;
+
+/// The lock table: which entries wait, which hold, and which were granted so far. No two conflicting entries on one
+/// name hold.
+///
+/// Each call but `new` takes time in proportion to how many entries wait, hold and were granted.
+#[derive(Debug, Drop)]
+pub struct Table {
+    waiting: Vec<Entry>,
+    holding: Vec<Entry>,
+    granted: Vec<Entry>,
+}
+
+impl Model for Table {
+    ghost use Rattle.ra_table.specs.Table.{LockTable};
+    ghost use Rattle.ra_table.specs.Laws.{IsConflictFree};
+
+    ghost Value = { LockTable };
+
+    ghost view = { λ t. record { waiting = t.waiting.items; holding = t.holding.items; granted = t.granted.items } };
+
+    ghost invariant = { λ t. IsConflictFree t.holding.items };
+}
+
+impl Table {
+    /// The table in which nothing waits or holds, and nothing was granted.
+    pub fn new(alloc: Global) -> Result<Table, Memory>
+        ensures empty { IfOk result (λ table. table ≡ empty_table) }
+    {
+        Ok(Table {
+            waiting: Vec::new(alloc),
+            holding: Vec::new(alloc),
+            granted: Vec::new(alloc),
+        })
+    }
+
+    /// Lets the entry wait. Errors, the first that holds: `NodeBusy`, its node waits or holds on its name;
+    /// `NotAbove`, its number is not above that of each entry granted so far on its name; `Memory`.
+    #[tactic(auto, using(crate::proofs::Moves::moves))]
+    pub fn request(&mut self, entry: Entry) -> Result<(), RequestError>
+        ensures ok { OnOk result (TableStep self.old (Mark.Requested entry) self.new) }
+        ensures err { OnErr result (self.new ≡ self.old) }
+        ensures node_busy { IsErrOf result RequestError.NodeBusy ↔ IsNodeBusy self.old entry }
+        ensures not_above { IsErrOf result RequestError.NotAbove
+            ↔ (¬ IsNodeBusy self.old entry × IsNotAbove self.old entry) }
+        // Memory is the one other error.
+        ensures allowed { IsOkUnless result RequestError.Memory ↔ MayRequest self.old entry }
+        ensures exclusive { IsConflictFree self.new.holding }
+    {
+        self.check_request(&entry)?;
+        self.waiting.push(entry).map_err(|_| RequestError::Memory)?;
+        Ok(())
+    }
+
+    /// Grants an entry that waits. Errors, the first that holds: `NotWaiting`, it does not wait; `Held`, a
+    /// conflicting entry on its name holds; `Earlier`, a conflicting entry on its name with an earlier stamp waits;
+    /// `Memory`.
+    #[tactic(auto, using(crate::proofs::Moves::moves))]
+    pub fn enter(&mut self, entry: &Entry) -> Result<(), EnterError>
+        ensures ok { OnOk result (TableStep self.old (Mark.Entered entry.now) self.new) }
+        ensures err { OnErr result (self.new ≡ self.old) }
+        ensures not_waiting { IsErrOf result EnterError.NotWaiting ↔ ¬ Contains self.old.waiting entry.now }
+        ensures held { IsErrOf result EnterError.Held
+            ↔ (Contains self.old.waiting entry.now × IsHeld self.old entry.now) }
+        ensures earlier { IsErrOf result EnterError.Earlier
+            ↔ (Contains self.old.waiting entry.now × ¬ IsHeld self.old entry.now × HasEarlier self.old entry.now) }
+        // Memory is the one other error.
+        ensures allowed { IsOkUnless result EnterError.Memory ↔ MayEnter self.old entry.now }
+        ensures exclusive { IsConflictFree self.new.holding }
+    {
+        let place = self.check_enter(entry)?;
+        self.holding.reserve(1).map_err(|_| EnterError::Memory)?;
+        self.granted.reserve(1).map_err(|_| EnterError::Memory)?;
+        self.waiting.remove(place);
+        self.holding.push_reserved(*entry);
+        self.granted.push_reserved(*entry);
+        Ok(())
+    }
+
+    /// Ends the hold of an entry, or answers `NotHeld` where it does not hold. It takes no memory.
+    #[tactic(auto, using(crate::proofs::Moves::moves))]
+    pub fn leave(&mut self, entry: &Entry) -> Result<(), LeaveError>
+        ensures ok { OnOk result (TableStep self.old (Mark.Left entry.now) self.new) }
+        ensures err { OnErr result (self.new ≡ self.old) }
+        ensures held { IsOk result ↔ Contains self.old.holding entry.now }
+        ensures not_held { IsErrOf result LeaveError.NotHeld ↔ ¬ Contains self.old.holding entry.now }
+        ensures exclusive { IsConflictFree self.new.holding }
+    {
+        let Some(place) = place_of(&self.holding, entry) else {
+            return Err(LeaveError::NotHeld);
+        };
+        self.holding.remove(place);
+        Ok(())
+    }
+
+    /// Whether the entry may be granted now, memory aside: it waits, no conflicting entry on its name holds, and none
+    /// with an earlier stamp waits. It takes no memory.
+    pub fn can_enter(&self, entry: &Entry) -> bool
+        ensures allowed { IsTrue result ↔ MayEnter self.now entry.now }
+        ensures exclusive { IsConflictFree self.now.holding }
+    {
+        self.check_enter(entry).is_ok()
+    }
+
+    // Whether the entry's node waits or holds on its name.
+    fn is_node_busy(&self, entry: &Entry) -> bool
+        ensures busy { IsTrue result ↔ IsNodeBusy self.now entry.now }
+        ensures exclusive { IsConflictFree self.now.holding }
+    {
+        has_node_of(&self.waiting, entry) || has_node_of(&self.holding, entry)
+    }
+
+    // Why the request may not be made.
+    #[tactic(auto, using(crate::proofs::Allowed::allowed))]
+    fn check_request(&self, entry: &Entry) -> Result<(), RequestError>
+        ensures allowed { IsOk result ↔ MayRequest self.now entry.now }
+        ensures node_busy { IsErrOf result RequestError.NodeBusy ↔ IsNodeBusy self.now entry.now }
+        ensures not_above { IsErrOf result RequestError.NotAbove
+            ↔ (¬ IsNodeBusy self.now entry.now × IsNotAbove self.now entry.now) }
+        ensures no_memory { ¬ IsErrOf result RequestError.Memory }
+        ensures exclusive { IsConflictFree self.now.holding }
+    {
+        if self.is_node_busy(entry) {
+            return Err(RequestError::NodeBusy);
+        }
+        if reaches_number_of(&self.granted, entry) {
+            return Err(RequestError::NotAbove);
+        }
+        Ok(())
+    }
+
+    // Where the entry waits, or why it may not be granted.
+    #[tactic(auto, using(crate::proofs::Allowed::allowed))]
+    fn check_enter(&self, entry: &Entry) -> Result<usize, EnterError>
+        ensures place { IfOk result (λ place. (place < length self.now.waiting)
+            × (slice_index_or self.now.waiting place entry.now ≡ entry.now)) }
+        ensures allowed { IsOk result ↔ MayEnter self.now entry.now }
+        ensures not_waiting { IsErrOf result EnterError.NotWaiting ↔ ¬ Contains self.now.waiting entry.now }
+        ensures held { IsErrOf result EnterError.Held
+            ↔ (Contains self.now.waiting entry.now × IsHeld self.now entry.now) }
+        ensures earlier { IsErrOf result EnterError.Earlier
+            ↔ (Contains self.now.waiting entry.now × ¬ IsHeld self.now entry.now × HasEarlier self.now entry.now) }
+        ensures no_memory { ¬ IsErrOf result EnterError.Memory }
+        ensures exclusive { IsConflictFree self.now.holding }
+    {
+        let Some(place) = place_of(&self.waiting, entry) else {
+            return Err(EnterError::NotWaiting);
+        };
+        if has_excluding(&self.holding, entry) {
+            return Err(EnterError::Held);
+        }
+        if has_earlier(&self.waiting, entry) {
+            return Err(EnterError::Earlier);
+        }
+        Ok(place)
+    }
+}
