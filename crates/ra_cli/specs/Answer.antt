@@ -1,0 +1,90 @@
+-- What `answer` makes of its input.
+use Rattle.std.specs.Prelude.{◌≡◌, ◌≢◌, ℕ, ◌+◌, ◌≤◌, ◌<◌, ◌^◌, ◌⊎◌, max, Bool, List, [], ◌∷◌, ◌++◌, Some, Ok}
+use Rattle.hex.specs.Hex.{decode_of, encode_lower}
+use Rattle.ra_stamp.specs.declared.message.Message.{Message}
+use Rattle.ra_stamp.specs.Message.{from_of, to_of, name_of}
+use Rattle.ra_stamp.specs.NodeId.{IsNodeNumber}
+use Rattle.ra_frame.specs.declared.frame.Frame.{Frame}
+use Rattle.ra_frame.specs.FrameText.{IsFrameText}
+use Rattle.ra_frame.specs.Faults.{first_fault}
+use Rattle.ra_automaton.specs.State.{State, opening, IsAddressed}
+use Rattle.ra_automaton.specs.Steps.{ReceiveStep}
+use Rattle.ra_cli.specs.declared.fault.AnswerError.{AnswerError}
+use Rattle.ra_cli.specs.declared.fault.AnswerError.TheVariants as fault
+use Rattle.ra_cli.specs.Line.{IsLine}
+
+-- the input is a line of the hexadecimal digits of these bytes, in either case
+abbrev pub Spells : List ℕ → List ℕ → Type 0
+Spells input bytes = (digits : List ℕ) × IsLine input digits × (decode_of digits ≡ Ok bytes)
+
+-- the input is a line of the digits of this frame
+abbrev pub Carries : List ℕ → Frame → Type 0
+Carries input frame = (bytes : List ℕ) × Spells input bytes × IsFrameText bytes frame
+
+-- there are 1 to 16 nodes, and the node is one of them
+pub record IsMember (node nodes : ℕ) : Type 0 where
+  pub count : IsNodeNumber nodes
+  pub first : 1 ≤ node
+  pub last : node ≤ nodes
+
+-- what an idle node that has met no number sends when a message about some resource comes, and whether it enters
+abbrev pub Reacts : ℕ → ℕ → Message → List Message → Bool → Type 0
+Reacts node nodes message sends entered =
+    (after : State) × ReceiveStep (opening node nodes (name_of message) 0) message sends entered after
+
+-- the message is for this node, and from another one
+abbrev pub IsFor : ℕ → ℕ → Message → Type 0
+IsFor node nodes message = IsAddressed (opening node nodes (name_of message) 0) message
+
+-- the sender is the node itself, or there is no such node
+abbrev pub IsStrange : ℕ → ℕ → Message → Type 0
+IsStrange node nodes message = (to_of message ≡ node) × ((from_of message ≡ node) ⊎ (nodes < from_of message))
+
+-- where a message is not taken
+abbrev pub IsUnwanted : ℕ → ℕ → Message → AnswerError → Type 0
+IsUnwanted node nodes message why =
+    ((why ≡ fault.WrongNode) × (to_of message ≢ node)) ⊎ (((why ≡ fault.Stranger) × IsStrange node nodes message) ⊎ (why ≡ fault.Memory))
+
+-- a node's clock after it has received a frame: one more than the greater of the two (L. Lamport, CACM 21(7), 1978)
+abbrev pub clock_after : ℕ → ℕ → ℕ
+clock_after own received = max own received + 1
+
+-- for each message, in order, the digits of its frame in lower case, and a line feed
+abbrev pub AreLines : ℕ → List Message → List ℕ → Type 0
+AreLines clock [] output = output ≡ []
+AreLines clock (message ∷ messages) output =
+    (text : List ℕ) × (rest : List ℕ) × IsFrameText text (record { clock = clock; message = message })
+    × (output ≡ encode_lower text ++ 10 ∷ rest) × AreLines clock messages rest
+
+-- The output is the frames that an idle node sends when it receives the frame of the input. The node has met no
+-- number before, and its clock was 0.
+pub record IsAnswered (node nodes : ℕ) (input output : List ℕ) : Type 0 where
+  pub frame : Frame
+  pub sends : List Message
+  pub entered : Bool
+  pub member : IsMember node nodes
+  pub carries : Carries input frame
+  pub is_for : IsFor node nodes frame.message
+  pub clock_left : clock_after 0 frame.clock ≤ 2 ^ 62
+  pub reacts : Reacts node nodes frame.message sends entered
+  pub lines : AreLines (clock_after 0 frame.clock) sends output
+
+-- where each refusal may come: its cause stands, and the cause of none before it. Want of memory and faults of the
+-- reader and the writer come from outside.
+abbrev pub Refuses : ℕ → ℕ → List ℕ → AnswerError → Type 0
+Refuses node nodes input fault.BadCount = IsNodeNumber nodes → ⊥
+Refuses node nodes input fault.BadNode = IsNodeNumber nodes × (IsMember node nodes → ⊥)
+Refuses node nodes input fault.Read = IsMember node nodes
+Refuses node nodes input fault.Line = IsMember node nodes × ((line : List ℕ) → IsLine input line → ⊥)
+Refuses node nodes input fault.Hex =
+    IsMember node nodes × (digits : List ℕ) × IsLine input digits × ((bytes : List ℕ) → decode_of digits ≡ Ok bytes → ⊥)
+Refuses node nodes input (fault.Frame wrong) =
+    IsMember node nodes × (bytes : List ℕ) × Spells input bytes × (first_fault bytes ≡ Some wrong)
+Refuses node nodes input fault.WrongNode =
+    IsMember node nodes × (frame : Frame) × Carries input frame × (to_of frame.message ≢ node)
+Refuses node nodes input fault.Stranger =
+    IsMember node nodes × (frame : Frame) × Carries input frame × IsStrange node nodes frame.message
+Refuses node nodes input fault.ClockFull =
+    IsMember node nodes × (frame : Frame) × Carries input frame × IsFor node nodes frame.message × (2 ^ 62 < clock_after 0 frame.clock)
+Refuses node nodes input fault.Memory = IsMember node nodes
+Refuses node nodes input fault.Write = (output : List ℕ) × IsAnswered node nodes input output

@@ -1,0 +1,15 @@
+-- What is read.
+use Rattle.std.specs.Prelude.{◌≡◌, ℕ, ◌<◌, ◌≤◌, ◌⊎◌, List, length, Option}
+use Rattle.std.specs.Io.KnownBytes.{Consumes, IsAtEnd}
+use Rattle.ra_cli.specs.declared.fault.AnswerError.{AnswerError}
+use Rattle.ra_cli.specs.declared.fault.AnswerError.TheVariants.{Read, Memory}
+
+-- these bytes were read, at most as many as the limit, and fewer only where the input ends
+pub record Reads (old new : Option (List ℕ)) (limit : ℕ) (bytes : List ℕ) : Type 0 where
+  pub taken : Consumes old new bytes
+  pub at_most : length bytes ≤ limit
+  pub ended : length bytes < limit → IsAtEnd new
+
+-- the reader failed, or memory ran out
+abbrev pub IsFromOutside : AnswerError → Type 0
+IsFromOutside fault = (fault ≡ Read) ⊎ (fault ≡ Memory)

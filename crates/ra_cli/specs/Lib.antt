@@ -1,0 +1,3 @@
+pub mod Line
+pub mod Answer
+pub mod Input

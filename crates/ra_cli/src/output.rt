@@ -1,0 +1,24 @@
+ghost use Rattle.std.specs.Prelude.{◌≡◌, List, ℕ, ◌++◌, OnOk, OnErr};
+ghost use Rattle.std.specs.Io.KnownBytes.{Appends};
+
+use std::io::Write;
+
+/// The writer failed, or took nothing.
+#[derive(Clone, Copy, Debug)]
+pub struct WriteFault;
+
+/// Writes all of the bytes. After a fault the writer has taken a front of them. No fault is tried again, and a
+/// write that takes nothing is one.
+pub fn write_out<W: Write>(writer: &mut W, bytes: &[u8]) -> Result<(), WriteFault>
+    ensures ok { OnOk result (Appends (W.contents writer.old) (W.contents writer.new) bytes.now) }
+    ensures err { OnErr result ((front : List ℕ) × (back : List ℕ) × (bytes.now ≡ front ++ back) × Appends (W.contents writer.old) (W.contents writer.new) front) }
+{
+    let mut rest = bytes;
+    while !rest.is_empty() {
+        match writer.write(rest) {
+            Ok(count) if count > 0 => rest = &rest[count..],
+            _ => return Err(WriteFault),
+        }
+    }
+    Ok(())
+}

@@ -1,0 +1,85 @@
+ghost use Rattle.std.specs.Prelude.{◌≤◌};
+
+use crate::command_line::{CommandFault, Task, parse};
+use crate::output::write_out;
+use crate::{AnswerError, answer};
+use std::alloc::Global;
+use std::io::{Read, Write};
+use thiserror::Error;
+
+/// The command did what it was asked.
+const DONE: u8 = 0;
+
+/// The input or the output failed.
+const BROKEN: u8 = 1;
+
+/// The words or the input were refused, or memory ran out.
+const REFUSED: u8 = 2;
+
+/// Why a command was not done. Its `Display` is the word that is printed.
+#[derive(Clone, Copy, Debug, Error)]
+enum Refusal {
+    #[error("Usage")]
+    Usage,
+    #[error("Memory")]
+    Memory,
+    #[error(transparent)]
+    Answer(AnswerError),
+}
+
+impl From<CommandFault> for Refusal {
+    fn from(fault: CommandFault) -> Refusal {
+        match fault {
+            CommandFault::Usage => Refusal::Usage,
+            CommandFault::Memory => Refusal::Memory,
+        }
+    }
+}
+
+/// The status of a text that was to be written.
+fn written<W: Write>(writer: &mut W, text: &[u8], status: u8) -> u8
+    requires { status ≤ 2 }
+    ensures { result ≤ 2 }
+{
+    match write_out(writer, text) {
+        Ok(()) => status,
+        Err(_) => BROKEN,
+    }
+}
+
+/// Prints a refusal, but after a fault of the writer, when nothing more is written.
+fn refuse<W: Write>(alloc: Global, writer: &mut W, refusal: Refusal) -> u8
+    ensures { result ≤ 2 }
+{
+    let status = match refusal {
+        Refusal::Answer(AnswerError::Write) => return BROKEN,
+        Refusal::Answer(AnswerError::Read) => BROKEN,
+        _ => REFUSED,
+    };
+    match format!(in alloc; "refused {refusal}\n") {
+        Ok(line) => written(writer, line.as_bytes(), status),
+        Err(_) => written(writer, b"refused Memory\n", REFUSED),
+    }
+}
+
+/// Does what the words ask for, of which the first is the program's name, and answers the exit status: 0 done,
+/// 1 a fault of the input or the output, 2 refused. A refusal is printed as one line, `refused` and its word. It waits
+/// for nobody but the reader and the writer.
+pub fn serve<T, R: Read, W: Write>(
+    _rt: &T,
+    alloc: Global,
+    words: &[String],
+    reader: &mut R,
+    writer: &mut W,
+) -> u8
+    ensures { result ≤ 2 }
+{
+    match parse(alloc, words) {
+        Ok(Task::Answer { node, nodes }) => match answer(alloc, node, nodes, reader, writer) {
+            Ok(()) => DONE,
+            Err(fault) => refuse(alloc, writer, Refusal::Answer(fault)),
+        },
+        Ok(Task::Help(text)) => written(writer, text.as_bytes(), DONE),
+        Err(fault) => refuse(alloc, writer, Refusal::from(fault)),
+    }
+}

@@ -1,0 +1,370 @@
+use crate::{AnswerError, answer, serve};
+use std::alloc::Global;
+use std::io;
+use std::io::{Read, Write};
+use std::process::Abort;
+use std::test::Fail;
+
+/// A REQUEST of node 1 for node 2: exclusively, the name r, number 1, clock 1.
+const REQUEST: &str = "0101010201000000000000000100000000000000010172";
+
+/// The REPLY to it, at clock 2.
+const REPLY: &str = "0102020100000000000000000100000000000000020172";
+
+/// Gives one byte at a time, and fails where no byte is left before the fault.
+#[derive(Drop)]
+struct FailingReader<'a> {
+    bytes: &'a [u8],
+    before_fault: usize,
+}
+
+impl Read for FailingReader<'_> {
+    fn read(&mut self, buf: &mut [u8]) -> io::Result<usize> {
+        if self.before_fault == 0 {
+            return Err(io::ErrorKind::Interrupted.into());
+        }
+        self.before_fault -= 1;
+        if self.bytes.is_empty() || buf.is_empty() {
+            return Ok(0);
+        }
+        buf[0] = self.bytes[0];
+        self.bytes = &self.bytes[1..];
+        Ok(1)
+    }
+}
+
+/// Takes one byte at a time, and fails where it may take no more.
+#[derive(Drop)]
+struct FailingWriter {
+    taken: Vec<u8>,
+    before_fault: usize,
+}
+
+impl Write for FailingWriter {
+    fn write(&mut self, buf: &[u8]) -> io::Result<usize> {
+        if self.before_fault == 0 {
+            return Err(io::ErrorKind::Interrupted.into());
+        }
+        self.before_fault -= 1;
+        if buf.is_empty() {
+            return Ok(0);
+        }
+        self.taken.push(buf[0])?;
+        Ok(1)
+    }
+
+    fn flush(&mut self) -> io::Result<()> {
+        Ok(())
+    }
+}
+
+/// A writer that takes nothing.
+#[derive(Drop)]
+struct FullWriter;
+
+impl Write for FullWriter {
+    fn write(&mut self, _buf: &[u8]) -> io::Result<usize> {
+        Ok(0)
+    }
+
+    fn flush(&mut self) -> io::Result<()> {
+        Ok(())
+    }
+}
+
+fn words_of(alloc: Global, line: &str) -> Result<Vec<String>, Fail> {
+    let mut words = Vec::new(alloc);
+    for word in line.split(' ') {
+        words.push(word.to_string(alloc)?)?;
+    }
+    Ok(words)
+}
+
+/// What `ra` answers and prints, with the line of its words and an input.
+fn run<T: AllocGlobal>(rt: &T, line: &str, input: &str) -> Result<(u8, Vec<u8>), Fail> {
+    let alloc = rt.alloc();
+    let words = words_of(alloc, line)?;
+    let mut reader = input.as_bytes();
+    let mut output = Vec::new(alloc);
+    let status = serve(rt, alloc, words.as_slice(), &mut reader, &mut output);
+    Ok((status, output))
+}
+
+fn assert_answered<T: Abort + AllocGlobal>(rt: &T, request: &str, reply: &str) -> Result<(), Fail> {
+    let alloc = rt.alloc();
+    let printed = format!(in alloc; "{reply}\n")?;
+    let (status, output) = run(rt, "ra answer --node 2 --nodes 3", request)?;
+    assert_eq!(rt; status, 0, "{request}");
+    assert_eq!(rt; output.as_slice(), printed.as_bytes(), "{request}");
+
+    let with_feed = format!(in alloc; "{request}\n")?;
+    let (status, output) = run(rt, "ra answer --node 2 --nodes 3", with_feed.as_str())?;
+    assert_eq!(rt; status, 0, "{request} and a line feed");
+    assert_eq!(rt;
+        output.as_slice(),
+        printed.as_bytes(),
+        "{request} and a line feed"
+    );
+    Ok(())
+}
+
+#[test]
+fn a_request_is_answered_in_either_case_with_a_line_feed_or_not(
+    rt: HostRuntime,
+) -> Result<(), Fail> {
+    assert_answered(&rt, REQUEST, REPLY)?;
+    assert_answered(
+        &rt,
+        "010101020100000000000000013fffffffffffffff0172",
+        "0102020100000000000000000140000000000000000172",
+    )?;
+    assert_answered(
+        &rt,
+        "010101020100000000000000013FFfFfFfFfFfFfFF0172",
+        "0102020100000000000000000140000000000000000172",
+    )
+}
+
+#[test]
+fn answer_writes_the_reply_with_ample_memory(rt: HostRuntime) -> Result<(), Fail> {
+    let alloc = rt.alloc();
+    let mut reader = REQUEST.as_bytes();
+    let mut output = Vec::new(alloc);
+    let answered = answer(alloc, 2, 3, &mut reader, &mut output);
+    assert!(rt; answered == Ok(()));
+    let printed = format!(in alloc; "{REPLY}\n")?;
+    assert_eq!(rt; output.as_slice(), printed.as_bytes());
+    Ok(())
+}
+
+#[test]
+fn an_idle_node_says_nothing_to_a_reply(rt: HostRuntime) -> Result<(), Fail> {
+    let inputs = [
+        "0102010200000000000000000100000000000000010172",
+        "0102010200000000000000000100000000000000010172\n",
+        "01020102000000000000000001000000000000000A0172",
+    ];
+    for input in inputs {
+        let (status, output) = run(&rt, "ra answer --node 2 --nodes 3", input)?;
+        assert_eq!(rt; status, 0, "{input}");
+        assert_eq!(rt; output.as_slice(), b"".as_slice(), "{input}");
+    }
+    Ok(())
+}
+
+#[test]
+fn each_refusal_is_printed_by_its_word(rt: HostRuntime) -> Result<(), Fail> {
+    let alloc = rt.alloc();
+    let cases = [
+        ("0101010201000000000000000000000000000000010172", "Seq"),
+        (
+            "010101020100000000000000010000000000000001017200",
+            "Trailing",
+        ),
+        ("01010102010000000000", "Short"),
+        ("", "Short"),
+        ("0301010201000000000000000100000000000000010172", "Version"),
+        ("0103010201000000000000000100000000000000010172", "Kind"),
+        ("0102010201000000000000000100000000000000010172", "Mode"),
+        ("0101000201000000000000000100000000000000010172", "From"),
+        ("0101011101000000000000000100000000000000010172", "To"),
+        ("0101020201000000000000000100000000000000010172", "SameNode"),
+        ("0101010202000000000000000100000000000000010172", "Mode"),
+        ("0101010201000000000000000140000000000000010172", "Clock"),
+        (
+            "0101010201000000000000000100000000000000010072",
+            "NameLength",
+        ),
+        ("0101010201000000000000000100000000000000010120", "NameByte"),
+        (
+            "0101010201000000000000000140000000000000000172",
+            "ClockFull",
+        ),
+        (
+            "0102010200000000000000000140000000000000000172",
+            "ClockFull",
+        ),
+        ("zz", "Hex"),
+        ("010", "Hex"),
+        (
+            "0101010301000000000000000100000000000000010172",
+            "WrongNode",
+        ),
+        ("0101050201000000000000000100000000000000010172", "Stranger"),
+    ];
+    for (input, word) in cases {
+        let (status, output) = run(&rt, "ra answer --node 2 --nodes 3", input)?;
+        let printed = format!(in alloc; "refused {word}\n")?;
+        assert_eq!(rt; status, 2, "{input}");
+        assert_eq!(rt; output.as_slice(), printed.as_bytes(), "{input}");
+    }
+    Ok(())
+}
+
+#[test]
+fn the_numbers_of_the_command_are_checked_before_the_input(rt: HostRuntime) -> Result<(), Fail> {
+    let cases = [
+        ("ra answer --node 2 --nodes 17", "refused BadCount\n"),
+        ("ra answer --node 2 --nodes 0", "refused BadCount\n"),
+        ("ra answer --node 4 --nodes 3", "refused BadNode\n"),
+        ("ra answer --node 0 --nodes 3", "refused BadNode\n"),
+    ];
+    for (line, printed) in cases {
+        for input in [REQUEST, "zz"] {
+            let (status, output) = run(&rt, line, input)?;
+            assert_eq!(rt; status, 2, "{line}");
+            assert_eq!(rt; output.as_slice(), printed.as_bytes(), "{line}");
+        }
+    }
+    Ok(())
+}
+
+#[test]
+fn a_line_has_at_most_256_bytes_and_nothing_behind_it(rt: HostRuntime) -> Result<(), Fail> {
+    let alloc = rt.alloc();
+    let mut digits = String::new(alloc);
+    for _ in 0..256 {
+        digits.push('0')?;
+    }
+    let longer = format!(in alloc; "{digits}0")?;
+    let longest = format!(in alloc; "{digits}\n")?;
+    let followed = format!(in alloc; "{REQUEST}\n0")?;
+    let fed_twice = format!(in alloc; "{REQUEST}\n\n")?;
+    let much_longer = format!(in alloc; "{digits}\n{digits}")?;
+    let cases = [
+        (digits.as_str(), "refused Version\n"),
+        (longest.as_str(), "refused Version\n"),
+        (longer.as_str(), "refused Line\n"),
+        (followed.as_str(), "refused Line\n"),
+        (fed_twice.as_str(), "refused Line\n"),
+        (much_longer.as_str(), "refused Line\n"),
+    ];
+    for (input, printed) in cases {
+        let (status, output) = run(&rt, "ra answer --node 2 --nodes 3", input)?;
+        assert_eq!(rt; status, 2, "{input}");
+        assert_eq!(rt; output.as_slice(), printed.as_bytes(), "{input}");
+    }
+    Ok(())
+}
+
+#[test]
+fn words_that_are_no_command_are_refused(rt: HostRuntime) -> Result<(), Fail> {
+    let lines = [
+        "ra",
+        "ra sim",
+        "ra help",
+        "ra answer",
+        "ra answer --node 2",
+        "ra answer --nodes 3",
+        "ra answer --node 2 --nodes 3 --trace",
+        "ra answer --node 2 --nodes 3 2",
+        "ra answer --node two --nodes 3",
+        "ra answer --node 2 --nodes 65536",
+        "ra answer --node -1 --nodes 3",
+        "ra --node 2 --nodes 3",
+    ];
+    for line in lines {
+        let (status, output) = run(&rt, line, REQUEST)?;
+        assert_eq!(rt; status, 2, "{line}");
+        assert_eq!(rt; output.as_slice(), b"refused Usage\n".as_slice(), "{line}");
+    }
+    Ok(())
+}
+
+#[test]
+fn help_prints_its_text(rt: HostRuntime) -> Result<(), Fail> {
+    let (status, output) = run(&rt, "ra answer --help", "")?;
+    let text = "Answer one frame, a line of hexadecimal digits, as an idle node does
+
+Usage: ra answer --node <node> --nodes <nodes>
+
+Options:
+      --node <node>    The number of the node that answers
+      --nodes <nodes>  How many nodes there are, 1 to 16
+  -h, --help           Print help
+";
+    assert_eq!(rt; status, 0);
+    assert_eq!(rt; output.as_slice(), text.as_bytes());
+
+    let (status, output) = run(&rt, "ra --help", "")?;
+    assert_eq!(rt; status, 0);
+    assert!(rt;
+        output
+            .as_slice()
+            .starts_with(b"Lock named resources by messages alone\n".as_slice())
+    );
+    Ok(())
+}
+
+#[test]
+fn a_reader_that_fails_at_any_byte_is_a_fault(rt: HostRuntime) -> Result<(), Fail> {
+    let alloc = rt.alloc();
+    let words = words_of(alloc, "ra answer --node 2 --nodes 3")?;
+    let line = format!(in alloc; "{REQUEST}\n")?;
+    for before_fault in 0..=line.len() {
+        let mut reader = FailingReader {
+            bytes: line.as_bytes(),
+            before_fault,
+        };
+        let mut output = Vec::new(alloc);
+        let status = serve(&rt, alloc, words.as_slice(), &mut reader, &mut output);
+        assert_eq!(rt; status, 1, "after {before_fault} bytes");
+        assert_eq!(rt;
+            output.as_slice(),
+            b"refused Read\n".as_slice(),
+            "after {before_fault} bytes"
+        );
+    }
+    let mut reader = FailingReader {
+        bytes: line.as_bytes(),
+        before_fault: line.len() + 1,
+    };
+    let mut output = Vec::new(alloc);
+    assert!(rt; answer(alloc, 2, 3, &mut reader, &mut output) == Ok(()));
+    Ok(())
+}
+
+#[test]
+fn a_writer_that_fails_after_any_byte_has_those_before(rt: HostRuntime) -> Result<(), Fail> {
+    let alloc = rt.alloc();
+    let words = words_of(alloc, "ra answer --node 2 --nodes 3")?;
+    let printed = format!(in alloc; "{REPLY}\n")?;
+    for before_fault in 0..printed.len() {
+        let mut reader = REQUEST.as_bytes();
+        let mut writer = FailingWriter {
+            taken: Vec::new(alloc),
+            before_fault,
+        };
+        let status = serve(&rt, alloc, words.as_slice(), &mut reader, &mut writer);
+        assert_eq!(rt; status, 1, "after {before_fault} bytes");
+        assert_eq!(rt; writer.taken.len(), before_fault);
+        assert!(rt;
+            printed.as_bytes().starts_with(writer.taken.as_slice()),
+            "after {before_fault} bytes"
+        );
+    }
+    let mut reader = REQUEST.as_bytes();
+    let mut writer = FailingWriter {
+        taken: Vec::new(alloc),
+        before_fault: printed.len(),
+    };
+    let status = serve(&rt, alloc, words.as_slice(), &mut reader, &mut writer);
+    assert_eq!(rt; status, 0);
+    assert_eq!(rt; writer.taken.as_slice(), printed.as_bytes());
+    Ok(())
+}
+
+#[test]
+fn a_writer_that_takes_nothing_is_a_fault(rt: HostRuntime) -> Result<(), Fail> {
+    let alloc = rt.alloc();
+    let mut reader = REQUEST.as_bytes();
+    assert!(rt; answer(alloc, 2, 3, &mut reader, &mut FullWriter) == Err(AnswerError::Write));
+
+    let words = words_of(alloc, "ra answer --node 2 --nodes 3")?;
+    let mut bad = "zz".as_bytes();
+    assert_eq!(rt;
+        serve(&rt, alloc, words.as_slice(), &mut bad, &mut FullWriter),
+        1
+    );
+    Ok(())
+}
