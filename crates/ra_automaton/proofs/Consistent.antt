@@ -12,6 +12,7 @@ use Rattle.ra_stamp.specs.declared.mode.Mode.{Mode}
 use Rattle.ra_stamp.specs.declared.message.Message.{Message}
 use Rattle.ra_stamp.specs.declared.message.Message.TheVariants.{Request, Reply}
 use Rattle.ra_stamp.specs.Message.{from_of}
+use Rattle.ra_stamp.specs.Stamp.{IsEarlier}
 use Rattle.ra_automaton.specs.declared.phase.Phase.{Phase}
 use Rattle.ra_automaton.specs.declared.phase.Phase.TheVariants.{Idle, Waiting, Inside}
 use Rattle.ra_automaton.specs.State.{State, IsOther, IsWaiting, IsInside, HasNumber, IsConsistent}
@@ -85,6 +86,10 @@ moved_other : (s t : State) (node : ℕ) → t.me ≡ s.me → t.nodes ≡ s.nod
 moved_other s t node me nodes h =
     record { first = h.first; last = omega (arith, h.last, nodes); other = λ e. h.other (e ∙ me) }
 
+-- a number that a node has met is one that it has met later too
+met_higher : (number highest higher : ℕ) → highest ≤ higher → (1 ≤ number) × (number ≤ highest) → (1 ≤ number) × (number ≤ higher)
+met_higher number highest higher le h = (h.0, omega (arith, h.1))
+
 pub consistent_asked : (old : State) (mode : Mode) → IsConsistent old → old.phase ≡ Idle → 1 < old.nodes
     → IsConsistent (record old { highest = old.highest + 1; phase = Waiting (old.highest + 1) mode; awaited = set.from_list (others_of old.me old.nodes) })
 consistent_asked old mode h idle many =
@@ -93,6 +98,7 @@ consistent_asked old mode h idle many =
       member = h.member;
       awaited_others = λ node k. moved_other old _ node refl refl (asked_is_other old node k);
       deferred_others = λ node number k. moved_other old _ node refl refl (h.deferred_others node number k);
+      deferred_numbers = λ node number k. met_higher number old.highest (old.highest + 1) (omega arith) (h.deferred_numbers node number k);
       awaits = λ _. somebody_is_asked old.me old.nodes many;
       awaits_only = λ k. absurd (k tt);
       defers_only = λ e. absurd cc;
@@ -110,6 +116,7 @@ consistent_alone old mode h idle =
       member = h.member;
       awaited_others = λ node k. moved_other old _ node refl refl (h.awaited_others node k);
       deferred_others = λ node number k. moved_other old _ node refl refl (h.deferred_others node number k);
+      deferred_numbers = λ node number k. met_higher number old.highest (old.highest + 1) (omega arith) (h.deferred_numbers node number k);
       awaits = λ w. absurd w;
       awaits_only = λ _. idle_awaits_nobody old h idle;
       defers_only = λ e. absurd cc;
@@ -135,6 +142,7 @@ consistent_meet s seq h =
       member = h.member;
       awaited_others = λ node k. moved_other s _ node refl refl (h.awaited_others node k);
       deferred_others = λ node number k. moved_other s _ node refl refl (h.deferred_others node number k);
+      deferred_numbers = λ node number k. met_higher number s.highest (max s.highest seq) (omega arith) (h.deferred_numbers node number k);
       awaits = h.awaits;
       awaits_only = h.awaits_only;
       defers_only = h.defers_only;
@@ -148,14 +156,37 @@ put_in s other number later node h is k =
       | inr apart ↦ h.deferred_others node number (sym (map.get-insert nat_cmp_total s.deferred other later node ∙ ap (λ b. cond b (Some later) (map.get s.deferred node)) (untied node other apart)) ∙ k)
     ]
 
-pub consistent_put_off : (s : State) (other seq later : ℕ) → IsConsistent s → IsOther s other → s.phase ≢ Idle
+put_number : (s : State) (other number later higher node : ℕ) → IsConsistent s → s.highest ≤ higher → (1 ≤ later) × (later ≤ higher)
+    → map.get (map.insert s.deferred other later) node ≡ Some number → (1 ≤ number) × (number ≤ higher)
+put_number s other number later higher node h le fits k =
+    let got = sym (map.get-insert nat_cmp_total s.deferred other later node) ∙ k in
+    elim (cases_same node other) [
+      | inl same ↦
+          let e : later ≡ number = some_same later number (sym (ap (λ b. cond b (Some later) (map.get s.deferred node)) (tied node other same)) ∙ got) in
+          subst (λ n. (1 ≤ n) × (n ≤ higher)) e fits
+      | inr apart ↦ met_higher number s.highest higher le (h.deferred_numbers node number (sym (ap (λ b. cond b (Some later) (map.get s.deferred node)) (untied node other apart)) ∙ got))
+    ]
+  where
+    some_same : (a b : ℕ) → ◌≡◌ {A = Option ℕ} (Some a) (Some b) → a ≡ b
+    some_same a b e = cc
+
+-- of two numbers that a node has met the later one is such a number
+pub later_fits : (s : State) (other number : ℕ) → IsConsistent s → 1 ≤ number → (1 ≤ later_of (map.get s.deferred other) number) × (later_of (map.get s.deferred other) number ≤ max s.highest number)
+later_fits s other number h one = of_slot (map.get s.deferred other) refl
+  where
+    of_slot : (slot : Option ℕ) → map.get s.deferred other ≡ slot → (1 ≤ later_of slot number) × (later_of slot number ≤ max s.highest number)
+    of_slot None e = (one, omega arith)
+    of_slot (Some before) e = let r = h.deferred_numbers other before e in (omega (arith, one), omega (arith, r.1))
+
+pub consistent_put_off : (s : State) (other seq later : ℕ) → IsConsistent s → IsOther s other → s.phase ≢ Idle → (1 ≤ later) × (later ≤ max s.highest seq)
     → IsConsistent (record s { highest = max s.highest seq; deferred = map.insert s.deferred other later })
-consistent_put_off s other seq later h is busy =
+consistent_put_off s other seq later h is busy fits =
     record {
       count = h.count;
       member = h.member;
       awaited_others = λ node k. moved_other s _ node refl refl (h.awaited_others node k);
       deferred_others = λ node number k. moved_other s _ node refl refl (put_in s other number later node h is k);
+      deferred_numbers = λ node number k. put_number s other number later (max s.highest seq) node h (omega arith) fits k;
       awaits = h.awaits;
       awaits_only = h.awaits_only;
       defers_only = λ e. absurd (busy e);
@@ -184,6 +215,7 @@ consistent_waits_on s other h left waiting =
       member = h.member;
       awaited_others = λ node k. moved_other s _ node refl refl (h.awaited_others node (still_awaited s other node k));
       deferred_others = λ node number k. moved_other s _ node refl refl (h.deferred_others node number k);
+      deferred_numbers = h.deferred_numbers;
       awaits = λ _. left;
       awaits_only = λ k. absurd (k waiting);
       defers_only = h.defers_only;
@@ -197,6 +229,7 @@ consistent_enters s number mode h waits =
       member = h.member;
       awaited_others = λ node k. absurd (true_is_not_false (sym k ∙ set.contains-empty nat_cmp node));
       deferred_others = λ node seq k. moved_other s _ node refl refl (h.deferred_others node seq k);
+      deferred_numbers = h.deferred_numbers;
       awaits = λ w. absurd w;
       awaits_only = λ _. refl;
       defers_only = λ e. absurd cc;
@@ -225,6 +258,7 @@ consistent_end s h inside =
       member = h.member;
       awaited_others = λ node k. moved_other s _ node refl refl (h.awaited_others node k);
       deferred_others = λ node number k. absurd (some_is_not_none number (sym k ∙ map.get-empty nat_cmp node));
+      deferred_numbers = λ node number k. absurd (some_is_not_none number (sym k ∙ map.get-empty nat_cmp node));
       awaits = λ w. absurd w;
       awaits_only = λ _. h.awaits_only (inside_is_not_waiting s.phase inside);
       defers_only = λ _. refl;
@@ -239,11 +273,24 @@ own_is_busy Idle me other number wanted h e = h
 own_is_busy (Waiting seq mode) me other number wanted h e = absurd cc
 own_is_busy (Inside seq mode) me other number wanted h e = absurd cc
 
+-- a request that is later than the own one has a number of 1 or more
+not_earlier : (seq number me other : ℕ) → 1 ≤ seq → IsEarlier (record { seq = seq; node = me }) (record { seq = number; node = other }) → 1 ≤ number
+not_earlier seq number me other one earlier = elim earlier [ inl below ↦ omega (arith, one, below) | inr same ↦ omega (arith, one, same.0) ]
+
+own_numbered : (phase : Phase) (highest me other number : ℕ) (wanted : Mode) → HasNumber phase highest → OwnGoesFirst phase me other number wanted → 1 ≤ number
+own_numbered Idle highest me other number wanted n h = absurd h
+own_numbered (Waiting seq mode) highest me other number wanted n h = not_earlier seq number me other n.0 h.earlier
+own_numbered (Inside seq mode) highest me other number wanted n h = not_earlier seq number me other n.0 h.earlier
+
+pub numbered_where_own_first : (s : State) (other number : ℕ) (wanted : Mode) → IsConsistent s → OwnGoesFirst s.phase s.me other number wanted → 1 ≤ number
+numbered_where_own_first s other number wanted h own = own_numbered s.phase s.highest s.me other number wanted h.numbered own
+
 pub consistent_taken : (old : State) (other number : ℕ) (wanted : Mode) (sends : List Message) (new : State) → IsConsistent old → IsOther old other
     → Defers old other number wanted sends new ⊎ RepliesAtOnce old other number wanted sends new → IsConsistent new
 consistent_taken old other number wanted sends new h is takes =
     elim takes [
-      | inl defers ↦ subst IsConsistent (sym defers.new_is) (consistent_put_off old other number _ h is (own_is_busy old.phase old.me other number wanted defers.own_first))
+      | inl defers ↦ subst IsConsistent (sym defers.new_is) (consistent_put_off old other number _ h is (own_is_busy old.phase old.me other number wanted defers.own_first)
+          (later_fits old other number h (own_numbered old.phase old.highest old.me other number wanted h.numbered defers.own_first)))
       | inr replies ↦ subst IsConsistent (sym replies.new_is) (consistent_meet old number h)
     ]
 

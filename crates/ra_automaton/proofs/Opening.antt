@@ -13,6 +13,7 @@ opening_is_consistent me nodes name start n m le =
       member = (m.0, le);
       awaited_others = λ node h. absurd (grind (members, rules));
       deferred_others = λ node number h. absurd (grind (gets, rules));
+      deferred_numbers = λ node number h. absurd (grind (gets, rules));
       awaits = λ waiting e. waiting;
       awaits_only = λ _. refl;
       defers_only = λ _. refl;

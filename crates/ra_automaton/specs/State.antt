@@ -75,6 +75,8 @@ pub record IsConsistent (s : State) : Type 0 where
   -- who is awaited or deferred is another node
   pub awaited_others : (node : ℕ) → IsTrue (set.contains s.awaited node) → IsOther s node
   pub deferred_others : (node number : ℕ) → map.get s.deferred node ≡ Some number → IsOther s node
+  -- the number of a deferral is 1 or more, and one that the node has met
+  pub deferred_numbers : (node number : ℕ) → map.get s.deferred node ≡ Some number → (1 ≤ number) × (number ≤ s.highest)
   -- a node awaits replies exactly while it waits, and defers none while it is idle
   pub awaits : IsWaiting s.phase → s.awaited ≡ set.empty → ⊥
   pub awaits_only : (IsWaiting s.phase → ⊥) → s.awaited ≡ set.empty

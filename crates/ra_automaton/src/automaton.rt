@@ -1,4 +1,4 @@
-ghost use Rattle.std.specs.Prelude.{◌≡◌, ◌≢◌, ◌+◌, ◌<◌, ◌⊎◌, ◌↔◌, max, true, false, IsTrue, IsErrOf, IfOk, IfErr, OnOk, OnErr};
+ghost use Rattle.std.specs.Prelude.{◌≡◌, ◌≢◌, ◌+◌, ◌<◌, ◌≤◌, ◌⊎◌, ◌↔◌, max, true, false, IsTrue, IsErrOf, IfOk, IfErr, OnOk, OnErr};
 
 use crate::cases::{
     Answer, Doing, Effect, answer_when_idle, answer_when_inside, answer_when_waiting,
@@ -331,6 +331,7 @@ impl Automaton {
     fn put_off(&mut self, other: NodeId, seq: u64)
         requires other { IsOther self.old other }
         requires busy { self.old.phase ≢ Phase.Idle }
+        requires numbered { 1 ≤ seq }
         ensures { self.new ≡ record self.old {
           highest = max self.old.highest seq;
           deferred = finmap.insert self.old.deferred other (later_of (finmap.get self.old.deferred other) seq);
