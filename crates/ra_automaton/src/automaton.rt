@@ -212,28 +212,32 @@ impl Automaton {
 
     /// The highest number that this node has met, 0 to 2^64-1.
     pub fn highest(&self) -> u64
-        ensures { result ≡ self.now.highest }
+        ensures value { result ≡ self.now.highest }
+        ensures consistent { IsConsistent self.now }
     {
         self.highest
     }
 
     /// The resource.
     pub fn name(&self) -> Name
-        ensures { result ≡ self.now.name }
+        ensures value { result ≡ self.now.name }
+        ensures consistent { IsConsistent self.now }
     {
         self.name
     }
 
     /// Whether this node awaits the REPLY of a node.
     pub fn waits_for(&self, node: NodeId) -> bool
-        ensures { result ≡ set.contains self.now.awaited node }
+        ensures value { result ≡ set.contains self.now.awaited node }
+        ensures consistent { IsConsistent self.now }
     {
         is_marked(&self.awaited, node)
     }
 
     /// The number of the request of a node whose REPLY is deferred, or `None` where it is not.
     pub fn deferred(&self, node: NodeId) -> Option<u64>
-        ensures { result ≡ finmap.get self.now.deferred node }
+        ensures value { result ≡ finmap.get self.now.deferred node }
+        ensures consistent { IsConsistent self.now }
     {
         number_of(&self.deferred, node)
     }

@@ -377,28 +377,47 @@ fn a_node_inside_defers_what_it_goes_before(rt: HostRuntime) -> Result<(), Fail>
 #[test]
 fn strays_change_nothing(rt: HostRuntime) -> Result<(), Fail> {
     let mode = Mode::Exclusive;
+    let own = Phase::Waiting { seq: 5, mode };
     let mut taken_once = waiting(rt.alloc(), mode)?;
     take(rt.alloc(), &mut taken_once, &reply(1, 2, 5)?)?;
-    let own = Phase::Waiting { seq: 5, mode };
-    for (case, mut automaton, message, phase) in [
-        ("idle", idle(rt.alloc())?, reply(1, 2, 4)?, Phase::Idle),
+    let mut waits_and_defers = waiting(rt.alloc(), mode)?;
+    take(rt.alloc(), &mut waits_and_defers, &request(3, 2, mode, 6)?)?;
+    let mut inside_and_defers = inside(rt.alloc(), mode)?;
+    take(rt.alloc(), &mut inside_and_defers, &request(3, 2, mode, 6)?)?;
+    for (case, mut automaton, message, phase, deferred_three) in [
+        (
+            "idle",
+            idle(rt.alloc())?,
+            reply(1, 2, 4)?,
+            Phase::Idle,
+            None,
+        ),
         (
             "inside",
-            inside(rt.alloc(), mode)?,
+            inside_and_defers,
             reply(1, 2, 5)?,
             Phase::Inside { seq: 5, mode },
+            Some(6),
         ),
         (
             "waiting, another number",
-            waiting(rt.alloc(), mode)?,
+            waits_and_defers,
             reply(1, 2, 4)?,
             own,
+            Some(6),
         ),
-        ("waiting, not awaited", taken_once, reply(1, 2, 5)?, own),
+        (
+            "waiting, not awaited",
+            taken_once,
+            reply(1, 2, 5)?,
+            own,
+            None,
+        ),
     ] {
         let highest = automaton.highest();
         let waits_for_one = automaton.waits_for(node(1)?);
         let waits_for_three = automaton.waits_for(node(3)?);
+        assert_eq!(rt; automaton.deferred(node(3)?), deferred_three, "{case}");
         let taken = take(rt.alloc(), &mut automaton, &message)?;
         assert_eq!(rt; taken.sends.at(0), None, "{case}");
         assert!(rt; !taken.entered, "{case}");
@@ -407,6 +426,7 @@ fn strays_change_nothing(rt: HostRuntime) -> Result<(), Fail> {
         assert_eq!(rt; automaton.waits_for(node(1)?), waits_for_one, "{case}");
         assert_eq!(rt; automaton.waits_for(node(3)?), waits_for_three, "{case}");
         assert_eq!(rt; automaton.deferred(node(1)?), None, "{case}");
+        assert_eq!(rt; automaton.deferred(node(3)?), deferred_three, "{case}");
     }
     Ok(())
 }

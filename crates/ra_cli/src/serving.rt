@@ -1,4 +1,6 @@
-ghost use Rattle.std.specs.Prelude.{◌≤◌};
+ghost use Rattle.std.specs.Prelude.{◌≡◌, ◌≤◌, ◌⊎◌, List, ℕ, IfSome};
+ghost use Rattle.std.specs.Io.KnownBytes.{Consumes, Appends};
+ghost use Rattle.ra_cli.specs.Answer.{IsAnswered};
 
 use crate::command_line::{CommandFault, Task, parse};
 use crate::output::write_out;
@@ -39,7 +41,8 @@ impl From<CommandFault> for Refusal {
 /// The status of a text that was to be written.
 fn written<W: Write>(writer: &mut W, text: &[u8], status: u8) -> u8
     requires { status ≤ 2 }
-    ensures { result ≤ 2 }
+    ensures range { result ≤ 2 }
+    ensures value { (result ≡ status) ⊎ (result ≡ 1) }
 {
     match write_out(writer, text) {
         Ok(()) => status,
@@ -49,7 +52,9 @@ fn written<W: Write>(writer: &mut W, text: &[u8], status: u8) -> u8
 
 /// Prints a refusal, but after a fault of the writer, when nothing more is written.
 fn refuse<W: Write>(alloc: Global, writer: &mut W, refusal: Refusal) -> u8
-    ensures { result ≤ 2 }
+    ensures range { result ≤ 2 }
+    ensures not_done { 1 ≤ result }
+    ensures unwritten { refusal ≡ Refusal.Answer AnswerError.Write → W.contents writer.new ≡ W.contents writer.old }
 {
     let status = match refusal {
         Refusal::Answer(AnswerError::Write) => return BROKEN,
@@ -72,7 +77,12 @@ pub fn serve<T, R: Read, W: Write>(
     reader: &mut R,
     writer: &mut W,
 ) -> u8
-    ensures { result ≤ 2 }
+    ensures range { result ≤ 2 }
+    // Status 0 comes only where the input was answered, or where none of it was read, as for a text of help.
+    ensures done { result ≡ 0 → (R.remaining reader.new ≡ R.remaining reader.old)
+        ⊎ ((node : ℕ) × (nodes : ℕ) × IfSome (R.remaining reader.old) (λ input. (output : List ℕ) × IsAnswered node nodes input output
+        × Consumes (R.remaining reader.old) (R.remaining reader.new) input
+        × Appends (W.contents writer.old) (W.contents writer.new) output)) }
 {
     match parse(alloc, words) {
         Ok(Task::Answer { node, nodes }) => match answer(alloc, node, nodes, reader, writer) {

@@ -131,7 +131,7 @@ fn answer_writes_the_reply_with_ample_memory(rt: HostRuntime) -> Result<(), Fail
     let mut reader = REQUEST.as_bytes();
     let mut output = Vec::new(alloc);
     let answered = answer(alloc, 2, 3, &mut reader, &mut output);
-    assert!(rt; answered == Ok(()));
+    assert_eq!(rt; answered, Ok(()));
     let printed = format!(in alloc; "{REPLY}\n")?;
     assert_eq!(rt; output.as_slice(), printed.as_bytes());
     Ok(())
@@ -191,6 +191,49 @@ fn each_refusal_is_printed_by_its_word(rt: HostRuntime) -> Result<(), Fail> {
             "WrongNode",
         ),
         ("0101050201000000000000000100000000000000010172", "Stranger"),
+    ];
+    for (input, word) in cases {
+        let (status, output) = run(&rt, "ra answer --node 2 --nodes 3", input)?;
+        let printed = format!(in alloc; "refused {word}\n")?;
+        assert_eq!(rt; status, 2, "{input}");
+        assert_eq!(rt; output.as_slice(), printed.as_bytes(), "{input}");
+    }
+    Ok(())
+}
+
+#[test]
+fn of_two_causes_the_first_is_named(rt: HostRuntime) -> Result<(), Fail> {
+    let alloc = rt.alloc();
+    let cases = [
+        // The last clock, for another node or from one that there is not.
+        (
+            "0101010301000000000000000140000000000000000172",
+            "WrongNode",
+        ),
+        (
+            "0102010300000000000000000140000000000000000172",
+            "WrongNode",
+        ),
+        ("0101050201000000000000000140000000000000000172", "Stranger"),
+        ("0102050200000000000000000140000000000000000172", "Stranger"),
+        // For another node, and from one that there is not.
+        (
+            "0101050301000000000000000140000000000000000172",
+            "WrongNode",
+        ),
+        // From this node, for another one.
+        (
+            "0101020301000000000000000100000000000000010172",
+            "WrongNode",
+        ),
+        // No frame, for another node.
+        ("0101010301000000000000000140000000000000010172", "Clock"),
+        (
+            "010101030100000000000000014000000000000000017200",
+            "Trailing",
+        ),
+        // A line feed in the middle of what are no digits.
+        ("zz\nzz", "Line"),
     ];
     for (input, word) in cases {
         let (status, output) = run(&rt, "ra answer --node 2 --nodes 3", input)?;
@@ -320,7 +363,7 @@ fn a_reader_that_fails_at_any_byte_is_a_fault(rt: HostRuntime) -> Result<(), Fai
         before_fault: line.len() + 1,
     };
     let mut output = Vec::new(alloc);
-    assert!(rt; answer(alloc, 2, 3, &mut reader, &mut output) == Ok(()));
+    assert_eq!(rt; answer(alloc, 2, 3, &mut reader, &mut output), Ok(()));
     Ok(())
 }
 
@@ -358,7 +401,10 @@ fn a_writer_that_fails_after_any_byte_has_those_before(rt: HostRuntime) -> Resul
 fn a_writer_that_takes_nothing_is_a_fault(rt: HostRuntime) -> Result<(), Fail> {
     let alloc = rt.alloc();
     let mut reader = REQUEST.as_bytes();
-    assert!(rt; answer(alloc, 2, 3, &mut reader, &mut FullWriter) == Err(AnswerError::Write));
+    assert_eq!(rt;
+        answer(alloc, 2, 3, &mut reader, &mut FullWriter),
+        Err(AnswerError::Write)
+    );
 
     let words = words_of(alloc, "ra answer --node 2 --nodes 3")?;
     let mut bad = "zz".as_bytes();

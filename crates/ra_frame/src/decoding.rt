@@ -1,4 +1,4 @@
-ghost use Rattle.std.specs.Prelude.{◌≡◌, ℕ, ◌+◌, ◌≤◌, ◌<◌, List, length, slice_index, slice_range, All, IfOk, IfErr};
+ghost use Rattle.std.specs.Prelude.{◌≡◌, ◌↔◌, ℕ, ◌+◌, ◌≤◌, ◌<◌, List, length, slice_index, slice_range, All, IfOk, IsErrOf};
 ghost use Rattle.std.specs.List.{list_all};
 ghost use Rattle.ra_stamp.specs.NodeId.{IsNodeNumber};
 ghost use Rattle.ra_stamp.specs.Name.{is_name_byte};
@@ -137,7 +137,7 @@ pub fn decode(bytes: &[u8]) -> Result<Frame, FrameError>
     ensures only { (frame : Frame) → IsFrameText bytes.now frame → result ≡ Ok frame }
     ensures fits { IfOk result Fits }
 
-    ensures fault { IfErr result (λ fault. spec.first_fault bytes.now ≡ Some fault) }
+    ensures fault { (fault : FrameError) → IsErrOf result fault ↔ (spec.first_fault bytes.now ≡ Some fault) }
 {
     match first_fault(bytes) {
         Some(fault) => Err(fault),

@@ -12,6 +12,14 @@ const REPLIES: [u8; 23] = [
     1, 2, 2, 1, 0, 0, 0, 0, 0, 0, 0, 0, 1, 0, 0, 0, 0, 0, 0, 0, 2, 1, b'r',
 ];
 
+/// A REQUEST from node 16 to node 1, shared, for a name of 32 bytes: the longest frame.
+const LONGEST: [u8; 54] = [
+    1, 1, 16, 1, 0, 0x01, 0x02, 0x03, 0x04, 0x05, 0x06, 0x07, 0x08, 0x11, 0x12, 0x13, 0x14, 0x15,
+    0x16, 0x17, 0x18, 32, 0x41, 0x5a, 0x61, 0x7a, 0x30, 0x39, 0x5f, 0x2d, 0x2e, 0x62, 0x63, 0x64,
+    0x65, 0x66, 0x67, 0x68, 0x69, 0x6a, 0x6b, 0x6c, 0x6d, 0x6e, 0x6f, 0x70, 0x71, 0x72, 0x73, 0x74,
+    0x75, 0x76, 0x77, 0x78,
+];
+
 fn node(number: u16) -> Result<NodeId, &'static str> {
     NodeId::new(number).ok_or("a node's number is 1 to 16")
 }
@@ -96,6 +104,38 @@ fn replies_are_read_and_written_again_the_same(rt: HostRuntime) -> Result<(), Fa
         (with(&REPLIES, &[(2, 1), (3, 2), (20, 1)]), to_second),
         (with(&REPLIES, &greatest), reply(last, u64::MAX)?),
     ] {
+        assert_eq!(rt; decode(&text), Ok(frame), "{frame:?}");
+        assert_eq!(rt;
+            encode(rt.alloc(), &frame)?.as_slice(),
+            text.as_slice(),
+            "{frame:?}"
+        );
+    }
+    Ok(())
+}
+
+#[test]
+fn the_longest_frames_are_read_and_written(rt: HostRuntime) -> Result<(), Fail> {
+    let clock = 0x1112_1314_1516_1718;
+    let seq = 0x0102_0304_0506_0708;
+    let name = Name::new(b"AZaz09_-.bcdefghijklmnopqrstuvwx")?;
+    let request = Message::Request {
+        from: node(16)?,
+        to: node(1)?,
+        name,
+        mode: Mode::Shared,
+        seq,
+    };
+    let reply = Message::Reply {
+        from: node(16)?,
+        to: node(1)?,
+        name,
+        seq,
+    };
+    let mut reply_text = LONGEST;
+    reply_text[1] = 2;
+    for (text, message) in [(LONGEST, request), (reply_text, reply)] {
+        let frame = Frame { clock, message };
         assert_eq!(rt; decode(&text), Ok(frame), "{frame:?}");
         assert_eq!(rt;
             encode(rt.alloc(), &frame)?.as_slice(),

@@ -1,5 +1,5 @@
 //! Laws of the definitions, for the crates above: each function has no code, and its contract is the law.
-ghost use Rattle.std.specs.Prelude.{◌≡◌, ◌↔◌, ◌⊎◌, IsTrue};
+ghost use Rattle.std.specs.Prelude.{◌≡◌, ◌↔◌, ◌⊎◌, ℕ, List, IsTrue};
 ghost use Rattle.ra_stamp.specs.declared.stamp.Stamp.{Stamp};
 ghost use Rattle.ra_stamp.specs.declared.mode.Mode.{Mode};
 ghost use Rattle.ra_stamp.specs.declared.message.Message.{Message};
@@ -8,7 +8,7 @@ ghost use Rattle.ra_stamp.specs.declared.entry.Mark.{Mark};
 ghost use Rattle.ra_stamp.specs.Mode.{Conflict, conflicts};
 ghost use Rattle.ra_stamp.specs.Stamp.{IsEarlier, stamp_cmp};
 
-use crate::{Entry, Mark, Message, Stamp};
+use crate::{Entry, Mark, Message, Mode, Name, NodeId, Stamp};
 use std::cmp::Ordering;
 
 /// Stamps compare by number and then by node, and of two different ones exactly one is earlier.
@@ -28,8 +28,12 @@ pub fn conflict_is_symmetric()
     ensures fact { (a b : Mode) → Conflict a b → Conflict b a }
 {}
 
-/// Messages, entries and marks that compare as equal are the same.
+/// Values that compare as equal are the same.
 pub fn equal_is_same()
+    ensures nodes { (a b : ℕ) → IsTrue (⟦<NodeId as PartialEq>⟧.eq a b) ↔ (a ≡ b) }
+    ensures names { (a b : List ℕ) → IsTrue (⟦<Name as PartialEq>⟧.eq a b) ↔ (a ≡ b) }
+    ensures modes { (a b : Mode) → IsTrue (⟦<Mode as PartialEq>⟧.eq a b) ↔ (a ≡ b) }
+    ensures stamps { (a b : Stamp) → IsTrue (⟦<Stamp as PartialEq>⟧.eq a b) ↔ (a ≡ b) }
     ensures messages { (a b : Message) → IsTrue (⟦<Message as PartialEq>⟧.eq a b) ↔ (a ≡ b) }
     ensures entries { (a b : Entry) → IsTrue (⟦<Entry as PartialEq>⟧.eq a b) ↔ (a ≡ b) }
     ensures marks { (a b : Mark) → IsTrue (⟦<Mark as PartialEq>⟧.eq a b) ↔ (a ≡ b) }

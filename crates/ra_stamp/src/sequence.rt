@@ -45,10 +45,10 @@ impl<T: Copy> Sequence<T> {
     }
 
     /// Adds an item at the end, in amortized constant time. Where there is spare room it cannot fail. Errors: `Memory`,
-    /// and the list is as before.
+    /// and the list is as before, with its spare.
     pub fn push(&mut self, item: T) -> Result<(), Memory>
         ensures ok { OnOk result (self.new.items ≡ self.old.items ++ item ∷ []) }
-        ensures err { OnErr result (self.new.items ≡ self.old.items) }
+        ensures err { OnErr result (self.new ≡ self.old) }
         ensures succeeds { 1 ≤ self.old.spare → IsOk result }
         ensures spare { 1 ≤ self.old.spare → self.new.spare + 1 ≡ self.old.spare }
     {
@@ -60,10 +60,11 @@ impl<T: Copy> Sequence<T> {
     }
 
     /// Makes room for this many more items, in time linear in the number of items. Errors: `Memory`, and the list is as
-    /// before.
+    /// before, with its spare.
     pub fn reserve(&mut self, more: u64) -> Result<(), Memory>
         ensures same { self.new.items ≡ self.old.items }
         ensures ok { OnOk result (more ≤ self.new.spare) }
+        ensures err { OnErr result (self.new ≡ self.old) }
         ensures succeeds { more ≤ self.old.spare → IsOk result }
         ensures grows { self.old.spare ≤ self.new.spare }
     {

@@ -79,7 +79,7 @@ waits_keeps e old new (Entered x) step other at =
       | inl same ↦ absurd (other (ap (λ (y : Entry). Entered y) same))
       | inr rest ↦ rw step.1.2 rest
     ]
-waits_keeps e old new (Left x) step other at = rw step.0 at
+waits_keeps e old new (Left x) step other at = rw step.1 at
 
 waits_comes : (e : Entry) (old new : LockTable) (m : Mark) → IsSoundTable old → TableStep old m new → Waits e new → (Waits e old × (m ≡ Entered e → ⊥)) ⊎ (m ≡ Requested e)
 waits_comes e old new (Requested x) sound step at =
@@ -91,7 +91,7 @@ waits_comes e old new (Entered x) sound step at =
     let rest : Contains (step.1.0 ++ step.1.1) e = subst (λ (w : List Entry). Contains w e) step.1.2 at in
     let others : All (NotOfOneNode x) (step.1.0 ++ step.1.1) = All-apart NotOfOneNode NotOfOneNode-flip step.1.0 step.1.1 x (rw (← step.1.3) sound.apart_waiting) in
     inl (rw step.1.3 (Contains-put step.1.0 step.1.1 x e rest), λ is. let same : x ≡ e = cc in All-contains (NotOfOneNode x) (step.1.0 ++ step.1.1) e others rest (ap (λ (y : Entry). y.name) same, ap (λ (y : Entry). y.stamp.node) same))
-waits_comes e old new (Left x) sound step at = inl (rw (← step.0) at, λ is. absurd cc)
+waits_comes e old new (Left x) sound step at = inl (rw (← step.1) at, λ is. absurd cc)
 
 waiting_lasts : (e : Entry) → Lasts (Waits e) (Requested e) (λ m. m ≡ Entered e)
 waiting_lasts e = record { starts = waits_starts e; keeps = waits_keeps e; comes = waits_comes e }
@@ -108,9 +108,9 @@ holds_keeps : (e : Entry) (old new : LockTable) (m : Mark) → TableStep old m n
 holds_keeps e old new (Requested x) step other at = rw step.2 at
 holds_keeps e old new (Entered x) step other at = rw step.2.3 (Contains-put step.2.0 step.2.1 x e (subst (λ (h : List Entry). Contains h e) step.2.2 at))
 holds_keeps e old new (Left x) step other at =
-    elim (Contains-cases step.1.0 step.1.1 x e (subst (λ (h : List Entry). Contains h e) step.1.3 at)) [
+    elim (Contains-cases step.2.0 step.2.1 x e (subst (λ (h : List Entry). Contains h e) step.2.3 at)) [
       | inl same ↦ absurd (other (ap (λ (y : Entry). Left y) same))
-      | inr rest ↦ rw step.1.2 rest
+      | inr rest ↦ rw step.2.2 rest
     ]
 
 holds_comes : (e : Entry) (old new : LockTable) (m : Mark) → IsSoundTable old → TableStep old m new → Holds e new → (Holds e old × (m ≡ Left e → ⊥)) ⊎ (m ≡ Entered e)
@@ -121,9 +121,9 @@ holds_comes e old new (Entered x) sound step at =
       | inr older ↦ inl (rw step.2.2 older, λ is. absurd cc)
     ]
 holds_comes e old new (Left x) sound step at =
-    let rest : Contains (step.1.0 ++ step.1.1) e = subst (λ (h : List Entry). Contains h e) step.1.2 at in
-    let others : All (NotOfOneNode x) (step.1.0 ++ step.1.1) = All-apart NotOfOneNode NotOfOneNode-flip step.1.0 step.1.1 x (rw (← step.1.3) sound.apart_holding) in
-    inl (rw step.1.3 (Contains-put step.1.0 step.1.1 x e rest), λ is. let same : x ≡ e = cc in All-contains (NotOfOneNode x) (step.1.0 ++ step.1.1) e others rest (ap (λ (y : Entry). y.name) same, ap (λ (y : Entry). y.stamp.node) same))
+    let rest : Contains (step.2.0 ++ step.2.1) e = subst (λ (h : List Entry). Contains h e) step.2.2 at in
+    let others : All (NotOfOneNode x) (step.2.0 ++ step.2.1) = All-apart NotOfOneNode NotOfOneNode-flip step.2.0 step.2.1 x (rw (← step.2.3) sound.apart_holding) in
+    inl (rw step.2.3 (Contains-put step.2.0 step.2.1 x e rest), λ is. let same : x ≡ e = cc in All-contains (NotOfOneNode x) (step.2.0 ++ step.2.1) e others rest (ap (λ (y : Entry). y.name) same, ap (λ (y : Entry). y.stamp.node) same))
 
 holding_lasts : (e : Entry) → Lasts (Holds e) (Entered e) (λ m. m ≡ Left e)
 holding_lasts e = record { starts = holds_starts e; keeps = holds_keeps e; comes = holds_comes e }
@@ -143,7 +143,7 @@ granted_comes e old new (Entered x) sound step at =
       | inl same ↦ inr (ap (λ (y : Entry). Entered y) same)
       | inr older ↦ inl (rw step.3.2 older, λ no. no)
     ]
-granted_comes e old new (Left x) sound step at = inl (rw (← step.2) at, λ no. no)
+granted_comes e old new (Left x) sound step at = inl (rw (← step.3) at, λ no. no)
 
 granted_lasts : (e : Entry) → Lasts (WasGranted e) (Entered e) (λ _. ⊥)
 granted_lasts e = record { starts = granted_starts e; keeps = λ old new m step on at. keeps_granted old new m e step at; comes = granted_comes e }

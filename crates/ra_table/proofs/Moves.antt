@@ -35,7 +35,7 @@ step_entered old e place waiting holding granted may lt at w h g =
 pub step_left : (old : LockTable) (e : Entry) (place : ℕ) (waiting holding granted : List Entry) → place < length old.holding → get_or old.holding place e ≡ e
     → waiting ≡ old.waiting → holding ≡ remove old.holding place → granted ≡ old.granted
     → TableStep old (Left e) (record { waiting = waiting; holding = holding; granted = granted })
-step_left old e place waiting holding granted lt at w h g = (w, rw h (Loses-remove old.holding place e lt at), g)
+step_left old e place waiting holding granted lt at w h g = ((place, lt, at), w, rw h (Loses-remove old.holding place e lt at), g)
 
 pub IsConflictFree-push : (xs ys : List Entry) (e : Entry) → IsConflictFree xs → All (λ x. Excludes x e → ⊥) xs → ys ≡ xs ++ e ∷ [] → IsConflictFree ys
 IsConflictFree-push xs ys e none free is = rw is (all_pairs_push (λ a b. Excludes a b → ⊥) xs e none free)

@@ -8,7 +8,7 @@ use Rattle.ra_stamp.specs.declared.entry.Mark.TheVariants.{Requested, Entered, L
 use Rattle.ra_stamp.specs.Stamp.{IsEarlier}
 use Rattle.ra_table.specs.Table.{LockTable, empty_table, Excludes, MayRequest, MayEnter, TableRun}
 use Rattle.ra_table.specs.Laws.{Allows, SameEntries}
-use Rattle.ra_table.proofs.Apart.{All-from_contains, Contains-there}
+use Rattle.ra_table.proofs.Apart.{All-from_contains}
 use Rattle.ra_table.proofs.Moves.{Gains-push, Loses-contained}
 use Rattle.ra_table.proofs.Runs.{steps_split, steps_grow}
 use Rattle.ra_table.proofs.History.{same_entries}
@@ -28,9 +28,9 @@ allows_enter table e = (
 
 pub allows_leave : (table : LockTable) (e : Entry) → Allows table (Left e) ↔ Contains table.holding e
 allows_leave table e = (
-  λ step. let loses = step.1.1 in rw loses.3 (Contains-there loses.0 loses.1 e),
+  λ step. step.1.0,
   λ at. let rest = Loses-contained table.holding e at in
-      (record { waiting = table.waiting; holding = rest.0; granted = table.granted }, (refl, rest.1, refl)),
+      (record { waiting = table.waiting; holding = rest.0; granted = table.granted }, (at, refl, rest.1, refl)),
 )
 
 -- what holds of each entry of one list holds of each entry of another that has no more

@@ -43,7 +43,7 @@ holders_do_not_conflict marks table run = AllPairs-apart (λ a b. Excludes a b �
 pub keeps_granted : (old new : LockTable) (mark : Mark) (e : Entry) → TableStep old mark new → Contains old.granted e → Contains new.granted e
 keeps_granted old new (Requested x) e step at = rw step.3 at
 keeps_granted old new (Entered x) e step at = rw step.3.3 (Contains-put step.3.0 step.3.1 x e (subst (λ (g : List Entry). Contains g e) step.3.2 at))
-keeps_granted old new (Left x) e step at = rw step.2 at
+keeps_granted old new (Left x) e step at = rw step.3 at
 
 -- an entry that is granted after another was, and that excludes it, is later
 later_grant : (marks : List Mark) (old new : LockTable) (e f : Entry) (j : ℕ) → TableSteps old marks new → IsSoundTable old → Contains old.granted e

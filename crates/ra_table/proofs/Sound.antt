@@ -125,5 +125,5 @@ step_sound old new (Entered e) step sound =
     let may : MayEnter (record { waiting = step.1.0 ++ e ∷ step.1.1; holding = step.2.0 ++ step.2.1; granted = step.3.0 ++ step.3.1 }) e = rw (← step.1.3, ← step.2.2, ← step.3.2) step.0 in
     rw (step.1.2, step.2.3, step.3.3) (sound_entered step.1.0 step.1.1 step.2.0 step.2.1 step.3.0 step.3.1 e before may)
 step_sound old new (Left e) step sound =
-    let before : IsSound old.waiting (step.1.0 ++ e ∷ step.1.1) old.granted = subst (λ (h : List Entry). IsSound old.waiting h old.granted) step.1.3 sound in
-    rw (step.0, step.1.2, step.2) (sound_left old.waiting step.1.0 step.1.1 old.granted e before)
+    let before : IsSound old.waiting (step.2.0 ++ e ∷ step.2.1) old.granted = subst (λ (h : List Entry). IsSound old.waiting h old.granted) step.2.3 sound in
+    rw (step.1, step.2.2, step.3) (sound_left old.waiting step.2.0 step.2.1 old.granted e before)

@@ -51,7 +51,7 @@ TableStep old (Requested e) new =
 TableStep old (Entered e) new =
     MayEnter old e × Loses old.waiting e new.waiting × Gains old.holding e new.holding × Gains old.granted e new.granted
 TableStep old (Left e) new =
-    (new.waiting ≡ old.waiting) × Loses old.holding e new.holding × (new.granted ≡ old.granted)
+    Contains old.holding e × (new.waiting ≡ old.waiting) × Loses old.holding e new.holding × (new.granted ≡ old.granted)
 
 -- from one table to another by these marks, each a table step
 abbrev pub TableSteps : LockTable → List Mark → LockTable → Type 0
