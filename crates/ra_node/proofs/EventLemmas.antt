@@ -1,0 +1,164 @@
+-- What the messages and marks of an event are about.
+use Rattle.std.proofs.Common.{◌≡◌, ◌≢◌, ℕ, ◌*◌, ◌≤◌, Bool, true, false, cond, List, [], ◌∷◌, ◌++◌, All, length, Option, Some, None, refl, sym, ap, ◌∙◌, subst, inl, inr}
+use Rattle.std.specs.Prelude.{unwrap_or}
+use Rattle.std.specs.declared.cmp.Ordering.{Ordering}
+use Rattle.std.specs.Ordering.{nat_cmp, eq_by_cmp}
+use Rattle.std.specs.Cmp.Lexicographic.{slice_cmp, nat_list_cmp_total}
+use Rattle.std.specs.FinMap as finmap
+use Rattle.ra_stamp.specs.declared.mode.Mode.{Mode}
+use Rattle.ra_stamp.specs.declared.message.Message.{Message}
+use Rattle.ra_stamp.specs.declared.entry.Mark.{Mark}
+use Rattle.ra_stamp.specs.Message.{from_of, name_of, seq_of}
+use Rattle.ra_automaton.specs.State.{State, IsAddressed}
+use Rattle.ra_node.specs.Resource.{Resource, unmet, use_of, IsConsistentResource}
+use Rattle.ra_node.specs.Node.{NodeState, resource_at, with_resource, IsConsistentNode}
+use Rattle.ra_node.specs.Events.{AskEvent, LeaveEvent, ReceiveEvent, Event, name_of_event, NodeEvent}
+use Rattle.ra_node.specs.Events.Event.{Ask, Leave, Receive}
+use Rattle.ra_node.specs.Carried.{IsSend, IsForNode, IsMark, MarksLead}
+use Rattle.ra_node.proofs.Leading.{ask_leads, leave_leads, receive_leads}
+use Rattle.ra_node.proofs.Room.{ask_room, leave_turn_room, receive_room}
+use Rattle.ra_node.proofs.Named.{tied, untied}
+use Rattle.ra_node.proofs.Sends.{IsNumberedSend, answers_are_sends}
+use Rattle.ra_node.proofs.Kept.{ask_sends, ask_marks, leave_sends, leave_marks, receive_marks}
+
+abbrev cmp : List ℕ → List ℕ → Ordering
+cmp = slice_cmp nat_cmp
+
+-- ---- The resources after an event
+
+pub resource_changed : (n : NodeState) (name : List ℕ) (r : Resource) → resource_at (with_resource n name r) name ≡ r
+resource_changed n name r =
+    ap (λ (o : Option Resource). unwrap_or o (unmet n.me n.nodes name n.start))
+    (finmap.get-insert nat_list_cmp_total n.resources name r name ∙ ap (λ b. cond b (Some r) (finmap.get n.resources name)) (tied name name refl))
+
+pub entry_stays : (n : NodeState) (name other : List ℕ) (r : Resource) → other ≢ name → finmap.get (with_resource n name r).resources other ≡ finmap.get n.resources other
+entry_stays n name other r apart =
+    finmap.get-insert nat_list_cmp_total n.resources name r other ∙ ap (λ b. cond b (Some r) (finmap.get n.resources other)) (untied other name apart)
+
+-- ---- Messages and marks
+
+abbrev AreSends : ℕ → ℕ → List ℕ → (Message → Type 0) → List Message → Type 0
+AreSends me nodes name P = All (λ message. IsSend me nodes name message × P message)
+
+sends_moved : (P : Message → Type 0) (sends : List Message) (s : State) (me nodes : ℕ) (name : List ℕ) → s.me ≡ me → s.nodes ≡ nodes → s.name ≡ name
+    → AreSends s.me s.nodes s.name P sends → AreSends me nodes name P sends
+sends_moved P sends s me nodes name a b c h =
+    subst (λ (x : List ℕ). AreSends me nodes x P sends) c (subst (λ (x : ℕ). AreSends me x s.name P sends) b (subst (λ (x : ℕ). AreSends x s.nodes s.name P sends) a h))
+
+marks_moved : (marks : List Mark) (s : State) (me : ℕ) (name : List ℕ) → s.me ≡ me → s.name ≡ name → All (IsMark s.me s.name) marks → All (IsMark me name) marks
+marks_moved marks s me name a c h = subst (λ (x : List ℕ). All (IsMark me x) marks) c (subst (λ (x : ℕ). All (IsMark x s.name) marks) a h)
+
+pub ask_event_sends : (old : NodeState) (client : ℕ) (name : List ℕ) (mode : Mode) (sends : List Message) (marks : List Mark) (new : NodeState) → IsConsistentNode old → AskEvent old client name mode sends marks new
+    → AreSends old.me old.nodes name (λ m. 1 ≤ seq_of m) sends
+ask_event_sends old client name mode sends marks new h event =
+    let here = h.each name in
+    sends_moved (λ m. 1 ≤ seq_of m) sends (resource_at old name).state old.me old.nodes name here.me_is here.nodes_is here.name_is
+    (ask_sends (resource_at old name) client mode sends marks event.resource event.turn)
+
+pub ask_event_marks : (old : NodeState) (client : ℕ) (name : List ℕ) (mode : Mode) (sends : List Message) (marks : List Mark) (new : NodeState) → IsConsistentNode old → AskEvent old client name mode sends marks new
+    → All (IsMark old.me name) marks
+ask_event_marks old client name mode sends marks new h event =
+    let here = h.each name in
+    marks_moved marks (resource_at old name).state old.me name here.me_is here.name_is
+    (ask_marks (resource_at old name) client mode sends marks event.resource event.turn)
+
+pub leave_event_sends : (old : NodeState) (client : ℕ) (name : List ℕ) (sends : List Message) (marks : List Mark) (new : NodeState) → IsConsistentNode old → LeaveEvent old client name sends marks new
+    → AreSends old.me old.nodes name (λ m. 1 ≤ seq_of m) sends
+leave_event_sends old client name sends marks new h event =
+    let here = h.each name in
+    sends_moved (λ m. 1 ≤ seq_of m) sends (resource_at old name).state old.me old.nodes name here.me_is here.nodes_is here.name_is
+    (leave_sends (resource_at old name) client sends marks event.resource here.state event.turn)
+
+pub leave_event_marks : (old : NodeState) (client : ℕ) (name : List ℕ) (sends : List Message) (marks : List Mark) (new : NodeState) → IsConsistentNode old → LeaveEvent old client name sends marks new
+    → All (IsMark old.me name) marks
+leave_event_marks old client name sends marks new h event =
+    let here = h.each name in
+    marks_moved marks (resource_at old name).state old.me name here.me_is here.name_is
+    (leave_marks (resource_at old name) client sends marks event.resource here.state event.turn)
+
+-- the automaton's words for a message that the node may take
+pub addressed : (n : NodeState) (message : Message) (s : State) → s.me ≡ n.me → s.nodes ≡ n.nodes → IsForNode n.me n.nodes message → IsAddressed s message
+addressed n message s me nodes h =
+    record {
+      to = h.to ∙ sym me;
+      from = record { first = h.first; last = subst (λ (k : ℕ). from_of message ≤ k) (sym nodes) h.last; other = λ e. h.other (e ∙ me) };
+    }
+
+pub receive_event_sends : (old : NodeState) (message : Message) (sends : List Message) (marks : List Mark) (new : NodeState) → IsConsistentNode old → IsForNode old.me old.nodes message
+    → ReceiveEvent old message sends marks new → AreSends old.me old.nodes (name_of message) (λ m. seq_of m ≡ seq_of message) sends
+receive_event_sends old message sends marks new h for event =
+    let name = name_of message in
+    let here = h.each name in
+    let s = (resource_at old name).state in
+    sends_moved (λ m. seq_of m ≡ seq_of message) sends s old.me old.nodes name here.me_is here.nodes_is here.name_is
+    (answers_are_sends s message sends event.turn.entered event.resource.state (addressed old message s here.me_is here.nodes_is for) event.turn.step)
+
+pub receive_event_marks : (old : NodeState) (message : Message) (sends : List Message) (marks : List Mark) (new : NodeState) → IsConsistentNode old → IsConsistentNode new
+    → ReceiveEvent old message sends marks new → All (IsMark old.me (name_of message)) marks
+receive_event_marks old message sends marks new h after event =
+    let name = name_of message in
+    let here = h.each name in
+    let is : resource_at new name ≡ event.resource = ap (λ (n : NodeState). resource_at n name) event.new_is ∙ resource_changed old name event.resource in
+    let state = subst (λ (r : Resource). IsConsistentResource new.me new.nodes name new.start r) is (after.each name) in
+    marks_moved marks (resource_at old name).state old.me name here.me_is here.name_is
+    (receive_marks (resource_at old name) message sends marks event.resource state.state event.turn)
+
+-- ---- How many messages and marks come
+
+pub ask_event_room : (old : NodeState) (client : ℕ) (name : List ℕ) (mode : Mode) (sends : List Message) (marks : List Mark) (new : NodeState) → IsConsistentNode old → AskEvent old client name mode sends marks new
+    → (length sends ≤ old.nodes) × (length marks ≤ 2)
+ask_event_room old client name mode sends marks new h event =
+    subst (λ (n : ℕ). (length sends ≤ n) × (length marks ≤ 2)) (h.each name).nodes_is (ask_room (resource_at old name) client mode sends marks event.resource event.turn)
+
+pub leave_event_room : (old : NodeState) (client : ℕ) (name : List ℕ) (sends : List Message) (marks : List Mark) (new : NodeState) → IsConsistentNode old → LeaveEvent old client name sends marks new
+    → (length sends ≤ 2 * old.nodes) × (length marks ≤ 3)
+leave_event_room old client name sends marks new h event =
+    subst (λ (n : ℕ). (length sends ≤ 2 * n) × (length marks ≤ 3)) (h.each name).nodes_is (leave_turn_room (resource_at old name) client sends marks event.resource (h.each name).state event.turn)
+
+pub receive_event_room : (old : NodeState) (message : Message) (sends : List Message) (marks : List Mark) (new : NodeState) → ReceiveEvent old message sends marks new
+    → (length sends ≤ 1) × (length marks ≤ 1)
+receive_event_room old message sends marks new event = receive_room (resource_at old (name_of message)) message sends marks event.resource event.turn
+
+-- ---- One request of a node on a name
+
+leads_on : (old new : NodeState) (name : List ℕ) (r : Resource) (marks : List Mark) → new ≡ with_resource old name r → MarksLead (use_of (resource_at old name)) marks (use_of r)
+    → MarksLead (use_of (resource_at old name)) marks (use_of (resource_at new name))
+leads_on old new name r marks is h =
+    let here : resource_at new name ≡ r = ap (λ (n : NodeState). resource_at n name) is ∙ resource_changed old name r in
+    subst (λ (x : Resource). MarksLead (use_of (resource_at old name)) marks (use_of x)) (sym here) h
+
+pub ask_event_leads : (old : NodeState) (client : ℕ) (name : List ℕ) (mode : Mode) (sends : List Message) (marks : List Mark) (new : NodeState) → AskEvent old client name mode sends marks new
+    → MarksLead (use_of (resource_at old name)) marks (use_of (resource_at new name))
+ask_event_leads old client name mode sends marks new event =
+    leads_on old new name event.resource marks event.new_is (ask_leads (resource_at old name) client mode sends marks event.resource event.turn)
+
+pub leave_event_leads : (old : NodeState) (client : ℕ) (name : List ℕ) (sends : List Message) (marks : List Mark) (new : NodeState) → LeaveEvent old client name sends marks new
+    → MarksLead (use_of (resource_at old name)) marks (use_of (resource_at new name))
+leave_event_leads old client name sends marks new event =
+    leads_on old new name event.resource marks event.new_is (leave_leads (resource_at old name) client sends marks event.resource event.turn)
+
+pub receive_event_leads : (old : NodeState) (message : Message) (sends : List Message) (marks : List Mark) (new : NodeState) → ReceiveEvent old message sends marks new
+    → MarksLead (use_of (resource_at old (name_of message))) marks (use_of (resource_at new (name_of message)))
+receive_event_leads old message sends marks new event =
+    leads_on old new (name_of message) event.resource marks event.new_is (receive_leads (resource_at old (name_of message)) message sends marks event.resource event.turn)
+
+-- ---- An event on one name leaves all other names
+
+pub other_entry : (old new : NodeState) (event : Event) (sends : List Message) (marks : List Mark) (other : List ℕ) → NodeEvent old event sends marks new → other ≢ name_of_event event
+    → finmap.get new.resources other ≡ finmap.get old.resources other
+other_entry old new (Ask client name mode) sends marks other event apart = ap (λ (n : NodeState). finmap.get n.resources other) event.new_is ∙ entry_stays old name other event.resource apart
+other_entry old new (Leave client name) sends marks other event apart = ap (λ (n : NodeState). finmap.get n.resources other) event.new_is ∙ entry_stays old name other event.resource apart
+other_entry old new (Receive message) sends marks other event apart =
+    ap (λ (n : NodeState). finmap.get n.resources other) event.new_is ∙ entry_stays old (name_of message) other event.resource apart
+
+pub same_place : (old new : NodeState) (event : Event) (sends : List Message) (marks : List Mark) → NodeEvent old event sends marks new → (new.me ≡ old.me) × (new.nodes ≡ old.nodes) × (new.start ≡ old.start)
+same_place old new (Ask client name mode) sends marks event = (ap (λ (n : NodeState). n.me) event.new_is, ap (λ (n : NodeState). n.nodes) event.new_is, ap (λ (n : NodeState). n.start) event.new_is)
+same_place old new (Leave client name) sends marks event = (ap (λ (n : NodeState). n.me) event.new_is, ap (λ (n : NodeState). n.nodes) event.new_is, ap (λ (n : NodeState). n.start) event.new_is)
+same_place old new (Receive message) sends marks event = (ap (λ (n : NodeState). n.me) event.new_is, ap (λ (n : NodeState). n.nodes) event.new_is, ap (λ (n : NodeState). n.start) event.new_is)
+
+pub other_resource : (old new : NodeState) (event : Event) (sends : List Message) (marks : List Mark) (other : List ℕ) → NodeEvent old event sends marks new → other ≢ name_of_event event
+    → resource_at new other ≡ resource_at old other
+other_resource old new event sends marks other h apart =
+    let entry = other_entry old new event sends marks other h apart in
+    let place = same_place old new event sends marks h in
+    λ i. unwrap_or (entry i) (unmet (place.0 i) (place.1 i) other (place.2 i))

@@ -1,0 +1,44 @@
+-- What those who carry a node's messages and marks know of them.
+use Rattle.std.specs.Prelude.{◌≡◌, ◌≢◌, ℕ, ◌≤◌, List, [], ◌∷◌}
+use Rattle.ra_stamp.specs.declared.entry.Entry.{Entry}
+use Rattle.ra_stamp.specs.declared.entry.Mark.{Mark}
+use Rattle.ra_stamp.specs.declared.entry.Mark.TheVariants.{Requested, Entered, Left}
+use Rattle.ra_stamp.specs.declared.message.Message.{Message}
+use Rattle.ra_stamp.specs.Message.{from_of, to_of, name_of}
+use Rattle.ra_node.specs.Resource.{Use}
+use Rattle.ra_node.specs.Resource.Use.{Nobody, Waits, IsGranted}
+
+-- a message that a node sends about a resource: it is from this node, and for another one
+pub record IsSend (me nodes : ℕ) (name : List ℕ) (message : Message) : Type 0 where
+  pub from : from_of message ≡ me
+  pub first : 1 ≤ to_of message
+  pub last : to_of message ≤ nodes
+  pub other : to_of message ≢ me
+  pub name_is : name_of message ≡ name
+
+-- a message that a node may take: it is for this node, and from another one
+pub record IsForNode (me nodes : ℕ) (message : Message) : Type 0 where
+  pub to : to_of message ≡ me
+  pub first : 1 ≤ from_of message
+  pub last : from_of message ≤ nodes
+  pub other : from_of message ≢ me
+
+-- the request that a mark is about
+abbrev pub entry_in : Mark → Entry
+entry_in (Requested e) = e
+entry_in (Entered e) = e
+entry_in (Left e) = e
+
+-- a mark of a node about a resource: its request is of this node, for this resource, and has a number
+pub record IsMark (me : ℕ) (name : List ℕ) (mark : Mark) : Type 0 where
+  pub node_is : (entry_in mark).stamp.node ≡ me
+  pub name_is : (entry_in mark).name ≡ name
+  pub numbered : 1 ≤ (entry_in mark).stamp.seq
+
+-- the marks lead from one use of a resource to another: a node has at most one request on a name at a time, which waits
+-- once it is made, is granted once it enters, and is gone once it leaves
+abbrev pub MarksLead : Use → List Mark → Use → Type 0
+MarksLead before [] after = after ≡ before
+MarksLead before (Requested e ∷ marks) after = (before ≡ Nobody) × MarksLead (Waits e) marks after
+MarksLead before (Entered e ∷ marks) after = (before ≡ Waits e) × MarksLead (IsGranted e) marks after
+MarksLead before (Left e ∷ marks) after = (before ≡ IsGranted e) × MarksLead Nobody marks after

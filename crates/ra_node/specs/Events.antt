@@ -1,0 +1,59 @@
+-- The events of a node. Each is a turn at one resource, and the other resources stay.
+use Rattle.std.specs.Prelude.{◌≡◌, ℕ, List, [], ◌∷◌}
+use Rattle.ra_stamp.specs.declared.entry.Mark.{Mark}
+use Rattle.ra_stamp.specs.declared.message.Message.{Message}
+use Rattle.ra_stamp.specs.declared.mode.Mode.{Mode}
+use Rattle.ra_stamp.specs.Message.{name_of}
+use Rattle.ra_node.specs.Resource.{Resource}
+use Rattle.ra_node.specs.Turns.{AskTurn, LeaveTurn, ReceiveTurn}
+use Rattle.ra_node.specs.Node.{NodeState, resource_at, with_resource}
+
+-- a client asks for the resource of this name
+pub record AskEvent (old : NodeState) (client : ℕ) (name : List ℕ) (mode : Mode) (sends : List Message) (marks : List Mark) (new : NodeState) : Type 0 where
+  pub resource : Resource
+  pub turn : AskTurn (resource_at old name) client mode sends marks resource
+  pub new_is : new ≡ with_resource old name resource
+
+-- a client leaves it
+pub record LeaveEvent (old : NodeState) (client : ℕ) (name : List ℕ) (sends : List Message) (marks : List Mark) (new : NodeState) : Type 0 where
+  pub resource : Resource
+  pub turn : LeaveTurn (resource_at old name) client sends marks resource
+  pub new_is : new ≡ with_resource old name resource
+
+-- a message about it comes
+pub record ReceiveEvent (old : NodeState) (message : Message) (sends : List Message) (marks : List Mark) (new : NodeState) : Type 0 where
+  pub resource : Resource
+  pub turn : ReceiveTurn (resource_at old (name_of message)) message sends marks resource
+  pub new_is : new ≡ with_resource old (name_of message) resource
+
+-- what happens at a node
+pub data Event : Type 0 where
+  Ask : (client : ℕ) → (name : List ℕ) → (mode : Mode) → Event
+  Leave : (client : ℕ) → (name : List ℕ) → Event
+  Receive : (message : Message) → Event
+
+-- the resource that an event is about
+abbrev pub name_of_event : Event → List ℕ
+name_of_event (Ask client name mode) = name
+name_of_event (Leave client name) = name
+name_of_event (Receive message) = name_of message
+
+abbrev pub NodeEvent : NodeState → Event → List Message → List Mark → NodeState → Type 0
+NodeEvent old (Ask client name mode) sends marks new = AskEvent old client name mode sends marks new
+NodeEvent old (Leave client name) sends marks new = LeaveEvent old client name sends marks new
+NodeEvent old (Receive message) sends marks new = ReceiveEvent old message sends marks new
+
+-- some event of this kind is possible
+abbrev pub Allows : NodeState → Event → Type 0
+Allows old event = (sends : List Message) × (marks : List Mark) × (new : NodeState) × NodeEvent old event sends marks new
+
+-- an event, and what came of it: the messages that it sent and its marks
+pub record Happening : Type 0 where
+  pub event : Event
+  pub sends : List Message
+  pub marks : List Mark
+
+-- from one state of a node to another by these events, in order
+abbrev pub Events : NodeState → List Happening → NodeState → Type 0
+Events old [] new = new ≡ old
+Events old (h ∷ hs) new = (next : NodeState) × NodeEvent old h.event h.sends h.marks next × Events next hs new

@@ -1,0 +1,6 @@
+pub mod Resource
+pub mod Turns
+pub mod Node
+pub mod Events
+pub mod Carried
+pub mod View

@@ -1,0 +1,94 @@
+-- One resource at one node: what the algorithm keeps of it, and the clients of the node that use it.
+use Rattle.std.specs.Prelude.{◌≡◌, ◌≢◌, ◌⊎◌, ℕ, ◌≤◌, List, [], Option, Some, None, option_map, Any, IsSome, refl}
+use Rattle.std.specs.Coded.{Coded, code_by, coded×, coded_ℕ, coded_list, coded_option}
+use Rattle.ra_stamp.specs.declared.entry.Entry.{Entry}
+use Rattle.ra_stamp.specs.declared.mode.Mode.{Mode}
+use Rattle.ra_automaton.specs.declared.phase.Phase.{Phase}
+use Rattle.ra_automaton.specs.declared.phase.Phase.TheVariants.{Idle, Waiting, Inside}
+use Rattle.ra_automaton.specs.State.{State, IsConsistent, opening}
+use Rattle.ra_automaton.specs.Steps.{last_number}
+use Rattle.ra_node.specs.declared.queued.Queued.{Queued}
+
+-- the automaton's state, the current client, whose request waits or is granted, and the clients that queue, the first
+-- one next
+pub record Resource : Type 0 where
+  pub state : State
+  pub client : Option ℕ
+  pub queue : List Queued
+
+-- a resource that no client and no message was about yet
+abbrev pub unmet : ℕ → ℕ → List ℕ → ℕ → Resource
+unmet me nodes name start = record { state = opening me nodes name start; client = None; queue = [] }
+
+-- a client's request at a node, with its number
+abbrev pub entry_of : ℕ → List ℕ → ℕ → ℕ → Mode → Entry
+entry_of me name seq client mode = record { name = name; stamp = record { seq = seq; node = me }; client = client; mode = mode }
+
+abbrev pub holder_in : State → Phase → Option ℕ → Option Entry
+holder_in s Idle client = None
+holder_in s (Waiting seq mode) client = None
+holder_in s (Inside seq mode) client = option_map (λ c. entry_of s.me s.name seq c mode) client
+
+-- the request that is granted here
+abbrev pub holder_of : Resource → Option Entry
+holder_of r = holder_in r.state r.state.phase r.client
+
+-- what the node's clients make of a resource: nothing, or one request, which waits or is granted
+pub data Use : Type 0 where
+  Nobody : Use
+  Waits : (entry : Entry) → Use
+  IsGranted : (entry : Entry) → Use
+
+abbrev pub use_in : State → Phase → Option ℕ → Use
+use_in s phase None = Nobody
+use_in s Idle (Some client) = Nobody
+use_in s (Waiting seq mode) (Some client) = Waits (entry_of s.me s.name seq client mode)
+use_in s (Inside seq mode) (Some client) = IsGranted (entry_of s.me s.name seq client mode)
+
+abbrev pub use_of : Resource → Use
+use_of r = use_in r.state r.state.phase r.client
+
+-- the client holds the resource, by this request
+pub record Holds (r : Resource) (client : ℕ) (entry : Entry) : Type 0 where
+  pub granted : holder_of r ≡ Some entry
+  pub client_is : entry.client ≡ client
+
+-- a client waits, is queued or holds here
+abbrev pub IsBusy : Resource → ℕ → Type 0
+IsBusy r client = (r.client ≡ Some client) ⊎ Any (λ q. q.client ≡ client) r.queue
+
+abbrev pub waiting_in : Phase → ℕ
+waiting_in Idle = 0
+waiting_in (Waiting seq mode) = 1
+waiting_in (Inside seq mode) = 0
+
+-- how many requests wait here for their replies: one at most
+abbrev pub waiting_at : Resource → ℕ
+waiting_at r = waiting_in r.state.phase
+
+-- while the node is idle there is no current client, and else there is one
+abbrev pub ClientFits : Phase → Option ℕ → Type 0
+ClientFits Idle client = client ≡ None
+ClientFits (Waiting seq mode) client = IsSome client
+ClientFits (Inside seq mode) client = IsSome client
+
+-- what holds of every resource at a node
+pub record IsConsistentResource (me nodes : ℕ) (name : List ℕ) (start : ℕ) (r : Resource) : Type 0 where
+  pub state : IsConsistent r.state
+  pub me_is : r.state.me ≡ me
+  pub nodes_is : r.state.nodes ≡ nodes
+  pub name_is : r.state.name ≡ name
+  pub from_start : start ≤ r.state.highest
+  pub client_fits : ClientFits r.state.phase r.client
+  -- clients queue at an idle node only where no number is left
+  pub queue_stays : r.state.phase ≡ Idle → r.queue ≢ [] → last_number ≤ r.state.highest
+
+-- a resource is stored as its fields
+abbrev pub resource_code : Coded State → Coded Queued → Coded Resource
+resource_code state queued =
+    code_by
+    (State × (Option ℕ × List Queued))
+    (coded× state (coded× (coded_option coded_ℕ) (coded_list queued)))
+    (λ r. (r.state, (r.client, r.queue)))
+    (λ p. record { state = p.0; client = p.1.0; queue = p.1.1 })
+    (λ _. refl)

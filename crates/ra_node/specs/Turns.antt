@@ -1,0 +1,92 @@
+-- How the clients of a node take turns at one resource. A node has at most one request or hold on a resource; its
+-- further clients queue, first in, first out. So two clients of one node never hold a resource together, whatever
+-- their modes. Whatever a rule does not mention stays as it was.
+use Rattle.std.specs.Prelude.{◌≡◌, ◌≢◌, ◌⊎◌, ℕ, ◌+◌, ◌<◌, ◌≤◌, Bool, true, false, List, [], ◌∷◌, ◌++◌, Some, None}
+use Rattle.ra_stamp.specs.declared.entry.Entry.{Entry}
+use Rattle.ra_stamp.specs.declared.entry.Mark.{Mark}
+use Rattle.ra_stamp.specs.declared.entry.Mark.TheVariants.{Requested, Entered, Left}
+use Rattle.ra_stamp.specs.declared.message.Message.{Message}
+use Rattle.ra_stamp.specs.declared.mode.Mode.{Mode}
+use Rattle.ra_automaton.specs.declared.phase.Phase.TheVariants.{Idle}
+use Rattle.ra_automaton.specs.State.{State}
+use Rattle.ra_automaton.specs.Steps as automaton
+use Rattle.ra_automaton.specs.Steps.{last_number}
+use Rattle.ra_node.specs.declared.queued.Queued.{Queued}
+use Rattle.ra_node.specs.Resource.{Resource, entry_of, holder_of, Holds, IsBusy}
+
+-- the marks of a request that is made, and granted at once or not
+abbrev pub request_marks : Bool → Entry → List Mark
+request_marks false e = Requested e ∷ []
+request_marks true e = Requested e ∷ Entered e ∷ []
+
+-- the request that a client makes here: it takes the next number
+abbrev pub next_entry : Resource → ℕ → Mode → Entry
+next_entry r client mode = entry_of r.state.me r.state.name (r.state.highest + 1) client mode
+
+-- ---- A client asks.
+
+-- the client neither waits, nor is queued, nor holds here, and a number is left
+pub record MayAsk (r : Resource) (client : ℕ) : Type 0 where
+  pub not_busy : IsBusy r client → ⊥
+  pub number_left : r.state.highest < last_number
+
+-- where the node is idle its request is made at once
+pub record AsksAtOnce (old : Resource) (client : ℕ) (mode : Mode) (sends : List Message) (marks : List Mark) (new : Resource) : Type 0 where
+  pub entered : Bool
+  pub step : automaton.RequestStep old.state mode sends entered new.state
+  pub marks_are : marks ≡ request_marks entered (next_entry old client mode)
+  pub client_is : new.client ≡ Some client
+  pub queue_is : new.queue ≡ old.queue
+
+-- otherwise the client queues behind all others
+pub record QueuesUp (old : Resource) (client : ℕ) (mode : Mode) (sends : List Message) (marks : List Mark) (new : Resource) : Type 0 where
+  pub in_use : old.state.phase ≢ Idle
+  pub sends_are : sends ≡ []
+  pub marks_are : marks ≡ []
+  pub new_is : new ≡ record old { queue = old.queue ++ record { client = client; mode = mode } ∷ [] }
+
+abbrev pub AskTurn : Resource → ℕ → Mode → List Message → List Mark → Resource → Type 0
+AskTurn old client mode sends marks new =
+    MayAsk old client × (AsksAtOnce old client mode sends marks new ⊎ QueuesUp old client mode sends marks new)
+
+-- ---- The client that holds leaves.
+
+-- no client queues, or no number is left for it: nobody is next
+pub record LeavesToNobody (old : Resource) (client : ℕ) (sends : List Message) (marks : List Mark) (new : Resource) : Type 0 where
+  pub entry : Entry
+  pub holds : Holds old client entry
+  pub nobody : (old.queue ≡ []) ⊎ (last_number ≤ old.state.highest)
+  pub step : automaton.LeaveStep old.state sends new.state
+  pub marks_are : marks ≡ Left entry ∷ []
+  pub client_is : new.client ≡ None
+  pub queue_is : new.queue ≡ old.queue
+
+-- the first client of the queue asks in the same event, after the deferred REPLYs
+pub record LeavesToNext (old : Resource) (client : ℕ) (sends : List Message) (marks : List Mark) (new : Resource) : Type 0 where
+  pub entry : Entry
+  pub holds : Holds old client entry
+  pub next : Queued
+  pub queue_was : old.queue ≡ next ∷ new.queue
+  pub number_left : old.state.highest < last_number
+  pub entered : Bool
+  pub step : automaton.LeaveAndRequestStep old.state next.mode sends entered new.state
+  pub marks_are : marks ≡ Left entry ∷ request_marks entered (next_entry old next.client next.mode)
+  pub client_is : new.client ≡ Some next.client
+
+abbrev pub LeaveTurn : Resource → ℕ → List Message → List Mark → Resource → Type 0
+LeaveTurn old client sends marks new =
+    LeavesToNobody old client sends marks new ⊎ LeavesToNext old client sends marks new
+
+-- ---- A message comes.
+
+-- the mark of a request that a message lets enter
+abbrev pub EntersBy : Bool → Resource → List Mark → Type 0
+EntersBy false new marks = marks ≡ []
+EntersBy true new marks = (entry : Entry) × (holder_of new ≡ Some entry) × (marks ≡ Entered entry ∷ [])
+
+pub record ReceiveTurn (old : Resource) (message : Message) (sends : List Message) (marks : List Mark) (new : Resource) : Type 0 where
+  pub entered : Bool
+  pub step : automaton.ReceiveStep old.state message sends entered new.state
+  pub enters : EntersBy entered new marks
+  pub client_is : new.client ≡ old.client
+  pub queue_is : new.queue ≡ old.queue

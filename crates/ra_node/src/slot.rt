@@ -1,0 +1,287 @@
+ghost use Rattle.std.specs.Prelude.{◌≡◌, ◌<◌, ◌≤◌, ◌⊎◌, ◌↔◌, ◌∷◌, [], length, take, if◌then◌else◌, IsTrue, IsErrOf, IsOk, IsOkUnless, IfOk, OnOk, OnErr, IfErr, IsNone, IfSome};
+ghost use Rattle.ra_stamp.specs.declared.entry.Entry.{Entry};
+ghost use Rattle.ra_node.specs.Resource.{entry_of};
+
+use crate::marks::{marks_for, push_request, push_reserved};
+use crate::queued::Queued;
+use crate::{AskError, LeaveError, Outcome};
+use ra_automaton::{Automaton, NewError, Phase, ReceiveError};
+use ra_stamp::{Entry, Mark, Marks, Message, Messages, Mode, Name, NodeId, Stamp};
+use std::alloc::Global;
+use std::collections::VecDeque;
+use std::marker::Model;
+
+/// One resource at this node, with the clients of the node that use it. Contracts see the resource.
+#[derive(Debug, Drop)]
+pub struct Slot {
+    automaton: Automaton,
+    /// The client whose request waits or is granted.
+    client: Option<u32>,
+    /// The clients behind it, the first one next.
+    queue: VecDeque<Queued>,
+}
+
+impl Model for Slot {
+    ghost use Rattle.ra_automaton.specs.contracts.automaton.Automaton as automata;
+    ghost use Rattle.ra_node.specs.contracts.queued.Queued as clients;
+    ghost use Rattle.ra_node.specs.Resource.{Resource, resource_code};
+
+    ghost Value = { Resource };
+
+    ghost coded = { resource_code automata.the_row.coded clients.the_row.coded };
+
+    ghost view = { λ s. record { state = s.automaton; client = s.client; queue = s.queue.items } };
+}
+
+impl Slot {
+    ghost use Rattle.ra_stamp.specs.Message.{name_of};
+    ghost use Rattle.ra_automaton.specs.State.{IsAddressed, IsConsistent};
+    ghost use Rattle.ra_automaton.specs.Steps.{last_number};
+    ghost use Rattle.ra_node.specs.Resource.{unmet, holder_of, Holds, IsBusy, waiting_at, ClientFits};
+    ghost use Rattle.ra_node.specs.Turns.{MayAsk, AskTurn, LeaveTurn, ReceiveTurn, next_entry};
+
+    /// The slot of a resource that no client and no message was about yet.
+    pub fn new(
+        alloc: Global,
+        me: NodeId,
+        nodes: u16,
+        name: Name,
+        start: u64,
+    ) -> Result<Slot, NewError>
+        ensures ok { IfOk result (λ slot. slot ≡ unmet me nodes name start) }
+    {
+        Ok(Slot {
+            automaton: Automaton::new(alloc, me, nodes, name, start)?,
+            client: None,
+            queue: VecDeque::new(alloc),
+        })
+    }
+
+    /// The resource's name.
+    pub fn name(&self) -> Name
+        ensures { result ≡ self.now.state.name }
+    {
+        self.automaton.name()
+    }
+
+    /// The highest number that this node has met for the resource.
+    pub fn highest(&self) -> u64
+        ensures { result ≡ self.now.state.highest }
+    {
+        self.automaton.highest()
+    }
+
+    /// The request that is granted here.
+    pub fn holder(&self, me: NodeId) -> Option<Entry>
+        requires { me ≡ self.now.state.me }
+        ensures { result ≡ holder_of self.now }
+    {
+        match (self.automaton.phase(), self.client) {
+            (Phase::Inside { seq, mode }, Some(client)) => Some(entry(
+                me,
+                self.automaton.name(),
+                seq,
+                client,
+                mode,
+            )),
+            _ => None,
+        }
+    }
+
+    /// Whether a request of this node waits for its replies.
+    pub fn is_waiting(&self) -> bool
+        ensures { waiting_at self.now ≡ if result then 1 else 0 }
+    {
+        matches!(self.automaton.phase(), Phase::Waiting { .. })
+    }
+
+    /// How many clients are queued.
+    pub fn queued(&self) -> usize
+        ensures { result ≡ length self.now.queue }
+    {
+        self.queue.len()
+    }
+
+    /// Whether the client waits, is queued or holds here.
+    fn is_busy(&self, client: u32) -> bool
+        ensures { IsTrue result ↔ IsBusy self.now client }
+    {
+        self.client == Some(client) || self.queue.iter().any(|queued| queued.client == client)
+    }
+
+    /// Why the client may not ask here: never for want of memory.
+    pub fn may_ask(&self, client: u32) -> Result<(), AskError>
+        ensures allowed { IsOk result ↔ MayAsk self.now client }
+        ensures busy { IsErrOf result AskError.Busy ↔ IsBusy self.now client }
+        ensures exhausted { IsErrOf result AskError.Exhausted
+            ↔ ((IsBusy self.now client → ⊥) × (self.now.state.highest ≡ last_number)) }
+        ensures no_memory { IsErrOf result AskError.Memory → ⊥ }
+    {
+        if self.is_busy(client) {
+            return Err(AskError::Busy);
+        }
+        if self.automaton.highest() == u64::MAX {
+            return Err(AskError::Exhausted);
+        }
+        Ok(())
+    }
+
+    /// A client asks, which it may do. Errors: `Memory`, and the resource is as before.
+    pub fn ask(
+        &mut self,
+        alloc: Global,
+        me: NodeId,
+        client: u32,
+        mode: Mode,
+    ) -> Result<Outcome, AskError>
+        requires me { me ≡ self.old.state.me }
+        requires allowed { MayAsk self.old client }
+        ensures ok { IfOk result (λ outcome. AskTurn self.old client mode outcome.sends.items outcome.marks.items self.new) }
+        ensures memory { IfErr result (λ fault. fault ≡ AskError.Memory) }
+        ensures err { OnErr result (self.new ≡ self.old) }
+        ensures consistent { OnOk result (IsConsistent self.new.state) }
+    {
+        if self.automaton.phase() != Phase::Idle {
+            self.queue
+                .push_back(Queued { client, mode })
+                .map_err(|_| AskError::Memory)?;
+            return Ok(Outcome {
+                sends: Messages::new(alloc),
+                marks: Marks::new(alloc),
+            });
+        }
+        let mut marks = marks_for(alloc, 2).map_err(|_| AskError::Memory)?;
+        let requested = self.next_entry(me, client, mode);
+        let reaction = self
+            .automaton
+            .request(alloc, mode)
+            .map_err(|_| AskError::Memory)?;
+        self.client = Some(client);
+        push_request(&mut marks, &requested, reaction.entered);
+        Ok(Outcome {
+            sends: reaction.sends,
+            marks,
+        })
+    }
+
+    /// The client that holds leaves, and the next one asks in the same event. Errors, the first that holds: `NotHeld`,
+    /// the client does not hold; `Memory`. The resource is as before then.
+    pub fn leave(&mut self, alloc: Global, me: NodeId, client: u32) -> Result<Outcome, LeaveError>
+        requires { me ≡ self.old.state.me }
+        ensures ok { IfOk result (λ outcome. LeaveTurn self.old client outcome.sends.items outcome.marks.items self.new) }
+        ensures not_held { IsErrOf result LeaveError.NotHeld ↔ ((entry : Entry) → Holds self.old client entry → ⊥) }
+        ensures allowed { IsOkUnless result LeaveError.Memory ↔ ((entry : Entry) × Holds self.old client entry) }
+        ensures err { OnErr result (self.new ≡ self.old) }
+        ensures consistent { OnOk result (IsConsistent self.new.state) }
+    {
+        let Some(held) = self.held_by(me, client) else {
+            return Err(LeaveError::NotHeld);
+        };
+        let mut marks = marks_for(alloc, 3).map_err(|_| LeaveError::Memory)?;
+        let Some(next) = self.next() else {
+            let reaction = self.automaton.leave(alloc).map_err(|_| LeaveError::Memory)?;
+            self.client = None;
+            push_reserved(&mut marks, Mark::Left(held));
+            return Ok(Outcome {
+                sends: reaction.sends,
+                marks,
+            });
+        };
+        let requested = self.next_entry(me, next.client, next.mode);
+        let reaction = self
+            .automaton
+            .leave_and_request(alloc, next.mode)
+            .map_err(|_| LeaveError::Memory)?;
+        self.queue.pop_front();
+        self.client = Some(next.client);
+        push_reserved(&mut marks, Mark::Left(held));
+        push_request(&mut marks, &requested, reaction.entered);
+        Ok(Outcome {
+            sends: reaction.sends,
+            marks,
+        })
+    }
+
+    /// A message for this node about this resource comes from another node. Errors: `Memory`, and the resource is as
+    /// before.
+    pub fn receive(
+        &mut self,
+        alloc: Global,
+        me: NodeId,
+        message: &Message,
+    ) -> Result<Outcome, ReceiveError>
+        requires me { me ≡ self.old.state.me }
+        requires name { name_of message.now ≡ self.old.state.name }
+        requires addressed { IsAddressed self.old.state message.now }
+        requires client { ClientFits self.old.state.phase self.old.client }
+        ensures ok { IfOk result (λ outcome. ReceiveTurn self.old message.now outcome.sends.items outcome.marks.items self.new) }
+        ensures memory { IfErr result (λ fault. fault ≡ ReceiveError.Memory) }
+        ensures err { OnErr result (self.new ≡ self.old) }
+        ensures consistent { OnOk result (IsConsistent self.new.state) }
+    {
+        let mut marks = marks_for(alloc, 1).map_err(|_| ReceiveError::Memory)?;
+        let reaction = self.automaton.receive(alloc, message)?;
+        if reaction.entered {
+            if let Some(entry) = self.holder(me) {
+                push_reserved(&mut marks, Mark::Entered(entry));
+            }
+        }
+        Ok(Outcome {
+            sends: reaction.sends,
+            marks,
+        })
+    }
+
+    /// The request that a client asks for next here.
+    fn next_entry(&self, me: NodeId, client: u32, mode: Mode) -> Entry
+        requires me { me ≡ self.now.state.me }
+        requires number_left { self.now.state.highest < last_number }
+        ensures { result ≡ next_entry self.now client mode }
+    {
+        entry(
+            me,
+            self.automaton.name(),
+            self.automaton.highest() + 1,
+            client,
+            mode,
+        )
+    }
+
+    /// The request by which a client holds the resource.
+    fn held_by(&self, me: NodeId, client: u32) -> Option<Entry>
+        requires { me ≡ self.now.state.me }
+        ensures held { IfSome result (Holds self.now client) }
+        ensures not_held { IsNone result ↔ ((entry : Entry) → Holds self.now client entry → ⊥) }
+    {
+        let entry = self.holder(me)?;
+        if entry.client == client {
+            Some(entry)
+        } else {
+            None
+        }
+    }
+
+    /// The client that asks when the one that holds leaves.
+    fn next(&self) -> Option<Queued>
+        ensures some { IfSome result (λ next. (take 1 self.now.queue ≡ next ∷ []) × (self.now.state.highest < last_number)) }
+        ensures none { IsNone result → (self.now.queue ≡ []) ⊎ (last_number ≤ self.now.state.highest) }
+    {
+        if self.automaton.highest() == u64::MAX {
+            return None;
+        }
+        self.queue.front().copied()
+    }
+}
+
+/// A client's request at this node.
+fn entry(me: NodeId, name: Name, seq: u64, client: u32, mode: Mode) -> Entry
+    ensures { result ≡ entry_of me name seq client mode }
+{
+    let stamp = Stamp { seq, node: me };
+    Entry {
+        name,
+        stamp,
+        client,
+        mode,
+    }
+}

@@ -1,0 +1,412 @@
+use super::*;
+use ra_stamp::{Entry, Mark, Marks, Message, Messages, Mode, Name, NodeId, Stamp};
+use std::alloc::Global;
+use std::test::*;
+
+fn id(number: u16) -> Result<NodeId, &'static str> {
+    NodeId::new(number).ok_or("a node's number is 1 to 16")
+}
+
+fn node(alloc: Global, me: u16, nodes: u16, start: u64) -> Result<Node, Fail> {
+    Ok(Node::new(alloc, id(me)?, nodes, start)?)
+}
+
+/// A request on the name `r`.
+fn entry(node: u16, client: u32, mode: Mode, seq: u64) -> Result<Entry, Fail> {
+    Ok(Entry {
+        name: Name::new(b"r")?,
+        stamp: Stamp {
+            seq,
+            node: id(node)?,
+        },
+        client,
+        mode,
+    })
+}
+
+fn requested(entry: &Entry) -> Mark {
+    Mark::Requested(*entry)
+}
+
+fn entered(entry: &Entry) -> Mark {
+    Mark::Entered(*entry)
+}
+
+fn left(entry: &Entry) -> Mark {
+    Mark::Left(*entry)
+}
+
+fn request(from: u16, to: u16, mode: Mode, seq: u64) -> Result<Message, Fail> {
+    Ok(Message::Request {
+        from: id(from)?,
+        to: id(to)?,
+        name: Name::new(b"r")?,
+        mode,
+        seq,
+    })
+}
+
+fn reply(from: u16, to: u16, seq: u64) -> Result<Message, Fail> {
+    Ok(Message::Reply {
+        from: id(from)?,
+        to: id(to)?,
+        name: Name::new(b"r")?,
+        seq,
+    })
+}
+
+fn are_messages(list: &Messages, expected: &[Message]) -> bool {
+    list.len() == expected.len() as u64
+        && (0..expected.len()).all(|place| list.at(place as u64) == Some(expected[place]))
+}
+
+fn are_marks(list: &Marks, expected: &[Mark]) -> bool {
+    list.len() == expected.len() as u64
+        && (0..expected.len()).all(|place| list.at(place as u64) == Some(expected[place]))
+}
+
+/// Node 1 of 2, where client 1 waits with number 1 and client 2 is queued.
+fn queueing(alloc: Global) -> Result<Node, Fail> {
+    let r = Name::new(b"r")?;
+    let mut node = node(alloc, 1, 2, 0)?;
+    node.ask(alloc, 1, r, Mode::Exclusive)?;
+    node.ask(alloc, 2, r, Mode::Exclusive)?;
+    Ok(node)
+}
+
+/// The same, where client 1 has entered, and the REPLY to node 2 is deferred with number 1.
+fn holding(alloc: Global) -> Result<Node, Fail> {
+    let mut node = queueing(alloc)?;
+    node.receive(alloc, &request(2, 1, Mode::Exclusive, 1)?)?;
+    node.receive(alloc, &reply(2, 1, 1)?)?;
+    Ok(node)
+}
+
+#[test]
+fn the_second_client_queues(rt: HostRuntime) -> Result<(), Fail> {
+    let alloc = rt.alloc();
+    let r = Name::new(b"r")?;
+    let mut node = node(alloc, 1, 2, 0)?;
+    let asked = node.ask(alloc, 1, r, Mode::Exclusive)?;
+    assert!(rt; are_messages(&asked.sends, &[request(1, 2, Mode::Exclusive, 1)?]));
+    assert!(rt;
+        are_marks(
+            &asked.marks,
+            &[requested(&entry(1, 1, Mode::Exclusive, 1)?)]
+        )
+    );
+    let queued = node.ask(alloc, 2, r, Mode::Exclusive)?;
+    assert!(rt; are_messages(&queued.sends, &[]));
+    assert!(rt; are_marks(&queued.marks, &[]));
+    assert_eq!(rt; node.waiting(), 1);
+    assert_eq!(rt; node.queued(), 1);
+    Ok(())
+}
+
+#[test]
+fn the_first_client_enters_by_the_reply(rt: HostRuntime) -> Result<(), Fail> {
+    let alloc = rt.alloc();
+    let first = entry(1, 1, Mode::Exclusive, 1)?;
+    let mut node = queueing(alloc)?;
+    let deferred = node.receive(alloc, &request(2, 1, Mode::Exclusive, 1)?)?;
+    assert!(rt; are_messages(&deferred.sends, &[]));
+    assert!(rt; are_marks(&deferred.marks, &[]));
+    let granted = node.receive(alloc, &reply(2, 1, 1)?)?;
+    assert!(rt; are_messages(&granted.sends, &[]));
+    assert!(rt; are_marks(&granted.marks, &[entered(&first)]));
+    assert_eq!(rt; node.holder(&Name::new(b"r")?), Some(first));
+    Ok(())
+}
+
+#[test]
+fn clients_that_hold_or_queue_are_busy(rt: HostRuntime) -> Result<(), Fail> {
+    let alloc = rt.alloc();
+    let r = Name::new(b"r")?;
+    let mut node = holding(alloc)?;
+    assert_eq!(rt;
+        node.ask(alloc, 1, r, Mode::Shared).err(),
+        Some(AskError::Busy)
+    );
+    assert_eq!(rt;
+        node.ask(alloc, 2, r, Mode::Exclusive).err(),
+        Some(AskError::Busy)
+    );
+    assert_eq!(rt; node.may_ask(1, &r), Err(AskError::Busy));
+    assert_eq!(rt; node.may_ask(2, &r), Err(AskError::Busy));
+    assert_eq!(rt; node.may_ask(3, &r), Ok(()));
+    assert_eq!(rt; node.leave(alloc, 2, r).err(), Some(LeaveError::NotHeld));
+    assert_eq!(rt; node.holder(&r), Some(entry(1, 1, Mode::Exclusive, 1)?));
+    assert_eq!(rt; node.queued(), 1);
+    Ok(())
+}
+
+#[test]
+fn the_next_client_asks_after_the_replies_of_a_leave(rt: HostRuntime) -> Result<(), Fail> {
+    let alloc = rt.alloc();
+    let r = Name::new(b"r")?;
+    let mut node = holding(alloc)?;
+    let given_back = node.leave(alloc, 1, r)?;
+    let replies_first = [reply(1, 2, 1)?, request(1, 2, Mode::Exclusive, 2)?];
+    assert!(rt; are_messages(&given_back.sends, &replies_first));
+    let first = entry(1, 1, Mode::Exclusive, 1)?;
+    let second = entry(1, 2, Mode::Exclusive, 2)?;
+    assert!(rt; are_marks(&given_back.marks, &[left(&first), requested(&second)]));
+    assert_eq!(rt; node.holder(&r), None);
+    assert_eq!(rt; node.waiting(), 1);
+    assert_eq!(rt; node.queued(), 0);
+    assert_eq!(rt; node.highest(&r), 2);
+    assert_eq!(rt; node.highest(&Name::new(b"q")?), 0);
+    Ok(())
+}
+
+#[test]
+fn a_single_node_grants_at_once(rt: HostRuntime) -> Result<(), Fail> {
+    let alloc = rt.alloc();
+    let r = Name::new(b"r")?;
+    let first = entry(1, 1, Mode::Exclusive, 1)?;
+    let second = entry(1, 2, Mode::Exclusive, 2)?;
+    let mut node = node(alloc, 1, 1, 0)?;
+    let asked = node.ask(alloc, 1, r, Mode::Exclusive)?;
+    assert!(rt; are_messages(&asked.sends, &[]));
+    assert!(rt; are_marks(&asked.marks, &[requested(&first), entered(&first)]));
+    let queued = node.ask(alloc, 2, r, Mode::Exclusive)?;
+    assert!(rt; are_messages(&queued.sends, &[]));
+    assert!(rt; are_marks(&queued.marks, &[]));
+    let given_back = node.leave(alloc, 1, r)?;
+    assert!(rt; are_messages(&given_back.sends, &[]));
+    assert!(rt;
+        are_marks(
+            &given_back.marks,
+            &[left(&first), requested(&second), entered(&second)]
+        )
+    );
+    assert_eq!(rt; node.holder(&r), Some(second));
+    Ok(())
+}
+
+#[test]
+fn readers_of_one_node_take_turns_first_in_first_out(rt: HostRuntime) -> Result<(), Fail> {
+    let alloc = rt.alloc();
+    let r = Name::new(b"r")?;
+    let mut node = node(alloc, 1, 1, 0)?;
+    for client in [7, 3, 5] {
+        node.ask(alloc, client, r, Mode::Shared)?;
+    }
+    assert_eq!(rt; node.holder(&r), Some(entry(1, 7, Mode::Shared, 1)?));
+    assert_eq!(rt; node.queued(), 2);
+    node.leave(alloc, 7, r)?;
+    assert_eq!(rt; node.holder(&r), Some(entry(1, 3, Mode::Shared, 2)?));
+    node.leave(alloc, 3, r)?;
+    assert_eq!(rt; node.holder(&r), Some(entry(1, 5, Mode::Shared, 3)?));
+    node.leave(alloc, 5, r)?;
+    assert_eq!(rt; node.holder(&r), None);
+    assert_eq!(rt; node.may_ask(7, &r), Ok(()));
+    Ok(())
+}
+
+/// Node 1 of 2, where client 1 has entered with the last number but one, client 2 is queued, and a REQUEST with the last
+/// number is deferred.
+fn at_the_last_number(alloc: Global) -> Result<Node, Fail> {
+    let r = Name::new(b"r")?;
+    let mut node = node(alloc, 1, 2, 18446744073709551613)?;
+    node.ask(alloc, 1, r, Mode::Exclusive)?;
+    node.receive(alloc, &reply(2, 1, 18446744073709551614)?)?;
+    node.ask(alloc, 2, r, Mode::Exclusive)?;
+    node.receive(
+        alloc,
+        &request(2, 1, Mode::Exclusive, 18446744073709551615)?,
+    )?;
+    Ok(node)
+}
+
+#[test]
+fn the_last_numbers_are_given_out(rt: HostRuntime) -> Result<(), Fail> {
+    let alloc = rt.alloc();
+    let r = Name::new(b"r")?;
+    let number = 18446744073709551614;
+    let first = entry(1, 1, Mode::Exclusive, number)?;
+    let mut node = node(alloc, 1, 2, 18446744073709551613)?;
+    let asked = node.ask(alloc, 1, r, Mode::Exclusive)?;
+    assert!(rt; are_messages(&asked.sends, &[request(1, 2, Mode::Exclusive, number)?]));
+    assert!(rt; are_marks(&asked.marks, &[requested(&first)]));
+    let granted = node.receive(alloc, &reply(2, 1, number)?)?;
+    assert!(rt; are_messages(&granted.sends, &[]));
+    assert!(rt; are_marks(&granted.marks, &[entered(&first)]));
+    let queued = node.ask(alloc, 2, r, Mode::Exclusive)?;
+    assert!(rt; are_messages(&queued.sends, &[]));
+    assert!(rt; are_marks(&queued.marks, &[]));
+    let deferred = node.receive(
+        alloc,
+        &request(2, 1, Mode::Exclusive, 18446744073709551615)?,
+    )?;
+    assert!(rt; are_messages(&deferred.sends, &[]));
+    assert!(rt; are_marks(&deferred.marks, &[]));
+    Ok(())
+}
+
+#[test]
+fn nobody_asks_at_the_last_number(rt: HostRuntime) -> Result<(), Fail> {
+    let alloc = rt.alloc();
+    let r = Name::new(b"r")?;
+    let mut node = at_the_last_number(alloc)?;
+    assert_eq!(rt; node.highest(&r), 18446744073709551615);
+    assert_eq!(rt; node.may_ask(1, &r), Err(AskError::Busy));
+    assert_eq!(rt; node.may_ask(3, &r), Err(AskError::Exhausted));
+    assert_eq!(rt;
+        node.ask(alloc, 3, r, Mode::Exclusive).err(),
+        Some(AskError::Exhausted)
+    );
+    assert_eq!(rt; node.may_ask(1, &Name::new(b"q")?), Ok(()));
+    Ok(())
+}
+
+#[test]
+fn a_queue_stays_unstamped_at_the_last_number(rt: HostRuntime) -> Result<(), Fail> {
+    let alloc = rt.alloc();
+    let r = Name::new(b"r")?;
+    let mut node = at_the_last_number(alloc)?;
+    let given_back = node.leave(alloc, 1, r)?;
+    assert!(rt; are_messages(&given_back.sends, &[reply(1, 2, 18446744073709551615)?]));
+    let first = entry(1, 1, Mode::Exclusive, 18446744073709551614)?;
+    assert!(rt; are_marks(&given_back.marks, &[left(&first)]));
+    assert_eq!(rt; node.holder(&r), None);
+    assert_eq!(rt; node.waiting(), 0);
+    assert_eq!(rt; node.queued(), 1);
+    assert_eq!(rt; node.may_ask(2, &r), Err(AskError::Busy));
+    assert_eq!(rt; node.may_ask(1, &r), Err(AskError::Exhausted));
+    Ok(())
+}
+
+#[test]
+fn no_name_can_be_asked_for_from_the_last_number_on(rt: HostRuntime) -> Result<(), Fail> {
+    let alloc = rt.alloc();
+    let r = Name::new(b"r")?;
+    let mut node = node(alloc, 1, 2, 18446744073709551615)?;
+    assert_eq!(rt; node.may_ask(1, &r), Err(AskError::Exhausted));
+    assert_eq!(rt;
+        node.ask(alloc, 1, r, Mode::Exclusive).err(),
+        Some(AskError::Exhausted)
+    );
+    assert_eq!(rt; node.highest(&r), 18446744073709551615);
+    Ok(())
+}
+
+#[test]
+fn bad_counts_and_nodes_make_no_node(rt: HostRuntime) -> Result<(), Fail> {
+    let alloc = rt.alloc();
+    assert_eq!(rt;
+        Node::new(alloc, id(1)?, 0, 0).err(),
+        Some(NewError::BadCount)
+    );
+    assert_eq!(rt;
+        Node::new(alloc, id(1)?, 17, 0).err(),
+        Some(NewError::BadCount)
+    );
+    assert_eq!(rt;
+        Node::new(alloc, id(4)?, 3, 0).err(),
+        Some(NewError::BadNode)
+    );
+    Ok(())
+}
+
+#[test]
+fn messages_for_others_and_from_strangers_are_refused(rt: HostRuntime) -> Result<(), Fail> {
+    let alloc = rt.alloc();
+    let mut node = node(alloc, 2, 3, 0)?;
+    // The receiver comes first where the sender is wrong, too.
+    for (from, to, fault) in [
+        (1, 3, ReceiveError::WrongNode),
+        (4, 1, ReceiveError::WrongNode),
+        (2, 2, ReceiveError::Stranger),
+        (4, 2, ReceiveError::Stranger),
+    ] {
+        let refused = node
+            .receive(alloc, &request(from, to, Mode::Exclusive, 7)?)
+            .err();
+        assert_eq!(rt; refused, Some(fault), "from {from} to {to}");
+    }
+    assert_eq!(rt; node.highest(&Name::new(b"r")?), 0);
+    Ok(())
+}
+
+#[test]
+fn an_idle_node_answers_and_takes_strays(rt: HostRuntime) -> Result<(), Fail> {
+    let alloc = rt.alloc();
+    let mut node = node(alloc, 2, 3, 0)?;
+    let answered = node.receive(alloc, &request(1, 2, Mode::Exclusive, 7)?)?;
+    assert!(rt; are_messages(&answered.sends, &[reply(2, 1, 7)?]));
+    assert_eq!(rt; node.highest(&Name::new(b"r")?), 7);
+    let stray = node.receive(alloc, &reply(1, 2, 7)?)?;
+    assert!(rt; are_messages(&stray.sends, &[]));
+    assert!(rt; are_marks(&stray.marks, &[]));
+    Ok(())
+}
+
+/// A name of three digits.
+fn numbered(number: u16) -> Result<Name, Fail> {
+    let digit = |value: u16| b'0' + (value % 10) as u8;
+    Ok(Name::new(&[digit(number / 100), digit(number / 10), digit(number)])?)
+}
+
+/// The request that client `client` makes on a name of three digits, at node 1.
+fn numbered_entry(number: u16, client: u32, mode: Mode, seq: u64) -> Result<Entry, Fail> {
+    let name = numbered(number)?;
+    let stamp = Stamp { seq, node: id(1)? };
+    Ok(Entry {
+        name,
+        stamp,
+        client,
+        mode,
+    })
+}
+
+#[test]
+fn a_thousand_names_are_apart(rt: HostRuntime) -> Result<(), Fail> {
+    let alloc = rt.alloc();
+    let mut node = node(alloc, 1, 1, 0)?;
+    for number in 0..1000 {
+        let name = numbered(number)?;
+        node.ask(alloc, u32::from(number), name, Mode::Exclusive)?;
+        node.ask(alloc, 1000, name, Mode::Shared)?;
+    }
+    assert_eq!(rt; node.queued(), 1000);
+    node.leave(alloc, 500, numbered(500)?)?;
+    assert_eq!(rt; node.queued(), 999);
+    for number in 0..1000 {
+        let name = numbered(number)?;
+        let (holder, highest) = if number == 500 {
+            (numbered_entry(number, 1000, Mode::Shared, 2)?, 2)
+        } else {
+            (
+                numbered_entry(number, u32::from(number), Mode::Exclusive, 1)?,
+                1,
+            )
+        };
+        assert_eq!(rt; node.holder(&name), Some(holder));
+        assert_eq!(rt; node.highest(&name), highest);
+    }
+    assert_eq!(rt;
+        node.leave(alloc, 1000, numbered(501)?).err(),
+        Some(LeaveError::NotHeld)
+    );
+    Ok(())
+}
+
+#[test]
+fn faults_are_printed_as_their_words(rt: HostRuntime) -> Result<(), Fail> {
+    let alloc = rt.alloc();
+    for (fault, word) in [
+        (AskError::Busy, "Busy"),
+        (AskError::Exhausted, "Exhausted"),
+        (AskError::Memory, "Memory"),
+    ] {
+        assert_eq!(rt; format!(in alloc; "{fault}")?.as_str(), word);
+    }
+    for (fault, word) in [
+        (LeaveError::NotHeld, "NotHeld"),
+        (LeaveError::Memory, "Memory"),
+    ] {
+        assert_eq!(rt; format!(in alloc; "{fault}")?.as_str(), word);
+    }
+    Ok(())
+}
