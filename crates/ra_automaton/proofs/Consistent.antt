@@ -16,7 +16,7 @@ use Rattle.ra_stamp.specs.Stamp.{IsEarlier}
 use Rattle.ra_automaton.specs.declared.phase.Phase.{Phase}
 use Rattle.ra_automaton.specs.declared.phase.Phase.TheVariants.{Idle, Waiting, Inside}
 use Rattle.ra_automaton.specs.State.{State, IsOther, IsWaiting, IsInside, HasNumber, IsConsistent}
-use Rattle.ra_automaton.specs.Steps.{others_of, later_of, AsksOthers, EntersAlone, Begins, RequestStep, Defers, RepliesAtOnce, Awaits, Enters, WaitsOn, IsStray, TakesReply, ReceiveStep, LeaveStep, OwnGoesFirst}
+use Rattle.ra_automaton.specs.Steps.{others_of, later_of, AsksOthers, EntersAlone, Begins, RequestStep, Defers, RepliesAtOnce, Awaits, Enters, WaitsOn, IsStray, TakesReply, ReceiveStep, LeaveStep, LeaveAndRequestStep, OwnGoesFirst}
 use Rattle.ra_automaton.proofs.SlotLemmas.{tied, untied, cases_same, eq_at, eq_apart}
 
 -- a number of a filtered range is in the range and passes
@@ -81,11 +81,6 @@ somebody_is_asked me nodes many e =
       | inr apart ↦ true_is_not_false (sym (other_is_asked me nodes 1 (omega arith) (omega arith) apart) ∙ nobody 1)
     ]
 
--- another node of the same nodes
-moved_other : (s t : State) (node : ℕ) → t.me ≡ s.me → t.nodes ≡ s.nodes → IsOther s node → IsOther t node
-moved_other s t node me nodes h =
-    record { first = h.first; last = omega (arith, h.last, nodes); other = λ e. h.other (e ∙ me) }
-
 -- a number that a node has met is one that it has met later too
 met_higher : (number highest higher : ℕ) → highest ≤ higher → (1 ≤ number) × (number ≤ highest) → (1 ≤ number) × (number ≤ higher)
 met_higher number highest higher le h = (h.0, omega (arith, h.1))
@@ -96,8 +91,8 @@ consistent_asked old mode h idle many =
     record {
       count = h.count;
       member = h.member;
-      awaited_others = λ node k. moved_other old _ node refl refl (asked_is_other old node k);
-      deferred_others = λ node number k. moved_other old _ node refl refl (h.deferred_others node number k);
+      awaited_others = asked_is_other old;
+      deferred_others = h.deferred_others;
       deferred_numbers = λ node number k. met_higher number old.highest (old.highest + 1) (omega arith) (h.deferred_numbers node number k);
       awaits = λ _. somebody_is_asked old.me old.nodes many;
       awaits_only = λ k. absurd (k tt);
@@ -114,8 +109,8 @@ consistent_alone old mode h idle =
     record {
       count = h.count;
       member = h.member;
-      awaited_others = λ node k. moved_other old _ node refl refl (h.awaited_others node k);
-      deferred_others = λ node number k. moved_other old _ node refl refl (h.deferred_others node number k);
+      awaited_others = h.awaited_others;
+      deferred_others = h.deferred_others;
       deferred_numbers = λ node number k. met_higher number old.highest (old.highest + 1) (omega arith) (h.deferred_numbers node number k);
       awaits = λ w. absurd w;
       awaits_only = λ _. idle_awaits_nobody old h idle;
@@ -140,8 +135,8 @@ consistent_meet s seq h =
     record {
       count = h.count;
       member = h.member;
-      awaited_others = λ node k. moved_other s _ node refl refl (h.awaited_others node k);
-      deferred_others = λ node number k. moved_other s _ node refl refl (h.deferred_others node number k);
+      awaited_others = h.awaited_others;
+      deferred_others = h.deferred_others;
       deferred_numbers = λ node number k. met_higher number s.highest (max s.highest seq) (omega arith) (h.deferred_numbers node number k);
       awaits = h.awaits;
       awaits_only = h.awaits_only;
@@ -184,8 +179,8 @@ consistent_put_off s other seq later h is busy fits =
     record {
       count = h.count;
       member = h.member;
-      awaited_others = λ node k. moved_other s _ node refl refl (h.awaited_others node k);
-      deferred_others = λ node number k. moved_other s _ node refl refl (put_in s other number later node h is k);
+      awaited_others = h.awaited_others;
+      deferred_others = λ node number k. put_in s other number later node h is k;
       deferred_numbers = λ node number k. put_number s other number later (max s.highest seq) node h (omega arith) fits k;
       awaits = h.awaits;
       awaits_only = h.awaits_only;
@@ -213,8 +208,8 @@ consistent_waits_on s other h left waiting =
     record {
       count = h.count;
       member = h.member;
-      awaited_others = λ node k. moved_other s _ node refl refl (h.awaited_others node (still_awaited s other node k));
-      deferred_others = λ node number k. moved_other s _ node refl refl (h.deferred_others node number k);
+      awaited_others = λ node k. h.awaited_others node (still_awaited s other node k);
+      deferred_others = h.deferred_others;
       deferred_numbers = h.deferred_numbers;
       awaits = λ _. left;
       awaits_only = λ k. absurd (k waiting);
@@ -228,7 +223,7 @@ consistent_enters s number mode h waits =
       count = h.count;
       member = h.member;
       awaited_others = λ node k. absurd (true_is_not_false (sym k ∙ set.contains-empty nat_cmp node));
-      deferred_others = λ node seq k. moved_other s _ node refl refl (h.deferred_others node seq k);
+      deferred_others = h.deferred_others;
       deferred_numbers = h.deferred_numbers;
       awaits = λ w. absurd w;
       awaits_only = λ _. refl;
@@ -256,7 +251,7 @@ consistent_end s h inside =
     record {
       count = h.count;
       member = h.member;
-      awaited_others = λ node k. moved_other s _ node refl refl (h.awaited_others node k);
+      awaited_others = h.awaited_others;
       deferred_others = λ node number k. absurd (some_is_not_none number (sym k ∙ map.get-empty nat_cmp node));
       deferred_numbers = λ node number k. absurd (some_is_not_none number (sym k ∙ map.get-empty nat_cmp node));
       awaits = λ w. absurd w;
@@ -308,6 +303,10 @@ consistent_receive old (Reply from to name seq) sends entered new h is step = co
 pub consistent_leave : (old : State) (sends : List Message) (new : State) → IsConsistent old → LeaveStep old sends new → IsConsistent new
 consistent_leave old sends new h step =
     subst IsConsistent (sym step.new_is) (consistent_end old h (subst IsInside (sym step.inside) tt))
+
+pub consistent_leave_and_request : (old : State) (mode : Mode) (sends : List Message) (entered : Bool) (new : State) → IsConsistent old → LeaveAndRequestStep old mode sends entered new → IsConsistent new
+consistent_leave_and_request old mode sends entered new h step =
+    consistent_request step.between mode step.requests entered new (consistent_leave old step.replies step.between h step.leaves) step.asks
 
 -- nothing stands in the slot for 0
 pub no_node_zero : (s : State) (slot : Option ℕ) → IsConsistent s → map.get s.deferred 0 ≡ slot → slot ≡ None

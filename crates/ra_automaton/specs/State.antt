@@ -23,15 +23,21 @@ pub record State : Type 0 where
   pub deferred : map.FinMap nat_cmp ℕ
 
 -- another node of those that there are
-pub record IsOther (s : State) (node : ℕ) : Type 0 where
+pub record IsOtherNode (me nodes node : ℕ) : Type 0 where
   pub first : 1 ≤ node
-  pub last : node ≤ s.nodes
-  pub other : node ≡ s.me → ⊥
+  pub last : node ≤ nodes
+  pub other : node ≡ me → ⊥
 
--- the message is for this node and from another one
-pub record IsAddressed (s : State) (message : Message) : Type 0 where
-  pub to : to_of message ≡ s.me
-  pub from : IsOther s (from_of message)
+abbrev pub IsOther : State → ℕ → Type 0
+IsOther s node = IsOtherNode s.me s.nodes node
+
+-- the message is for a node, and from another one
+pub record IsForNode (me nodes : ℕ) (message : Message) : Type 0 where
+  pub to : to_of message ≡ me
+  pub from : IsOtherNode me nodes (from_of message)
+
+abbrev pub IsAddressed : State → Message → Type 0
+IsAddressed s message = IsForNode s.me s.nodes message
 
 abbrev pub IsWaiting : Phase → Type 0
 IsWaiting Idle = ⊥

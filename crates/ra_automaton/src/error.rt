@@ -1,6 +1,6 @@
 use thiserror::Error;
 
-/// Why there is no automaton.
+/// Why there is no automaton, and no node that keeps some.
 #[derive(Clone, Copy, Debug, PartialEq, Eq, Error)]
 pub enum NewError {
     /// The number of nodes is not 1 to 16.

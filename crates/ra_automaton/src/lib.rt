@@ -5,6 +5,7 @@
 mod automaton;
 mod cases;
 mod error;
+mod laws;
 mod phase;
 mod reaction;
 mod sends;
@@ -12,6 +13,7 @@ mod slots;
 
 pub use automaton::Automaton;
 pub use error::{LeaveError, NewError, ReceiveError, RequestError};
+pub use laws::steps_keep_a_state_consistent;
 pub use phase::Phase;
 pub use reaction::Reaction;
 

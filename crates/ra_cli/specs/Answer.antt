@@ -7,7 +7,7 @@ use Rattle.ra_stamp.specs.NodeId.{IsNodeNumber}
 use Rattle.ra_frame.specs.declared.frame.Frame.{Frame}
 use Rattle.ra_frame.specs.FrameText.{IsFrameText}
 use Rattle.ra_frame.specs.Faults.{first_fault}
-use Rattle.ra_automaton.specs.State.{State, opening, IsAddressed}
+use Rattle.ra_automaton.specs.State.{State, opening, IsForNode}
 use Rattle.ra_automaton.specs.Steps.{ReceiveStep}
 use Rattle.ra_cli.specs.declared.fault.AnswerError.{AnswerError}
 use Rattle.ra_cli.specs.declared.fault.AnswerError.TheVariants as fault
@@ -31,10 +31,6 @@ pub record IsMember (node nodes : ℕ) : Type 0 where
 abbrev pub Reacts : ℕ → ℕ → Message → List Message → Bool → Type 0
 Reacts node nodes message sends entered =
     (after : State) × ReceiveStep (opening node nodes (name_of message) 0) message sends entered after
-
--- the message is for this node, and from another one
-abbrev pub IsFor : ℕ → ℕ → Message → Type 0
-IsFor node nodes message = IsAddressed (opening node nodes (name_of message) 0) message
 
 -- the sender is the node itself, or there is no such node
 abbrev pub IsStrange : ℕ → ℕ → Message → Type 0
@@ -64,7 +60,7 @@ pub record IsAnswered (node nodes : ℕ) (input output : List ℕ) : Type 0 wher
   pub entered : Bool
   pub member : IsMember node nodes
   pub carries : Carries input frame
-  pub is_for : IsFor node nodes frame.message
+  pub is_for : IsForNode node nodes frame.message
   pub clock_left : clock_after 0 frame.clock ≤ 2 ^ 62
   pub reacts : Reacts node nodes frame.message sends entered
   pub lines : AreLines (clock_after 0 frame.clock) sends output
@@ -85,6 +81,6 @@ Refuses node nodes input fault.WrongNode =
 Refuses node nodes input fault.Stranger =
     IsMember node nodes × (frame : Frame) × Carries input frame × IsStrange node nodes frame.message
 Refuses node nodes input fault.ClockFull =
-    IsMember node nodes × (frame : Frame) × Carries input frame × IsFor node nodes frame.message × (2 ^ 62 < clock_after 0 frame.clock)
+    IsMember node nodes × (frame : Frame) × Carries input frame × IsForNode node nodes frame.message × (2 ^ 62 < clock_after 0 frame.clock)
 Refuses node nodes input fault.Memory = IsMember node nodes
 Refuses node nodes input fault.Write = (output : List ℕ) × IsAnswered node nodes input output

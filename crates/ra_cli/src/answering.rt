@@ -5,8 +5,7 @@ ghost use Rattle.ra_frame.specs.Fits.{Fits};
 ghost use Rattle.ra_frame.specs.FrameText.{IsFrameText};
 ghost use Rattle.ra_cli.specs.Input.{IsFromOutside};
 ghost use Rattle.ra_cli.specs.Answer.{Carries, IsMember, IsUnwanted, Reacts, AreLines, IsAnswered, Refuses};
-ghost use Rattle.ra_stamp.specs.Message.{name_of};
-ghost use Rattle.ra_automaton.specs.State.{opening, IsAddressed};
+ghost use Rattle.ra_automaton.specs.State.{IsForNode};
 
 use crate::AnswerError;
 use crate::input::{MAX_LINE, line_of, read_up_to};
@@ -101,7 +100,7 @@ fn reaction_to(
 ) -> Result<Reaction, AnswerError>
     requires { IsMember me nodes }
     ensures ok { IfOk result (λ reaction. Reacts me nodes message.now reaction.sends.items reaction.entered) }
-    ensures addressed { OnOk result (IsAddressed (opening me nodes (name_of message.now) 0) message.now) }
+    ensures addressed { OnOk result (IsForNode me nodes message.now) }
     ensures err { IfErr result (IsUnwanted me nodes message.now) }
 {
     let opened = Automaton::new(alloc, me, nodes, message.name(), 0);

@@ -171,10 +171,10 @@ leave_turn_one old client ms ns xs ys a b p q =
               x.marks_are ∙ ap (λ (e : Entry). Left e ∷ []) (held_one old client x.entry y.entry x.holds y.holds) ∙ sym y.marks_are,
               same_resource a b step.1 (x.client_is ∙ sym y.client_is) (x.queue_is ∙ sym y.queue_is),
             )
-        | inr y ↦ absurd (nobody_or_next old y.next b.queue x.nobody y.queue_was y.number_left)
+        | inr y ↦ absurd (nobody_or_next old y.next b.queue x.nobody y.queue_was y.may.number_left)
       ]
       | inr x ↦ elim q [
-        | inl y ↦ absurd (nobody_or_next old x.next a.queue y.nobody x.queue_was x.number_left)
+        | inl y ↦ absurd (nobody_or_next old x.next a.queue y.nobody x.queue_was x.may.number_left)
         | inr y ↦
             let queues : x.next ∷ a.queue ≡ y.next ∷ b.queue = sym x.queue_was ∙ y.queue_was in
             let next : x.next ≡ y.next = ap (head_or x.next) queues in

@@ -9,12 +9,12 @@ use Rattle.ra_stamp.specs.declared.mode.Mode.{Mode}
 use Rattle.ra_stamp.specs.declared.message.Message.{Message}
 use Rattle.ra_stamp.specs.declared.entry.Mark.{Mark}
 use Rattle.ra_stamp.specs.Message.{from_of, name_of, seq_of}
-use Rattle.ra_automaton.specs.State.{State, IsAddressed}
+use Rattle.ra_automaton.specs.State.{State, IsForNode, IsAddressed}
 use Rattle.ra_node.specs.Resource.{Resource, unmet, use_of, IsConsistentResource}
 use Rattle.ra_node.specs.Node.{NodeState, resource_at, with_resource, IsConsistentNode}
 use Rattle.ra_node.specs.Events.{AskEvent, LeaveEvent, ReceiveEvent, Event, name_of_event, NodeEvent}
 use Rattle.ra_node.specs.Events.Event.{Ask, Leave, Receive}
-use Rattle.ra_node.specs.Carried.{IsSend, IsForNode, IsMark, MarksLead}
+use Rattle.ra_node.specs.Carried.{IsSend, IsMark, MarksLead}
 use Rattle.ra_node.proofs.Leading.{ask_leads, leave_leads, receive_leads}
 use Rattle.ra_node.proofs.Room.{ask_room, leave_turn_room, receive_room}
 use Rattle.ra_node.proofs.Named.{tied, untied}
@@ -78,11 +78,7 @@ leave_event_marks old client name sends marks new h event =
 
 -- the automaton's words for a message that the node may take
 pub addressed : (n : NodeState) (message : Message) (s : State) → s.me ≡ n.me → s.nodes ≡ n.nodes → IsForNode n.me n.nodes message → IsAddressed s message
-addressed n message s me nodes h =
-    record {
-      to = h.to ∙ sym me;
-      from = record { first = h.first; last = subst (λ (k : ℕ). from_of message ≤ k) (sym nodes) h.last; other = λ e. h.other (e ∙ me) };
-    }
+addressed n message s me nodes h = subst (λ (k : ℕ). IsForNode s.me k message) (sym nodes) (subst (λ (k : ℕ). IsForNode k n.nodes message) (sym me) h)
 
 pub receive_event_sends : (old : NodeState) (message : Message) (sends : List Message) (marks : List Mark) (new : NodeState) → IsConsistentNode old → IsForNode old.me old.nodes message
     → ReceiveEvent old message sends marks new → AreSends old.me old.nodes (name_of message) (λ m. seq_of m ≡ seq_of message) sends

@@ -8,14 +8,16 @@ use Rattle.ra_stamp.specs.declared.entry.Mark.TheVariants.{Requested, Entered, L
 use Rattle.ra_stamp.specs.declared.message.Message.{Message}
 use Rattle.ra_stamp.specs.declared.message.Message.TheVariants.{Request, Reply}
 use Rattle.ra_stamp.specs.declared.mode.Mode.{Mode}
-use Rattle.ra_stamp.specs.Message.{from_of, seq_of}
+use Rattle.ra_stamp.specs.Message.{from_of, to_of, seq_of}
 use Rattle.ra_automaton.specs.declared.phase.Phase.{Phase}
 use Rattle.ra_automaton.specs.declared.phase.Phase.TheVariants.{Idle, Waiting, Inside}
-use Rattle.ra_automaton.specs.State.{State, HasNumber, IsAddressed, IsConsistent}
+use Rattle.ra_automaton.specs.State.{State, HasNumber, IsOtherNode, IsAddressed, IsConsistent}
 use Rattle.ra_automaton.specs.Steps.{last_number, RequestStep, LeaveStep, LeaveAndRequestStep, ReceiveStep}
 use Rattle.ra_node.specs.Resource.{Resource, holder_in, holder_of, ClientFits, IsConsistentResource}
 use Rattle.ra_node.specs.Turns.{request_marks, next_entry, EntersBy, AsksAtOnce, QueuesUp, AskTurn, LeavesToNobody, LeavesToNext, LeaveTurn, ReceiveTurn}
 use Rattle.ra_node.specs.Carried.{IsMark}
+use Rattle.ra_node.specs.declared.queued.Queued.{Queued}
+use Rattle.ra_node.proofs.Distinct.{standing, Once, asks_once, queues_once, leaves_once, hands_once}
 use Rattle.ra_node.proofs.Sends.{IsNumberedSend, requests_are_sends, replies_are_sends, answers_are_sends}
 
 -- ---- What a step keeps of a state
@@ -113,12 +115,15 @@ receive_idle old (Reply from to name seq) sends entered new step idle =
       ]
     ]
 
+nobody_when_idle : (phase : Phase) (client : Option ℕ) → phase ≡ Idle → ClientFits phase client → client ≡ None
+nobody_when_idle phase client idle fits = subst (λ (p : Phase). ClientFits p client) idle fits
+
 -- ---- Each turn leads from a consistent resource to one
 
 module _ (me nodes : ℕ) (name : List ℕ) (start : ℕ) where
   kept_resource : (old new : Resource) → IsConsistentResource me nodes name start old → Keeps old.state new.state → IsConsistent new.state → ClientFits new.state.phase new.client
-      → (new.state.phase ≡ Idle → new.queue ≢ [] → last_number ≤ new.state.highest) → IsConsistentResource me nodes name start new
-  kept_resource old new h keeps state fits stays =
+      → Once (standing new.client new.queue) → (new.state.phase ≡ Idle → new.queue ≢ [] → last_number ≤ new.state.highest) → IsConsistentResource me nodes name start new
+  kept_resource old new h keeps state fits once stays =
       record {
         state = state;
         me_is = keeps.me_is ∙ h.me_is;
@@ -126,6 +131,7 @@ module _ (me nodes : ℕ) (name : List ℕ) (start : ℕ) where
         name_is = keeps.name_is ∙ h.name_is;
         from_start = omega (arith, h.from_start, keeps.higher);
         client_fits = fits;
+        once = once;
         queue_stays = stays;
       }
 
@@ -137,12 +143,14 @@ module _ (me nodes : ℕ) (name : List ℕ) (start : ℕ) where
             let busy = request_is_busy old.state mode sends asks.entered new.state asks.step in
             kept_resource old new h (request_keeps old.state mode sends asks.entered new.state asks.step) state
             (subst (λ (c : Option ℕ). ClientFits new.state.phase c) (sym asks.client_is) (some_fits new.state.phase client busy))
+            (subst Once (λ i. standing (sym asks.client_is i) (sym asks.queue_is i)) (asks_once old client turn.0 (nobody_when_idle old.state.phase old.client asks.step.idle h.client_fits) h.once))
             (λ idle some. absurd (not_idle new.state.phase busy idle))
         | inr queues ↦
             let is = queues.new_is in
             let same = ap (λ (r : Resource). r.state) is in
             kept_resource old new h (kept_by old.state new.state old.state same (record { me_is = refl; nodes_is = refl; name_is = refl; higher = omega arith })) state
             (subst (λ (r : Resource). ClientFits r.state.phase r.client) (sym is) h.client_fits)
+            (subst (λ (r : Resource). Once (standing r.client r.queue)) (sym is) (queues_once old client _ refl turn.0 h.once))
             (λ idle some. absurd (queues.in_use (sym (ap (λ (s : State). s.phase) same) ∙ idle)))
       ]
 
@@ -155,6 +163,7 @@ module _ (me nodes : ℕ) (name : List ℕ) (start : ℕ) where
             let idle : new.state.phase ≡ Idle = ap (λ (s : State). s.phase) leaves.step.new_is in
             kept_resource old new h keeps state
             (subst (λ (p : Phase). ClientFits p new.client) (sym idle) leaves.client_is)
+            (subst Once (λ i. standing (sym leaves.client_is i) (sym leaves.queue_is i)) (leaves_once old.client old.queue h.once))
             (λ _ some. elim leaves.nobody [
               | inl none ↦ absurd (some (leaves.queue_is ∙ none))
               | inr last ↦ omega (arith, last, keeps.higher)
@@ -164,6 +173,8 @@ module _ (me nodes : ℕ) (name : List ℕ) (start : ℕ) where
             let busy = request_is_busy step.between hands.next.mode step.requests hands.entered new.state step.asks in
             kept_resource old new h (keeps_on old.state step.between new.state (leave_keeps old.state step.replies step.between step.leaves) (request_keeps step.between hands.next.mode step.requests hands.entered new.state step.asks)) state
             (subst (λ (c : Option ℕ). ClientFits new.state.phase c) (sym hands.client_is) (some_fits new.state.phase hands.next.client busy))
+            (subst (λ (c : Option ℕ). Once (standing c new.queue)) (sym hands.client_is)
+            (hands_once old.client hands.next new.queue (subst (λ (qs : List Queued). Once (standing old.client qs)) hands.queue_was h.once)))
             (λ idle some. absurd (not_idle new.state.phase busy idle))
       ]
 
@@ -173,6 +184,7 @@ module _ (me nodes : ℕ) (name : List ℕ) (start : ℕ) where
       let keeps = receive_keeps old.state message sends turn.entered new.state turn.step in
       kept_resource old new h keeps state
       (subst (λ (c : Option ℕ). ClientFits new.state.phase c) (sym turn.client_is) (receive_fits old.state message sends turn.entered new.state old.client turn.step h.client_fits))
+      (subst Once (λ i. standing (sym turn.client_is i) (sym turn.queue_is i)) h.once)
       (λ idle some.
       let before = h.queue_stays (receive_idle old.state message sends turn.entered new.state turn.step idle) (λ none. some (turn.queue_is ∙ none)) in
       omega (arith, before, keeps.higher))
@@ -181,7 +193,7 @@ module _ (me nodes : ℕ) (name : List ℕ) (start : ℕ) where
 
 pub IsSendOf-moved : (s t : State) (message : Message) → t.me ≡ s.me → t.nodes ≡ s.nodes → t.name ≡ s.name → IsNumberedSend t message → IsNumberedSend s message
 IsSendOf-moved s t message me nodes name h =
-    (record { from = h.0.from ∙ me; first = h.0.first; last = omega (arith, h.0.last, nodes); other = λ e. h.0.other (e ∙ sym me); name_is = h.0.name_is ∙ name }, h.1)
+    (record { from = h.0.from ∙ me; to = subst (λ (k : ℕ). IsOtherNode s.me k (to_of message)) nodes (subst (λ (k : ℕ). IsOtherNode k t.nodes (to_of message)) me h.0.to); name_is = h.0.name_is ∙ name }, h.1)
 
 request_sends : (old : State) (mode : Mode) (sends : List Message) (entered : Bool) (new : State) → RequestStep old mode sends entered new → All (IsNumberedSend old) sends
 request_sends old mode sends entered new step = subst (λ (ms : List Message). All (IsNumberedSend old) ms) (sym step.sends_are) (requests_are_sends old mode (old.highest + 1) (omega arith))

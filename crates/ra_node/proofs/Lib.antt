@@ -1,12 +1,13 @@
-pub mod Queues
 pub mod Named
 pub mod Opening
 pub mod Sends
+pub mod Distinct
 pub mod Kept
 pub mod Leading
 pub mod Room
 pub mod NodeLemmas
 pub mod EventLemmas
+pub mod EventsKept
 pub mod After
 pub mod Determined
 pub mod Possible

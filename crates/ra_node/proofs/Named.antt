@@ -1,5 +1,5 @@
 -- What the slots of a node are as a map from names to resources.
-use Rattle.std.proofs.Common.{◌≡◌, ◌≢◌, ℕ, zero, suc, ◌+◌, ◌<◌, Bool, true, false, cond, List, [], ◌∷◌, ◌++◌, All, length, get_or, set, map, Option, Some, None, refl, sym, ap, ◌∙◌, subst, arith}
+use Rattle.std.proofs.Common.{◌≡◌, ◌≢◌, ℕ, zero, suc, ◌+◌, ◌<◌, Bool, true, false, cond, List, [], ◌∷◌, ◌++◌, All, length, get_or, set, map, Option, Some, None, refl, sym, ap, ◌∙◌, subst, arith, ◌⊎◌, inl, inr}
 use Rattle.std.specs.Prelude.{sum_by, unwrap_or}
 use Rattle.std.specs.declared.cmp.Ordering.{Ordering}
 use Rattle.std.specs.declared.cmp.Ordering.TheVariants.{Less, Equal, Greater}
@@ -36,6 +36,16 @@ untied a b apart =
       | false ↦ λ e. refl
     ] refl
 
+false_is_not_true : false ≡ true → ⊥
+false_is_not_true e = cc
+
+pub same_or_apart : (a b : List ℕ) → (a ≡ b) ⊎ (a ≢ b)
+same_or_apart a b =
+    elim (eq_by_cmp cmp a b) as (λ t. eq_by_cmp cmp a b ≡ t → (a ≡ b) ⊎ (a ≢ b)) [
+      | true ↦ λ e. inl (same_names a b (equal_of (cmp a b) e))
+      | false ↦ λ e. inr (λ same. false_is_not_true (sym e ∙ tied a b same))
+    ] refl
+
 -- ---- Looking a name up
 
 pub find_absent : (rs : List Resource) (name : List ℕ) → All (λ r. r.state.name ≢ name) rs → find cmp name (named rs) ≡ None
@@ -46,9 +56,6 @@ find_absent (r ∷ rs) name all =
 
 not_none : {X : Type 0} (x : X) → Some x ≡ None → ⊥
 not_none x e = cc
-
-false_is_not_true : false ≡ true → ⊥
-false_is_not_true e = cc
 
 -- a slot that is not the first has another name than the first
 later_is_apart : (rs : List Resource) (place : ℕ) (d : Resource) (name : List ℕ) → place < length rs → find cmp name (named rs) ≡ None → (get_or rs place d).state.name ≢ name

@@ -29,5 +29,6 @@ unmet_is_consistent me nodes name start count member =
       name_is = refl;
       from_start = omega arith;
       client_fits = refl;
+      once = λ i j d before within. absurd (omega (arith, within));
       queue_stays = λ _ some. absurd (some refl);
     }

@@ -20,11 +20,12 @@ use Rattle.ra_automaton.specs.declared.phase.Phase.TheVariants.{Idle, Waiting, I
 use Rattle.ra_automaton.specs.State.{State, IsWaiting, IsConsistent}
 use Rattle.ra_automaton.specs.Steps.{last_number, others_of, later_of, GoesFirst, OwnGoesFirst, Begins, RequestStep, Defers, RepliesAtOnce, Awaits, TakesReply, ReceiveStep, LeaveStep, LeaveAndRequestStep}
 use Rattle.ra_node.specs.declared.queued.Queued.{Queued}
-use Rattle.ra_node.specs.Resource.{Resource, holder_in, holder_of, Holds, ClientFits, IsConsistentResource}
+use Rattle.ra_node.specs.Resource.{Resource, holder_in, holder_of, Holds, ClientFits, clients_of, IsConsistentResource}
 use Rattle.ra_node.specs.Turns.{request_marks, next_entry, MayAsk, EntersBy, AskTurn, LeaveTurn, ReceiveTurn}
 use Rattle.ra_node.specs.Node.{NodeState, resource_at, with_resource, IsConsistentNode}
 use Rattle.ra_node.specs.Events.{AskEvent, LeaveEvent, ReceiveEvent, Event, NodeEvent, Allows}
 use Rattle.ra_node.specs.Events.Event.{Ask, Leave, Receive}
+use Rattle.ra_node.proofs.Distinct.{Once, next_may_ask}
 
 -- ---- Asking
 
@@ -100,9 +101,9 @@ leave_to_nobody old client e holds nobody =
       inl (record { entry = e; holds = holds; nobody = nobody; step = possible_leave old.state inside.0 inside.1 inside.2; marks_are = refl; client_is = refl; queue_is = refl }),
     )
 
-leave_to_next : (old : Resource) (client : ℕ) (e : Entry) (next : Queued) (rest : List Queued) → 1 ≤ old.state.nodes → Holds old client e → old.queue ≡ next ∷ rest → old.state.highest < last_number
+leave_to_next : (old : Resource) (client : ℕ) (e : Entry) (next : Queued) (rest : List Queued) → 1 ≤ old.state.nodes → Holds old client e → old.queue ≡ next ∷ rest → old.state.highest < last_number → Once (clients_of old)
     → (sends : List Message) × (marks : List Mark) × (new : Resource) × LeaveTurn old client sends marks new
-leave_to_next old client e next rest low holds queue left =
+leave_to_next old client e next rest low holds queue left once =
     let inside = held_inside old.state old.state.phase old.client e holds.granted in
     let request = possible_request (left_state old.state) next.mode low refl left in (
       replies_of old.state ++ requests_of (left_state old.state) next.mode,
@@ -113,7 +114,7 @@ leave_to_next old client e next rest low holds queue left =
         holds = holds;
         next = next;
         queue_was = queue;
-        number_left = left;
+        may = next_may_ask old next rest queue left once;
         entered = request.0;
         step = record {
           between = left_state old.state;
@@ -132,19 +133,19 @@ empty_or_not : (queue : List Queued) → (queue ≡ []) ⊎ ((next : Queued) × 
 empty_or_not [] = inl refl
 empty_or_not (q ∷ qs) = inr (q, qs, refl)
 
-possible_leave_turn : (old : Resource) (client : ℕ) (e : Entry) → 1 ≤ old.state.nodes → Holds old client e → (sends : List Message) × (marks : List Mark) × (new : Resource) × LeaveTurn old client sends marks new
-possible_leave_turn old client e low holds =
+possible_leave_turn : (old : Resource) (client : ℕ) (e : Entry) → 1 ≤ old.state.nodes → Once (clients_of old) → Holds old client e → (sends : List Message) × (marks : List Mark) × (new : Resource) × LeaveTurn old client sends marks new
+possible_leave_turn old client e low once holds =
     elim (empty_or_not old.queue) [
       | inl none ↦ leave_to_nobody old client e holds (inl none)
       | inr some ↦ elim (cases_lt old.state.highest last_number) [
-        | inl left ↦ leave_to_next old client e some.0 some.1 low holds some.2 left
+        | inl left ↦ leave_to_next old client e some.0 some.1 low holds some.2 left once
         | inr last ↦ leave_to_nobody old client e holds (inr last)
       ]
     ]
 
 pub leave_is_possible : (old : NodeState) (client : ℕ) (name : List ℕ) → IsConsistentNode old → (entry : Entry) × Holds (resource_at old name) client entry → Allows old (Leave client name)
 leave_is_possible old client name h held =
-    let turn = possible_leave_turn (resource_at old name) client held.0 (h.each name).state.count.0 held.1 in
+    let turn = possible_leave_turn (resource_at old name) client held.0 (h.each name).state.count.0 (h.each name).once held.1 in
     (turn.0, turn.1, with_resource old name turn.2, record { resource = turn.2; turn = turn.3; new_is = refl })
 
 pub leave_was_allowed : (old : NodeState) (client : ℕ) (name : List ℕ) → Allows old (Leave client name) → (entry : Entry) × Holds (resource_at old name) client entry

@@ -46,7 +46,7 @@ pub requests_are_sends : (s : State) (mode : _) (number : ℕ) → 1 ≤ number 
 requests_are_sends s mode number low =
     All-map (IsNumberedSend s) (λ other. Request s.me other s.name mode number) (others_of s.me s.nodes)
     (All-weaker (IsOther s) (λ other. IsNumberedSend s (Request s.me other s.name mode number))
-    (λ k h. (record { from = refl; first = h.first; last = h.last; other = h.other; name_is = refl }, low))
+    (λ k h. (record { from = refl; to = h; name_is = refl }, low))
     (others_of s.me s.nodes) (all_others s))
 
 -- ---- The deferred nodes
@@ -95,7 +95,7 @@ pub replies_are_sends : (s : State) → IsConsistent s → All (IsNumberedSend s
 replies_are_sends s h =
     All-map (IsNumberedSend s) (λ e. Reply s.me e.0 s.name e.1) (finmap.entries s.deferred)
     (All-weaker (λ e. IsOther s e.0 × (1 ≤ e.1)) (λ e. IsNumberedSend s (Reply s.me e.0 s.name e.1))
-    (λ e k. (record { from = refl; first = k.0.first; last = k.0.last; other = k.0.other; name_is = refl }, k.1))
+    (λ e k. (record { from = refl; to = k.0; name_is = refl }, k.1))
     (finmap.entries s.deferred) (all_deferred s h))
 
 pub answers_are_sends : (s : State) (message : Message) (sends : List Message) (entered : Bool) (new : State) → IsAddressed s message → ReceiveStep s message sends entered new
@@ -105,7 +105,7 @@ answers_are_sends s (Request from to name mode seq) sends entered new addressed 
       | inl defers ↦ subst (λ (ms : List Message). All (λ sent. IsSend s.me s.nodes s.name sent × (seq_of sent ≡ seq)) ms) (sym defers.sends_are) (All-nil (λ sent. IsSend s.me s.nodes s.name sent × (seq_of sent ≡ seq)))
       | inr replies ↦ subst (λ (ms : List Message). All (λ sent. IsSend s.me s.nodes s.name sent × (seq_of sent ≡ seq)) ms) (sym replies.sends_are)
           (All-cons (λ sent. IsSend s.me s.nodes s.name sent × (seq_of sent ≡ seq)) (Reply s.me from s.name seq) []
-          (record { from = refl; first = addressed.from.first; last = addressed.from.last; other = addressed.from.other; name_is = refl }, refl)
+          (record { from = refl; to = addressed.from; name_is = refl }, refl)
           (All-nil (λ sent. IsSend s.me s.nodes s.name sent × (seq_of sent ≡ seq))))
     ]
 answers_are_sends s (Reply from to name seq) sends entered new addressed step =

@@ -1,27 +1,19 @@
 -- What those who carry a node's messages and marks know of them.
-use Rattle.std.specs.Prelude.{◌≡◌, ◌≢◌, ℕ, ◌≤◌, List, [], ◌∷◌}
+use Rattle.std.specs.Prelude.{◌≡◌, ℕ, ◌≤◌, List, [], ◌∷◌}
 use Rattle.ra_stamp.specs.declared.entry.Entry.{Entry}
 use Rattle.ra_stamp.specs.declared.entry.Mark.{Mark}
 use Rattle.ra_stamp.specs.declared.entry.Mark.TheVariants.{Requested, Entered, Left}
 use Rattle.ra_stamp.specs.declared.message.Message.{Message}
 use Rattle.ra_stamp.specs.Message.{from_of, to_of, name_of}
+use Rattle.ra_automaton.specs.State.{IsOtherNode}
 use Rattle.ra_node.specs.Resource.{Use}
 use Rattle.ra_node.specs.Resource.Use.{Nobody, Waits, IsGranted}
 
 -- a message that a node sends about a resource: it is from this node, and for another one
 pub record IsSend (me nodes : ℕ) (name : List ℕ) (message : Message) : Type 0 where
   pub from : from_of message ≡ me
-  pub first : 1 ≤ to_of message
-  pub last : to_of message ≤ nodes
-  pub other : to_of message ≢ me
+  pub to : IsOtherNode me nodes (to_of message)
   pub name_is : name_of message ≡ name
-
--- a message that a node may take: it is for this node, and from another one
-pub record IsForNode (me nodes : ℕ) (message : Message) : Type 0 where
-  pub to : to_of message ≡ me
-  pub first : 1 ≤ from_of message
-  pub last : from_of message ≤ nodes
-  pub other : from_of message ≢ me
 
 -- the request that a mark is about
 abbrev pub entry_in : Mark → Entry

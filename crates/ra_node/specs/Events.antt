@@ -4,6 +4,7 @@ use Rattle.ra_stamp.specs.declared.entry.Mark.{Mark}
 use Rattle.ra_stamp.specs.declared.message.Message.{Message}
 use Rattle.ra_stamp.specs.declared.mode.Mode.{Mode}
 use Rattle.ra_stamp.specs.Message.{name_of}
+use Rattle.ra_automaton.specs.State.{IsForNode}
 use Rattle.ra_node.specs.Resource.{Resource}
 use Rattle.ra_node.specs.Turns.{AskTurn, LeaveTurn, ReceiveTurn}
 use Rattle.ra_node.specs.Node.{NodeState, resource_at, with_resource}
@@ -42,6 +43,12 @@ abbrev pub NodeEvent : NodeState → Event → List Message → List Mark → No
 NodeEvent old (Ask client name mode) sends marks new = AskEvent old client name mode sends marks new
 NodeEvent old (Leave client name) sends marks new = LeaveEvent old client name sends marks new
 NodeEvent old (Receive message) sends marks new = ReceiveEvent old message sends marks new
+
+-- an event of this node: a client of its own asks or leaves, or a message for it comes from another node
+abbrev pub IsForThisNode : NodeState → Event → Type 0
+IsForThisNode n (Ask client name mode) = Unit {0}
+IsForThisNode n (Leave client name) = Unit {0}
+IsForThisNode n (Receive message) = IsForNode n.me n.nodes message
 
 -- some event of this kind is possible
 abbrev pub Allows : NodeState → Event → Type 0

@@ -1,5 +1,5 @@
 -- One resource at one node: what the algorithm keeps of it, and the clients of the node that use it.
-use Rattle.std.specs.Prelude.{◌≡◌, ◌≢◌, ◌⊎◌, ℕ, ◌≤◌, List, [], Option, Some, None, option_map, Any, IsSome, refl}
+use Rattle.std.specs.Prelude.{◌≡◌, ◌≢◌, ℕ, ◌≤◌, List, [], ◌++◌, map, Option, Some, None, option_map, option_to_list, AllPairs, Contains, IsSome, refl}
 use Rattle.std.specs.Coded.{Coded, code_by, coded×, coded_ℕ, coded_list, coded_option}
 use Rattle.ra_stamp.specs.declared.entry.Entry.{Entry}
 use Rattle.ra_stamp.specs.declared.mode.Mode.{Mode}
@@ -53,9 +53,13 @@ pub record Holds (r : Resource) (client : ℕ) (entry : Entry) : Type 0 where
   pub granted : holder_of r ≡ Some entry
   pub client_is : entry.client ≡ client
 
--- a client waits, is queued or holds here
+-- the clients that stand at a resource: the current one, and those that queue
+abbrev pub clients_of : Resource → List ℕ
+clients_of r = option_to_list r.client ++ map (λ q. q.client) r.queue
+
+-- a client stands here: it waits, is queued or holds
 abbrev pub IsBusy : Resource → ℕ → Type 0
-IsBusy r client = (r.client ≡ Some client) ⊎ Any (λ q. q.client ≡ client) r.queue
+IsBusy r client = Contains (clients_of r) client
 
 abbrev pub waiting_in : Phase → ℕ
 waiting_in Idle = 0
@@ -80,6 +84,8 @@ pub record IsConsistentResource (me nodes : ℕ) (name : List ℕ) (start : ℕ)
   pub name_is : r.state.name ≡ name
   pub from_start : start ≤ r.state.highest
   pub client_fits : ClientFits r.state.phase r.client
+  -- no client stands here twice
+  pub once : AllPairs (λ a b. a ≢ b) (clients_of r)
   -- clients queue at an idle node only where no number is left
   pub queue_stays : r.state.phase ≡ Idle → r.queue ≢ [] → last_number ≤ r.state.highest
 

@@ -67,7 +67,8 @@ pub record LeavesToNext (old : Resource) (client : ℕ) (sends : List Message) (
   pub holds : Holds old client entry
   pub next : Queued
   pub queue_was : old.queue ≡ next ∷ new.queue
-  pub number_left : old.state.highest < last_number
+  -- it may ask, once it is out of the queue and nobody holds
+  pub may : MayAsk (record old { client = None; queue = new.queue }) next.client
   pub entered : Bool
   pub step : automaton.LeaveAndRequestStep old.state next.mode sends entered new.state
   pub marks_are : marks ≡ Left entry ∷ request_marks entered (next_entry old next.client next.mode)

@@ -1,21 +1,28 @@
-//! What is true of the events of a node, for the crates above: each function has no code, and its contract is the law.
-ghost use Rattle.std.specs.Prelude.{◌≡◌, ◌≢◌, ◌++◌, ◌∷◌, ◌↔◌, [], ℕ, List};
+//! What is true of the events of a node, for the crates above: each function does nothing, and its contract is the law.
+ghost use Rattle.std.specs.Prelude.{◌≡◌, ◌≢◌, ◌≤◌, ◌*◌, ◌++◌, ◌∷◌, ◌↔◌, [], ℕ, List, All, length};
 ghost use Rattle.std.specs.FinMap as map;
 ghost use Rattle.ra_stamp.specs.declared.entry.Entry.{Entry};
 ghost use Rattle.ra_stamp.specs.declared.entry.Mark.{Mark};
 ghost use Rattle.ra_stamp.specs.declared.message.Message.{Message};
 ghost use Rattle.ra_stamp.specs.declared.mode.Mode.{Mode};
-ghost use Rattle.ra_node.specs.Resource.{Holds};
+ghost use Rattle.ra_stamp.specs.Message.{seq_of};
+ghost use Rattle.ra_stamp.specs.NodeId.{IsNodeNumber};
+ghost use Rattle.ra_node.specs.Resource.{Holds, use_of};
 ghost use Rattle.ra_node.specs.Turns.{MayAsk};
-ghost use Rattle.ra_node.specs.Node.{NodeState, resource_at, IsConsistentNode};
-ghost use Rattle.ra_node.specs.Events.{Event, Happening, name_of_event, NodeEvent, Events, Allows};
+ghost use Rattle.ra_node.specs.Node.{NodeState, opening_node, resource_at, IsConsistentNode};
+ghost use Rattle.ra_node.specs.Events.{Event, Happening, name_of_event, NodeEvent, Events, Allows, IsForThisNode};
+ghost use Rattle.ra_node.specs.Carried.{IsSend, IsMark, MarksLead};
+
+use ra_automaton::steps_keep_a_state_consistent;
 
 /// An event about one name leaves all other names, and who the node is.
 pub fn events_leave_other_names()
-    ensures entry { (old new : NodeState) (event : Event) (sends : List Message) (marks : List Mark) (other : List ℕ)
+    ensures entry { (old new : NodeState) (event : Event) (sends : List Message) (marks : List Mark)
+        (other : List ℕ)
         → NodeEvent old event sends marks new → other ≢ name_of_event event
         → map.get new.resources other ≡ map.get old.resources other }
-    ensures resource { (old new : NodeState) (event : Event) (sends : List Message) (marks : List Mark) (other : List ℕ)
+    ensures resource { (old new : NodeState) (event : Event) (sends : List Message) (marks : List Mark)
+        (other : List ℕ)
         → NodeEvent old event sends marks new → other ≢ name_of_event event
         → resource_at new other ≡ resource_at old other }
     ensures node { (old new : NodeState) (event : Event) (sends : List Message) (marks : List Mark)
@@ -23,27 +30,61 @@ pub fn events_leave_other_names()
         → (new.me ≡ old.me) × (new.nodes ≡ old.nodes) × (new.start ≡ old.start) }
 {}
 
+/// A node that has met nothing is consistent, and each event of a node leads from a consistent node to one. What the
+/// event sends goes from this node to another one, and has a number, if the message that came has one; its marks are of
+/// this node. Both are about the event's name, and they are few. The marks lead from one use of the name to the next, so
+/// that a node has at most one request on a name.
+pub fn events_keep_a_node_consistent()
+    ensures opening { (me nodes start : ℕ) → IsNodeNumber nodes → (1 ≤ me) × (me ≤ nodes)
+        → IsConsistentNode (opening_node me nodes start) }
+    ensures consistent { (old new : NodeState) (event : Event) (sends : List Message) (marks : List Mark)
+        → IsConsistentNode old → IsForThisNode old event → NodeEvent old event sends marks new → IsConsistentNode new }
+    ensures sends { (old new : NodeState) (event : Event) (sends : List Message) (marks : List Mark)
+        → IsConsistentNode old → IsForThisNode old event → NodeEvent old event sends marks new
+        → All (IsSend old.me old.nodes (name_of_event event)) sends }
+    ensures numbered { (old new : NodeState) (event : Event) (sends : List Message) (marks : List Mark)
+        → IsConsistentNode old → IsForThisNode old event → NodeEvent old event sends marks new
+        → ((message : Message) → event ≡ Event.Receive message → 1 ≤ seq_of message)
+        → All (λ message. 1 ≤ seq_of message) sends }
+    ensures marks { (old new : NodeState) (event : Event) (sends : List Message) (marks : List Mark)
+        → IsConsistentNode old → IsForThisNode old event → NodeEvent old event sends marks new
+        → All (IsMark old.me (name_of_event event)) marks }
+    ensures room { (old new : NodeState) (event : Event) (sends : List Message) (marks : List Mark)
+        → IsConsistentNode old → NodeEvent old event sends marks new
+        → (length sends ≤ 2 * old.nodes) × (length marks ≤ 3) }
+    ensures one_request { (old new : NodeState) (event : Event) (sends : List Message) (marks : List Mark)
+        → NodeEvent old event sends marks new
+        → MarksLead (use_of (resource_at old (name_of_event event))) marks
+        (use_of (resource_at new (name_of_event event))) }
+{
+    steps_keep_a_state_consistent();
+}
+
 /// A node's state and an event decide what is sent, what is marked and the state after it.
 pub fn events_are_determined()
     ensures event { (old a b : NodeState) (event : Event) (sends sends' : List Message) (marks marks' : List Mark)
         → NodeEvent old event sends marks a → NodeEvent old event sends' marks' b
         → (sends ≡ sends') × (marks ≡ marks') × (a ≡ b) }
-    ensures events { (old a b : NodeState) (happened : List Happening) → Events old happened a → Events old happened b → a ≡ b }
+    ensures events { (old a b : NodeState) (happened : List Happening)
+        → Events old happened a → Events old happened b → a ≡ b }
 {}
 
-/// Which events there are: a client may ask where it neither waits, nor is queued, nor holds, and a number is left, and
-/// it may leave where it holds.
+/// Which events there are at a consistent node: a client may ask where it neither waits, nor is queued, nor holds, and a
+/// number is left; it may leave where it holds; and a message may come at any time. That it is for this node is another
+/// matter, of which `IsForThisNode` speaks.
 pub fn events_exist_where_they_are_allowed()
     ensures ask { (old : NodeState) (client : ℕ) (name : List ℕ) (mode : Mode) → IsConsistentNode old
         → Allows old (Event.Ask client name mode) ↔ MayAsk (resource_at old name) client }
     ensures leave { (old : NodeState) (client : ℕ) (name : List ℕ) → IsConsistentNode old
         → Allows old (Event.Leave client name) ↔ ((entry : Entry) × Holds (resource_at old name) client entry) }
-    ensures receive { (old : NodeState) (message : Message) → IsConsistentNode old → Allows old (Event.Receive message) }
+    ensures receive { (old : NodeState) (message : Message)
+        → IsConsistentNode old → Allows old (Event.Receive message) }
 {}
 
 /// Events go on one by one, and each part of a list of events is one.
 pub fn events_go_on()
-    ensures step { (happened : List Happening) (event : Event) (sends : List Message) (marks : List Mark) (a b c : NodeState)
+    ensures step { (happened : List Happening) (event : Event) (sends : List Message) (marks : List Mark)
+        (a b c : NodeState)
         → Events a happened b → NodeEvent b event sends marks c
         → Events a (happened ++ record { event = event; sends = sends; marks = marks } ∷ []) c }
     ensures joins { (front back : List Happening) (a b c : NodeState) → Events a front b → Events b back c

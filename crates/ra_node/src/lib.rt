@@ -13,7 +13,7 @@ mod slot;
 pub use error::{AskError, LeaveError};
 pub use laws::{
     events_are_determined, events_exist_where_they_are_allowed, events_go_on,
-    events_leave_other_names,
+    events_keep_a_node_consistent, events_leave_other_names,
 };
 pub use node::Node;
 pub use outcome::Outcome;

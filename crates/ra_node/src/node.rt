@@ -46,6 +46,7 @@ fn place_of(slots: &[Slot], name: &Name) -> Option<usize>
 
 impl Node {
     ghost use Rattle.ra_stamp.specs.NodeId.{IsNodeNumber};
+    ghost use Rattle.ra_automaton.specs.State.{IsForNode};
     ghost use Rattle.ra_automaton.specs.Steps.{last_number};
     ghost use Rattle.std.specs.FinMap as map;
     ghost use Rattle.ra_stamp.specs.Message.{from_of, to_of, name_of, seq_of};
@@ -53,7 +54,7 @@ impl Node {
     ghost use Rattle.ra_node.specs.Turns.{MayAsk};
     ghost use Rattle.ra_node.specs.Node.{opening_node, resource_at, waiting_count, queued_count, IsConsistentNode};
     ghost use Rattle.ra_node.specs.Events.{AskEvent, LeaveEvent, ReceiveEvent};
-    ghost use Rattle.ra_node.specs.Carried.{IsSend, IsForNode, IsMark, MarksLead};
+    ghost use Rattle.ra_node.specs.Carried.{IsSend, IsMark, MarksLead};
 
     /// Node `me` of `nodes`, which has met nothing yet. The highest number of each resource begins at `start`, 0 to
     /// 2^64-1. Errors, the first that holds: `BadCount`, `nodes` is not 1 to 16; `BadNode`, `me` is above `nodes`;
@@ -90,16 +91,22 @@ impl Node {
         name: Name,
         mode: Mode,
     ) -> Result<Outcome, AskError>
-        ensures ok { IfOk result (λ outcome. AskEvent self.old client name mode outcome.sends.items outcome.marks.items self.new) }
-        ensures sends { IfOk result (λ outcome. All (λ message. IsSend self.old.me self.old.nodes name message × (1 ≤ seq_of message)) outcome.sends.items) }
+        ensures ok { IfOk result (λ outcome.
+            AskEvent self.old client name mode outcome.sends.items outcome.marks.items self.new) }
+        ensures sends { IfOk result (λ outcome.
+            All (λ message. IsSend self.old.me self.old.nodes name message
+            × (1 ≤ seq_of message)) outcome.sends.items) }
         ensures marks { IfOk result (λ outcome. All (IsMark self.old.me name) outcome.marks.items) }
-        ensures room { IfOk result (λ outcome. (length outcome.sends.items ≤ self.old.nodes) × (length outcome.marks.items ≤ 2)) }
+        ensures room { IfOk result (λ outcome.
+            (length outcome.sends.items ≤ self.old.nodes) × (length outcome.marks.items ≤ 2)) }
         ensures one_request { IfOk result (λ outcome.
-            MarksLead (use_of (resource_at self.old name)) outcome.marks.items (use_of (resource_at self.new name))) }
+            MarksLead (use_of (resource_at self.old name)) outcome.marks.items
+            (use_of (resource_at self.new name))) }
         ensures consistent { IsConsistentNode self.new }
         ensures busy { IsErrOf result AskError.Busy ↔ IsBusy (resource_at self.old name) client }
         ensures exhausted { IsErrOf result AskError.Exhausted
-            ↔ ((IsBusy (resource_at self.old name) client → ⊥) × ((resource_at self.old name).state.highest ≡ last_number)) }
+            ↔ ((IsBusy (resource_at self.old name) client → ⊥)
+            × ((resource_at self.old name).state.highest ≡ last_number)) }
         // Memory is the one other error.
         ensures allowed { IsOkUnless result AskError.Memory ↔ MayAsk (resource_at self.old name) client }
         ensures err { OnErr result (self.new ≡ self.old) }
@@ -120,16 +127,23 @@ impl Node {
     /// where a client asks, then Entered where there is no other node. Errors, the first that holds: `NotHeld`, the client
     /// does not hold the name here; `Memory`. The node is as before then. The cost is linear in the number of nodes, too.
     pub fn leave(&mut self, alloc: Global, client: u32, name: Name) -> Result<Outcome, LeaveError>
-        ensures ok { IfOk result (λ outcome. LeaveEvent self.old client name outcome.sends.items outcome.marks.items self.new) }
-        ensures sends { IfOk result (λ outcome. All (λ message. IsSend self.old.me self.old.nodes name message × (1 ≤ seq_of message)) outcome.sends.items) }
+        ensures ok { IfOk result (λ outcome.
+            LeaveEvent self.old client name outcome.sends.items outcome.marks.items self.new) }
+        ensures sends { IfOk result (λ outcome.
+            All (λ message. IsSend self.old.me self.old.nodes name message
+            × (1 ≤ seq_of message)) outcome.sends.items) }
         ensures marks { IfOk result (λ outcome. All (IsMark self.old.me name) outcome.marks.items) }
-        ensures room { IfOk result (λ outcome. (length outcome.sends.items ≤ 2 * self.old.nodes) × (length outcome.marks.items ≤ 3)) }
+        ensures room { IfOk result (λ outcome.
+            (length outcome.sends.items ≤ 2 * self.old.nodes) × (length outcome.marks.items ≤ 3)) }
         ensures one_request { IfOk result (λ outcome.
-            MarksLead (use_of (resource_at self.old name)) outcome.marks.items (use_of (resource_at self.new name))) }
+            MarksLead (use_of (resource_at self.old name)) outcome.marks.items
+            (use_of (resource_at self.new name))) }
         ensures consistent { IsConsistentNode self.new }
-        ensures not_held { IsErrOf result LeaveError.NotHeld ↔ ((entry : Entry) → Holds (resource_at self.old name) client entry → ⊥) }
+        ensures not_held { IsErrOf result LeaveError.NotHeld
+            ↔ ((entry : Entry) → Holds (resource_at self.old name) client entry → ⊥) }
         // Memory is the one other error.
-        ensures allowed { IsOkUnless result LeaveError.Memory ↔ ((entry : Entry) × Holds (resource_at self.old name) client entry) }
+        ensures allowed { IsOkUnless result LeaveError.Memory
+            ↔ ((entry : Entry) × Holds (resource_at self.old name) client entry) }
         ensures err { OnErr result (self.new ≡ self.old) }
     {
         let me = self.me;
@@ -145,20 +159,26 @@ impl Node {
     /// the first that holds: `WrongNode`, the message is for another node; `Stranger`, its sender is this node or above the
     /// number of nodes; `Memory`. The node is as before then. The cost is linear in the number of nodes, too.
     pub fn receive(&mut self, alloc: Global, message: &Message) -> Result<Outcome, ReceiveError>
-        ensures ok { IfOk result (λ outcome. ReceiveEvent self.old message.now outcome.sends.items outcome.marks.items self.new) }
+        ensures ok { IfOk result (λ outcome.
+            ReceiveEvent self.old message.now outcome.sends.items outcome.marks.items self.new) }
         ensures sends { IfOk result (λ outcome. All (λ sent.
-            IsSend self.old.me self.old.nodes (name_of message.now) sent × (seq_of sent ≡ seq_of message.now)) outcome.sends.items) }
-        ensures marks { IfOk result (λ outcome. All (IsMark self.old.me (name_of message.now)) outcome.marks.items) }
-        ensures room { IfOk result (λ outcome. (length outcome.sends.items ≤ 1) × (length outcome.marks.items ≤ 1)) }
+            IsSend self.old.me self.old.nodes (name_of message.now) sent
+            × (seq_of sent ≡ seq_of message.now)) outcome.sends.items) }
+        ensures marks { IfOk result (λ outcome.
+            All (IsMark self.old.me (name_of message.now)) outcome.marks.items) }
+        ensures room { IfOk result (λ outcome.
+            (length outcome.sends.items ≤ 1) × (length outcome.marks.items ≤ 1)) }
         ensures one_request { IfOk result (λ outcome.
-            MarksLead (use_of (resource_at self.old (name_of message.now))) outcome.marks.items (use_of (resource_at self.new (name_of message.now)))) }
+            MarksLead (use_of (resource_at self.old (name_of message.now))) outcome.marks.items
+            (use_of (resource_at self.new (name_of message.now)))) }
         ensures consistent { IsConsistentNode self.new }
         ensures wrong_node { IsErrOf result ReceiveError.WrongNode ↔ (to_of message.now ≢ self.old.me) }
         ensures stranger { IsErrOf result ReceiveError.Stranger
             ↔ ((to_of message.now ≡ self.old.me)
             × ((from_of message.now ≡ self.old.me) ⊎ (self.old.nodes < from_of message.now))) }
         // Memory is the one other error.
-        ensures allowed { IsOkUnless result ReceiveError.Memory ↔ IsForNode self.old.me self.old.nodes message.now }
+        ensures allowed { IsOkUnless result ReceiveError.Memory
+            ↔ IsForNode self.old.me self.old.nodes message.now }
         ensures err { OnErr result (self.new ≡ self.old) }
     {
         let me = self.me;
@@ -185,7 +205,8 @@ impl Node {
         ensures allowed { IsOk result ↔ MayAsk (resource_at self.now name.now) client }
         ensures busy { IsErrOf result AskError.Busy ↔ IsBusy (resource_at self.now name.now) client }
         ensures exhausted { IsErrOf result AskError.Exhausted
-            ↔ ((IsBusy (resource_at self.now name.now) client → ⊥) × ((resource_at self.now name.now).state.highest ≡ last_number)) }
+            ↔ ((IsBusy (resource_at self.now name.now) client → ⊥)
+            × ((resource_at self.now name.now).state.highest ≡ last_number)) }
         ensures no_memory { IsErrOf result AskError.Memory → ⊥ }
         ensures consistent { IsConsistentNode self.now }
     {
@@ -245,7 +266,8 @@ impl Node {
     /// The slot of a name.
     fn slot_of(&self, name: &Name) -> Option<&Slot>
         ensures found { IfSome result (λ slot. slot.now ≡ resource_at self.now name.now) }
-        ensures absent { IsNone result → resource_at self.now name.now ≡ unmet self.now.me self.now.nodes name.now self.now.start }
+        ensures absent { IsNone result
+            → resource_at self.now name.now ≡ unmet self.now.me self.now.nodes name.now self.now.start }
         ensures me { (resource_at self.now name.now).state.me ≡ self.now.me }
         ensures consistent { IsConsistentNode self.now }
     {
@@ -263,7 +285,8 @@ impl Node {
     ) -> Result<Outcome, AskError>
         requires first { map.get self.old.resources name ≡ None }
         requires allowed { MayAsk (resource_at self.old name) client }
-        ensures ok { IfOk result (λ outcome. AskEvent self.old client name mode outcome.sends.items outcome.marks.items self.new) }
+        ensures ok { IfOk result (λ outcome.
+            AskEvent self.old client name mode outcome.sends.items outcome.marks.items self.new) }
         ensures memory { IfErr result (λ fault. fault ≡ AskError.Memory) }
         ensures err { OnErr result (self.new ≡ self.old) }
         ensures consistent { IsConsistentNode self.new }
@@ -281,7 +304,8 @@ impl Node {
     fn receive_first(&mut self, alloc: Global, message: &Message) -> Result<Outcome, ReceiveError>
         requires first { map.get self.old.resources (name_of message.now) ≡ None }
         requires addressed { IsForNode self.old.me self.old.nodes message.now }
-        ensures ok { IfOk result (λ outcome. ReceiveEvent self.old message.now outcome.sends.items outcome.marks.items self.new) }
+        ensures ok { IfOk result (λ outcome.
+            ReceiveEvent self.old message.now outcome.sends.items outcome.marks.items self.new) }
         ensures memory { IfErr result (λ fault. fault ≡ ReceiveError.Memory) }
         ensures err { OnErr result (self.new ≡ self.old) }
         ensures consistent { IsConsistentNode self.new }

@@ -1,11 +1,11 @@
-ghost use Rattle.std.specs.Prelude.{◌≡◌, ◌<◌, ◌≤◌, ◌⊎◌, ◌↔◌, ◌∷◌, [], length, take, if◌then◌else◌, IsTrue, IsErrOf, IsOk, IsOkUnless, IfOk, OnOk, OnErr, IfErr, IsNone, IfSome};
+ghost use Rattle.std.specs.Prelude.{◌≡◌, ◌≢◌, ◌<◌, ◌≤◌, ◌⊎◌, ◌↔◌, ◌∷◌, [], length, take, if◌then◌else◌, IsTrue, IsErrOf, IsOk, IsOkUnless, IfOk, OnOk, OnErr, IfErr, AllPairs, Any, IsNone, IfSome};
 ghost use Rattle.ra_stamp.specs.declared.entry.Entry.{Entry};
 ghost use Rattle.ra_node.specs.Resource.{entry_of};
 
 use crate::marks::{marks_for, push_request, push_reserved};
 use crate::queued::Queued;
 use crate::{AskError, LeaveError, Outcome};
-use ra_automaton::{Automaton, NewError, Phase, ReceiveError};
+use ra_automaton::{Automaton, NewError, Phase, Reaction, ReceiveError};
 use ra_stamp::{Entry, Mark, Marks, Message, Messages, Mode, Name, NodeId, Stamp};
 use std::alloc::Global;
 use std::collections::VecDeque;
@@ -35,12 +35,13 @@ impl Model for Slot {
 
 impl Slot {
     ghost use Rattle.ra_stamp.specs.Message.{name_of};
-    ghost use Rattle.ra_automaton.specs.State.{IsAddressed, IsConsistent};
-    ghost use Rattle.ra_automaton.specs.Steps.{last_number};
-    ghost use Rattle.ra_node.specs.Resource.{unmet, holder_of, Holds, IsBusy, waiting_at, ClientFits};
+    ghost use Rattle.ra_stamp.specs.NodeId.{IsNodeNumber};
+    ghost use Rattle.ra_automaton.specs.State.{IsAddressed, IsConsistent, IsInside};
+    ghost use Rattle.ra_automaton.specs.Steps.{last_number, LeaveAndRequestStep};
+    ghost use Rattle.ra_node.specs.Resource.{unmet, holder_of, Holds, IsBusy, waiting_at, ClientFits, clients_of};
     ghost use Rattle.ra_node.specs.Turns.{MayAsk, AskTurn, LeaveTurn, ReceiveTurn, next_entry};
 
-    /// The slot of a resource that no client and no message was about yet.
+    /// The slot of a resource that no client and no message was about yet. Errors: `Memory`.
     pub fn new(
         alloc: Global,
         me: NodeId,
@@ -48,6 +49,9 @@ impl Slot {
         name: Name,
         start: u64,
     ) -> Result<Slot, NewError>
+        requires count { IsNodeNumber nodes }
+        requires member { me ≤ nodes }
+        ensures memory { IfErr result (λ fault. fault ≡ NewError.Memory) }
         ensures ok { IfOk result (λ slot. slot ≡ unmet me nodes name start) }
     {
         Ok(Slot {
@@ -106,7 +110,14 @@ impl Slot {
     fn is_busy(&self, client: u32) -> bool
         ensures { IsTrue result ↔ IsBusy self.now client }
     {
-        self.client == Some(client) || self.queue.iter().any(|queued| queued.client == client)
+        self.client == Some(client) || self.is_queued(client)
+    }
+
+    /// Whether the client is queued here.
+    fn is_queued(&self, client: u32) -> bool
+        ensures { IsTrue result ↔ Any (λ queued. queued.client ≡ client) self.now.queue }
+    {
+        self.queue.iter().any(|queued| queued.client == client)
     }
 
     /// Why the client may not ask here: never for want of memory.
@@ -136,7 +147,8 @@ impl Slot {
     ) -> Result<Outcome, AskError>
         requires me { me ≡ self.old.state.me }
         requires allowed { MayAsk self.old client }
-        ensures ok { IfOk result (λ outcome. AskTurn self.old client mode outcome.sends.items outcome.marks.items self.new) }
+        ensures ok { IfOk result (λ outcome.
+            AskTurn self.old client mode outcome.sends.items outcome.marks.items self.new) }
         ensures memory { IfErr result (λ fault. fault ≡ AskError.Memory) }
         ensures err { OnErr result (self.new ≡ self.old) }
         ensures consistent { OnOk result (IsConsistent self.new.state) }
@@ -164,13 +176,17 @@ impl Slot {
         })
     }
 
-    /// The client that holds leaves, and the next one asks in the same event. Errors, the first that holds: `NotHeld`,
-    /// the client does not hold; `Memory`. The resource is as before then.
+    /// The client that holds leaves, and the next one asks in the same event. No client may stand here twice. Errors, the
+    /// first that holds: `NotHeld`, the client does not hold; `Memory`. The resource is as before then.
     pub fn leave(&mut self, alloc: Global, me: NodeId, client: u32) -> Result<Outcome, LeaveError>
-        requires { me ≡ self.old.state.me }
-        ensures ok { IfOk result (λ outcome. LeaveTurn self.old client outcome.sends.items outcome.marks.items self.new) }
-        ensures not_held { IsErrOf result LeaveError.NotHeld ↔ ((entry : Entry) → Holds self.old client entry → ⊥) }
-        ensures allowed { IsOkUnless result LeaveError.Memory ↔ ((entry : Entry) × Holds self.old client entry) }
+        requires me { me ≡ self.old.state.me }
+        requires once { AllPairs (λ a b. a ≢ b) (clients_of self.old) }
+        ensures ok { IfOk result (λ outcome.
+            LeaveTurn self.old client outcome.sends.items outcome.marks.items self.new) }
+        ensures not_held { IsErrOf result LeaveError.NotHeld
+            ↔ ((entry : Entry) → Holds self.old client entry → ⊥) }
+        ensures allowed { IsOkUnless result LeaveError.Memory
+            ↔ ((entry : Entry) × Holds self.old client entry) }
         ensures err { OnErr result (self.new ≡ self.old) }
         ensures consistent { OnOk result (IsConsistent self.new.state) }
     {
@@ -188,18 +204,36 @@ impl Slot {
             });
         };
         let requested = self.next_entry(me, next.client, next.mode);
-        let reaction = self
-            .automaton
-            .leave_and_request(alloc, next.mode)
-            .map_err(|_| LeaveError::Memory)?;
-        self.queue.pop_front();
-        self.client = Some(next.client);
+        let reaction = self.hand_over(alloc, next)?;
         push_reserved(&mut marks, Mark::Left(held));
         push_request(&mut marks, &requested, reaction.entered);
         Ok(Outcome {
             sends: reaction.sends,
             marks,
         })
+    }
+
+    /// The client that holds leaves, and the first one of the queue, `next`, asks, in one reaction: the deferred REPLYs
+    /// come first. A number must be left. Errors: `Memory`, and the resource is as before.
+    fn hand_over(&mut self, alloc: Global, next: Queued) -> Result<Reaction, LeaveError>
+        requires inside { IsInside self.old.state.phase }
+        requires first { take 1 self.old.queue ≡ next ∷ [] }
+        requires number_left { self.old.state.highest < last_number }
+        ensures ok { IfOk result (λ reaction.
+            LeaveAndRequestStep self.old.state next.mode reaction.sends.items reaction.entered self.new.state) }
+        ensures client { OnOk result (self.new.client ≡ Some next.client) }
+        ensures queue { OnOk result (self.old.queue ≡ next ∷ self.new.queue) }
+        ensures memory { IfErr result (λ fault. fault ≡ LeaveError.Memory) }
+        ensures err { OnErr result (self.new ≡ self.old) }
+        ensures consistent { OnOk result (IsConsistent self.new.state) }
+    {
+        let handed = self
+            .automaton
+            .leave_and_request(alloc, next.mode)
+            .map_err(|_| LeaveError::Memory)?;
+        self.queue.pop_front();
+        self.client = Some(next.client);
+        Ok(handed)
     }
 
     /// A message for this node about this resource comes from another node. Errors: `Memory`, and the resource is as
@@ -214,7 +248,8 @@ impl Slot {
         requires name { name_of message.now ≡ self.old.state.name }
         requires addressed { IsAddressed self.old.state message.now }
         requires client { ClientFits self.old.state.phase self.old.client }
-        ensures ok { IfOk result (λ outcome. ReceiveTurn self.old message.now outcome.sends.items outcome.marks.items self.new) }
+        ensures ok { IfOk result (λ outcome.
+            ReceiveTurn self.old message.now outcome.sends.items outcome.marks.items self.new) }
         ensures memory { IfErr result (λ fault. fault ≡ ReceiveError.Memory) }
         ensures err { OnErr result (self.new ≡ self.old) }
         ensures consistent { OnOk result (IsConsistent self.new.state) }
@@ -263,7 +298,8 @@ impl Slot {
 
     /// The client that asks when the one that holds leaves.
     fn next(&self) -> Option<Queued>
-        ensures some { IfSome result (λ next. (take 1 self.now.queue ≡ next ∷ []) × (self.now.state.highest < last_number)) }
+        ensures some { IfSome result (λ next.
+            (take 1 self.now.queue ≡ next ∷ []) × (self.now.state.highest < last_number)) }
         ensures none { IsNone result → (self.now.queue ≡ []) ⊎ (last_number ≤ self.now.state.highest) }
     {
         if self.automaton.highest() == u64::MAX {

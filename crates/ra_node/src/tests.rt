@@ -160,6 +160,18 @@ fn the_next_client_asks_after_the_replies_of_a_leave(rt: HostRuntime) -> Result<
 }
 
 #[test]
+fn requests_and_queues_are_counted_over_all_names(rt: HostRuntime) -> Result<(), Fail> {
+    let alloc = rt.alloc();
+    let mut node = queueing(alloc)?;
+    let q = Name::new(b"q")?;
+    node.ask(alloc, 1, q, Mode::Shared)?;
+    node.ask(alloc, 3, q, Mode::Shared)?;
+    assert_eq!(rt; node.waiting(), 2);
+    assert_eq!(rt; node.queued(), 2);
+    Ok(())
+}
+
+#[test]
 fn a_single_node_grants_at_once(rt: HostRuntime) -> Result<(), Fail> {
     let alloc = rt.alloc();
     let r = Name::new(b"r")?;
@@ -220,7 +232,7 @@ fn at_the_last_number(alloc: Global) -> Result<Node, Fail> {
 }
 
 #[test]
-fn the_last_numbers_are_given_out(rt: HostRuntime) -> Result<(), Fail> {
+fn the_last_number_but_one_is_given_out(rt: HostRuntime) -> Result<(), Fail> {
     let alloc = rt.alloc();
     let r = Name::new(b"r")?;
     let number = 18446744073709551614;
@@ -241,6 +253,28 @@ fn the_last_numbers_are_given_out(rt: HostRuntime) -> Result<(), Fail> {
     )?;
     assert!(rt; are_messages(&deferred.sends, &[]));
     assert!(rt; are_marks(&deferred.marks, &[]));
+    Ok(())
+}
+
+#[test]
+fn the_last_number_is_given_out(rt: HostRuntime) -> Result<(), Fail> {
+    let alloc = rt.alloc();
+    let r = Name::new(b"r")?;
+    let number = 18446744073709551615;
+    let third = entry(2, 3, Mode::Exclusive, number)?;
+    let mut node = node(alloc, 2, 2, 18446744073709551613)?;
+    let answered = node.receive(
+        alloc,
+        &request(1, 2, Mode::Exclusive, 18446744073709551614)?,
+    )?;
+    assert!(rt; are_messages(&answered.sends, &[reply(2, 1, 18446744073709551614)?]));
+    let asked = node.ask(alloc, 3, r, Mode::Exclusive)?;
+    assert!(rt; are_messages(&asked.sends, &[request(2, 1, Mode::Exclusive, number)?]));
+    assert!(rt; are_marks(&asked.marks, &[requested(&third)]));
+    let granted = node.receive(alloc, &reply(1, 2, number)?)?;
+    assert!(rt; are_messages(&granted.sends, &[]));
+    assert!(rt; are_marks(&granted.marks, &[entered(&third)]));
+    assert_eq!(rt; node.highest(&r), number);
     Ok(())
 }
 

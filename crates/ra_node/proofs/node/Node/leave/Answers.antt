@@ -121,3 +121,8 @@ returns-clause-room c =
     IfOk-weaker c.leave.result (λ o. LeaveEvent now c.args.client c.args.name o.sends.items o.marks.items next) (λ o. (length o.sends.items ≤ 2 * now.nodes) × (length o.marks.items ≤ 3))
     (λ o event. leave_event_room now c.args.client c.args.name o.sends.items o.marks.items next old event)
     (returns-clause-ok c)
+
+pub leave-requires-clause-once : goal.leave-requires-clause-once
+leave-requires-clause-once c =
+    let n = c.self.inside in
+    (found n.me n.nodes n.start n.slots.items c.args.self.now c.args.name c.in-Some.place c.index_mut-slot.result.now c.deref.result.now c.self.view_is c.self.invariant c.deref.ensures.value (search rules) c.index_mut-slot.ensures.value).consistent.once

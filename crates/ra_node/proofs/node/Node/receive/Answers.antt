@@ -1,13 +1,13 @@
 use Rattle.std.proofs.Common.{rules, ◌≡◌, ℕ, ◌≤◌, List, All, length, set, IfOk, ap, ◌∙◌, sym, subst}
 use Rattle.std.proofs.lemmas.Result.{IfOk-weaker}
 use Rattle.ra_stamp.specs.Message.{name_of, seq_of}
-use Rattle.ra_automaton.specs.State.{IsConsistent}
+use Rattle.ra_automaton.specs.State.{IsForNode, IsConsistent}
 use Rattle.ra_node.specs.declared.outcome.Outcome.{Outcome}
 use Rattle.ra_node.specs.Resource.{Resource, use_of, IsConsistentResource}
 use Rattle.ra_node.specs.Turns.{ReceiveTurn}
 use Rattle.ra_node.specs.Node.{resource_at, IsConsistentNode}
 use Rattle.ra_node.specs.Events.{ReceiveEvent}
-use Rattle.ra_node.specs.Carried.{IsSend, IsForNode, IsMark, MarksLead}
+use Rattle.ra_node.specs.Carried.{IsSend, IsMark, MarksLead}
 use Rattle.ra_node.specs.View.{node_with}
 use Rattle.ra_node.proofs.After.{received_again}
 use Rattle.ra_node.proofs.EventLemmas.{receive_event_sends, receive_event_marks, receive_event_leads, receive_event_room}

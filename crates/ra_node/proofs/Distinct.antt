@@ -1,0 +1,94 @@
+-- No client stands at a resource twice.
+use Rattle.std.proofs.Common.{◌≡◌, ◌≢◌, ◌⊎◌, ◌↔◌, ℕ, zero, suc, ◌+◌, ◌<◌, List, [], ◌∷◌, ◌++◌, All, Any, Contains, length, get_or, map, Option, Some, None, refl, sym, ap, ◌∙◌, subst, append_assoc, arith, inl, inr}
+use Rattle.std.specs.Prelude.{AllPairs, option_to_list}
+use Rattle.std.proofs.lemmas.List.{get_or_default, get_or-map, length-map, map-append}
+use Rattle.std.proofs.lemmas.List.Elements.{Contains-append_left, Contains-append_right, Contains-append_cases}
+use Rattle.std.proofs.lemmas.List.Kept.{AllPairs-cons}
+use Rattle.std.proofs.lemmas.List.Quantifiers.{all_pairs_push}
+use Rattle.ra_automaton.specs.Steps.{last_number}
+use Rattle.ra_node.specs.declared.queued.Queued.{Queued}
+use Rattle.ra_node.specs.Resource.{Resource, IsBusy, clients_of}
+use Rattle.ra_node.specs.Turns.{MayAsk}
+
+-- who stands there, by the current client and the queue
+abbrev pub standing : Option ℕ → List Queued → List ℕ
+standing client queue = option_to_list client ++ map (λ q. q.client) queue
+
+abbrev pub Once : List ℕ → Type 0
+Once = AllPairs (λ a b. a ≢ b)
+
+-- ---- Who is busy
+
+is_some : (client : Option ℕ) (c : ℕ) → Contains (option_to_list client) c → client ≡ Some c
+is_some None c at = absurd (omega (arith, at.1))
+is_some (Some d) c (zero, lt, e) = ap (λ x. Some x) e
+is_some (Some d) c (suc k, lt, e) = absurd (omega (arith, lt))
+
+has_some : (client : Option ℕ) (c : ℕ) → client ≡ Some c → Contains (option_to_list client) c
+has_some client c e = subst (λ (o : Option ℕ). Contains (option_to_list o) c) (sym e) (0, omega arith, refl)
+
+queues_as : (queue : List Queued) (c : ℕ) → Contains (map (λ q. q.client) queue) c → Any (λ q. q.client ≡ c) queue
+queues_as [] c at = absurd (omega (arith, at.1))
+queues_as (q ∷ qs) c (zero, lt, e) = (0, q, omega arith, refl, e)
+queues_as (q ∷ qs) c (suc k, lt, e) =
+    let rest = queues_as qs c (k, omega (arith, lt), e) in
+    (suc rest.0, rest.1, omega (arith, rest.2), rest.3, rest.4)
+
+queues_has : (queue : List Queued) (c : ℕ) → Any (λ q. q.client ≡ c) queue → Contains (map (λ q. q.client) queue) c
+queues_has queue c (k, q, lt, is, e) =
+    (k, omega (arith, lt, length-map queue (λ (q : Queued). q.client)), get_or-map (λ (q : Queued). q.client) queue k q c lt ∙ ap (λ (q : Queued). q.client) is ∙ e)
+
+-- the current client, or one that queues
+pub busy_is : (r : Resource) (c : ℕ) → IsBusy r c ↔ ((r.client ≡ Some c) ⊎ Any (λ q. q.client ≡ c) r.queue)
+busy_is r c = (
+  λ busy. elim (Contains-append_cases (option_to_list r.client) (map (λ q. q.client) r.queue) c busy) [
+    | inl at ↦ inl (is_some r.client c at)
+    | inr at ↦ inr (queues_as r.queue c at)
+  ],
+  λ either. elim either [
+    | inl at ↦ Contains-append_left (option_to_list r.client) (map (λ q. q.client) r.queue) c (has_some r.client c at)
+    | inr at ↦ Contains-append_right (option_to_list r.client) (map (λ q. q.client) r.queue) c (queues_has r.queue c at)
+  ],
+)
+
+-- ---- Who asks and who leaves
+
+-- who is not in a list is none of its elements
+apart : (cs : List ℕ) (c : ℕ) → (Contains cs c → ⊥) → (k d : ℕ) → k < length cs → get_or cs k d ≢ c
+apart cs c free k d lt e = free (k, lt, get_or_default cs k c d lt ∙ e)
+
+nobody_before : (client : Option ℕ) (queue : List Queued) → client ≡ None → standing client queue ≡ map (λ q. q.client) queue
+nobody_before client queue e = ap (λ (o : Option ℕ). standing o queue) e
+
+-- a client that may ask takes the place of nobody
+pub asks_once : (r : Resource) (c : ℕ) → MayAsk r c → r.client ≡ None → Once (clients_of r) → Once (standing (Some c) r.queue)
+asks_once r c may nobody h =
+    let waiting = nobody_before r.client r.queue nobody in
+    AllPairs-cons (λ a b. a ≢ b) c (map (λ q. q.client) r.queue)
+    (λ k d lt e. apart (map (λ q. q.client) r.queue) c (λ at. may.not_busy (subst (λ (cs : List ℕ). Contains cs c) (sym waiting) at)) k d lt (sym e))
+    (subst Once waiting h)
+
+-- or stands behind all others
+pub queues_once : (r : Resource) (c : ℕ) (q : Queued) → q.client ≡ c → MayAsk r c → Once (clients_of r) → Once (standing r.client (r.queue ++ q ∷ []))
+queues_once r c q is may h =
+    let ends : standing r.client (r.queue ++ q ∷ []) ≡ clients_of r ++ c ∷ [] =
+    ap (λ (xs : List ℕ). option_to_list r.client ++ xs) (map-append (λ (x : Queued). x.client) r.queue (q ∷ []) ∙ ap (λ (d : ℕ). map (λ (x : Queued). x.client) r.queue ++ d ∷ []) is)
+    ∙ sym (append_assoc (option_to_list r.client) (map (λ (x : Queued). x.client) r.queue) (c ∷ []))
+    in
+    subst Once (sym ends) (all_pairs_push (λ a b. a ≢ b) (clients_of r) c h (apart (clients_of r) c may.not_busy))
+
+-- the current client goes
+pub leaves_once : (client : Option ℕ) (queue : List Queued) → Once (standing client queue) → Once (standing None queue)
+leaves_once None queue h = h
+leaves_once (Some c) queue h = λ i j d before within. h (suc i) (suc j) d (omega (arith, before)) (omega (arith, within))
+
+-- and the first of the queue takes its place
+pub hands_once : (client : Option ℕ) (next : Queued) (rest : List Queued) → Once (standing client (next ∷ rest)) → Once (standing (Some next.client) rest)
+hands_once client next rest h = leaves_once client (next ∷ rest) h
+
+-- which it may do
+pub next_may_ask : (r : Resource) (next : Queued) (rest : List Queued) → r.queue ≡ next ∷ rest → r.state.highest < last_number → Once (clients_of r)
+    → MayAsk (record r { client = None; queue = rest }) next.client
+next_may_ask r next rest queue left h =
+    let once = leaves_once r.client (next ∷ rest) (subst (λ (qs : List Queued). Once (standing r.client qs)) queue h) in
+    record { not_busy = λ at. once 0 (suc at.0) next.client (omega arith) (omega (arith, at.1)) (sym at.2); number_left = left }

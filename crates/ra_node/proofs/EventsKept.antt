@@ -1,0 +1,140 @@
+-- An event leads from a consistent node to a consistent one, since each step of an automaton keeps its state so.
+use Rattle.std.proofs.Common.{◌≡◌, ◌≢◌, ◌⊎◌, ℕ, ◌≤◌, Bool, List, All, Option, sym, ap, subst, inl, inr, ◌*◌, length, refl, arith}
+use Rattle.std.specs.Prelude.{unwrap_or}
+use Rattle.std.proofs.lemmas.List.Elements.{All-weaker}
+use Rattle.std.specs.Ordering.{nat_cmp}
+use Rattle.std.specs.Cmp.Lexicographic.{slice_cmp}
+use Rattle.std.specs.FinMap as finmap
+use Rattle.ra_stamp.specs.NodeId.{IsNodeNumber}
+use Rattle.ra_stamp.specs.declared.mode.Mode.{Mode}
+use Rattle.ra_stamp.specs.declared.message.Message.{Message}
+use Rattle.ra_stamp.specs.declared.entry.Mark.{Mark}
+use Rattle.ra_stamp.specs.Message.{from_of, name_of, seq_of}
+use Rattle.ra_automaton.specs.State.{State, IsOther, IsConsistent}
+use Rattle.ra_automaton.specs.Steps.{RequestStep, ReceiveStep, LeaveStep, LeaveAndRequestStep}
+use Rattle.ra_node.specs.Resource.{Resource, unmet, use_of, IsConsistentResource}
+use Rattle.ra_node.specs.Turns.{AskTurn, LeaveTurn, ReceiveTurn}
+use Rattle.ra_node.specs.Node.{NodeState, opening_node, resource_at, with_resource, IsConsistentNode}
+use Rattle.ra_node.specs.Events.{Event, name_of_event, NodeEvent, IsForThisNode}
+use Rattle.ra_node.specs.Events.Event.{Ask, Leave, Receive}
+use Rattle.ra_node.specs.Carried.{IsSend, IsMark, MarksLead}
+use Rattle.ra_node.proofs.Named.{same_or_apart}
+use Rattle.ra_node.proofs.Opening.{unmet_is_consistent}
+use Rattle.ra_node.proofs.Kept.{ask_kept, leave_kept, receive_kept}
+use Rattle.ra_node.proofs.EventLemmas.{resource_changed, entry_stays, addressed, ask_event_room, leave_event_room, receive_event_room, ask_event_sends, leave_event_sends, receive_event_sends, ask_event_marks, leave_event_marks, receive_event_marks, ask_event_leads, leave_event_leads, receive_event_leads}
+
+-- ---- One resource
+
+nothing_met : (me nodes start : ℕ) (name : List ℕ) → resource_at (opening_node me nodes start) name ≡ unmet me nodes name start
+nothing_met me nodes start name = ap (λ (o : Option Resource). unwrap_or o (unmet me nodes name start)) (finmap.get-empty (slice_cmp nat_cmp) name)
+
+pub opening_is_consistent : (me nodes start : ℕ) → IsNodeNumber nodes → (1 ≤ me) × (me ≤ nodes) → IsConsistentNode (opening_node me nodes start)
+opening_is_consistent me nodes start count member = record { count = count; member = member; each = λ name. subst (λ (r : Resource). IsConsistentResource me nodes name start r) (sym (nothing_met me nodes start name)) (unmet_is_consistent me nodes name start count member) }
+
+with_kept : (n : NodeState) (name : List ℕ) (r : Resource) → IsConsistentNode n → IsConsistentResource n.me n.nodes name n.start r → IsConsistentNode (with_resource n name r)
+with_kept n name r h new =
+    record {
+      count = h.count;
+      member = h.member;
+      each = λ other. elim (same_or_apart other name) [
+        | inl same ↦
+            subst (λ (x : List ℕ). IsConsistentResource n.me n.nodes x n.start (resource_at (with_resource n name r) x)) (sym same)
+            (subst (λ (y : Resource). IsConsistentResource n.me n.nodes name n.start y) (sym (resource_changed n name r)) new)
+        | inr apart ↦
+            subst (λ (y : Resource). IsConsistentResource n.me n.nodes other n.start y)
+            (sym (ap (λ (o : Option Resource). unwrap_or o (unmet n.me n.nodes other n.start)) (entry_stays n name other r apart))) (h.each other)
+      ];
+    }
+
+-- ---- Turns and events
+
+module _
+    (request : (old new : State) (mode : Mode) (sends : List Message) (entered : Bool) → IsConsistent old → RequestStep old mode sends entered new → IsConsistent new)
+    (receive : (old new : State) (message : Message) (sends : List Message) (entered : Bool) → IsConsistent old → IsOther old (from_of message) → ReceiveStep old message sends entered new → IsConsistent new)
+    (leave : (old new : State) (sends : List Message) → IsConsistent old → LeaveStep old sends new → IsConsistent new)
+    (leave_and_request : (old new : State) (mode : Mode) (sends : List Message) (entered : Bool) → IsConsistent old → LeaveAndRequestStep old mode sends entered new → IsConsistent new)
+  where
+    asked : (old : Resource) (client : ℕ) (mode : Mode) (sends : List Message) (marks : List Mark) (new : Resource) → AskTurn old client mode sends marks new → IsConsistent old.state → IsConsistent new.state
+    asked old client mode sends marks new turn h =
+        elim turn.1 [
+          | inl asks ↦ request old.state new.state mode sends asks.entered h asks.step
+          | inr queues ↦ subst (λ (r : Resource). IsConsistent r.state) (sym queues.new_is) h
+        ]
+
+    left : (old : Resource) (client : ℕ) (sends : List Message) (marks : List Mark) (new : Resource) → LeaveTurn old client sends marks new → IsConsistent old.state → IsConsistent new.state
+    left old client sends marks new turn h =
+        elim turn [
+          | inl leaves ↦ leave old.state new.state sends h leaves.step
+          | inr hands ↦ leave_and_request old.state new.state hands.next.mode sends hands.entered h hands.step
+        ]
+
+    pub event_kept : (old new : NodeState) (event : Event) (sends : List Message) (marks : List Mark) → IsConsistentNode old → IsForThisNode old event → NodeEvent old event sends marks new → IsConsistentNode new
+    event_kept old new (Ask client name mode) sends marks h for event =
+        let here = h.each name in
+        let turn = event.turn in
+        subst IsConsistentNode (sym event.new_is) (with_kept old name event.resource h
+        (ask_kept old.me old.nodes name old.start (resource_at old name) client mode sends marks event.resource turn
+        (asked (resource_at old name) client mode sends marks event.resource turn here.state) here))
+    event_kept old new (Leave client name) sends marks h for event =
+        let here = h.each name in
+        let turn = event.turn in
+        subst IsConsistentNode (sym event.new_is) (with_kept old name event.resource h
+        (leave_kept old.me old.nodes name old.start (resource_at old name) client sends marks event.resource turn
+        (left (resource_at old name) client sends marks event.resource turn here.state) here))
+    event_kept old new (Receive message) sends marks h for event =
+        let name = name_of message in
+        let here = h.each name in
+        let turn = event.turn in
+        let state = receive (resource_at old name).state event.resource.state message sends turn.entered here.state
+        (addressed old message (resource_at old name).state here.me_is here.nodes_is for).from turn.step in
+        subst IsConsistentNode (sym event.new_is) (with_kept old name event.resource h
+        (receive_kept old.me old.nodes name old.start (resource_at old name) message sends marks event.resource turn state here))
+
+-- ---- What an event sends and marks
+
+-- a send, with what is known of its number
+abbrev HasNumber : Event → Message → Type 0
+HasNumber (Ask client name mode) m = 1 ≤ seq_of m
+HasNumber (Leave client name) m = 1 ≤ seq_of m
+HasNumber (Receive message) m = seq_of m ≡ seq_of message
+
+event_sends_all : (old new : NodeState) (event : Event) (sends : List Message) (marks : List Mark) → IsConsistentNode old → IsForThisNode old event → NodeEvent old event sends marks new
+    → All (λ m. IsSend old.me old.nodes (name_of_event event) m × HasNumber event m) sends
+event_sends_all old new (Ask client name mode) sends marks h for event = ask_event_sends old client name mode sends marks new h event
+event_sends_all old new (Leave client name) sends marks h for event = leave_event_sends old client name sends marks new h event
+event_sends_all old new (Receive message) sends marks h for event = receive_event_sends old message sends marks new h for event
+
+pub event_sends : (old new : NodeState) (event : Event) (sends : List Message) (marks : List Mark) → IsConsistentNode old → IsForThisNode old event → NodeEvent old event sends marks new
+    → All (IsSend old.me old.nodes (name_of_event event)) sends
+event_sends old new event sends marks h for happens =
+    All-weaker (λ m. IsSend old.me old.nodes (name_of_event event) m × HasNumber event m) (IsSend old.me old.nodes (name_of_event event)) (λ m is. is.0) sends
+    (event_sends_all old new event sends marks h for happens)
+
+has_number : (event : Event) (m : Message) → HasNumber event m → ((message : Message) → event ≡ Receive message → 1 ≤ seq_of message) → 1 ≤ seq_of m
+has_number (Ask client name mode) m is came = is
+has_number (Leave client name) m is came = is
+has_number (Receive message) m is came = subst (λ (n : ℕ). 1 ≤ n) (sym is) (came message refl)
+
+pub event_numbers : (old new : NodeState) (event : Event) (sends : List Message) (marks : List Mark) → IsConsistentNode old → IsForThisNode old event → NodeEvent old event sends marks new
+    → ((message : Message) → event ≡ Receive message → 1 ≤ seq_of message) → All (λ m. 1 ≤ seq_of m) sends
+event_numbers old new event sends marks h for happens came =
+    All-weaker (λ m. IsSend old.me old.nodes (name_of_event event) m × HasNumber event m) (λ m. 1 ≤ seq_of m) (λ m is. has_number event m is.1 came) sends
+    (event_sends_all old new event sends marks h for happens)
+
+pub event_room : (old new : NodeState) (event : Event) (sends : List Message) (marks : List Mark) → IsConsistentNode old → NodeEvent old event sends marks new
+    → (length sends ≤ 2 * old.nodes) × (length marks ≤ 3)
+event_room old new (Ask client name mode) sends marks h event = let room = ask_event_room old client name mode sends marks new h event in (omega (arith, room.0), omega (arith, room.1))
+event_room old new (Leave client name) sends marks h event = leave_event_room old client name sends marks new h event
+event_room old new (Receive message) sends marks h event = let room = receive_event_room old message sends marks new event in (omega (arith, room.0, h.count.0), omega (arith, room.1))
+
+pub event_marks : (old new : NodeState) (event : Event) (sends : List Message) (marks : List Mark) → IsConsistentNode old → IsConsistentNode new → NodeEvent old event sends marks new
+    → All (IsMark old.me (name_of_event event)) marks
+event_marks old new (Ask client name mode) sends marks h after event = ask_event_marks old client name mode sends marks new h event
+event_marks old new (Leave client name) sends marks h after event = leave_event_marks old client name sends marks new h event
+event_marks old new (Receive message) sends marks h after event = receive_event_marks old message sends marks new h after event
+
+pub event_leads : (old new : NodeState) (event : Event) (sends : List Message) (marks : List Mark) → NodeEvent old event sends marks new
+    → MarksLead (use_of (resource_at old (name_of_event event))) marks (use_of (resource_at new (name_of_event event)))
+event_leads old new (Ask client name mode) sends marks event = ask_event_leads old client name mode sends marks new event
+event_leads old new (Leave client name) sends marks event = leave_event_leads old client name sends marks new event
+event_leads old new (Receive message) sends marks event = receive_event_leads old message sends marks new event
