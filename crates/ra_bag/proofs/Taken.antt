@@ -1,0 +1,41 @@
+-- Lists of messages, by places.
+use Rattle.std.proofs.Common.{◌≡◌, ◌≢◌, ◌<◌, ◌+◌, ℕ, zero, suc, List, [], ◌∷◌, ◌++◌, All, length, get_or, take, drop, Option, Some, None, IfSome, refl, sym, ap, ◌∙◌, arith, add-one}
+use Rattle.std.specs.List.{slice_get, remove}
+use Rattle.ra_stamp.specs.declared.message.Message.{Message}
+use Rattle.ra_bag.specs.Bag.{TakesFirst}
+use Rattle.std.proofs.lemmas.List.{take-append-drop, drop_more, length-take-le, get_or-take, get_or_default}
+
+pub get_none : (messages : List Message) (place : ℕ) → place < length messages → slice_get messages place ≡ None → ⊥
+get_none [] place h e = absurd (omega arith)
+get_none (m ∷ ms) zero h e = absurd cc
+get_none (m ∷ ms) (suc place) h e = get_none ms place (omega arith) e
+
+-- one more message
+pub take_one : (messages : List Message) (place : ℕ) (message : Message) → slice_get messages place ≡ Some message → take (suc place) messages ≡ take place messages ++ message ∷ []
+take_one [] place message e = absurd cc
+take_one (m ∷ ms) zero message e = cc
+take_one (m ∷ ms) (suc place) message e = ap (λ (xs : List Message). m ∷ xs) (take_one ms place message e)
+
+-- a list is what stands before a place, what stands there, and what stands after it
+split_at : (xs : List Message) (i : ℕ) (m : Message) → i < length xs → get_or xs i m ≡ m → xs ≡ take i xs ++ m ∷ drop (suc i) xs
+split_at xs i m lt is = sym (take-append-drop i xs) ∙ ap (λ (s : List Message). take i xs ++ s) (drop_more xs i m lt ∙ rw (add-one, is) refl)
+
+-- the first message that is equal to this one stands at a place, and none before it is
+pub takes_at : (messages : List Message) (place : ℕ) (message : Message) → place < length messages → get_or messages place message ≡ message
+    → ((k : ℕ) → k < place → get_or messages k message ≢ message) → TakesFirst messages message (remove messages place)
+takes_at messages place message lt is first =
+    record {
+      front = take place messages;
+      back = drop (suc place) messages;
+      old_is = split_at messages place message lt is;
+      first = λ k d below e.
+          let before : k < place = omega (arith, below, length-take-le place messages (omega (arith, lt))) in
+          first k before (get_or_default messages k message d (omega (arith, before, lt)) ∙ sym (get_or-take place messages k d before) ∙ e);
+      new_is = refl;
+    }
+
+pub some_takes : (place : Option ℕ) (messages : List Message) (message : Message)
+    → IfSome place (λ p. (p < length messages) × (get_or messages p message ≡ message)) → IfSome place (λ p. (k : ℕ) → k < p → get_or messages k message ≢ message)
+    → IfSome place (λ p. TakesFirst messages message (remove messages p))
+some_takes None messages message found first = tt
+some_takes (Some p) messages message found first = takes_at messages p message found.0 found.1 first

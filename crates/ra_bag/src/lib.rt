@@ -1,0 +1,9 @@
+//! The messages under way, in the order in which they were sent.
+#![tactic(auto)]
+
+mod bag;
+
+pub use bag::Bag;
+
+#[cfg(test)]
+mod tests;

@@ -1,0 +1,160 @@
+-- How many requests wait: as many in the lock table as at the nodes.
+use Rattle.std.proofs.Common.{◌≡◌, ◌≢◌, ℕ, zero, suc, ◌+◌, ◌<◌, ◌≤◌, cond, ◌&&◌, T, List, [], ◌∷◌, length, Option, Some, None, refl, sym, ap, ◌∙◌, subst, arith, inl, inr}
+use Rattle.std.specs.Prelude.{sum_by, unwrap_or}
+use Rattle.std.specs.List.{range_with_len}
+use Rattle.std.specs.Ordering.{nat_cmp, is_eq, is_lt}
+use Rattle.std.specs.declared.cmp.Ordering.{Ordering}
+use Rattle.std.specs.declared.cmp.Ordering.TheVariants.{Less, Equal, Greater}
+use Rattle.std.specs.Cmp.Lexicographic.{slice_cmp, nat_list_cmp_total}
+use Rattle.std.specs.FinMap as finmap
+use Rattle.std.specs.FinMap.Entries.{by_order, put, find, is_sorted, below_all}
+use Rattle.std.proofs.lemmas.List.{length-append}
+use Rattle.std.proofs.lemmas.List.Sums.{sum_by-cons}
+use Rattle.ra_stamp.specs.declared.entry.Entry.{Entry}
+use Rattle.ra_stamp.specs.declared.entry.Mark.{Mark}
+use Rattle.ra_stamp.specs.declared.entry.Mark.TheVariants.{Requested, Entered, Left}
+use Rattle.ra_automaton.specs.declared.phase.Phase.{Phase}
+use Rattle.ra_automaton.specs.declared.phase.Phase.TheVariants.{Idle, Waiting, Inside}
+use Rattle.ra_automaton.specs.State.{State}
+use Rattle.ra_node.specs.Resource.{Resource, Use, use_in, use_of, waiting_in, waiting_at, ClientFits, unmet}
+use Rattle.ra_node.specs.Resource.Use.{Nobody, Waits, IsGranted}
+use Rattle.ra_node.specs.Node.{NodeState, resource_at, with_resource, waiting_count}
+use Rattle.ra_node.specs.Carried.{MarksLead}
+use Rattle.ra_table.specs.Table.{LockTable, Gains, TableSteps}
+use Rattle.ra_world.proofs.Tests.{false_is_not_true, true_of, cases_same}
+
+-- ---- One resource of a node changes
+
+abbrev cmp : List ℕ → List ℕ → Ordering
+cmp = slice_cmp nat_cmp
+
+is_less : (o : Ordering) → T (is_lt o) → o ≡ Less
+is_less Less t = refl
+is_less Equal t = absurd t
+is_less Greater t = absurd t
+
+below_lower : (a b : List ℕ) (es : List (List ℕ × Resource)) → cmp a b ≡ Less → T (below_all cmp b es) → T (below_all cmp a es)
+below_lower a b [] less t = tt
+below_lower a b (e ∷ es) less t =
+    let both = true_of (is_lt (cmp b e.0)) (below_all cmp b es) t in
+    let here : cmp a e.0 ≡ Less = nat_list_cmp_total.trans a b e.0 less (is_less (cmp b e.0) both.0) in
+    subst (λ (o : Ordering). T (is_lt o && below_all cmp a es)) (sym here) (below_lower a b es less both.1)
+
+not_found : (k : List ℕ) (es : List (List ℕ × Resource)) → T (below_all cmp k es) → find cmp k es ≡ None
+not_found k [] t = refl
+not_found k (e ∷ es) t =
+    let both = true_of (is_lt (cmp k e.0)) (below_all cmp k es) t in
+    ap (λ (o : Ordering). cond (is_eq o) (Some e.1) (find cmp k es)) (is_less (cmp k e.0) both.0) ∙ not_found k es both.1
+
+abbrev value_or : (Resource → ℕ) → Option Resource → ℕ
+value_or f None = 0
+value_or f (Some r) = f r
+
+sum_put : (f : Resource → ℕ) (k : List ℕ) (v : Resource) (es : List (List ℕ × Resource)) → T (is_sorted cmp es)
+    → sum_by (λ e. f e.1) (put cmp k v es) + value_or f (find cmp k es) ≡ sum_by (λ e. f e.1) es + f v
+sum_put f k v [] t = omega (arith, sum_by-cons (λ (e : List ℕ × Resource). f e.1) (k, v) [])
+sum_put f k v (e ∷ es) t =
+    let both = true_of (below_all cmp e.0 es) (is_sorted cmp es) t in
+    elim (cmp k e.0) as (λ o. cmp k e.0 ≡ o
+    → sum_by (λ x. f x.1) (by_order o ((k, v) ∷ e ∷ es) ((e.0, v) ∷ es) (e ∷ put cmp k v es)) + value_or f (cond (is_eq o) (Some e.1) (find cmp k es)) ≡ sum_by (λ x. f x.1) (e ∷ es) + f v) [
+      | Less ↦ λ less.
+          let none : value_or f (find cmp k es) ≡ 0 = ap (value_or f) (not_found k es (below_lower k e.0 es less both.0)) in
+          omega (arith, none, sum_by-cons (λ (x : List ℕ × Resource). f x.1) (k, v) (e ∷ es))
+      | Equal ↦ λ _. omega (arith, sum_by-cons (λ (x : List ℕ × Resource). f x.1) (e.0, v) es, sum_by-cons (λ (x : List ℕ × Resource). f x.1) e es)
+      | Greater ↦ λ _.
+          omega (arith, sum_put f k v es both.1, sum_by-cons (λ (x : List ℕ × Resource). f x.1) e (put cmp k v es), sum_by-cons (λ (x : List ℕ × Resource). f x.1) e es)
+    ] refl
+
+found_value : (node : NodeState) (r : List ℕ) (o : Option Resource) → waiting_at (unwrap_or o (unmet node.me node.nodes r node.start)) ≡ value_or waiting_at o
+found_value node r None = refl
+found_value node r (Some x) = refl
+
+pub one_resource : (node : NodeState) (r : List ℕ) (x : Resource) → waiting_count (with_resource node r x) + waiting_at (resource_at node r) ≡ waiting_count node + waiting_at x
+one_resource node r x =
+    let es = finmap.entries node.resources in
+    let put' : waiting_count (with_resource node r x) ≡ sum_by (λ e. waiting_at e.1) (put cmp r x es) = ap (sum_by (λ (e : List ℕ × Resource). waiting_at e.1)) (finmap.entries-insert nat_list_cmp_total node.resources r x) in
+    let was : waiting_at (resource_at node r) ≡ value_or waiting_at (find cmp r es) = found_value node r (finmap.get node.resources r) ∙ ap (value_or waiting_at) (finmap.get-entries node.resources r) in
+    omega (arith, put', was, sum_put waiting_at r x es (finmap.entries_sorted node.resources))
+
+-- ---- One node changes
+
+abbrev pub waiting_over : (ℕ → NodeState) → ℕ → ℕ → ℕ
+waiting_over nodes first n = sum_by (λ i. waiting_count (nodes i)) (range_with_len first n)
+
+beyond : (nodes nodes' : ℕ → NodeState) (p first n : ℕ) → p < first → ((k : ℕ) → k ≢ p → nodes' k ≡ nodes k) → waiting_over nodes' first n ≡ waiting_over nodes first n
+beyond nodes nodes' p first zero low same = refl
+beyond nodes nodes' p first (suc n) low same =
+    let here : waiting_count (nodes' first) ≡ waiting_count (nodes first) = ap waiting_count (same first (λ e. absurd (omega (arith, e, low)))) in
+    omega (arith, here, beyond nodes nodes' p (first + 1) n (omega (arith, low)) same, sum_by-cons (λ (i : ℕ). waiting_count (nodes' i)) first (range_with_len (first + 1) n), sum_by-cons (λ (i : ℕ). waiting_count (nodes i)) first (range_with_len (first + 1) n))
+
+pub one_node : (nodes nodes' : ℕ → NodeState) (p first n : ℕ) → first ≤ p → p < first + n → ((k : ℕ) → k ≢ p → nodes' k ≡ nodes k)
+    → waiting_over nodes' first n + waiting_count (nodes p) ≡ waiting_over nodes first n + waiting_count (nodes' p)
+one_node nodes nodes' p first zero low high same = absurd (omega (arith, low, high))
+one_node nodes nodes' p first (suc n) low high same =
+    let split' = sum_by-cons (λ (i : ℕ). waiting_count (nodes' i)) first (range_with_len (first + 1) n) in
+    let split = sum_by-cons (λ (i : ℕ). waiting_count (nodes i)) first (range_with_len (first + 1) n) in
+    elim (cases_same first p) [
+      | inl is ↦
+          let rest = beyond nodes nodes' p (first + 1) n (omega (arith, is)) same in
+          let here : waiting_count (nodes first) ≡ waiting_count (nodes p) = ap (λ (k : ℕ). waiting_count (nodes k)) is in
+          let here' : waiting_count (nodes' first) ≡ waiting_count (nodes' p) = ap (λ (k : ℕ). waiting_count (nodes' k)) is in
+          omega (arith, rest, here, here', split, split')
+      | inr apart ↦
+          let here : waiting_count (nodes' first) ≡ waiting_count (nodes first) = ap waiting_count (same first apart) in
+          omega (arith, one_node nodes nodes' p (first + 1) n (omega (arith, low, apart)) (omega (arith, high)) same, here, split, split')
+    ]
+
+-- ---- The table
+
+abbrev pub waits_as : Use → ℕ
+waits_as Nobody = 0
+waits_as (Waits e) = 1
+waits_as (IsGranted e) = 0
+
+gains_one : (es new : List Entry) (e : Entry) → Gains es e new → length new ≡ length es + 1
+gains_one es new e gains =
+    let after = ap length gains.3 ∙ length-append gains.0 (e ∷ gains.1) in
+    let before = ap length gains.2 ∙ length-append gains.0 gains.1 in
+    omega (arith, after, before)
+
+pub marks_count : (marks : List Mark) (t t' : LockTable) (w w' : Use) → TableSteps t marks t' → MarksLead w marks w' → length t'.waiting + waits_as w ≡ length t.waiting + waits_as w'
+marks_count [] t t' w w' steps leads = omega (arith, ap (λ (x : LockTable). length x.waiting) steps, ap waits_as leads)
+marks_count (Requested e ∷ marks) t t' w w' steps leads =
+    let rest = marks_count marks steps.0 t' (Waits e) w' steps.2 leads.1 in
+    omega (arith, rest, gains_one t.waiting steps.0.waiting e steps.1.1, ap waits_as leads.0)
+marks_count (Entered e ∷ marks) t t' w w' steps leads =
+    let rest = marks_count marks steps.0 t' (IsGranted e) w' steps.2 leads.1 in
+    omega (arith, rest, gains_one steps.0.waiting t.waiting e steps.1.1, ap waits_as leads.0)
+marks_count (Left e ∷ marks) t t' w w' steps leads =
+    let rest = marks_count marks steps.0 t' Nobody w' steps.2 leads.1 in
+    omega (arith, rest, ap length steps.1.1, ap waits_as leads.0)
+
+fits_count : (s : State) (phase : Phase) (client : Option ℕ) → ClientFits phase client → waiting_in phase ≡ waits_as (use_in s phase client)
+fits_count s Idle None fits = refl
+fits_count s Idle (Some c) fits = refl
+fits_count s (Waiting seq mode) None fits = absurd (false_is_not_true fits)
+fits_count s (Waiting seq mode) (Some c) fits = refl
+fits_count s (Inside seq mode) None fits = refl
+fits_count s (Inside seq mode) (Some c) fits = refl
+
+pub use_count : (r : Resource) → ClientFits r.state.phase r.client → waiting_at r ≡ waits_as (use_of r)
+use_count r fits = fits_count r.state r.state.phase r.client fits
+
+sum_none : (es : List (List ℕ × Resource)) → length es ≡ 0 → sum_by (λ e. waiting_at e.1) es ≡ 0
+sum_none [] e = refl
+sum_none (x ∷ es) e = absurd (omega (arith, e))
+
+-- at the start nobody waits
+pub none_waits : (nodes : ℕ → NodeState) (first n : ℕ) → ((i : ℕ) → (nodes i).resources ≡ finmap.empty) → waiting_over nodes first n ≡ 0
+none_waits nodes first zero h = refl
+none_waits nodes first (suc n) h =
+    let none : length (finmap.entries (nodes first).resources) ≡ 0 = sym (finmap.len-entries (nodes first).resources) ∙ ap finmap.len (h first) ∙ finmap.len-empty cmp Resource in
+    let here : waiting_count (nodes first) ≡ 0 = sum_none (finmap.entries (nodes first).resources) none in
+    omega (arith, here, none_waits nodes (first + 1) n h, sum_by-cons (λ (i : ℕ). waiting_count (nodes i)) first (range_with_len (first + 1) n))
+
+pub same_over : (nodes nodes' : ℕ → NodeState) (first n : ℕ) → ((i : ℕ) → first ≤ i → i < first + n → nodes i ≡ nodes' i) → waiting_over nodes first n ≡ waiting_over nodes' first n
+same_over nodes nodes' first zero h = refl
+same_over nodes nodes' first (suc n) h =
+    let here : waiting_count (nodes first) ≡ waiting_count (nodes' first) = ap waiting_count (h first (omega arith) (omega arith)) in
+    let rest = same_over nodes nodes' (first + 1) n (λ i low high. h i (omega (arith, low)) (omega (arith, high))) in
+    omega (arith, here, rest, sum_by-cons (λ (i : ℕ). waiting_count (nodes i)) first (range_with_len (first + 1) n), sum_by-cons (λ (i : ℕ). waiting_count (nodes' i)) first (range_with_len (first + 1) n))

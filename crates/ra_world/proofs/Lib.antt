@@ -1,0 +1,14 @@
+mod Tests
+mod Lists
+mod Dialogs
+mod Members
+mod Protocol
+mod Asking
+mod Receiving
+mod Tables
+mod Marking
+mod Marks
+mod Uses
+mod Cluster
+mod Counting
+mod Runs

@@ -1,0 +1,114 @@
+-- Lists of messages: what is taken from them, and what a test leaves of them.
+use Rattle.std.proofs.Common.{◌≡◌, ◌≢◌, Bool, true, false, cond, List, [], ◌∷◌, ◌++◌, All, filter, refl, sym, ap, ◌∙◌, subst, append_assoc}
+use Rattle.std.proofs.lemmas.List.Elements.{All-nil, All-cons, All-head, All-tail, All-append, filter-append}
+use Rattle.ra_stamp.specs.declared.message.Message.{Message}
+use Rattle.ra_bag.specs.Bag.{TakesFirst}
+use Rattle.ra_world.specs.Traffic.{IsLess}
+
+-- ---- Tests
+
+pub filter_hit : {X : Type 0} (p : X → Bool) (x : X) (xs : List X) → p x ≡ true → filter p (x ∷ xs) ≡ x ∷ filter p xs
+filter_hit p x xs e = ap (λ b. cond b (x ∷ filter p xs) (filter p xs)) e
+
+pub filter_miss : {X : Type 0} (p : X → Bool) (x : X) (xs : List X) → p x ≡ false → filter p (x ∷ xs) ≡ filter p xs
+filter_miss p x xs e = ap (λ b. cond b (x ∷ filter p xs) (filter p xs)) e
+
+pub filter_none : {X : Type 0} (p : X → Bool) (xs : List X) → All (λ x. p x ≡ false) xs → filter p xs ≡ []
+filter_none p [] all = refl
+filter_none p (x ∷ xs) all = filter_miss p x xs (All-head (λ y. p y ≡ false) x xs all) ∙ filter_none p xs (All-tail (λ y. p y ≡ false) x xs all)
+
+pub All-filter : {X : Type 0} (P : X → Type 0) (p : X → Bool) (xs : List X) → All P xs → All P (filter p xs)
+All-filter P p [] all = All-nil P
+All-filter P p (x ∷ xs) all =
+    elim (p x) as (λ b. All P (cond b (x ∷ filter p xs) (filter p xs))) [
+      | true ↦ All-cons P x (filter p xs) (All-head P x xs all) (All-filter P p xs (All-tail P x xs all))
+      | false ↦ All-filter P p xs (All-tail P x xs all)
+    ]
+
+-- ---- Taking a message
+
+pub filter_taken : (p : Message → Bool) (xs : List Message) (m : Message) (ys : List Message) → p m ≡ true → TakesFirst xs m ys → TakesFirst (filter p xs) m (filter p ys)
+filter_taken p xs m ys e takes =
+    record {
+      front = filter p takes.front;
+      back = filter p takes.back;
+      old_is = ap (filter p) takes.old_is ∙ filter-append p takes.front (m ∷ takes.back) ∙ ap (λ (zs : List Message). filter p takes.front ++ zs) (filter_hit p m takes.back e);
+      first = All-filter (λ x. x ≢ m) p takes.front takes.first;
+      new_is = ap (filter p) takes.new_is ∙ filter-append p takes.front takes.back;
+    }
+
+pub filter_left : (p : Message → Bool) (xs : List Message) (m : Message) (ys : List Message) → p m ≡ false → TakesFirst xs m ys → filter p ys ≡ filter p xs
+filter_left p xs m ys e takes =
+    ap (filter p) takes.new_is ∙ filter-append p takes.front takes.back
+    ∙ sym (ap (filter p) takes.old_is ∙ filter-append p takes.front (m ∷ takes.back) ∙ ap (λ (zs : List Message). filter p takes.front ++ zs) (filter_miss p m takes.back e))
+
+pub takes_none : (m : Message) (ys : List Message) → TakesFirst [] m ys → ⊥
+takes_none m ys takes = go takes.front takes.back takes.old_is
+  where
+    go : (front back : List Message) → [] ≡ front ++ m ∷ back → ⊥
+    go [] back e = cc
+    go (x ∷ front) back e = cc
+
+pub takes_one : (x m : Message) (ys : List Message) → TakesFirst (x ∷ []) m ys → (m ≡ x) × (ys ≡ [])
+takes_one x m ys takes = go takes.front takes.back takes.old_is takes.new_is
+  where
+    go : (front back : List Message) → x ∷ [] ≡ front ++ m ∷ back → ys ≡ front ++ back → (m ≡ x) × (ys ≡ [])
+    go [] back e is = (cc, cc)
+    go (y ∷ []) back e is = absurd cc
+    go (y ∷ z ∷ front) back e is = absurd cc
+
+pub takes_more : (xs : List Message) (m : Message) (ys more : List Message) → TakesFirst xs m ys → TakesFirst (xs ++ more) m (ys ++ more)
+takes_more xs m ys more takes =
+    record {
+      front = takes.front;
+      back = takes.back ++ more;
+      old_is = ap (λ (zs : List Message). zs ++ more) takes.old_is ∙ append_assoc takes.front (m ∷ takes.back) more;
+      first = takes.first;
+      new_is = ap (λ (zs : List Message). zs ++ more) takes.new_is ∙ append_assoc takes.front takes.back more;
+    }
+
+pub All-taken : (P : Message → Type 0) (xs : List Message) (m : Message) (ys : List Message) → TakesFirst xs m ys → All P xs → P m × All P ys
+All-taken P xs m ys takes all =
+    let parts = split takes.front (m ∷ takes.back) (subst (All P) takes.old_is all) in
+    (All-head P m takes.back parts.1, subst (All P) (sym takes.new_is) (All-append P takes.front takes.back parts.0 (All-tail P m takes.back parts.1)))
+  where
+    split : (front back : List Message) → All P (front ++ back) → All P front × All P back
+    split [] back h = (All-nil P, h)
+    split (x ∷ front) back h =
+        let rest = split front back (All-tail P x (front ++ back) h) in
+        (All-cons P x front (All-head P x (front ++ back) h) rest.0, rest.1)
+
+-- ---- What is under way
+
+pub less_more : (sent taken left more : List Message) → IsLess sent taken left → IsLess (sent ++ more) taken (left ++ more)
+less_more sent [] left more less = ap (λ (zs : List Message). zs ++ more) less
+less_more sent (m ∷ taken) left more less = (less.0 ++ more, takes_more sent m less.0 more less.1, less_more less.0 taken left more less.2)
+
+pub less_taken : (sent taken left : List Message) (m : Message) (rest : List Message) → IsLess sent taken left → TakesFirst left m rest → IsLess sent (taken ++ m ∷ []) rest
+less_taken sent [] left m rest less takes = (rest, subst (λ (zs : List Message). TakesFirst zs m rest) less takes, refl)
+less_taken sent (t ∷ taken) left m rest less takes = (less.0, less.1, less_taken less.0 taken left m rest less.2 takes)
+
+-- what is left is determined
+pub takes_alike : (xs : List Message) (m : Message) (ys zs : List Message) → TakesFirst xs m ys → TakesFirst xs m zs → ys ≡ zs
+takes_alike xs m ys zs a b =
+    let same = fronts a.front a.back b.front b.back (sym a.old_is ∙ b.old_is) a.first b.first in
+    a.new_is ∙ (λ i. same.0 i ++ same.1 i) ∙ sym b.new_is
+  where
+    head_of : {x y : Message} {xs ys : List Message} → x ∷ xs ≡ y ∷ ys → x ≡ y
+    head_of e = cc
+
+    tail_of : {x y : Message} {xs ys : List Message} → x ∷ xs ≡ y ∷ ys → xs ≡ ys
+    tail_of e = cc
+
+    fronts : (f g f' g' : List Message) → f ++ m ∷ g ≡ f' ++ m ∷ g' → All (λ x. x ≢ m) f → All (λ x. x ≢ m) f' → (f ≡ f') × (g ≡ g')
+    fronts [] g [] g' e h h' = (refl, tail_of e)
+    fronts [] g (y ∷ f') g' e h h' = absurd (All-head (λ x. x ≢ m) y f' h' (sym (head_of e)))
+    fronts (x ∷ f) g [] g' e h h' = absurd (All-head (λ x. x ≢ m) x f h (head_of e))
+    fronts (x ∷ f) g (y ∷ f') g' e h h' =
+        let rest = fronts f g f' g' (tail_of e) (All-tail (λ x. x ≢ m) x f h) (All-tail (λ x. x ≢ m) y f' h') in
+        (λ i. head_of e i ∷ rest.0 i, rest.1)
+
+pub less_alike : (sent taken left left' : List Message) → IsLess sent taken left → IsLess sent taken left' → left ≡ left'
+less_alike sent [] left left' a b = a ∙ sym b
+less_alike sent (m ∷ taken) left left' a b =
+    less_alike a.0 taken left left' a.2 (subst (λ (xs : List Message). IsLess xs taken left') (takes_alike sent m b.0 a.0 b.1 a.1) b.2)

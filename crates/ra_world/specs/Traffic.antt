@@ -1,0 +1,38 @@
+-- What steps send, and which messages are under way after them.
+use Rattle.std.specs.Prelude.{◌≡◌, List, [], ◌∷◌, ◌++◌}
+use Rattle.ra_stamp.specs.declared.message.Message.{Message}
+use Rattle.ra_stamp.specs.declared.entry.Mark.{Mark}
+use Rattle.ra_bag.specs.Bag.{TakesFirst}
+use Rattle.ra_world.specs.declared.step.Step.{Step}
+use Rattle.ra_world.specs.declared.step.Step.TheVariants.{Ask, Leave, Deliver, Lose}
+
+-- a step, and what came of it: the messages that it sent and its marks
+pub record Move : Type 0 where
+  pub step : Step
+  pub sends : List Message
+  pub marks : List Mark
+
+-- all messages that these steps sent, in order
+abbrev pub sent_by : List Move → List Message
+sent_by [] = []
+sent_by (move ∷ moves) = move.sends ++ sent_by moves
+
+-- the message that a step takes from those under way, if it takes one
+abbrev pub taken_in : Step → List Message
+taken_in (Ask node client name mode) = []
+taken_in (Leave node client name) = []
+taken_in (Deliver message) = message ∷ []
+taken_in (Lose message) = message ∷ []
+
+abbrev pub taken_by : List Move → List Message
+taken_by [] = []
+taken_by (move ∷ moves) = taken_in move.step ++ taken_by moves
+
+-- what is left of a list, less the first equal message for each of these, in order
+abbrev pub IsLess : List Message → List Message → List Message → Type 0
+IsLess sent [] left = left ≡ sent
+IsLess sent (message ∷ taken) left = (next : List Message) × TakesFirst sent message next × IsLess next taken left
+
+-- the messages under way: what was sent, less what was delivered or lost
+abbrev pub IsUnderWay : List Move → List Message → Type 0
+IsUnderWay moves left = IsLess (sent_by moves) (taken_by moves) left
