@@ -39,8 +39,8 @@ inside_awaits_nobody s j seq seq' mode mode' inside awaits = not_waiting s.phase
     not_waiting phase e k = cc
 
 -- who awaits nobody has no dialog in which it asks
-silent_of : (r : List ℕ) (i j : ℕ) (si sj : State) (ms : List Message) → ((seq : ℕ) (mode : Mode) → Awaits si j seq mode → ⊥) → Dialog r i j si sj ms → IsSilent i sj ms
-silent_of r i j si sj ms nobody d = elim d [
+silent_of : {Lossy : Type 0} (r : List ℕ) (i j : ℕ) (si sj : State) (ms : List Message) → ((seq : ℕ) (mode : Mode) → Awaits si j seq mode → ⊥) → Dialog Lossy r i j si sj ms → IsSilent Lossy i j si sj ms
+silent_of {Lossy} r i j si sj ms nobody d = elim d [
   | inl silent ↦ silent
   | inr x ↦ elim x [
     | inl asking ↦ absurd (nobody asking.seq asking.mode asking.awaits)
@@ -48,7 +48,7 @@ silent_of r i j si sj ms nobody d = elim d [
   ]
 ]
 
-module _ (n : ℕ) (r : List ℕ) (s s' : ℕ → State) (bag : List Message) (p : ℕ) (new : State) (old : Protocol n r s bag) (within : IsNode n p) (changes : Changes s s' p new) where
+module _ {Lossy : Type 0} (n : ℕ) (r : List ℕ) (s s' : ℕ → State) (bag : List Message) (p : ℕ) (new : State) (old : Protocol Lossy n r s bag) (within : IsNode n p) (changes : Changes s s' p new) where
   -- ---- A request
 
   module _ (mode : Mode) (sends : List Message) (entered : Bool) (step : RequestStep (s p) mode sends entered new) (placed : IsPlaced n r p new) where
@@ -89,7 +89,7 @@ module _ (n : ℕ) (r : List ℕ) (s s' : ℕ → State) (bag : List Message) (p
         not_yet : (highest me other k : ℕ) → k ≤ highest → IsEarlier (record { seq = highest + 1; node = me }) (record { seq = k; node = other }) → ⊥
         not_yet highest me other k low earlier = elim earlier [ inl below ↦ omega (arith, low, below) | inr same ↦ omega (arith, low, same.0) ]
 
-    mine : (x : ℕ) → IsNode n x → x ≢ p → Dialog r p x (s p) (s x) (between r p x bag) → Dialog r p x new (s x) (between r p x (bag ++ sends))
+    mine : (x : ℕ) → IsNode n x → x ≢ p → Dialog Lossy r p x (s p) (s x) (between r p x bag) → Dialog Lossy r p x new (s x) (between r p x (bag ++ sends))
     mine x at apart d =
         let silent = silent_of r p x (s p) (s x) (between r p x bag) (λ k m. idle_awaits_nobody (s p) x k m step.idle) d in
         let asked : between r p x sends ≡ Request p x r mode seq ∷ [] = ap (between r p x) sends_are ∙ requests_to_one r p x n mode seq at.0 at.1 apart in
@@ -101,14 +101,14 @@ module _ (n : ℕ) (r : List ℕ) (s s' : ℕ → State) (bag : List Message) (p
           not_deferred = silent.not_deferred;
         }))
 
-    theirs : (x : ℕ) → IsNode n x → x ≢ p → Dialog r x p (s x) (s p) (between r x p bag) → Dialog r x p (s x) new (between r x p (bag ++ sends))
+    theirs : (x : ℕ) → IsNode n x → x ≢ p → Dialog Lossy r x p (s x) (s p) (between r x p bag) → Dialog Lossy r x p (s x) new (between r x p (bag ++ sends))
     theirs x at apart d =
         let same = none_between r x p bag sends (ap (between r x p) sends_are ∙ requests_of_others r r x p p n mode seq (λ e _. apart e)) in
         let kept = (asks_all x at apart).1 in
         let none : finmap.get (s p).deferred x ≡ None = ap (λ (m : finmap.FinMap nat_cmp ℕ). finmap.get m x) (here.consistent.defers_only step.idle) ∙ finmap.get-empty nat_cmp x in
         let none' : finmap.get new.deferred x ≡ None = ap (λ (m : finmap.FinMap nat_cmp ℕ). finmap.get m x) kept ∙ none in
-        subst (λ (ms : List Message). Dialog r x p (s x) new ms) (sym same) (elim d [
-          | inl silent ↦ inl (record { none = silent.none; not_deferred = none' })
+        subst (λ (ms : List Message). Dialog Lossy r x p (s x) new ms) (sym same) (elim d [
+          | inl silent ↦ inl (record { none = silent.none; not_deferred = none'; unheard = silent.unheard })
           | inr y ↦ elim y [
             | inl asking ↦ inr (inl (record { seq = asking.seq; mode = asking.mode; awaits = asking.awaits; asks = asking.asks; not_deferred = none' }))
             | inr z ↦ elim z [
@@ -122,7 +122,7 @@ module _ (n : ℕ) (r : List ℕ) (s s' : ℕ → State) (bag : List Message) (p
         some_or_none : (k : ℕ) → ◌≡◌ {A = Option ℕ} (Some k) None → ⊥
         some_or_none k e = cc
 
-    pub request_kept : Protocol n r s' (bag ++ sends)
+    pub request_kept : Protocol Lossy n r s' (bag ++ sends)
     request_kept =
         changed n r s s' bag (bag ++ sends) p new old changes placed mine theirs
         (λ i j i_apart j_apart. none_between r i j bag sends (ap (between r i j) sends_are ∙ requests_of_others r r i j p n mode seq (λ e _. i_apart e)))
@@ -151,19 +151,23 @@ module _ (n : ℕ) (r : List ℕ) (s s' : ℕ → State) (bag : List Message) (p
     passes_now x k m low =
         record { reached = subst (λ (t : State). k ≤ t.highest) (sym step.new_is) low; not_first = nothing_first new.phase new.me x k m idle_now }
 
-    leave_mine : (x : ℕ) → IsNode n x → x ≢ p → Dialog r p x (s p) (s x) (between r p x bag) → Dialog r p x new (s x) (between r p x (bag ++ sends))
+    leave_mine : (x : ℕ) → IsNode n x → x ≢ p → Dialog Lossy r p x (s p) (s x) (between r p x bag) → Dialog Lossy r p x new (s x) (between r p x (bag ++ sends))
     leave_mine x at apart d =
         let silent = silent_of r p x (s p) (s x) (between r p x bag) (λ k m. inside_awaits_nobody (s p) x k step.seq m step.mode step.inside) d in
         let same = none_between r p x bag sends (ap (between r p x) replies_are ∙ replies_of_others r r p x p (finmap.entries (s p).deferred) (λ e _. apart e)) in
-        inl (record { none = same ∙ silent.none; not_deferred = silent.not_deferred })
+        inl (record {
+          none = same ∙ silent.none;
+          not_deferred = silent.not_deferred;
+          unheard = λ awaited. silent.unheard (subst (λ (t : State). IsTrue (set.contains t.awaited x)) step.new_is awaited);
+        })
 
-    leave_theirs : (x : ℕ) → IsNode n x → x ≢ p → Dialog r x p (s x) (s p) (between r x p bag) → Dialog r x p (s x) new (between r x p (bag ++ sends))
+    leave_theirs : (x : ℕ) → IsNode n x → x ≢ p → Dialog Lossy r x p (s x) (s p) (between r x p bag) → Dialog Lossy r x p (s x) new (between r x p (bag ++ sends))
     leave_theirs x at apart d =
         let go : (o : Option ℕ) → finmap.get (s p).deferred x ≡ o → between r x p (bag ++ sends) ≡ between r x p bag ++ reply_for r p x o =
         λ o e. more_between r x p bag sends (reply_for r p x o) (ap (between r x p) replies_are ∙ replies_to_one r p x (s p).deferred ∙ ap (reply_for r p x) e) in
         let nothing : finmap.get (s p).deferred x ≡ None → between r x p (bag ++ sends) ≡ between r x p bag = λ e. go None e ∙ append-nil (between r x p bag) in
         elim d [
-          | inl silent ↦ inl (record { none = nothing silent.not_deferred ∙ silent.none; not_deferred = none_deferred x })
+          | inl silent ↦ inl (record { none = nothing silent.not_deferred ∙ silent.none; not_deferred = none_deferred x; unheard = silent.unheard })
           | inr y ↦ elim y [
             | inl asking ↦ inr (inl (record { seq = asking.seq; mode = asking.mode; awaits = asking.awaits; asks = nothing asking.not_deferred ∙ asking.asks; not_deferred = none_deferred x }))
             | inr z ↦ elim z [
@@ -189,7 +193,7 @@ module _ (n : ℕ) (r : List ℕ) (s s' : ℕ → State) (bag : List Message) (p
           ]
         ]
 
-    pub leave_kept : Protocol n r s' (bag ++ sends)
+    pub leave_kept : Protocol Lossy n r s' (bag ++ sends)
     leave_kept =
         changed n r s s' bag (bag ++ sends) p new old changes placed leave_mine leave_theirs
         (λ i j i_apart j_apart. none_between r i j bag sends (ap (between r i j) replies_are ∙ replies_of_others r r i j p (finmap.entries (s p).deferred) (λ e _. j_apart e)))

@@ -51,9 +51,9 @@ pub record IsThere (n i : ℕ) (node : NodeState) : Type 0 where
 abbrev pub IsTraffic : ℕ → Message → Type 0
 IsTraffic n m = IsNode n (to_of m) × IsOtherNode (to_of m) n (from_of m)
 
-pub record Invariant (n : ℕ) (nodes : ℕ → NodeState) (bag : List Message) (table : LockTable) : Type 0 where
+pub record Invariant (Lossy : Type 0) (n : ℕ) (nodes : ℕ → NodeState) (bag : List Message) (table : LockTable) : Type 0 where
   pub each : (i : ℕ) → IsNode n i → IsThere n i (nodes i)
-  pub protocol : (r : List ℕ) → Protocol n r (states nodes r) bag
+  pub protocol : (r : List ℕ) → Protocol Lossy n r (states nodes r) bag
   pub traffic : All (IsTraffic n) bag
   pub tabled : Tabled n (uses nodes) (reaches nodes) table
 
@@ -102,7 +102,7 @@ pub record Went (n : ℕ) (nodes nodes' : ℕ → NodeState) (p : ℕ) (r : List
   pub others : (q : List ℕ) → q ≢ r → resource_at new q ≡ resource_at (nodes p) q
   pub sent : All (IsSend p n r) sends
 
-module _ (n : ℕ) (nodes nodes' : ℕ → NodeState) (p : ℕ) (r : List ℕ) (new : NodeState) (sends : List Message) (bag rest : List Message) (table : LockTable) (old : Invariant n nodes bag table) (went : Went n nodes nodes' p r new sends) where
+module _ {Lossy : Type 0} (n : ℕ) (nodes nodes' : ℕ → NodeState) (p : ℕ) (r : List ℕ) (new : NodeState) (sends : List Message) (bag rest : List Message) (table : LockTable) (old : Invariant Lossy n nodes bag table) (went : Went n nodes nodes' p r new sends) where
   abbrev before : Resource
   before = resource_at (nodes p) r
 
@@ -138,7 +138,7 @@ module _ (n : ℕ) (nodes nodes' : ℕ → NodeState) (p : ℕ) (r : List ℕ) (
   ]
 
   -- another name goes its own way
-  elsewhere : ((q : List ℕ) (i j : ℕ) → q ≢ r → between q i j rest ≡ between q i j bag) → (q : List ℕ) → q ≢ r → Protocol n q (states nodes' q) (rest ++ sends)
+  elsewhere : ((q : List ℕ) (i j : ℕ) → q ≢ r → between q i j rest ≡ between q i j bag) → (q : List ℕ) → q ≢ r → Protocol Lossy n q (states nodes' q) (rest ++ sends)
   elsewhere untaken q apart =
       undisturbed n q (states nodes q) (states nodes' q) bag (rest ++ sends)
       (λ i. ap (λ (x : Resource). x.state) (resource_of i q (λ _ e. apart e)))
@@ -161,13 +161,13 @@ module _ (n : ℕ) (nodes nodes' : ℕ → NodeState) (p : ℕ) (r : List ℕ) (
   ]
 
   -- all of it together
-  pub goes_on : Protocol n r (states nodes' r) (rest ++ sends) → ((q : List ℕ) (i j : ℕ) → q ≢ r → between q i j rest ≡ between q i j bag) → All (IsTraffic n) rest
-      → (t : LockTable) → Tabled n (uses nodes') (reaches nodes') t → Invariant n nodes' (rest ++ sends) t
+  pub goes_on : Protocol Lossy n r (states nodes' r) (rest ++ sends) → ((q : List ℕ) (i j : ℕ) → q ≢ r → between q i j rest ≡ between q i j bag) → All (IsTraffic n) rest
+      → (t : LockTable) → Tabled n (uses nodes') (reaches nodes') t → Invariant Lossy n nodes' (rest ++ sends) t
   goes_on here untaken all t tabled =
       record {
         each = each_still;
         protocol = λ q. elim (same_or_apart q r) [
-          | inl same ↦ subst (λ (x : List ℕ). Protocol n x (states nodes' x) (rest ++ sends)) (sym same) here
+          | inl same ↦ subst (λ (x : List ℕ). Protocol Lossy n x (states nodes' x) (rest ++ sends)) (sym same) here
           | inr apart ↦ elsewhere untaken q apart
         ];
         traffic = traffic_still all;
@@ -175,7 +175,7 @@ module _ (n : ℕ) (nodes nodes' : ℕ → NodeState) (p : ℕ) (r : List ℕ) (
       }
 
   -- who is granted by this event may be
-  grant : Protocol n r (states nodes' r) (rest ++ sends) → (e : Entry) → use_of after ≡ IsGranted e → MayBeGranted n (uses nodes) (reaches nodes') p r e
+  grant : Protocol Lossy n r (states nodes' r) (rest ++ sends) → (e : Entry) → use_of after ≡ IsGranted e → MayBeGranted n (uses nodes) (reaches nodes') p r e
   grant here e is =
       same_others n (uses nodes') (uses nodes) (reaches nodes') p r e (λ j apart. sym (ap use_of (resource_of j r (λ same _. apart same))))
       (may_be_granted n r nodes' (rest ++ sends) here p went.within e (ap (λ (y : NodeState). use_of (resource_at y r)) went.turned.here ∙ is))
@@ -213,14 +213,14 @@ module _ (n : ℕ) (nodes nodes' : ℕ → NodeState) (p : ℕ) (r : List ℕ) (
   ]
 
   pub asked : (client : ℕ) (mode : Mode) (marks : List Mark) → rest ≡ bag → AskTurn before client mode sends marks after → MarksLead (use_of before) marks (use_of after)
-      → (t : LockTable) × TableSteps table marks t × Invariant n nodes' (rest ++ sends) t
+      → (t : LockTable) × TableSteps table marks t × Invariant Lossy n nodes' (rest ++ sends) t
   asked client mode marks same turn leads =
       let untaken = λ (q : List ℕ) (i j : ℕ) (apart : q ≢ r). ap (between q i j) same in
       let all = subst (All (IsTraffic n)) (sym same) old.traffic in
       elim turn.1 [
         | inl asks ↦
             let kept = request_kept n r (states nodes r) (states nodes' r) bag p after.state (old.protocol r) went.within state_changes mode sends asks.entered asks.step placed_after in
-            let here : Protocol n r (states nodes' r) (rest ++ sends) = subst (λ (ms : List Message). Protocol n r (states nodes' r) (ms ++ sends)) (sym same) kept in
+            let here : Protocol Lossy n r (states nodes' r) (rest ++ sends) = subst (λ (ms : List Message). Protocol Lossy n r (states nodes' r) (ms ++ sends)) (sym same) kept in
             let e = next_entry before client mode in
             let both = leads_request asks.entered (use_of before) (use_of after) e (subst (λ (ms : List Mark). MarksLead (use_of before) ms (use_of after)) asks.marks_are leads) in
             let run = run_request n p r went.within asks.entered e (uses nodes) (uses nodes') (reaches nodes) (reaches nodes') table old.tabled (own_before e (record { node_is = refl; name_is = refl })) both.0
@@ -230,7 +230,7 @@ module _ (n : ℕ) (nodes nodes' : ℕ → NodeState) (p : ℕ) (r : List ℕ) (
         | inr queues ↦
             let same_state : after.state ≡ before.state = ap (λ (x : Resource). x.state) queues.new_is in
             let none : rest ++ sends ≡ bag = (λ k. same k ++ queues.sends_are k) ∙ append-nil bag in
-            let here : Protocol n r (states nodes' r) (rest ++ sends) = undisturbed n r (states nodes r) (states nodes' r) bag (rest ++ sends) (unmoved same_state) (λ i j. ap (between r i j) none) (old.protocol r) in
+            let here : Protocol Lossy n r (states nodes' r) (rest ++ sends) = undisturbed n r (states nodes r) (states nodes' r) bag (rest ++ sends) (unmoved same_state) (λ i j. ap (between r i j) none) (old.protocol r) in
             let stays : use_of after ≡ use_of before = subst (λ (ms : List Mark). MarksLead (use_of before) ms (use_of after)) queues.marks_are leads in
             let run = run_nothing n p r went.within (uses nodes) (uses nodes') (reaches nodes) (reaches nodes') table old.tabled (unaltered stays) (higher (omega (arith, ap (λ (x : State). x.highest) same_state))) in
             (run.0, subst (λ (ms : List Mark). TableSteps table ms run.0) (sym queues.marks_are) run.1, goes_on here untaken all run.0 run.2)
@@ -247,7 +247,7 @@ module _ (n : ℕ) (nodes nodes' : ℕ → NodeState) (p : ℕ) (r : List ℕ) (
 
   pub left : (client : ℕ) (marks : List Mark) → rest ≡ bag → LeaveTurn before client sends marks after → MarksLead (use_of before) marks (use_of after)
       → ((m : State) (replies : List Message) → LeaveStep before.state replies m → IsConsistent m)
-      → (t : LockTable) × TableSteps table marks t × Invariant n nodes' (rest ++ sends) t
+      → (t : LockTable) × TableSteps table marks t × Invariant Lossy n nodes' (rest ++ sends) t
   left client marks same turn leads consistent =
       let untaken = λ (q : List ℕ) (i j : ℕ) (apart : q ≢ r). ap (between q i j) same in
       let all = subst (All (IsTraffic n)) (sym same) old.traffic in
@@ -255,7 +255,7 @@ module _ (n : ℕ) (nodes nodes' : ℕ → NodeState) (p : ℕ) (r : List ℕ) (
       elim turn [
         | inl leaves ↦
             let kept = leave_kept n r (states nodes r) (states nodes' r) bag p after.state (old.protocol r) went.within state_changes sends leaves.step placed_after in
-            let here : Protocol n r (states nodes' r) (rest ++ sends) = subst (λ (ms : List Message). Protocol n r (states nodes' r) (ms ++ sends)) (sym same) kept in
+            let here : Protocol Lossy n r (states nodes' r) (rest ++ sends) = subst (λ (ms : List Message). Protocol Lossy n r (states nodes' r) (ms ++ sends)) (sym same) kept in
             let e = leaves.entry in
             let both = subst (λ (ms : List Mark). MarksLead (use_of before) ms (use_of after)) leaves.marks_are leads in
             let own = own_before e (use_granted before e both.0).1 in
@@ -280,7 +280,7 @@ module _ (n : ℕ) (nodes nodes' : ℕ → NodeState) (p : ℕ) (r : List ℕ) (
             (record { here = state_changes.here; there = λ k apart. state_changes.there k apart ∙ sym (put.there k apart) }) hands.next.mode step.requests hands.entered asks placed_after
             in
             let sent : (bag ++ step.replies) ++ step.requests ≡ rest ++ sends = append_assoc bag step.replies step.requests ∙ sym (λ k. same k ++ step.sends_are k) in
-            let here : Protocol n r (states nodes' r) (rest ++ sends) = subst (Protocol n r (states nodes' r)) sent second in
+            let here : Protocol Lossy n r (states nodes' r) (rest ++ sends) = subst (Protocol Lossy n r (states nodes' r)) sent second in
             let e = hands.entry in
             let f = next_entry before hands.next.client hands.next.mode in
             let both = leads_handed hands.entered (use_of before) (use_of after) e f (subst (λ (ms : List Mark). MarksLead (use_of before) ms (use_of after)) hands.marks_are leads) in
@@ -307,7 +307,7 @@ module _ (n : ℕ) (nodes nodes' : ℕ → NodeState) (p : ℕ) (r : List ℕ) (
     ]
   ]
 
-  taken_protocol : (m : Message) (entered : Bool) → TakesFirst bag m rest → IsForNode p n m → name_of m ≡ r → ReceiveStep before.state m sends entered after.state → Protocol n r (states nodes' r) (rest ++ sends)
+  taken_protocol : (m : Message) (entered : Bool) → TakesFirst bag m rest → IsForNode p n m → name_of m ≡ r → ReceiveStep before.state m sends entered after.state → Protocol Lossy n r (states nodes' r) (rest ++ sends)
   taken_protocol (Request from to name mode seq) entered takes for name_is step =
       request_taken n r (states nodes r) (states nodes' r) bag rest p from after.state (old.protocol r) went.within (for.from.first, for.from.last) for.from.other state_changes placed_after sends seq mode
       (subst (λ (k : ℕ). TakesFirst bag (Request from k r mode seq) rest) for.to (subst (λ (q : List ℕ). TakesFirst bag (Request from to q mode seq) rest) name_is takes)) step.1
@@ -315,7 +315,7 @@ module _ (n : ℕ) (nodes nodes' : ℕ → NodeState) (p : ℕ) (r : List ℕ) (
       reply_taken n r (states nodes r) (states nodes' r) bag rest p from after.state (old.protocol r) went.within (for.from.first, for.from.last) for.from.other state_changes placed_after sends seq entered
       (subst (λ (k : ℕ). TakesFirst bag (Reply from k r seq) rest) for.to (subst (λ (q : List ℕ). TakesFirst bag (Reply from to q seq) rest) name_is takes)) step.0 step.1
 
-  entering : (entered : Bool) (marks : List Mark) → EntersBy entered after marks → MarksLead (use_of before) marks (use_of after) → Protocol n r (states nodes' r) (rest ++ sends) → before.state.highest ≤ after.state.highest
+  entering : (entered : Bool) (marks : List Mark) → EntersBy entered after marks → MarksLead (use_of before) marks (use_of after) → Protocol Lossy n r (states nodes' r) (rest ++ sends) → before.state.highest ≤ after.state.highest
       → (t : LockTable) × TableSteps table marks t × Tabled n (uses nodes') (reaches nodes') t
   entering false marks none leads here more =
       let stays : use_of after ≡ use_of before = subst (λ (ms : List Mark). MarksLead (use_of before) ms (use_of after)) none leads in
@@ -329,7 +329,7 @@ module _ (n : ℕ) (nodes nodes' : ℕ → NodeState) (p : ℕ) (r : List ℕ) (
       (run.0, subst (λ (ms : List Mark). TableSteps table ms run.0) (sym some.2) run.1, run.2)
 
   pub received : (m : Message) (marks : List Mark) → TakesFirst bag m rest → IsForNode p n m → name_of m ≡ r → ReceiveTurn before m sends marks after → MarksLead (use_of before) marks (use_of after)
-      → (t : LockTable) × TableSteps table marks t × Invariant n nodes' (rest ++ sends) t
+      → (t : LockTable) × TableSteps table marks t × Invariant Lossy n nodes' (rest ++ sends) t
   received m marks takes for name_is turn leads =
       let here = taken_protocol m turn.entered takes for name_is turn.step in
       let run = entering turn.entered marks turn.enters leads here (receive_raises m turn.entered turn.step) in (
@@ -341,11 +341,11 @@ module _ (n : ℕ) (nodes nodes' : ℕ → NodeState) (p : ℕ) (r : List ℕ) (
 
 -- ---- A message is lost
 
-pub lost : (n : ℕ) (nodes : ℕ → NodeState) (bag rest : List Message) (table : LockTable) (m : Message) → Invariant n nodes bag table → TakesFirst bag m rest → Invariant n nodes rest table
-lost n nodes bag rest table m old takes =
+pub lost : {Lossy : Type 0} → Lossy → (n : ℕ) (nodes : ℕ → NodeState) (bag rest : List Message) (table : LockTable) (m : Message) → Invariant Lossy n nodes bag table → TakesFirst bag m rest → Invariant Lossy n nodes rest table
+lost {Lossy} lossy n nodes bag rest table m old takes =
     record {
       each = old.each;
-      protocol = λ r. message_lost n r (states nodes r) bag rest m (old.protocol r) takes;
+      protocol = λ r. message_lost lossy n r (states nodes r) bag rest m (old.protocol r) takes;
       traffic = (All-taken (IsTraffic n) bag m rest takes old.traffic).1;
       tabled = old.tabled;
     }

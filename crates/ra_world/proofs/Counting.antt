@@ -18,14 +18,14 @@ use Rattle.ra_automaton.specs.declared.phase.Phase.TheVariants.{Idle, Waiting, I
 use Rattle.ra_automaton.specs.State.{State}
 use Rattle.ra_node.specs.Resource.{Resource, Use, use_in, use_of, waiting_in, waiting_at, ClientFits, unmet}
 use Rattle.ra_node.specs.Resource.Use.{Nobody, Waits, IsGranted}
-use Rattle.ra_node.specs.Node.{NodeState, resource_at, with_resource, waiting_count}
+use Rattle.ra_node.specs.Node.{NodeState, resource_at, with_resource}
 use Rattle.ra_node.specs.Carried.{MarksLead}
 use Rattle.ra_table.specs.Table.{LockTable, Gains, TableSteps}
 use Rattle.ra_world.proofs.Tests.{false_is_not_true, true_of, cases_same}
 
 -- ---- One resource of a node changes
 
-abbrev cmp : List ℕ → List ℕ → Ordering
+abbrev pub cmp : List ℕ → List ℕ → Ordering
 cmp = slice_cmp nat_cmp
 
 is_less : (o : Ordering) → T (is_lt o) → o ≡ Less
@@ -40,13 +40,13 @@ below_lower a b (e ∷ es) less t =
     let here : cmp a e.0 ≡ Less = nat_list_cmp_total.trans a b e.0 less (is_less (cmp b e.0) both.0) in
     subst (λ (o : Ordering). T (is_lt o && below_all cmp a es)) (sym here) (below_lower a b es less both.1)
 
-not_found : (k : List ℕ) (es : List (List ℕ × Resource)) → T (below_all cmp k es) → find cmp k es ≡ None
+pub not_found : (k : List ℕ) (es : List (List ℕ × Resource)) → T (below_all cmp k es) → find cmp k es ≡ None
 not_found k [] t = refl
 not_found k (e ∷ es) t =
     let both = true_of (is_lt (cmp k e.0)) (below_all cmp k es) t in
     ap (λ (o : Ordering). cond (is_eq o) (Some e.1) (find cmp k es)) (is_less (cmp k e.0) both.0) ∙ not_found k es both.1
 
-abbrev value_or : (Resource → ℕ) → Option Resource → ℕ
+abbrev pub value_or : (Resource → ℕ) → Option Resource → ℕ
 value_or f None = 0
 value_or f (Some r) = f r
 
@@ -65,44 +65,69 @@ sum_put f k v (e ∷ es) t =
           omega (arith, sum_put f k v es both.1, sum_by-cons (λ (x : List ℕ × Resource). f x.1) e (put cmp k v es), sum_by-cons (λ (x : List ℕ × Resource). f x.1) e es)
     ] refl
 
-found_value : (node : NodeState) (r : List ℕ) (o : Option Resource) → waiting_at (unwrap_or o (unmet node.me node.nodes r node.start)) ≡ value_or waiting_at o
-found_value node r None = refl
-found_value node r (Some x) = refl
+-- what is counted at each resource of a node, and nothing at one that nothing was about yet
+abbrev pub total : (Resource → ℕ) → NodeState → ℕ
+total f node = sum_by (λ e. f e.1) (finmap.entries node.resources)
 
-pub one_resource : (node : NodeState) (r : List ℕ) (x : Resource) → waiting_count (with_resource node r x) + waiting_at (resource_at node r) ≡ waiting_count node + waiting_at x
-one_resource node r x =
-    let es = finmap.entries node.resources in
-    let put' : waiting_count (with_resource node r x) ≡ sum_by (λ e. waiting_at e.1) (put cmp r x es) = ap (sum_by (λ (e : List ℕ × Resource). waiting_at e.1)) (finmap.entries-insert nat_list_cmp_total node.resources r x) in
-    let was : waiting_at (resource_at node r) ≡ value_or waiting_at (find cmp r es) = found_value node r (finmap.get node.resources r) ∙ ap (value_or waiting_at) (finmap.get-entries node.resources r) in
-    omega (arith, put', was, sum_put waiting_at r x es (finmap.entries_sorted node.resources))
+-- and at each node
+abbrev pub over : (Resource → ℕ) → (ℕ → NodeState) → ℕ → ℕ → ℕ
+over f nodes first n = sum_by (λ i. total f (nodes i)) (range_with_len first n)
 
--- ---- One node changes
+module _ (f : Resource → ℕ) (zero_at : (me nodes : ℕ) (name : List ℕ) (start : ℕ) → f (unmet me nodes name start) ≡ 0) where
+  pub found_value : (node : NodeState) (r : List ℕ) (o : Option Resource) → f (unwrap_or o (unmet node.me node.nodes r node.start)) ≡ value_or f o
+  found_value node r None = zero_at node.me node.nodes r node.start
+  found_value node r (Some x) = refl
 
-abbrev pub waiting_over : (ℕ → NodeState) → ℕ → ℕ → ℕ
-waiting_over nodes first n = sum_by (λ i. waiting_count (nodes i)) (range_with_len first n)
+  pub one_resource : (node : NodeState) (r : List ℕ) (x : Resource) → total f (with_resource node r x) + f (resource_at node r) ≡ total f node + f x
+  one_resource node r x =
+      let es = finmap.entries node.resources in
+      let put' : total f (with_resource node r x) ≡ sum_by (λ e. f e.1) (put cmp r x es) = ap (sum_by (λ (e : List ℕ × Resource). f e.1)) (finmap.entries-insert nat_list_cmp_total node.resources r x) in
+      let was : f (resource_at node r) ≡ value_or f (find cmp r es) = found_value node r (finmap.get node.resources r) ∙ ap (value_or f) (finmap.get-entries node.resources r) in
+      omega (arith, put', was, sum_put f r x es (finmap.entries_sorted node.resources))
 
-beyond : (nodes nodes' : ℕ → NodeState) (p first n : ℕ) → p < first → ((k : ℕ) → k ≢ p → nodes' k ≡ nodes k) → waiting_over nodes' first n ≡ waiting_over nodes first n
-beyond nodes nodes' p first zero low same = refl
-beyond nodes nodes' p first (suc n) low same =
-    let here : waiting_count (nodes' first) ≡ waiting_count (nodes first) = ap waiting_count (same first (λ e. absurd (omega (arith, e, low)))) in
-    omega (arith, here, beyond nodes nodes' p (first + 1) n (omega (arith, low)) same, sum_by-cons (λ (i : ℕ). waiting_count (nodes' i)) first (range_with_len (first + 1) n), sum_by-cons (λ (i : ℕ). waiting_count (nodes i)) first (range_with_len (first + 1) n))
+  -- ---- One node changes
 
-pub one_node : (nodes nodes' : ℕ → NodeState) (p first n : ℕ) → first ≤ p → p < first + n → ((k : ℕ) → k ≢ p → nodes' k ≡ nodes k)
-    → waiting_over nodes' first n + waiting_count (nodes p) ≡ waiting_over nodes first n + waiting_count (nodes' p)
-one_node nodes nodes' p first zero low high same = absurd (omega (arith, low, high))
-one_node nodes nodes' p first (suc n) low high same =
-    let split' = sum_by-cons (λ (i : ℕ). waiting_count (nodes' i)) first (range_with_len (first + 1) n) in
-    let split = sum_by-cons (λ (i : ℕ). waiting_count (nodes i)) first (range_with_len (first + 1) n) in
-    elim (cases_same first p) [
-      | inl is ↦
-          let rest = beyond nodes nodes' p (first + 1) n (omega (arith, is)) same in
-          let here : waiting_count (nodes first) ≡ waiting_count (nodes p) = ap (λ (k : ℕ). waiting_count (nodes k)) is in
-          let here' : waiting_count (nodes' first) ≡ waiting_count (nodes' p) = ap (λ (k : ℕ). waiting_count (nodes' k)) is in
-          omega (arith, rest, here, here', split, split')
-      | inr apart ↦
-          let here : waiting_count (nodes' first) ≡ waiting_count (nodes first) = ap waiting_count (same first apart) in
-          omega (arith, one_node nodes nodes' p (first + 1) n (omega (arith, low, apart)) (omega (arith, high)) same, here, split, split')
-    ]
+  beyond : (nodes nodes' : ℕ → NodeState) (p first n : ℕ) → p < first → ((k : ℕ) → k ≢ p → nodes' k ≡ nodes k) → over f nodes' first n ≡ over f nodes first n
+  beyond nodes nodes' p first zero low same = refl
+  beyond nodes nodes' p first (suc n) low same =
+      let here : total f (nodes' first) ≡ total f (nodes first) = ap (total f) (same first (λ e. absurd (omega (arith, e, low)))) in
+      omega (arith, here, beyond nodes nodes' p (first + 1) n (omega (arith, low)) same, sum_by-cons (λ (i : ℕ). total f (nodes' i)) first (range_with_len (first + 1) n), sum_by-cons (λ (i : ℕ). total f (nodes i)) first (range_with_len (first + 1) n))
+
+  pub one_node : (nodes nodes' : ℕ → NodeState) (p first n : ℕ) → first ≤ p → p < first + n → ((k : ℕ) → k ≢ p → nodes' k ≡ nodes k)
+      → over f nodes' first n + total f (nodes p) ≡ over f nodes first n + total f (nodes' p)
+  one_node nodes nodes' p first zero low high same = absurd (omega (arith, low, high))
+  one_node nodes nodes' p first (suc n) low high same =
+      let split' = sum_by-cons (λ (i : ℕ). total f (nodes' i)) first (range_with_len (first + 1) n) in
+      let split = sum_by-cons (λ (i : ℕ). total f (nodes i)) first (range_with_len (first + 1) n) in
+      elim (cases_same first p) [
+        | inl is ↦
+            let rest = beyond nodes nodes' p (first + 1) n (omega (arith, is)) same in
+            let here : total f (nodes first) ≡ total f (nodes p) = ap (λ (k : ℕ). total f (nodes k)) is in
+            let here' : total f (nodes' first) ≡ total f (nodes' p) = ap (λ (k : ℕ). total f (nodes' k)) is in
+            omega (arith, rest, here, here', split, split')
+        | inr apart ↦
+            let here : total f (nodes' first) ≡ total f (nodes first) = ap (total f) (same first apart) in
+            omega (arith, one_node nodes nodes' p (first + 1) n (omega (arith, low, apart)) (omega (arith, high)) same, here, split, split')
+      ]
+
+  sum_none : (es : List (List ℕ × Resource)) → length es ≡ 0 → sum_by (λ e. f e.1) es ≡ 0
+  sum_none [] e = refl
+  sum_none (x ∷ es) e = absurd (omega (arith, e))
+
+  -- at the start nothing is counted
+  pub none_counted : (nodes : ℕ → NodeState) (first n : ℕ) → ((i : ℕ) → (nodes i).resources ≡ finmap.empty) → over f nodes first n ≡ 0
+  none_counted nodes first zero h = refl
+  none_counted nodes first (suc n) h =
+      let none : length (finmap.entries (nodes first).resources) ≡ 0 = sym (finmap.len-entries (nodes first).resources) ∙ ap finmap.len (h first) ∙ finmap.len-empty cmp Resource in
+      let here : total f (nodes first) ≡ 0 = sum_none (finmap.entries (nodes first).resources) none in
+      omega (arith, here, none_counted nodes (first + 1) n h, sum_by-cons (λ (i : ℕ). total f (nodes i)) first (range_with_len (first + 1) n))
+
+  pub same_over : (nodes nodes' : ℕ → NodeState) (first n : ℕ) → ((i : ℕ) → first ≤ i → i < first + n → nodes i ≡ nodes' i) → over f nodes first n ≡ over f nodes' first n
+  same_over nodes nodes' first zero h = refl
+  same_over nodes nodes' first (suc n) h =
+      let here : total f (nodes first) ≡ total f (nodes' first) = ap (total f) (h first (omega arith) (omega arith)) in
+      let rest = same_over nodes nodes' (first + 1) n (λ i low high. h i (omega (arith, low)) (omega (arith, high))) in
+      omega (arith, here, rest, sum_by-cons (λ (i : ℕ). total f (nodes i)) first (range_with_len (first + 1) n), sum_by-cons (λ (i : ℕ). total f (nodes' i)) first (range_with_len (first + 1) n))
 
 -- ---- The table
 
@@ -139,22 +164,3 @@ fits_count s (Inside seq mode) (Some c) fits = refl
 
 pub use_count : (r : Resource) → ClientFits r.state.phase r.client → waiting_at r ≡ waits_as (use_of r)
 use_count r fits = fits_count r.state r.state.phase r.client fits
-
-sum_none : (es : List (List ℕ × Resource)) → length es ≡ 0 → sum_by (λ e. waiting_at e.1) es ≡ 0
-sum_none [] e = refl
-sum_none (x ∷ es) e = absurd (omega (arith, e))
-
--- at the start nobody waits
-pub none_waits : (nodes : ℕ → NodeState) (first n : ℕ) → ((i : ℕ) → (nodes i).resources ≡ finmap.empty) → waiting_over nodes first n ≡ 0
-none_waits nodes first zero h = refl
-none_waits nodes first (suc n) h =
-    let none : length (finmap.entries (nodes first).resources) ≡ 0 = sym (finmap.len-entries (nodes first).resources) ∙ ap finmap.len (h first) ∙ finmap.len-empty cmp Resource in
-    let here : waiting_count (nodes first) ≡ 0 = sum_none (finmap.entries (nodes first).resources) none in
-    omega (arith, here, none_waits nodes (first + 1) n h, sum_by-cons (λ (i : ℕ). waiting_count (nodes i)) first (range_with_len (first + 1) n))
-
-pub same_over : (nodes nodes' : ℕ → NodeState) (first n : ℕ) → ((i : ℕ) → first ≤ i → i < first + n → nodes i ≡ nodes' i) → waiting_over nodes first n ≡ waiting_over nodes' first n
-same_over nodes nodes' first zero h = refl
-same_over nodes nodes' first (suc n) h =
-    let here : waiting_count (nodes first) ≡ waiting_count (nodes' first) = ap waiting_count (h first (omega arith) (omega arith)) in
-    let rest = same_over nodes nodes' (first + 1) n (λ i low high. h i (omega (arith, low)) (omega (arith, high))) in
-    omega (arith, here, rest, sum_by-cons (λ (i : ℕ). waiting_count (nodes i)) first (range_with_len (first + 1) n), sum_by-cons (λ (i : ℕ). waiting_count (nodes' i)) first (range_with_len (first + 1) n))

@@ -11,4 +11,8 @@ mod Marks
 mod Uses
 mod Cluster
 mod Counting
+mod Blocked
+mod Balance
+mod Counted
 mod Runs
+mod QuietRuns

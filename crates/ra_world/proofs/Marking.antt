@@ -23,7 +23,7 @@ granted_of Nobody = []
 granted_of (Waits e) = []
 granted_of (IsGranted e) = e ∷ []
 
-is_waiting : (w : Use) (x : Entry) → Contains (waiting_of w) x → w ≡ Waits x
+pub is_waiting : (w : Use) (x : Entry) → Contains (waiting_of w) x → w ≡ Waits x
 is_waiting Nobody x at = absurd (omega (arith, at.1))
 is_waiting (Waits e) x (zero, lt, is) = ap (λ (y : Entry). Waits y) is
 is_waiting (Waits e) x (suc k, lt, is) = absurd (omega (arith, lt))
@@ -68,7 +68,8 @@ still es left {e} loses x at =
 not_both : {e : Entry} (x : Entry) → Waits e ≡ IsGranted x → ⊥
 not_both x k = cc
 
-abbrev entry_in_use : Entry → Use → Entry
+-- the request of a use that has one
+abbrev pub entry_in_use : Entry → Use → Entry
 entry_in_use d Nobody = d
 entry_in_use d (Waits e) = e
 entry_in_use d (IsGranted e) = e

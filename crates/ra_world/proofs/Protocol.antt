@@ -19,6 +19,17 @@ use Rattle.ra_world.proofs.Tests.{cases_same}
 abbrev pub IsNode : ℕ → ℕ → Type 0
 IsNode n i = (1 ≤ i) × (i ≤ n)
 
+-- the number and the mode of a phase that has them
+abbrev pub seq_in : ℕ → Phase → ℕ
+seq_in d Idle = d
+seq_in d (Waiting seq mode) = seq
+seq_in d (Inside seq mode) = seq
+
+abbrev pub mode_in : Mode → Phase → Mode
+mode_in d Idle = d
+mode_in d (Waiting seq mode) = mode
+mode_in d (Inside seq mode) = mode
+
 -- the node has a request, with this number and mode
 abbrev pub HasOwn : Phase → ℕ → Mode → Type 0
 HasOwn Idle seq mode = ⊥
@@ -32,9 +43,11 @@ pub record LetsPass (s : State) (other seq : ℕ) (mode : Mode) : Type 0 where
 
 -- ---- Dialogs: i asks, j answers
 
-pub record IsSilent (i : ℕ) (sj : State) (ms : List Message) : Type 0 where
+-- nothing is under way and nothing deferred. So nothing is awaited, unless a message was lost
+pub record IsSilent (Lossy : Type 0) (i j : ℕ) (si sj : State) (ms : List Message) : Type 0 where
   pub none : ms ≡ []
   pub not_deferred : finmap.get sj.deferred i ≡ None
+  pub unheard : IsTrue (set.contains si.awaited j) → Lossy
 
 pub record IsAsking (r : List ℕ) (i j : ℕ) (si sj : State) (ms : List Message) : Type 0 where
   pub seq : ℕ
@@ -59,8 +72,8 @@ pub record IsAnswered (r : List ℕ) (i j : ℕ) (si sj : State) (ms : List Mess
   pub not_deferred : finmap.get sj.deferred i ≡ None
   pub passes : LetsPass sj i seq mode
 
-abbrev pub Dialog : List ℕ → ℕ → ℕ → State → State → List Message → Type 0
-Dialog r i j si sj ms = IsSilent i sj ms ⊎ (IsAsking r i j si sj ms ⊎ (IsDeferred i j si sj ms ⊎ IsAnswered r i j si sj ms))
+abbrev pub Dialog : Type 0 → List ℕ → ℕ → ℕ → State → State → List Message → Type 0
+Dialog Lossy r i j si sj ms = IsSilent Lossy i j si sj ms ⊎ (IsAsking r i j si sj ms ⊎ (IsDeferred i j si sj ms ⊎ IsAnswered r i j si sj ms))
 
 -- ---- All nodes
 
@@ -70,9 +83,9 @@ pub record IsPlaced (n : ℕ) (r : List ℕ) (i : ℕ) (s : State) : Type 0 wher
   pub nodes_is : s.nodes ≡ n
   pub name_is : s.name ≡ r
 
-pub record Protocol (n : ℕ) (r : List ℕ) (s : ℕ → State) (bag : List Message) : Type 0 where
+pub record Protocol (Lossy : Type 0) (n : ℕ) (r : List ℕ) (s : ℕ → State) (bag : List Message) : Type 0 where
   pub each : (i : ℕ) → IsNode n i → IsPlaced n r i (s i)
-  pub dialog : (i j : ℕ) → IsNode n i → IsNode n j → i ≢ j → Dialog r i j (s i) (s j) (between r i j bag)
+  pub dialog : (i j : ℕ) → IsNode n i → IsNode n j → i ≢ j → Dialog Lossy r i j (s i) (s j) (between r i j bag)
   -- who is no longer awaited lets the request pass
   pub passed : (i j seq : ℕ) (mode : Mode) → IsNode n i → IsNode n j → i ≢ j → HasOwn (s i).phase seq mode → (IsTrue (set.contains (s i).awaited j) → ⊥) → LetsPass (s j) i seq mode
 
@@ -83,14 +96,14 @@ pub record Changes (s s' : ℕ → State) (p : ℕ) (new : State) : Type 0 where
   pub here : s' p ≡ new
   pub there : (k : ℕ) → k ≢ p → s' k ≡ s k
 
-module _ (n : ℕ) (r : List ℕ) (s s' : ℕ → State) (bag bag' : List Message) (p : ℕ) (new : State) (old : Protocol n r s bag) (changes : Changes s s' p new) where
+module _ {Lossy : Type 0} (n : ℕ) (r : List ℕ) (s s' : ℕ → State) (bag bag' : List Message) (p : ℕ) (new : State) (old : Protocol Lossy n r s bag) (changes : Changes s s' p new) where
   pub changed : IsPlaced n r p new
-      → ((x : ℕ) → IsNode n x → x ≢ p → Dialog r p x (s p) (s x) (between r p x bag) → Dialog r p x new (s x) (between r p x bag'))
-      → ((x : ℕ) → IsNode n x → x ≢ p → Dialog r x p (s x) (s p) (between r x p bag) → Dialog r x p (s x) new (between r x p bag'))
+      → ((x : ℕ) → IsNode n x → x ≢ p → Dialog Lossy r p x (s p) (s x) (between r p x bag) → Dialog Lossy r p x new (s x) (between r p x bag'))
+      → ((x : ℕ) → IsNode n x → x ≢ p → Dialog Lossy r x p (s x) (s p) (between r x p bag) → Dialog Lossy r x p (s x) new (between r x p bag'))
       → ((i j : ℕ) → i ≢ p → j ≢ p → between r i j bag' ≡ between r i j bag)
       → ((x seq : ℕ) (mode : Mode) → IsNode n x → x ≢ p → HasOwn new.phase seq mode → (IsTrue (set.contains new.awaited x) → ⊥) → LetsPass (s x) p seq mode)
       → ((x seq : ℕ) (mode : Mode) → LetsPass (s p) x seq mode → LetsPass new x seq mode)
-      → IsNode n p → Protocol n r s' bag'
+      → IsNode n p → Protocol Lossy n r s' bag'
   changed placed mine theirs others passes passed within =
       record {
         each = λ i at. elim (cases_same i p) [
@@ -100,20 +113,20 @@ module _ (n : ℕ) (r : List ℕ) (s s' : ℕ → State) (bag bag' : List Messag
         dialog = λ i j at_i at_j apart. elim (cases_same i p) [
           | inl is_i ↦
               let j_apart : j ≢ p = λ e. apart (is_i ∙ sym e) in
-              subst (λ (k : ℕ). Dialog r k j (s' k) (s' j) (between r k j bag')) (sym is_i)
-              (subst (λ (x : State). Dialog r p j x (s' j) (between r p j bag')) (sym changes.here)
-              (subst (λ (x : State). Dialog r p j new x (between r p j bag')) (sym (changes.there j j_apart))
+              subst (λ (k : ℕ). Dialog Lossy r k j (s' k) (s' j) (between r k j bag')) (sym is_i)
+              (subst (λ (x : State). Dialog Lossy r p j x (s' j) (between r p j bag')) (sym changes.here)
+              (subst (λ (x : State). Dialog Lossy r p j new x (between r p j bag')) (sym (changes.there j j_apart))
               (mine j at_j j_apart (old.dialog p j within at_j (λ e. j_apart (sym e))))))
           | inr i_apart ↦ elim (cases_same j p) [
             | inl is_j ↦
-                subst (λ (k : ℕ). Dialog r i k (s' i) (s' k) (between r i k bag')) (sym is_j)
-                (subst (λ (x : State). Dialog r i p (s' i) x (between r i p bag')) (sym changes.here)
-                (subst (λ (x : State). Dialog r i p x new (between r i p bag')) (sym (changes.there i i_apart))
+                subst (λ (k : ℕ). Dialog Lossy r i k (s' i) (s' k) (between r i k bag')) (sym is_j)
+                (subst (λ (x : State). Dialog Lossy r i p (s' i) x (between r i p bag')) (sym changes.here)
+                (subst (λ (x : State). Dialog Lossy r i p x new (between r i p bag')) (sym (changes.there i i_apart))
                 (theirs i at_i i_apart (old.dialog i p at_i within i_apart))))
             | inr j_apart ↦
-                subst (λ (x : State). Dialog r i j x (s' j) (between r i j bag')) (sym (changes.there i i_apart))
-                (subst (λ (x : State). Dialog r i j (s i) x (between r i j bag')) (sym (changes.there j j_apart))
-                (subst (λ (ms : List Message). Dialog r i j (s i) (s j) ms) (sym (others i j i_apart j_apart)) (old.dialog i j at_i at_j apart)))
+                subst (λ (x : State). Dialog Lossy r i j x (s' j) (between r i j bag')) (sym (changes.there i i_apart))
+                (subst (λ (x : State). Dialog Lossy r i j (s i) x (between r i j bag')) (sym (changes.there j j_apart))
+                (subst (λ (ms : List Message). Dialog Lossy r i j (s i) (s j) ms) (sym (others i j i_apart j_apart)) (old.dialog i j at_i at_j apart)))
           ]
         ];
         passed = λ i j seq mode at_i at_j apart own free. elim (cases_same i p) [

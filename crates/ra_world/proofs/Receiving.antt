@@ -11,15 +11,15 @@ use Rattle.ra_stamp.specs.declared.message.Message.{Message}
 use Rattle.ra_stamp.specs.declared.message.Message.TheVariants.{Request, Reply}
 use Rattle.ra_stamp.specs.Message.{seq_of}
 use Rattle.ra_automaton.specs.declared.phase.Phase.{Phase}
-use Rattle.ra_automaton.specs.declared.phase.Phase.TheVariants.{Idle, Waiting, Inside}
+use Rattle.ra_automaton.specs.declared.phase.Phase.TheVariants.{Waiting}
 use Rattle.ra_automaton.specs.State.{State}
 use Rattle.ra_automaton.specs.Steps.{later_of, Awaits, OwnGoesFirst, Defers, RepliesAtOnce, Enters, WaitsOn, TakesReply}
 use Rattle.ra_bag.specs.Bag.{TakesFirst}
 use Rattle.ra_world.proofs.Lists.{filter_taken, filter_left, takes_none, takes_one}
 use Rattle.ra_world.proofs.Dialogs.{belongs, between, IsOf, belongs_at, belongs_not, between_none}
 use Rattle.ra_world.proofs.Tests.{cases_same, tied, untied}
-use Rattle.ra_world.proofs.Members.{remains, nobody}
-use Rattle.ra_world.proofs.Protocol.{IsNode, HasOwn, LetsPass, Dialog, IsPlaced, Protocol, Changes, changed}
+use Rattle.ra_world.proofs.Members.{remains, removed, nobody}
+use Rattle.ra_world.proofs.Protocol.{mode_in, IsNode, HasOwn, LetsPass, Dialog, IsPlaced, Protocol, Changes, changed}
 use Rattle.ra_world.proofs.Asking.{more_between, none_between}
 
 -- ---- Dialogs whose nodes change a little
@@ -27,9 +27,9 @@ use Rattle.ra_world.proofs.Asking.{more_between, none_between}
 abbrev NotFirst : State → ℕ → Type 0
 NotFirst s i = (seq : ℕ) (mode : Mode) → LetsPass s i seq mode
 
-pub move_asker : (r : List ℕ) (i j : ℕ) (si si' sj : State) (ms : List Message) → ((seq : ℕ) (mode : Mode) → Awaits si j seq mode → Awaits si' j seq mode) → Dialog r i j si sj ms → Dialog r i j si' sj ms
-move_asker r i j si si' sj ms awaits d = elim d [
-  | inl silent ↦ inl silent
+pub move_asker : {Lossy : Type 0} (r : List ℕ) (i j : ℕ) (si si' sj : State) (ms : List Message) → ((seq : ℕ) (mode : Mode) → Awaits si j seq mode → Awaits si' j seq mode) → (IsTrue (set.contains si'.awaited j) → IsTrue (set.contains si.awaited j)) → Dialog Lossy r i j si sj ms → Dialog Lossy r i j si' sj ms
+move_asker {Lossy} r i j si si' sj ms awaits back d = elim d [
+  | inl silent ↦ inl (record { none = silent.none; not_deferred = silent.not_deferred; unheard = λ h. silent.unheard (back h) })
   | inr x ↦ elim x [
     | inl a ↦ inr (inl (record { seq = a.seq; mode = a.mode; awaits = awaits a.seq a.mode a.awaits; asks = a.asks; not_deferred = a.not_deferred }))
     | inr y ↦ elim y [
@@ -45,9 +45,9 @@ pub record KeepsTo (i : ℕ) (sj sj' : State) : Type 0 where
   pub first : (seq : ℕ) (mode : Mode) → OwnGoesFirst sj.phase sj.me i seq mode → OwnGoesFirst sj'.phase sj'.me i seq mode
   pub passes : (seq : ℕ) (mode : Mode) → LetsPass sj i seq mode → LetsPass sj' i seq mode
 
-pub move_answerer : (r : List ℕ) (i j : ℕ) (si sj sj' : State) (ms : List Message) → KeepsTo i sj sj' → Dialog r i j si sj ms → Dialog r i j si sj' ms
-move_answerer r i j si sj sj' ms keeps d = elim d [
-  | inl silent ↦ inl (record { none = silent.none; not_deferred = keeps.deferred ∙ silent.not_deferred })
+pub move_answerer : {Lossy : Type 0} (r : List ℕ) (i j : ℕ) (si sj sj' : State) (ms : List Message) → KeepsTo i sj sj' → Dialog Lossy r i j si sj ms → Dialog Lossy r i j si sj' ms
+move_answerer {Lossy} r i j si sj sj' ms keeps d = elim d [
+  | inl silent ↦ inl (record { none = silent.none; not_deferred = keeps.deferred ∙ silent.not_deferred; unheard = silent.unheard })
   | inr x ↦ elim x [
     | inl a ↦ inr (inl (record { seq = a.seq; mode = a.mode; awaits = a.awaits; asks = a.asks; not_deferred = keeps.deferred ∙ a.not_deferred }))
     | inr y ↦ elim y [
@@ -59,11 +59,6 @@ move_answerer r i j si sj sj' ms keeps d = elim d [
 
 -- ---- The message of a dialog
 
-abbrev mode_in : Mode → Phase → Mode
-mode_in d Idle = d
-mode_in d (Waiting seq mode) = mode
-mode_in d (Inside seq mode) = mode
-
 abbrev mode_or : Mode → Message → Mode
 mode_or m (Request from to name mode seq) = mode
 mode_or m (Reply from to name seq) = m
@@ -74,8 +69,8 @@ pub record WasAsked (i j : ℕ) (si sj : State) (seq : ℕ) (mode : Mode) (rest 
   pub none : rest ≡ []
   pub not_deferred : finmap.get sj.deferred i ≡ None
 
-pub was_asked : (r : List ℕ) (i j : ℕ) (si sj : State) (ms : List Message) (seq : ℕ) (mode : Mode) (rest : List Message) → TakesFirst ms (Request i j r mode seq) rest → Dialog r i j si sj ms → WasAsked i j si sj seq mode rest
-was_asked r i j si sj ms seq mode rest takes d = elim d [
+pub was_asked : {Lossy : Type 0} (r : List ℕ) (i j : ℕ) (si sj : State) (ms : List Message) (seq : ℕ) (mode : Mode) (rest : List Message) → TakesFirst ms (Request i j r mode seq) rest → Dialog Lossy r i j si sj ms → WasAsked i j si sj seq mode rest
+was_asked {Lossy} r i j si sj ms seq mode rest takes d = elim d [
   | inl silent ↦ absurd (takes_none (Request i j r mode seq) rest (subst (λ (xs : List Message). TakesFirst xs (Request i j r mode seq) rest) silent.none takes))
   | inr x ↦ elim x [
     | inl a ↦
@@ -103,8 +98,8 @@ pub record WasAnswered (i j : ℕ) (si sj : State) (seq : ℕ) (rest : List Mess
   pub not_deferred : finmap.get sj.deferred i ≡ None
   pub passes : LetsPass sj i seq mode
 
-pub was_answered : (r : List ℕ) (i j : ℕ) (si sj : State) (ms : List Message) (seq : ℕ) (rest : List Message) → TakesFirst ms (Reply j i r seq) rest → Dialog r i j si sj ms → WasAnswered i j si sj seq rest
-was_answered r i j si sj ms seq rest takes d = elim d [
+pub was_answered : {Lossy : Type 0} (r : List ℕ) (i j : ℕ) (si sj : State) (ms : List Message) (seq : ℕ) (rest : List Message) → TakesFirst ms (Reply j i r seq) rest → Dialog Lossy r i j si sj ms → WasAnswered i j si sj seq rest
+was_answered {Lossy} r i j si sj ms seq rest takes d = elim d [
   | inl silent ↦ absurd (takes_none (Reply j i r seq) rest (subst (λ (xs : List Message). TakesFirst xs (Reply j i r seq) rest) silent.none takes))
   | inr x ↦ elim x [
     | inl a ↦ absurd (not_a_request (takes_one (Request i j r a.mode a.seq) (Reply j i r seq) rest (subst (λ (xs : List Message). TakesFirst xs (Reply j i r seq) rest) a.asks takes)).0)
@@ -135,7 +130,7 @@ taken_here r i j bag m rest is takes = filter_taken (belongs r i j) bag m rest (
 taken_elsewhere : (r : List ℕ) (i j : ℕ) (bag : List Message) (m : Message) (rest : List Message) → (IsOf r i j m → ⊥) → TakesFirst bag m rest → between r i j rest ≡ between r i j bag
 taken_elsewhere r i j bag m rest not takes = filter_left (belongs r i j) bag m rest (belongs_not r i j m not) takes
 
-module _ (n : ℕ) (r : List ℕ) (s s' : ℕ → State) (bag rest : List Message) (p x : ℕ) (new : State) (old : Protocol n r s bag) (within : IsNode n p) (x_at : IsNode n x) (x_apart : x ≢ p) (changes : Changes s s' p new)
+module _ {Lossy : Type 0} (n : ℕ) (r : List ℕ) (s s' : ℕ → State) (bag rest : List Message) (p x : ℕ) (new : State) (old : Protocol Lossy n r s bag) (within : IsNode n p) (x_at : IsNode n x) (x_apart : x ≢ p) (changes : Changes s s' p new)
     (placed : IsPlaced n r p new) (sends : List Message) where
   abbrev held : IsPlaced n r p (s p)
   held = old.each p within
@@ -189,14 +184,15 @@ module _ (n : ℕ) (r : List ℕ) (s s' : ℕ → State) (bag rest : List Messag
     passes_still : (y k : ℕ) (m : Mode) → LetsPass (s p) y k m → LetsPass new y k m
     passes_still y k m pass = record { reached = omega (arith, pass.reached, highest_is); not_first = λ h. pass.not_first (first_back y k m h) }
 
-    mine : (y : ℕ) → IsNode n y → y ≢ p → Dialog r p y (s p) (s y) (between r p y bag) → Dialog r p y new (s y) (between r p y (rest ++ sends))
+    mine : (y : ℕ) → IsNode n y → y ≢ p → Dialog Lossy r p y (s p) (s y) (between r p y bag) → Dialog Lossy r p y new (s y) (between r p y (rest ++ sends))
     mine y at apart d =
-        subst (λ (ms : List Message). Dialog r p y new (s y) ms) (sym (elsewhere p y (λ e _. x_apart (sym e))))
+        subst (λ (ms : List Message). Dialog Lossy r p y new (s y) ms) (sym (elsewhere p y (λ e _. x_apart (sym e))))
         (move_asker r p y (s p) new (s y) (between r p y bag)
-        (λ k m awaits. record { waits = phase_same ∙ awaits.waits; awaited = subst (λ (q : set.FinSet nat_cmp). IsTrue (set.contains q y)) (sym awaited_same) awaits.awaited }) d)
+        (λ k m awaits. record { waits = phase_same ∙ awaits.waits; awaited = subst (λ (q : set.FinSet nat_cmp). IsTrue (set.contains q y)) (sym awaited_same) awaits.awaited })
+        (subst (λ (q : set.FinSet nat_cmp). IsTrue (set.contains q y)) awaited_same) d)
 
     -- the dialog of the message goes on
-    goes_on : Dialog r x p (s x) new (between r x p (rest ++ sends))
+    goes_on : Dialog Lossy r x p (s x) new (between r x p (rest ++ sends))
     goes_on = elim step [
       | inl defers ↦
           let none : between r x p (rest ++ sends) ≡ [] = none_between r x p rest sends (ap (between r x p) defers.sends_are) ∙ asked.none in
@@ -226,15 +222,15 @@ module _ (n : ℕ) (r : List ℕ) (s s' : ℕ → State) (bag rest : List Messag
           })))
     ]
 
-    theirs : (y : ℕ) → IsNode n y → y ≢ p → Dialog r y p (s y) (s p) (between r y p bag) → Dialog r y p (s y) new (between r y p (rest ++ sends))
+    theirs : (y : ℕ) → IsNode n y → y ≢ p → Dialog Lossy r y p (s y) (s p) (between r y p bag) → Dialog Lossy r y p (s y) new (between r y p (rest ++ sends))
     theirs y at apart d = elim (cases_same y x) [
-      | inl same ↦ subst (λ (k : ℕ). Dialog r k p (s k) new (between r k p (rest ++ sends))) (sym same) goes_on
+      | inl same ↦ subst (λ (k : ℕ). Dialog Lossy r k p (s k) new (between r k p (rest ++ sends))) (sym same) goes_on
       | inr other ↦
-          subst (λ (ms : List Message). Dialog r y p (s y) new ms) (sym (elsewhere y p (λ e _. other e)))
+          subst (λ (ms : List Message). Dialog Lossy r y p (s y) new ms) (sym (elsewhere y p (λ e _. other e)))
           (move_answerer r y p (s y) (s p) new (between r y p bag) (record { deferred = deferred_other y other; first = first_same y; passes = passes_still y }) d)
     ]
 
-    pub request_taken : Protocol n r s' (rest ++ sends)
+    pub request_taken : Protocol Lossy n r s' (rest ++ sends)
     request_taken =
         changed n r s s' bag (rest ++ sends) p new old changes placed mine theirs
         (λ i j i_apart j_apart. elsewhere i j (λ _ e. j_apart e))
@@ -267,6 +263,19 @@ module _ (n : ℕ) (r : List ℕ) (s s' : ℕ → State) (bag rest : List Messag
     still_awaited y other h = elim entered_or_on.1 [
       | inl enters ↦ absurd (nobody y (subst (λ (q : set.FinSet nat_cmp). IsTrue (set.contains q y)) enters.last (remains (s p).awaited x y other ∙ h)))
       | inr on ↦ subst (λ (t : State). IsTrue (set.contains t.awaited y)) (sym on.new_is) (remains (s p).awaited x y other ∙ h)
+    ]
+
+    -- and who was not awaited is not
+    was_awaited : (y : ℕ) → y ≢ x → IsTrue (set.contains new.awaited y) → IsTrue (set.contains (s p).awaited y)
+    was_awaited y other h = elim entered_or_on.1 [
+      | inl enters ↦ absurd (nobody y (subst (λ (t : State). IsTrue (set.contains t.awaited y)) enters.new_is h))
+      | inr on ↦ sym (remains (s p).awaited x y other) ∙ subst (λ (t : State). IsTrue (set.contains t.awaited y)) on.new_is h
+    ]
+
+    not_awaited : IsTrue (set.contains new.awaited x) → ⊥
+    not_awaited h = elim entered_or_on.1 [
+      | inl enters ↦ nobody x (subst (λ (t : State). IsTrue (set.contains t.awaited x)) enters.new_is h)
+      | inr on ↦ removed (s p).awaited x (subst (λ (t : State). IsTrue (set.contains t.awaited x)) on.new_is h)
     ]
 
     still_waits : (y k : ℕ) (m : Mode) → y ≢ x → Awaits (s p) y k m → Awaits new y k m
@@ -307,23 +316,23 @@ module _ (n : ℕ) (r : List ℕ) (s s' : ℕ → State) (bag rest : List Messag
     passes_on : (y k : ℕ) (m : Mode) → LetsPass (s p) y k m → LetsPass new y k m
     passes_on y k m pass = record { reached = omega (arith, pass.reached, same_rest.1); not_first = λ h. pass.not_first ((first_as y k m).1 h) }
 
-    reply_mine : (y : ℕ) → IsNode n y → y ≢ p → Dialog r p y (s p) (s y) (between r p y bag) → Dialog r p y new (s y) (between r p y (rest ++ sends))
+    reply_mine : (y : ℕ) → IsNode n y → y ≢ p → Dialog Lossy r p y (s p) (s y) (between r p y bag) → Dialog Lossy r p y new (s y) (between r p y (rest ++ sends))
     reply_mine y at apart d = elim (cases_same y x) [
       | inl same ↦
           let none : between r p x (rest ++ sends) ≡ [] = none_between r p x rest sends (ap (between r p x) nothing) ∙ answered.none in
-          subst (λ (k : ℕ). Dialog r p k new (s k) (between r p k (rest ++ sends))) (sym same) (inl (record { none = none; not_deferred = answered.not_deferred }))
+          subst (λ (k : ℕ). Dialog Lossy r p k new (s k) (between r p k (rest ++ sends))) (sym same) (inl (record { none = none; not_deferred = answered.not_deferred; unheard = λ awaited. absurd (not_awaited awaited) }))
       | inr other ↦
-          subst (λ (ms : List Message). Dialog r p y new (s y) ms) (sym (elsewhere_too p y (λ _ e. other e)))
-          (move_asker r p y (s p) new (s y) (between r p y bag) (λ k m h. still_waits y k m other h) d)
+          subst (λ (ms : List Message). Dialog Lossy r p y new (s y) ms) (sym (elsewhere_too p y (λ _ e. other e)))
+          (move_asker r p y (s p) new (s y) (between r p y bag) (λ k m h. still_waits y k m other h) (was_awaited y other) d)
     ]
 
-    reply_theirs : (y : ℕ) → IsNode n y → y ≢ p → Dialog r y p (s y) (s p) (between r y p bag) → Dialog r y p (s y) new (between r y p (rest ++ sends))
+    reply_theirs : (y : ℕ) → IsNode n y → y ≢ p → Dialog Lossy r y p (s y) (s p) (between r y p bag) → Dialog Lossy r y p (s y) new (between r y p (rest ++ sends))
     reply_theirs y at apart d =
-        subst (λ (ms : List Message). Dialog r y p (s y) new ms) (sym (elsewhere_too y p (λ e _. apart e)))
+        subst (λ (ms : List Message). Dialog Lossy r y p (s y) new ms) (sym (elsewhere_too y p (λ e _. apart e)))
         (move_answerer r y p (s y) (s p) new (between r y p bag)
         (record { deferred = ap (λ (q : finmap.FinMap nat_cmp ℕ). finmap.get q y) same_rest.0; first = λ k m. (first_as y k m).0; passes = passes_on y }) d)
 
-    pub reply_taken : Protocol n r s' (rest ++ sends)
+    pub reply_taken : Protocol Lossy n r s' (rest ++ sends)
     reply_taken =
         changed n r s s' bag (rest ++ sends) p new old changes placed reply_mine reply_theirs
         (λ i j i_apart j_apart. elsewhere_too i j (λ e _. i_apart e))
@@ -337,30 +346,30 @@ module _ (n : ℕ) (r : List ℕ) (s s' : ℕ → State) (bag rest : List Messag
 
 -- ---- A message is lost
 
-module _ (n : ℕ) (r : List ℕ) (s : ℕ → State) (bag rest : List Message) (m : Message) (old : Protocol n r s bag) (takes : TakesFirst bag m rest) where
-  silenced : (i j : ℕ) → Dialog r i j (s i) (s j) (between r i j bag) → belongs r i j m ≡ true → Dialog r i j (s i) (s j) (between r i j rest)
+module _ {Lossy : Type 0} (lossy : Lossy) (n : ℕ) (r : List ℕ) (s : ℕ → State) (bag rest : List Message) (m : Message) (old : Protocol Lossy n r s bag) (takes : TakesFirst bag m rest) where
+  silenced : (i j : ℕ) → Dialog Lossy r i j (s i) (s j) (between r i j bag) → belongs r i j m ≡ true → Dialog Lossy r i j (s i) (s j) (between r i j rest)
   silenced i j d e =
       let here = filter_taken (belongs r i j) bag m rest e takes in
       elim d [
         | inl silent ↦ absurd (takes_none m (between r i j rest) (subst (λ (xs : List Message). TakesFirst xs m (between r i j rest)) silent.none here))
         | inr x ↦ elim x [
-          | inl a ↦ inl (record { none = (takes_one (Request i j r a.mode a.seq) m (between r i j rest) (subst (λ (xs : List Message). TakesFirst xs m (between r i j rest)) a.asks here)).1; not_deferred = a.not_deferred })
+          | inl a ↦ inl (record { none = (takes_one (Request i j r a.mode a.seq) m (between r i j rest) (subst (λ (xs : List Message). TakesFirst xs m (between r i j rest)) a.asks here)).1; not_deferred = a.not_deferred; unheard = λ _. lossy })
           | inr y ↦ elim y [
             | inl d ↦ absurd (takes_none m (between r i j rest) (subst (λ (xs : List Message). TakesFirst xs m (between r i j rest)) d.none here))
-            | inr a ↦ inl (record { none = (takes_one (Reply j i r a.seq) m (between r i j rest) (subst (λ (xs : List Message). TakesFirst xs m (between r i j rest)) a.answers here)).1; not_deferred = a.not_deferred })
+            | inr a ↦ inl (record { none = (takes_one (Reply j i r a.seq) m (between r i j rest) (subst (λ (xs : List Message). TakesFirst xs m (between r i j rest)) a.answers here)).1; not_deferred = a.not_deferred; unheard = λ _. lossy })
           ]
         ]
       ]
 
-  pub message_lost : Protocol n r s rest
+  pub message_lost : Protocol Lossy n r s rest
   message_lost =
       record {
         each = old.each;
         passed = old.passed;
         dialog = λ i j at_i at_j apart.
-            elim (belongs r i j m) as (λ b. belongs r i j m ≡ b → Dialog r i j (s i) (s j) (between r i j rest)) [
+            elim (belongs r i j m) as (λ b. belongs r i j m ≡ b → Dialog Lossy r i j (s i) (s j) (between r i j rest)) [
               | true ↦ λ e. silenced i j (old.dialog i j at_i at_j apart) e
-              | false ↦ λ e. subst (λ (ms : List Message). Dialog r i j (s i) (s j) ms) (sym (filter_left (belongs r i j) bag m rest e takes)) (old.dialog i j at_i at_j apart)
+              | false ↦ λ e. subst (λ (ms : List Message). Dialog Lossy r i j (s i) (s j) ms) (sym (filter_left (belongs r i j) bag m rest e takes)) (old.dialog i j at_i at_j apart)
             ] refl;
       }
 
@@ -369,11 +378,11 @@ module _ (n : ℕ) (r : List ℕ) (s : ℕ → State) (bag rest : List Message) 
 all_same : (s s' : ℕ → State) → ((i : ℕ) → s' i ≡ s i) → s ≡ s'
 all_same s s' same = λ d i. sym (same i) d
 
-pub undisturbed : (n : ℕ) (r : List ℕ) (s s' : ℕ → State) (bag bag' : List Message) → ((i : ℕ) → s' i ≡ s i) → ((i j : ℕ) → between r i j bag' ≡ between r i j bag) → Protocol n r s bag → Protocol n r s' bag'
-undisturbed n r s s' bag bag' same between_same old =
-    let go : Protocol n r s bag' = record {
+pub undisturbed : {Lossy : Type 0} (n : ℕ) (r : List ℕ) (s s' : ℕ → State) (bag bag' : List Message) → ((i : ℕ) → s' i ≡ s i) → ((i j : ℕ) → between r i j bag' ≡ between r i j bag) → Protocol Lossy n r s bag → Protocol Lossy n r s' bag'
+undisturbed {Lossy} n r s s' bag bag' same between_same old =
+    let go : Protocol Lossy n r s bag' = record {
       each = old.each;
-      dialog = λ i j at_i at_j apart. subst (λ (ms : List Message). Dialog r i j (s i) (s j) ms) (sym (between_same i j)) (old.dialog i j at_i at_j apart);
+      dialog = λ i j at_i at_j apart. subst (λ (ms : List Message). Dialog Lossy r i j (s i) (s j) ms) (sym (between_same i j)) (old.dialog i j at_i at_j apart);
       passed = old.passed;
     } in
-    subst (λ (f : ℕ → State). Protocol n r f bag') (all_same s s' same) go
+    subst (λ (f : ℕ → State). Protocol Lossy n r f bag') (all_same s s' same) go

@@ -14,23 +14,19 @@ use Rattle.ra_automaton.specs.declared.phase.Phase.{Phase}
 use Rattle.ra_automaton.specs.declared.phase.Phase.TheVariants.{Idle, Waiting, Inside}
 use Rattle.ra_automaton.specs.State.{State, IsWaiting, HasNumber, IsConsistent}
 use Rattle.ra_automaton.specs.Steps.{OwnGoesFirst}
-use Rattle.ra_node.specs.Resource.{Resource, Use, use_in, use_of}
+use Rattle.ra_node.specs.Resource.{Resource, use_in, use_of}
 use Rattle.ra_node.specs.Resource.Use.{Nobody, Waits, IsGranted}
 use Rattle.ra_node.specs.Node.{NodeState, resource_at}
 use Rattle.ra_world.proofs.Tests.{cases_same}
 use Rattle.ra_world.proofs.Members.{nobody}
 use Rattle.ra_world.proofs.Protocol.{IsNode, HasOwn, LetsPass, Protocol}
+use Rattle.ra_world.proofs.Marking.{entry_in_use}
 use Rattle.ra_world.proofs.Marks.{MayBeGranted}
 
 -- an entry is the request of an automaton
 pub record IsRequestOf (s : State) (x : Entry) : Type 0 where
   pub node_is : x.stamp.node ≡ s.me
   pub name_is : x.name ≡ s.name
-
-abbrev entry_or : Entry → Use → Entry
-entry_or d Nobody = d
-entry_or d (Waits e) = e
-entry_or d (IsGranted e) = e
 
 granted_in : (s : State) (phase : Phase) (client : Option ℕ) (x : Entry) → use_in s phase client ≡ IsGranted x → (phase ≡ Inside x.stamp.seq x.mode) × IsRequestOf s x
 granted_in s phase None x e = absurd (no e)
@@ -46,7 +42,7 @@ granted_in s (Waiting seq mode) (Some client) x e = absurd (no e)
     no : {y : Entry} → Waits y ≡ IsGranted x → ⊥
     no k = cc
 granted_in s (Inside seq mode) (Some client) x e =
-    let is = ap (entry_or x) e in
+    let is = ap (entry_in_use x) e in
     (λ i. Inside (is i).stamp.seq (is i).mode, record { node_is = sym (ap (λ (y : Entry). y.stamp.node) is); name_is = sym (ap (λ (y : Entry). y.name) is) })
 
 waits_in : (s : State) (phase : Phase) (client : Option ℕ) (x : Entry) → use_in s phase client ≡ Waits x → (phase ≡ Waiting x.stamp.seq x.mode) × IsRequestOf s x
@@ -63,7 +59,7 @@ waits_in s (Inside seq mode) (Some client) x e = absurd (no e)
     no : {y : Entry} → IsGranted y ≡ Waits x → ⊥
     no k = cc
 waits_in s (Waiting seq mode) (Some client) x e =
-    let is = ap (entry_or x) e in
+    let is = ap (entry_in_use x) e in
     (λ i. Waiting (is i).stamp.seq (is i).mode, record { node_is = sym (ap (λ (y : Entry). y.stamp.node) is); name_is = sym (ap (λ (y : Entry). y.name) is) })
 
 pub use_granted : (r : Resource) (x : Entry) → use_of r ≡ IsGranted x → (r.state.phase ≡ Inside x.stamp.seq x.mode) × IsRequestOf r.state x
@@ -99,7 +95,7 @@ one_is_earlier s i t j apart = elim (cases_lt s t) [
   ]
 ]
 
-module _ (n : ℕ) (r : List ℕ) (nodes : ℕ → NodeState) (bag : List Message) (holds : Protocol n r (λ i. (resource_at (nodes i) r).state) bag) (p : ℕ) (within : IsNode n p) (e : Entry)
+module _ {Lossy : Type 0} (n : ℕ) (r : List ℕ) (nodes : ℕ → NodeState) (bag : List Message) (holds : Protocol Lossy n r (λ i. (resource_at (nodes i) r).state) bag) (p : ℕ) (within : IsNode n p) (e : Entry)
     (granted : use_of (resource_at (nodes p) r) ≡ IsGranted e) where
   abbrev s : ℕ → State
   s i = (resource_at (nodes i) r).state

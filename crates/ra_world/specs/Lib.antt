@@ -1,2 +1,3 @@
 pub mod Traffic
 pub mod Run
+pub mod Quiet

@@ -66,3 +66,8 @@ queued_at_all n nodes = sum_by (λ i. queued_count (nodes i)) (range_with_len 1 
 -- a list of steps is a run, whatever is sent and marked
 abbrev pub WorldRun : ℕ → ℕ → List Step → Type 0
 WorldRun n start steps = (moves : List Move) × (map (λ move. move.step) moves ≡ steps) × IsRun n start moves
+
+-- a run goes on with a step, whatever is sent and marked
+abbrev pub GoesOn : ℕ → ℕ → List Move → Step → Type 0
+GoesOn n start moves step =
+    (sends : List Message) × (marks : List Mark) × IsRun n start (moves ++ record { step = step; sends = sends; marks = marks } ∷ [])

@@ -28,6 +28,17 @@ abbrev pub taken_by : List Move → List Message
 taken_by [] = []
 taken_by (move ∷ moves) = taken_in move.step ++ taken_by moves
 
+-- the messages that were lost, in order
+abbrev pub lost_in : Step → List Message
+lost_in (Ask node client name mode) = []
+lost_in (Leave node client name) = []
+lost_in (Deliver message) = []
+lost_in (Lose message) = message ∷ []
+
+abbrev pub lost_by : List Move → List Message
+lost_by [] = []
+lost_by (move ∷ moves) = lost_in move.step ++ lost_by moves
+
 -- what is left of a list, less the first equal message for each of these, in order
 abbrev pub IsLess : List Message → List Message → List Message → Type 0
 IsLess sent [] left = left ≡ sent
