@@ -1,8 +1,9 @@
--- Which places of the tables are behind the own request.
-use Rattle.ra_automaton.specs.declared.cases.Place.{Place}
-use Rattle.ra_automaton.specs.declared.cases.Place.TheVariants.{LowerNumber, LowerNode, HigherNode, HigherNumber}
+-- Which comparisons say that a REQUEST is behind the node's own request.
+use Rattle.ra_automaton.specs.declared.cases.Comparison.{Comparison}
+use Rattle.ra_automaton.specs.declared.cases.Comparison.TheVariants.{LowerNumber, LowerNode}
+use Rattle.ra_automaton.specs.declared.cases.Comparison.TheVariants.{HigherNode, HigherNumber}
 
-abbrev pub IsLater : Place → Type 0
+abbrev pub IsLater : Comparison → Type 0
 IsLater LowerNumber = ⊥
 IsLater LowerNode = ⊥
 IsLater HigherNode = Unit {0}

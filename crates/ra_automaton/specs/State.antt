@@ -10,9 +10,9 @@ use Rattle.ra_stamp.specs.NodeId.{IsNodeNumber}
 use Rattle.ra_automaton.specs.declared.phase.Phase.{Phase}
 use Rattle.ra_automaton.specs.declared.phase.Phase.TheVariants.{Idle, Waiting, Inside}
 
--- the node's number, how many nodes there are, the resource's name, the highest number that the node has met, what
--- the node is doing, the nodes whose REPLY it awaits, and the nodes whose REPLY it has deferred, each with the number
--- of its request
+-- the node's number, how many nodes there are, the resource's name, the highest number that the node has
+-- met, what the node is doing, the nodes whose REPLY it awaits, and the nodes whose REPLY it has deferred,
+-- each with the number of its request
 pub record State : Type 0 where
   pub me : ℕ
   pub nodes : ℕ
@@ -82,7 +82,8 @@ pub record IsConsistent (s : State) : Type 0 where
   pub awaited_others : (node : ℕ) → IsTrue (set.contains s.awaited node) → IsOther s node
   pub deferred_others : (node number : ℕ) → map.get s.deferred node ≡ Some number → IsOther s node
   -- the number of a deferral is 1 or more, and one that the node has met
-  pub deferred_numbers : (node number : ℕ) → map.get s.deferred node ≡ Some number → (1 ≤ number) × (number ≤ s.highest)
+  pub deferred_numbers : (node number : ℕ) → map.get s.deferred node ≡ Some number
+      → (1 ≤ number) × (number ≤ s.highest)
   -- a node awaits replies exactly while it waits, and defers none while it is idle
   pub awaits : IsWaiting s.phase → s.awaited ≡ set.empty → ⊥
   pub awaits_only : (IsWaiting s.phase → ⊥) → s.awaited ≡ set.empty
@@ -95,7 +96,8 @@ abbrev pub state_code : Coded Phase → Coded State
 state_code phase =
     code_by
     (ℕ × (ℕ × (List ℕ × (ℕ × (Phase × (set.FinSet nat_cmp × map.FinMap nat_cmp ℕ))))))
-    (coded× coded_ℕ (coded× coded_ℕ (coded× (coded_list coded_ℕ) (coded× coded_ℕ (coded× phase (coded× (set.code coded_ℕ) (map.code coded_ℕ coded_ℕ)))))))
+    (coded× coded_ℕ (coded× coded_ℕ (coded× (coded_list coded_ℕ) (coded× coded_ℕ
+    (coded× phase (coded× (set.code coded_ℕ) (map.code coded_ℕ coded_ℕ)))))))
     (λ s. (s.me, (s.nodes, (s.name, (s.highest, (s.phase, (s.awaited, s.deferred)))))))
     (λ p. record {
       me = p.0;

@@ -1,12 +1,13 @@
--- The rules of the algorithm: what a node does when its client asks for the resource, when a message comes, and when
--- its client leaves. Whatever a rule does not mention stays as it was.
+-- The rules of the algorithm: what a node does when its client asks for the resource, when a message
+-- comes, and when its client leaves. Whatever a rule does not mention stays as it was.
 --
--- The rules are those of G. Ricart and A. K. Agrawala, CACM 24(1), 1981. This project's own are: that shared requests
--- do not exclude each other, that a request sets the number and the highest number at once, that a REPLY carries the
--- number of its request, so that strays are told apart, that a deferral keeps the greater of two numbers, that messages
--- go out in ascending order of the nodes with the REPLYs of a leave first, and that no request comes after the last
--- number.
-use Rattle.std.specs.Prelude.{◌≡◌, ℕ, ◌+◌, ◌-◌, ◌<◌, ◌^◌, ◌⊎◌, max, Bool, true, false, not, List, [], ◌∷◌, ◌++◌, filter, map, Option, Some, None, IsTrue, ◌==◌}
+-- The rules are those of G. Ricart and A. K. Agrawala, CACM 24(1), 1981. This project's own are: that shared
+-- requests do not exclude each other, that a request sets the number and the highest number at once, that a
+-- REPLY carries the number of its request, so that strays are told apart, that a deferral keeps the greater
+-- of two numbers, that messages go out in ascending order of the nodes with the REPLYs of a leave first, and
+-- that no request comes after the greatest number.
+use Rattle.std.specs.Prelude.{◌≡◌, ℕ, ◌+◌, ◌-◌, ◌<◌, ◌^◌, ◌⊎◌, max, Bool, true, false, not}
+use Rattle.std.specs.Prelude.{List, [], ◌∷◌, ◌++◌, filter, map, Option, Some, None, IsTrue, ◌==◌}
 use Rattle.std.specs.List.{range_with_len}
 use Rattle.std.specs.Ordering.{nat_cmp}
 use Rattle.std.specs.FinSet as set
@@ -20,15 +21,15 @@ use Rattle.ra_automaton.specs.declared.phase.Phase.{Phase}
 use Rattle.ra_automaton.specs.declared.phase.Phase.TheVariants.{Idle, Waiting, Inside}
 use Rattle.ra_automaton.specs.State.{State}
 
--- no request is numbered after this one
-abbrev pub last_number : ℕ
-last_number = 2 ^ 64 - 1
+-- the greatest number that a request can have
+abbrev pub greatest_number : ℕ
+greatest_number = 2 ^ 64 - 1
 
 -- the nodes from 1 up but this one, in ascending order
 abbrev pub others_of : ℕ → ℕ → List ℕ
 others_of me nodes = filter (λ node. not (node == me)) (range_with_len 1 nodes)
 
--- ---- A client asks: the request takes the next number, and a REQUEST goes to each other node, in ascending order.
+-- ---- A client asks: the request takes the next number, and a REQUEST goes to each other node.
 
 -- where there are other nodes, each REPLY is awaited
 pub record AsksOthers (old : State) (mode : Mode) (entered : Bool) (new : State) : Type 0 where
@@ -50,10 +51,13 @@ abbrev pub Begins : State → Mode → Bool → State → Type 0
 Begins old mode entered new = AsksOthers old mode entered new ⊎ EntersAlone old mode entered new
 
 -- where the node is idle and a number is left
-pub record RequestStep (old : State) (mode : Mode) (sends : List Message) (entered : Bool) (new : State) : Type 0 where
+pub record RequestStep (old : State) (mode : Mode) (sends : List Message) (entered : Bool) (new : State)
+    : Type 0 where
   pub idle : old.phase ≡ Idle
-  pub number_left : old.highest < last_number
-  pub sends_are : sends ≡ map (λ other. Request old.me other old.name mode (old.highest + 1)) (others_of old.me old.nodes)
+  pub number_left : old.highest < greatest_number
+  -- in ascending order of the nodes
+  pub sends_are : sends
+      ≡ map (λ other. Request old.me other old.name mode (old.highest + 1)) (others_of old.me old.nodes)
   pub begins : Begins old mode entered new
 
 -- ---- A REQUEST comes.
@@ -75,7 +79,8 @@ later_of None number = number
 later_of (Some before) number = max before number
 
 -- where the own request goes first, the REPLY is deferred until the node leaves
-pub record Defers (old : State) (other number : ℕ) (wanted : Mode) (sends : List Message) (new : State) : Type 0 where
+pub record Defers (old : State) (other number : ℕ) (wanted : Mode) (sends : List Message) (new : State)
+    : Type 0 where
   pub own_first : OwnGoesFirst old.phase old.me other number wanted
   pub sends_are : sends ≡ []
   pub new_is : new ≡ record old {
@@ -84,7 +89,8 @@ pub record Defers (old : State) (other number : ℕ) (wanted : Mode) (sends : Li
   }
 
 -- otherwise the REPLY goes out at once
-pub record RepliesAtOnce (old : State) (other number : ℕ) (wanted : Mode) (sends : List Message) (new : State) : Type 0 where
+pub record RepliesAtOnce (old : State) (other number : ℕ) (wanted : Mode) (sends : List Message) (new : State)
+    : Type 0 where
   pub not_first : OwnGoesFirst old.phase old.me other number wanted → ⊥
   pub sends_are : sends ≡ Reply old.me other old.name number ∷ []
   pub new_is : new ≡ record old { highest = max old.highest number }
@@ -97,14 +103,16 @@ pub record Awaits (old : State) (other number : ℕ) (mode : Mode) : Type 0 wher
   pub awaited : IsTrue (set.contains old.awaited other)
 
 -- the last REPLY lets the node enter
-pub record Enters (old : State) (other number : ℕ) (mode : Mode) (entered : Bool) (new : State) : Type 0 where
+pub record Enters (old : State) (other number : ℕ) (mode : Mode) (entered : Bool) (new : State)
+    : Type 0 where
   pub awaits : Awaits old other number mode
   pub last : set.remove old.awaited other ≡ set.empty
   pub entered_is : entered ≡ true
   pub new_is : new ≡ record old { phase = Inside number mode; awaited = set.empty }
 
 -- after another one the node waits on
-pub record WaitsOn (old : State) (other number : ℕ) (mode : Mode) (entered : Bool) (new : State) : Type 0 where
+pub record WaitsOn (old : State) (other number : ℕ) (mode : Mode) (entered : Bool) (new : State)
+    : Type 0 where
   pub awaits : Awaits old other number mode
   pub not_last : set.remove old.awaited other ≡ set.empty → ⊥
   pub entered_is : entered ≡ false
@@ -127,18 +135,21 @@ ReceiveStep old (Request from to name mode seq) sends entered new =
 ReceiveStep old (Reply from to name seq) sends entered new =
     (sends ≡ []) × TakesReply old from seq entered new
 
--- ---- The client leaves: each deferred REPLY goes out, in ascending order of the nodes, and none is deferred any more.
+-- ---- The client leaves: each deferred REPLY goes out, and none is deferred any more.
 
 pub record LeaveStep (old : State) (sends : List Message) (new : State) : Type 0 where
   pub seq : ℕ
   pub mode : Mode
   pub inside : old.phase ≡ Inside seq mode
-  pub sends_are : sends ≡ map (λ deferred. Reply old.me deferred.0 old.name deferred.1) (finmap.entries old.deferred)
+  -- in ascending order of the nodes
+  pub sends_are : sends
+      ≡ map (λ deferred. Reply old.me deferred.0 old.name deferred.1) (finmap.entries old.deferred)
   pub new_is : new ≡ record old { phase = Idle; deferred = finmap.empty }
 
 -- ---- The client leaves and another one asks, in one event: the REPLYs come first.
 
-pub record LeaveAndRequestStep (old : State) (mode : Mode) (sends : List Message) (entered : Bool) (new : State) : Type 0 where
+pub record LeaveAndRequestStep (old : State) (mode : Mode) (sends : List Message) (entered : Bool)
+    (new : State) : Type 0 where
   pub between : State
   pub replies : List Message
   pub requests : List Message

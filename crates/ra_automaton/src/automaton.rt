@@ -1,8 +1,9 @@
-ghost use Rattle.std.specs.Prelude.{◌≡◌, ◌≢◌, ◌+◌, ◌<◌, ◌≤◌, ◌⊎◌, ◌↔◌, max, true, false, IsTrue, IsErrOf, IfOk, IfErr, OnOk, OnErr};
+ghost use Rattle.std.specs.Prelude.{◌≡◌, ◌≢◌, ◌+◌, ◌<◌, ◌≤◌, ◌⊎◌, ◌↔◌, max, true, false};
+ghost use Rattle.std.specs.Prelude.{IsTrue, IsErrOf, IfOk, IfErr, OnOk, OnErr};
 
 use crate::cases::{
-    Answer, Doing, Effect, answer_when_idle, answer_when_inside, answer_when_waiting,
-    effect_of_reply, place_of,
+    Answer, Doing, Effect, answer_when_idle, answer_when_inside, answer_when_waiting, compare,
+    effect_of_reply,
 };
 use crate::sends::{push_replies, push_requests};
 use crate::slots::{
@@ -13,7 +14,7 @@ use ra_stamp::{Message, Messages, Mode, Name, NodeId, Stamp};
 use std::alloc::Global;
 use std::marker::Model;
 
-/// One resource at one node. Contracts see its state.
+/// One resource at one node: a call for each event, and a reader for each part. Contracts see its state.
 #[derive(Debug, Drop)]
 pub struct Automaton {
     me: NodeId,
@@ -21,9 +22,9 @@ pub struct Automaton {
     name: Name,
     highest: u64,
     phase: Phase,
-    /// Whether a node is awaited, by its number; the first slot stays empty.
+    /// Whether a node is awaited, by its number. The first slot stays empty.
     awaited: Vec<bool>,
-    /// The number with which a node is deferred, by its number; the first slot stays empty.
+    /// The number with which a node is deferred, by its number. The first slot stays empty.
     deferred: Vec<Option<u64>>,
 }
 
@@ -48,12 +49,22 @@ impl Automaton {
     ghost use Rattle.std.specs.FinMap as finmap;
     ghost use Rattle.ra_stamp.specs.NodeId.{IsNodeNumber};
     ghost use Rattle.ra_stamp.specs.Message.{from_of, to_of, name_of};
-    ghost use Rattle.ra_automaton.specs.State.{opening, IsOther, IsAddressed, IsConsistent, IsInside, IsWaiting, entered_phase};
-    ghost use Rattle.ra_automaton.specs.Steps.{last_number, later_of, OwnGoesFirst, Begins, Defers, RepliesAtOnce, Awaits, TakesReply, RequestStep, ReceiveStep, LeaveStep, LeaveAndRequestStep};
+    ghost use Rattle.ra_automaton.specs.State.{opening, entered_phase};
+    ghost use Rattle.ra_automaton.specs.State.{IsOther, IsAddressed, IsConsistent, IsInside, IsWaiting};
+    ghost use Rattle.ra_automaton.specs.Steps.{greatest_number, later_of, OwnGoesFirst, Awaits};
+    ghost use Rattle.ra_automaton.specs.Steps.{Begins, Defers, RepliesAtOnce, TakesReply};
+    ghost use Rattle.ra_automaton.specs.Steps.{RequestStep, ReceiveStep, LeaveStep, LeaveAndRequestStep};
 
-    /// The automaton of node `me` of `nodes` for a resource, where the highest number met so far is `start`. The start
-    /// is 0 to 2^64-1. Errors, the first that holds: `BadCount`, `nodes` is not 1 to 16; `BadNode`, `me` is above
-    /// `nodes`; `Memory`. The cost is linear in the number of nodes.
+    /// Makes the automaton of node `me` of `nodes` for a resource. The highest number that it has met is `start`, 0
+    /// to 2^64-1. The cost is linear in the number of nodes.
+    ///
+    /// # Errors
+    ///
+    /// The first that holds:
+    ///
+    /// 1. `BadCount`: `nodes` is not 1 to 16.
+    /// 2. `BadNode`: `me` is above `nodes`.
+    /// 3. `Memory`: memory ran out.
     pub fn new(
         alloc: Global,
         me: NodeId,
@@ -73,12 +84,8 @@ impl Automaton {
             return Err(NewError::BadNode);
         }
         let slots = usize::from(nodes) + 1;
-        let Ok(awaited) = unmarked(alloc, slots) else {
-            return Err(NewError::Memory);
-        };
-        let Ok(deferred) = unfilled(alloc, slots) else {
-            return Err(NewError::Memory);
-        };
+        let awaited = unmarked(alloc, slots)?;
+        let deferred = unfilled(alloc, slots)?;
         Ok(Automaton {
             me,
             nodes,
@@ -90,14 +97,22 @@ impl Automaton {
         })
     }
 
-    /// Makes a request, which takes the next number. Errors, the first that holds: `NotIdle`, the node
-    /// waits or is inside; `Exhausted`, the highest number is 2^64-1; `Memory`. The cost is linear in the number of nodes.
+    /// Makes a request, which takes the next number. The cost is linear in the number of nodes.
+    ///
+    /// # Errors
+    ///
+    /// The automaton is then as before. The first that holds:
+    ///
+    /// 1. `NotIdle`: the node waits or is inside.
+    /// 2. `Exhausted`: the highest number is 2^64-1.
+    /// 3. `Memory`: memory ran out.
     pub fn request(&mut self, alloc: Global, mode: Mode) -> Result<Reaction, RequestError>
-        ensures ok { IfOk result (λ reaction. RequestStep self.old mode reaction.sends.items reaction.entered self.new) }
+        ensures ok { IfOk result (λ reaction.
+            RequestStep self.old mode reaction.sends.items reaction.entered self.new) }
         ensures consistent { IsConsistent self.new }
         ensures not_idle { IsErrOf result RequestError.NotIdle ↔ (self.old.phase ≢ Phase.Idle) }
         ensures exhausted { IsErrOf result RequestError.Exhausted
-            ↔ ((self.old.phase ≡ Phase.Idle) × (self.old.highest ≡ last_number)) }
+            ↔ ((self.old.phase ≡ Phase.Idle) × (self.old.highest ≡ greatest_number)) }
         ensures err { OnErr result (self.new ≡ self.old) }
     {
         if self.phase != Phase::Idle {
@@ -108,16 +123,21 @@ impl Automaton {
         }
         let seq = self.highest + 1;
         let mut sends = Messages::new(alloc);
-        push_requests(&mut sends, self.me, self.nodes, self.name, mode, seq).map_err(
-            |_| RequestError::Memory,
-        )?;
+        push_requests(&mut sends, self.me, self.nodes, self.name, mode, seq)?;
         let entered = self.begin(mode);
         Ok(Reaction { sends, entered })
     }
 
-    /// Takes a message from another node. It must be about this resource. Errors, the first that holds: `WrongNode`,
-    /// it is for another node; `Stranger`, its sender is this node or above the number of nodes; `Memory`. A REPLY that
-    /// is not awaited is a stray, which is taken and changes nothing. The cost is linear in the number of nodes.
+    /// Takes a message from another node, which must be about this resource. A REPLY that is not awaited is a stray:
+    /// it is taken, and changes nothing. The cost is linear in the number of nodes.
+    ///
+    /// # Errors
+    ///
+    /// The automaton is then as before. The first that holds:
+    ///
+    /// 1. `WrongNode`: the message is for another node.
+    /// 2. `Stranger`: its sender is this node, or is above the number of nodes.
+    /// 3. `Memory`: memory ran out.
     pub fn receive(&mut self, alloc: Global, message: &Message) -> Result<Reaction, ReceiveError>
         requires { name_of message.now ≡ self.old.name }
         ensures ok { IfOk result (λ reaction.
@@ -157,10 +177,17 @@ impl Automaton {
         }
     }
 
-    /// Leaves the resource. Errors, the first that holds: `NotHeld`, the node is not inside; `Memory`. The cost is linear
-    /// in the number of nodes.
+    /// Leaves the resource, and sends each REPLY that is deferred. The cost is linear in the number of nodes.
+    ///
+    /// # Errors
+    ///
+    /// The automaton is then as before. The first that holds:
+    ///
+    /// 1. `NotHeld`: the node is not inside.
+    /// 2. `Memory`: memory ran out.
     pub fn leave(&mut self, alloc: Global) -> Result<Reaction, LeaveError>
-        ensures ok { IfOk result (λ reaction. LeaveStep self.old reaction.sends.items self.new × (reaction.entered ≡ false)) }
+        ensures ok { IfOk result (λ reaction.
+            LeaveStep self.old reaction.sends.items self.new × (reaction.entered ≡ false)) }
         ensures consistent { IsConsistent self.new }
         ensures not_held { IsErrOf result LeaveError.NotHeld ↔ (IsInside self.old.phase → ⊥) }
         ensures err { OnErr result (self.new ≡ self.old) }
@@ -169,19 +196,25 @@ impl Automaton {
             return Err(LeaveError::NotHeld);
         }
         let mut sends = Messages::new(alloc);
-        push_replies(&mut sends, self.me, self.name, &self.deferred).map_err(
-            |_| LeaveError::Memory,
-        )?;
+        push_replies(&mut sends, self.me, self.name, &self.deferred)?;
         self.end();
         let entered = false;
         Ok(Reaction { sends, entered })
     }
 
-    /// Leaves the resource and makes a request, in one event: the REPLYs come first. A number must be left. Errors, the
-    /// first that holds: `NotHeld`, the node is not inside; `Memory`. The cost is linear in the number of nodes.
+    /// Leaves the resource and makes a request, in one event: the REPLYs come first. A number must be left. The cost
+    /// is linear in the number of nodes.
+    ///
+    /// # Errors
+    ///
+    /// The automaton is then as before, inside where it was. The first that holds:
+    ///
+    /// 1. `NotHeld`: the node is not inside.
+    /// 2. `Memory`: memory ran out.
     pub fn leave_and_request(&mut self, alloc: Global, mode: Mode) -> Result<Reaction, LeaveError>
-        requires { self.old.highest < last_number }
-        ensures ok { IfOk result (λ reaction. LeaveAndRequestStep self.old mode reaction.sends.items reaction.entered self.new) }
+        requires { self.old.highest < greatest_number }
+        ensures ok { IfOk result (λ reaction.
+            LeaveAndRequestStep self.old mode reaction.sends.items reaction.entered self.new) }
         ensures consistent { IsConsistent self.new }
         ensures not_held { IsErrOf result LeaveError.NotHeld ↔ (IsInside self.old.phase → ⊥) }
         ensures err { OnErr result (self.new ≡ self.old) }
@@ -191,18 +224,22 @@ impl Automaton {
         }
         let seq = self.highest + 1;
         let mut sends = Messages::new(alloc);
-        push_replies(&mut sends, self.me, self.name, &self.deferred).map_err(
-            |_| LeaveError::Memory,
-        )?;
-        push_requests(&mut sends, self.me, self.nodes, self.name, mode, seq).map_err(
-            |_| LeaveError::Memory,
-        )?;
+        push_replies(&mut sends, self.me, self.name, &self.deferred)?;
+        push_requests(&mut sends, self.me, self.nodes, self.name, mode, seq)?;
         self.end();
         let entered = self.begin(mode);
         Ok(Reaction { sends, entered })
     }
 
-    /// What this node is doing with the resource.
+    /// Returns the node's number. It does not allocate.
+    pub fn me(&self) -> NodeId
+        ensures value { result ≡ self.now.me }
+        ensures consistent { IsConsistent self.now }
+    {
+        self.me
+    }
+
+    /// Returns what the node is doing with the resource. It does not allocate.
     pub fn phase(&self) -> Phase
         ensures value { result ≡ self.now.phase }
         ensures consistent { IsConsistent self.now }
@@ -210,7 +247,7 @@ impl Automaton {
         self.phase
     }
 
-    /// The highest number that this node has met, 0 to 2^64-1.
+    /// Returns the highest number that the node has met, 0 to 2^64-1. It does not allocate.
     pub fn highest(&self) -> u64
         ensures value { result ≡ self.now.highest }
         ensures consistent { IsConsistent self.now }
@@ -218,7 +255,7 @@ impl Automaton {
         self.highest
     }
 
-    /// The resource.
+    /// Returns the resource's name. It does not allocate.
     pub fn name(&self) -> Name
         ensures value { result ≡ self.now.name }
         ensures consistent { IsConsistent self.now }
@@ -226,7 +263,7 @@ impl Automaton {
         self.name
     }
 
-    /// Whether this node awaits the REPLY of a node.
+    /// Returns whether the node awaits the REPLY of a node. It does not allocate.
     pub fn waits_for(&self, node: NodeId) -> bool
         ensures value { result ≡ set.contains self.now.awaited node }
         ensures consistent { IsConsistent self.now }
@@ -234,7 +271,8 @@ impl Automaton {
         is_marked(&self.awaited, node)
     }
 
-    /// The number of the request of a node whose REPLY is deferred, or `None` where it is not.
+    /// Returns the number of the request of a node whose REPLY is deferred, or `None` where it is not. It does not
+    /// allocate.
     pub fn deferred(&self, node: NodeId) -> Option<u64>
         ensures value { result ≡ finmap.get self.now.deferred node }
         ensures consistent { IsConsistent self.now }
@@ -242,16 +280,17 @@ impl Automaton {
         number_of(&self.deferred, node)
     }
 
+    /// Returns whether the node is inside.
     fn is_inside(&self) -> bool
         ensures { IsTrue result ↔ IsInside self.now.phase }
     {
         matches!(self.phase, Phase::Inside { .. })
     }
 
-    /// Begins a request, once its messages are made. Answers whether it is granted at once.
+    /// Begins a request, once its messages are made. Returns whether it is granted at once.
     fn begin(&mut self, mode: Mode) -> bool
         requires idle { self.old.phase ≡ Phase.Idle }
-        requires number_left { self.old.highest < last_number }
+        requires number_left { self.old.highest < greatest_number }
         ensures { Begins self.old mode result self.new }
     {
         let seq = self.highest + 1;
@@ -274,7 +313,7 @@ impl Automaton {
         unfill(&mut self.deferred);
     }
 
-    /// What a REQUEST leads to.
+    /// Returns what a REQUEST of another node leads to.
     fn answer(&self, other: NodeId, wanted: Mode, seq: u64) -> Answer
         ensures defer { result ≡ Answer.Defer → OwnGoesFirst self.now.phase self.now.me other seq wanted }
         ensures reply { result ≡ Answer.Reply → OwnGoesFirst self.now.phase self.now.me other seq wanted → ⊥ }
@@ -284,16 +323,16 @@ impl Automaton {
             Phase::Idle => answer_when_idle(wanted),
             Phase::Waiting { seq, mode } => {
                 let own = Stamp { seq, node: self.me };
-                answer_when_waiting(mode, wanted, place_of(theirs, own))
+                answer_when_waiting(mode, wanted, compare(theirs, own))
             }
             Phase::Inside { seq, mode } => {
                 let own = Stamp { seq, node: self.me };
-                answer_when_inside(mode, wanted, place_of(theirs, own))
+                answer_when_inside(mode, wanted, compare(theirs, own))
             }
         }
     }
 
-    /// Takes a REQUEST of another node.
+    /// Takes a REQUEST of another node. Returns the messages that go out.
     fn take_request(
         &mut self,
         alloc: Global,
@@ -316,7 +355,7 @@ impl Automaton {
                     name: self.name,
                     seq,
                 };
-                sends.push(reply).map_err(|_| ReceiveError::Memory)?;
+                sends.push(reply)?;
                 self.meet(seq);
             }
             Answer::Defer => self.put_off(other, seq),
@@ -349,10 +388,12 @@ impl Automaton {
         self.highest = self.highest.max(seq);
     }
 
-    /// What a REPLY leads to.
+    /// Returns what a REPLY of another node leads to.
     fn effect(&self, other: NodeId, number: u64) -> Effect
-        ensures enter { result ≡ Effect.Enter → (mode : Mode) × Awaits self.now other number mode × (set.remove self.now.awaited other ≡ set.empty) }
-        ensures wait { result ≡ Effect.WaitOn → (mode : Mode) × Awaits self.now other number mode × (set.remove self.now.awaited other ≡ set.empty → ⊥) }
+        ensures enter { result ≡ Effect.Enter → (mode : Mode) × Awaits self.now other number mode
+            × (set.remove self.now.awaited other ≡ set.empty) }
+        ensures wait { result ≡ Effect.WaitOn → (mode : Mode) × Awaits self.now other number mode
+            × (set.remove self.now.awaited other ≡ set.empty → ⊥) }
         ensures stray { result ≡ Effect.Stray → (mode : Mode) → Awaits self.now other number mode → ⊥ }
     {
         let awaited = is_marked(&self.awaited, other);
@@ -374,7 +415,7 @@ impl Automaton {
         }
     }
 
-    /// Takes a REPLY of another node. Answers whether the request is granted by it.
+    /// Takes a REPLY of another node. Returns whether the request is granted by it.
     fn take_reply(&mut self, other: NodeId, number: u64) -> bool
         ensures { TakesReply self.old other number result self.new }
     {
@@ -391,7 +432,7 @@ impl Automaton {
         }
     }
 
-    /// Takes one of several REPLYs.
+    /// Takes one of several REPLYs that are awaited.
     fn count_reply(&mut self, other: NodeId)
         requires waits { IsWaiting self.old.phase }
         requires not_last { set.remove self.old.awaited other ≡ set.empty → ⊥ }
@@ -400,7 +441,7 @@ impl Automaton {
         unmark(&mut self.awaited, other);
     }
 
-    /// Takes the last REPLY, and enters.
+    /// Takes the last REPLY that is awaited, and enters.
     fn enter(&mut self, other: NodeId)
         requires waits { IsWaiting self.old.phase }
         requires last { set.remove self.old.awaited other ≡ set.empty }

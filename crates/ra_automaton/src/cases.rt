@@ -1,13 +1,18 @@
-//! The cases of `receive`, as tables: a row for each case, and what it leads to.
+//! The cases of `Automaton::receive`, as tables: a row for each case, and what it leads to. They stay tables, and
+//! are not folded into a formula, since they are the cases by which the algorithm is specified: a reader can hold
+//! the two side by side, and each row is one case of the tests. What the rows come to is proved. The clauses of
+//! each function here say it in one fact. On those stand the contracts of `Automaton::answer` and
+//! `Automaton::effect`, and on these the clause `ok` of `Automaton::receive`: its `ReceiveStep` has the three
+//! rules, `Defers` and `RepliesAtOnce` for a REQUEST, and `TakesReply` for a REPLY.
 ghost use Rattle.std.specs.Prelude.{◌≡◌, ◌↔◌, true, false};
 ghost use Rattle.ra_stamp.specs.Mode.{Conflict};
 ghost use Rattle.ra_stamp.specs.Stamp.{IsEarlier};
 ghost use Rattle.ra_automaton.specs.Cases.{IsLater};
 
 use Answer::{Defer, Reply};
+use Comparison::{HigherNode, HigherNumber, LowerNode, LowerNumber};
 use Effect::{Enter, Stray, WaitOn};
 use Mode::{Exclusive, Shared};
-use Place::{HigherNode, HigherNumber, LowerNode, LowerNumber};
 use ra_stamp::{Mode, Stamp};
 
 /// What a REQUEST leads to.
@@ -30,12 +35,16 @@ pub enum Effect {
     Enter,
 }
 
-/// Where the stamp of a REQUEST stands beside that of the node's own request.
+/// How the stamp of a REQUEST compares with that of the node's own request.
 #[derive(Clone, Copy, Debug, PartialEq, Eq)]
-pub enum Place {
+pub enum Comparison {
+    /// Its number is lower.
     LowerNumber,
+    /// The numbers are equal, and its node is lower.
     LowerNode,
+    /// The numbers are equal, and its node is higher.
     HigherNode,
+    /// Its number is higher.
     HigherNumber,
 }
 
@@ -47,8 +56,8 @@ macro_rules! table {
     };
 }
 
-/// Where the other stamp stands beside the own one. The two are of different nodes.
-pub fn place_of(other: Stamp, own: Stamp) -> Place
+/// Returns how the other stamp compares with the own one. The two are of different nodes.
+pub fn compare(other: Stamp, own: Stamp) -> Comparison
     ensures { IsLater result ↔ IsEarlier own other }
 {
     if other.seq < own.seq {
@@ -62,7 +71,7 @@ pub fn place_of(other: Stamp, own: Stamp) -> Place
     }
 }
 
-/// An idle node answers each REQUEST at once.
+/// Returns what a REQUEST leads to at an idle node, by the mode that is wanted.
 pub fn answer_when_idle(wanted: Mode) -> Answer
     ensures { result ≡ Answer.Reply }
 {
@@ -72,12 +81,13 @@ pub fn answer_when_idle(wanted: Mode) -> Answer
     }
 }
 
-/// A node that waits: its own mode, the mode that is wanted, and where the REQUEST stands.
-pub fn answer_when_waiting(own: Mode, wanted: Mode, place: Place) -> Answer
-    ensures defer { result ≡ Answer.Defer → Conflict own wanted × IsLater place }
-    ensures reply { result ≡ Answer.Reply → Conflict own wanted → IsLater place → ⊥ }
+/// Returns what a REQUEST leads to at a node that waits, by its own mode, the mode that is wanted, and how the
+/// stamps compare.
+pub fn answer_when_waiting(own: Mode, wanted: Mode, comparison: Comparison) -> Answer
+    ensures defer { result ≡ Answer.Defer → Conflict own wanted × IsLater comparison }
+    ensures reply { result ≡ Answer.Reply → Conflict own wanted → IsLater comparison → ⊥ }
 {
-    table! { (own, wanted, place);
+    table! { (own, wanted, comparison);
         (Shared, Shared, LowerNumber) => Reply;
         (Shared, Shared, LowerNode) => Reply;
         (Shared, Shared, HigherNode) => Reply;
@@ -97,12 +107,12 @@ pub fn answer_when_waiting(own: Mode, wanted: Mode, place: Place) -> Answer
     }
 }
 
-/// A node that is inside, likewise.
-pub fn answer_when_inside(own: Mode, wanted: Mode, place: Place) -> Answer
-    ensures defer { result ≡ Answer.Defer → Conflict own wanted × IsLater place }
-    ensures reply { result ≡ Answer.Reply → Conflict own wanted → IsLater place → ⊥ }
+/// Returns what a REQUEST leads to at a node that is inside, likewise.
+pub fn answer_when_inside(own: Mode, wanted: Mode, comparison: Comparison) -> Answer
+    ensures defer { result ≡ Answer.Defer → Conflict own wanted × IsLater comparison }
+    ensures reply { result ≡ Answer.Reply → Conflict own wanted → IsLater comparison → ⊥ }
 {
-    table! { (own, wanted, place);
+    table! { (own, wanted, comparison);
         (Shared, Shared, LowerNumber) => Reply;
         (Shared, Shared, LowerNode) => Reply;
         (Shared, Shared, HigherNode) => Reply;
@@ -122,16 +132,19 @@ pub fn answer_when_inside(own: Mode, wanted: Mode, place: Place) -> Answer
     }
 }
 
-/// Whether a node is idle, waits or is inside.
+/// What a node is doing, without the number and the mode of its request.
 #[derive(Clone, Copy, Debug, PartialEq, Eq)]
 pub enum Doing {
+    /// It is idle.
     Nothing,
+    /// It waits.
     Waits,
+    /// It is inside.
     Holds,
 }
 
-/// A REPLY: what the node is doing, whether the REPLY has the number of its request, whether it awaits the sender, and
-/// whether it awaits others too.
+/// Returns what a REPLY leads to, by what the node is doing, whether the REPLY has the number of its request,
+/// whether it awaits the sender, and whether it awaits others too.
 pub fn effect_of_reply(doing: Doing, numbered: bool, awaited: bool, others: bool) -> Effect
     ensures enter { result ≡ Effect.Enter
         → (doing ≡ Doing.Waits) × (numbered ≡ true) × (awaited ≡ true) × (others ≡ false) }

@@ -1,6 +1,9 @@
+ghost use Rattle.std.specs.Prelude.{◌≡◌};
+
+use ra_stamp::Memory;
 use thiserror::Error;
 
-/// Why there is no automaton, and no node that keeps some.
+/// Why no automaton was made, and no node that keeps some.
 #[derive(Clone, Copy, Debug, PartialEq, Eq, Error)]
 pub enum NewError {
     /// The number of nodes is not 1 to 16.
@@ -12,6 +15,16 @@ pub enum NewError {
     /// Memory ran out.
     #[error("Memory")]
     Memory,
+}
+
+impl From<Memory> for NewError {
+    ghost use Rattle.ra_automaton.specs.declared.error.NewError.TheVariants as variant;
+
+    ghost from_gives = { λ _ error. error ≡ variant.Memory };
+
+    fn from(_refused: Memory) -> NewError {
+        NewError::Memory
+    }
 }
 
 /// Why no request was made.
@@ -28,6 +41,16 @@ pub enum RequestError {
     Memory,
 }
 
+impl From<Memory> for RequestError {
+    ghost use Rattle.ra_automaton.specs.declared.error.RequestError.TheVariants as variant;
+
+    ghost from_gives = { λ _ error. error ≡ variant.Memory };
+
+    fn from(_refused: Memory) -> RequestError {
+        RequestError::Memory
+    }
+}
+
 /// Why a message was not taken.
 #[derive(Clone, Copy, Debug, PartialEq, Eq, Error)]
 pub enum ReceiveError {
@@ -42,6 +65,16 @@ pub enum ReceiveError {
     Memory,
 }
 
+impl From<Memory> for ReceiveError {
+    ghost use Rattle.ra_automaton.specs.declared.error.ReceiveError.TheVariants as variant;
+
+    ghost from_gives = { λ _ error. error ≡ variant.Memory };
+
+    fn from(_refused: Memory) -> ReceiveError {
+        ReceiveError::Memory
+    }
+}
+
 /// Why the node did not leave.
 #[derive(Clone, Copy, Debug, PartialEq, Eq, Error)]
 pub enum LeaveError {
@@ -51,4 +84,14 @@ pub enum LeaveError {
     /// Memory ran out.
     #[error("Memory")]
     Memory,
+}
+
+impl From<Memory> for LeaveError {
+    ghost use Rattle.ra_automaton.specs.declared.error.LeaveError.TheVariants as variant;
+
+    ghost from_gives = { λ _ error. error ≡ variant.Memory };
+
+    fn from(_refused: Memory) -> LeaveError {
+        LeaveError::Memory
+    }
 }

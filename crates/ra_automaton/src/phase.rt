@@ -5,18 +5,18 @@ use ra_stamp::Mode;
 pub enum Phase {
     /// No request of the node is under way.
     Idle,
-    /// Its request with this number awaits replies.
+    /// The node's request awaits REPLYs.
     Waiting {
-        /// Its number, 1 or more.
+        /// The request's number, 1 or more.
         seq: u64,
-        /// How it locks the resource.
+        /// How the request locks the resource.
         mode: Mode,
     },
-    /// Its request with this number is granted.
+    /// The node's request is granted.
     Inside {
-        /// Its number, 1 or more.
+        /// The request's number, 1 or more.
         seq: u64,
-        /// How it locks the resource.
+        /// How the request locks the resource.
         mode: Mode,
     },
 }

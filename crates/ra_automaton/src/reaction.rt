@@ -1,10 +1,11 @@
 use ra_stamp::Messages;
 
-/// What an event does to the outside.
+/// What comes of an event outside the automaton.
 #[derive(Debug, Drop)]
 pub struct Reaction {
-    /// The messages to send, in this order.
+    /// The messages to send, in this order: the REPLYs in ascending order of the nodes, and then the REQUESTs,
+    /// likewise.
     pub sends: Messages,
-    /// Whether the node's request is granted by this event.
+    /// Whether the event grants the node's request.
     pub entered: bool,
 }

@@ -7,7 +7,7 @@ ghost use Rattle.ra_automaton.specs.Steps.{others_of};
 
 use ra_stamp::{Memory, Message, Messages, Mode, Name, NodeId};
 
-/// The node with a number that is known to be one.
+/// Returns the node with a number that is known to be one.
 fn node(number: u16) -> NodeId
     requires { IsNodeNumber number }
     ensures { result ≡ number }
@@ -15,7 +15,7 @@ fn node(number: u16) -> NodeId
     NodeId::new(number).unwrap()
 }
 
-/// Adds a REQUEST to each other node, in ascending order.
+/// Adds a REQUEST to each other node, in ascending order. After an error some may have been added.
 pub fn push_requests(
     sends: &mut Messages,
     me: NodeId,
@@ -43,7 +43,7 @@ pub fn push_requests(
     Ok(())
 }
 
-/// Adds a REPLY to each deferred node, in ascending order.
+/// Adds a REPLY to each deferred node, in ascending order. After an error some may have been added.
 pub fn push_replies(
     sends: &mut Messages,
     me: NodeId,

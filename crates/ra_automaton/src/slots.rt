@@ -1,5 +1,5 @@
-//! Slots for nodes, by their numbers: marked ones as a set of nodes, filled ones as a map from nodes. The first slot,
-//! for which there is no node, stays empty.
+//! Slots for nodes, by their numbers: marked ones as a set of nodes, filled ones as a map from nodes. The first
+//! slot, for which there is no node, stays empty.
 ghost use Rattle.std.specs.Prelude.{◌≡◌, ◌+◌, ◌<◌, ◌↔◌, IsTrue, length, replicate, IfOk, None, false};
 ghost use Rattle.std.specs.Ordering.{nat_cmp};
 ghost use Rattle.std.specs.FinSet as set;
@@ -10,13 +10,14 @@ ghost use Rattle.ra_automaton.specs.Steps.{others_of};
 use ra_stamp::{Memory, NodeId};
 use std::alloc::Global;
 
+/// Returns the slot of a node.
 fn slot_of(node: NodeId) -> usize
     ensures { result ≡ node }
 {
     usize::from(node.get())
 }
 
-/// That many slots with no mark.
+/// Makes that many slots with no mark.
 pub fn unmarked(alloc: Global, count: usize) -> Result<Vec<bool>, Memory>
     ensures { IfOk result (λ flags. flags.items ≡ replicate count false) }
 {
@@ -27,7 +28,7 @@ pub fn unmarked(alloc: Global, count: usize) -> Result<Vec<bool>, Memory>
     Ok(flags)
 }
 
-/// That many slots with nothing in them.
+/// Makes that many slots with nothing in them.
 pub fn unfilled(alloc: Global, count: usize) -> Result<Vec<Option<u64>>, Memory>
     ensures { IfOk result (λ slots. slots.items ≡ replicate count None) }
 {
@@ -38,7 +39,7 @@ pub fn unfilled(alloc: Global, count: usize) -> Result<Vec<Option<u64>>, Memory>
     Ok(slots)
 }
 
-/// Whether a node is marked.
+/// Returns whether a node is marked.
 pub fn is_marked(flags: &[bool], node: NodeId) -> bool
     ensures { result ≡ set.contains (marked flags.now) node }
 {
@@ -46,7 +47,7 @@ pub fn is_marked(flags: &[bool], node: NodeId) -> bool
     slot < flags.len() && flags[slot]
 }
 
-/// The number that a node has.
+/// Returns the number that a node has, or `None`.
 pub fn number_of(slots: &[Option<u64>], node: NodeId) -> Option<u64>
     ensures { result ≡ finmap.get (filled slots.now) node }
 {
@@ -70,7 +71,7 @@ pub fn mark_others(flags: &mut [bool], me: NodeId, nodes: usize)
     }
 }
 
-/// Takes a mark away.
+/// Takes a node's mark away.
 pub fn unmark(flags: &mut [bool], node: NodeId)
     ensures { marked flags.new ≡ set.remove (marked flags.old) node }
 {
@@ -80,7 +81,7 @@ pub fn unmark(flags: &mut [bool], node: NodeId)
     }
 }
 
-/// Whether no node is marked but at most this one.
+/// Returns whether no node is marked but at most this one.
 pub fn is_only(flags: &[bool], node: NodeId) -> bool
     ensures { IsTrue result ↔ (set.remove (marked flags.now) node ≡ set.empty) }
 {

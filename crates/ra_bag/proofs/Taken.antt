@@ -1,20 +1,9 @@
 -- Lists of messages, by places.
-use Rattle.std.proofs.Common.{◌≡◌, ◌≢◌, ◌<◌, ◌+◌, ℕ, zero, suc, List, [], ◌∷◌, ◌++◌, All, length, get_or, take, drop, Option, Some, None, IfSome, refl, sym, ap, ◌∙◌, arith, add-one}
-use Rattle.std.specs.List.{slice_get, remove}
+use Rattle.std.proofs.Common.{◌≡◌, ◌≢◌, ◌<◌, ℕ, suc, List, ◌∷◌, ◌++◌, length, get_or, take, drop, Option, Some, None, IfSome, refl, sym, ap, ◌∙◌, arith, add-one}
+use Rattle.std.specs.List.{remove}
 use Rattle.ra_stamp.specs.declared.message.Message.{Message}
 use Rattle.ra_bag.specs.Bag.{TakesFirst}
 use Rattle.std.proofs.lemmas.List.{take-append-drop, drop_more, length-take-le, get_or-take, get_or_default}
-
-pub get_none : (messages : List Message) (place : ℕ) → place < length messages → slice_get messages place ≡ None → ⊥
-get_none [] place h e = absurd (omega arith)
-get_none (m ∷ ms) zero h e = absurd cc
-get_none (m ∷ ms) (suc place) h e = get_none ms place (omega arith) e
-
--- one more message
-pub take_one : (messages : List Message) (place : ℕ) (message : Message) → slice_get messages place ≡ Some message → take (suc place) messages ≡ take place messages ++ message ∷ []
-take_one [] place message e = absurd cc
-take_one (m ∷ ms) zero message e = cc
-take_one (m ∷ ms) (suc place) message e = ap (λ (xs : List Message). m ∷ xs) (take_one ms place message e)
 
 -- a list is what stands before a place, what stands there, and what stands after it
 split_at : (xs : List Message) (i : ℕ) (m : Message) → i < length xs → get_or xs i m ≡ m → xs ≡ take i xs ++ m ∷ drop (suc i) xs

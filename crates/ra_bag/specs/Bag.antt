@@ -1,5 +1,5 @@
 -- The bag: the messages under way, in the order in which they were sent. Equal messages may stand in it.
-use Rattle.std.specs.Prelude.{◌≡◌, ◌≢◌, ℕ, List, ◌∷◌, ◌++◌, All}
+use Rattle.std.specs.Prelude.{◌≡◌, ◌≢◌, List, ◌∷◌, ◌++◌, All}
 use Rattle.ra_stamp.specs.declared.message.Message.{Message}
 
 -- the new list is the old one without the first message that is equal to this one

@@ -81,6 +81,21 @@ fn an_absent_message_is_not_taken(rt: HostRuntime) -> Result<(), Fail> {
 }
 
 #[test]
+fn a_message_is_under_way_until_each_equal_one_is_taken(rt: HostRuntime) -> Result<(), Fail> {
+    let alloc = rt.alloc();
+    let mut bag = Bag::new(alloc)?;
+    assert!(rt; !bag.contains(&request()?));
+    bag.put_all(&messages(alloc, &[request()?, request()?])?)?;
+    assert!(rt; bag.contains(&request()?));
+    assert!(rt; !bag.contains(&reply()?));
+    bag.take(&request()?);
+    assert!(rt; bag.contains(&request()?));
+    bag.take(&request()?);
+    assert!(rt; !bag.contains(&request()?));
+    Ok(())
+}
+
+#[test]
 fn room_changes_no_message(rt: HostRuntime) -> Result<(), Fail> {
     let alloc = rt.alloc();
     let mut bag = three(alloc)?;

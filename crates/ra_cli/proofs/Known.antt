@@ -1,5 +1,5 @@
 -- Known bytes, one step after another.
-use Rattle.std.proofs.Common.{◌≡◌, ℕ, ◌-◌, List, [], ◌++◌, length, take, drop, Option, Some, None, refl, sym, ap, ◌∙◌, append_assoc}
+use Rattle.std.proofs.Common.{◌≡◌, ◌≢◌, ℕ, ◌-◌, List, [], ◌∷◌, ◌++◌, length, take, drop, Option, Some, None, refl, sym, ap, ◌∙◌, append_assoc}
 use Rattle.std.proofs.lemmas.List.{append-nil, take-append-drop, take_rest}
 use Rattle.std.specs.Io.KnownBytes.{Consumes, Appends, Keeps}
 
@@ -40,3 +40,8 @@ pub cut_again : (bytes front rest : List ℕ) (n : ℕ) → bytes ≡ front ++ r
 cut_again bytes front rest n e =
     e ∙ (ap (λ (xs : List ℕ). front ++ xs) (sym (take-append-drop n rest)) ∙ (sym (append_assoc front (take n rest) (drop n rest))
     ∙ ap (λ (xs : List ℕ). (front ++ take n rest) ++ xs) (sym (take_rest rest n))))
+
+-- a list of which an end is left
+pub not_nil : (bytes front back : List ℕ) → bytes ≡ front ++ back → back ≢ [] → bytes ≢ []
+not_nil bytes [] back e left nothing = left (sym e ∙ nothing)
+not_nil bytes (x ∷ xs) back e left nothing = absurd cc

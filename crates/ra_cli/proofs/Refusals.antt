@@ -4,8 +4,8 @@ use Rattle.std.specs.Prelude.{IfSome}
 use Rattle.std.specs.Io.KnownBytes.{Consumes}
 use Rattle.std.proofs.lemmas.Bool.{cases_lt}
 use Rattle.std.proofs.lemmas.List.{append-nil, length-append}
-use Rattle.ra_cli.specs.declared.fault.AnswerError.{AnswerError}
-use Rattle.ra_cli.specs.declared.fault.AnswerError.TheVariants as fault
+use Rattle.ra_cli.specs.declared.error.AnswerError.{AnswerError}
+use Rattle.ra_cli.specs.declared.error.AnswerError.TheVariants as fault
 use Rattle.ra_cli.specs.Line.{IsLine}
 use Rattle.ra_cli.specs.Input.{Reads}
 use Rattle.ra_cli.specs.Answer.{IsAnswered, Refuses}

@@ -9,8 +9,8 @@ use Rattle.ra_frame.specs.FrameText.{IsFrameText}
 use Rattle.ra_frame.specs.Faults.{first_fault}
 use Rattle.ra_automaton.specs.State.{State, opening, IsForNode}
 use Rattle.ra_automaton.specs.Steps.{ReceiveStep}
-use Rattle.ra_cli.specs.declared.fault.AnswerError.{AnswerError}
-use Rattle.ra_cli.specs.declared.fault.AnswerError.TheVariants as fault
+use Rattle.ra_cli.specs.declared.error.AnswerError.{AnswerError}
+use Rattle.ra_cli.specs.declared.error.AnswerError.TheVariants as fault
 use Rattle.ra_cli.specs.Line.{IsLine}
 
 -- the input is a line of the hexadecimal digits of these bytes, in either case
@@ -39,7 +39,8 @@ IsStrange node nodes message = (to_of message ≡ node) × ((from_of message ≡
 -- where a message is not taken
 abbrev pub IsUnwanted : ℕ → ℕ → Message → AnswerError → Type 0
 IsUnwanted node nodes message why =
-    ((why ≡ fault.WrongNode) × (to_of message ≢ node)) ⊎ (((why ≡ fault.Stranger) × IsStrange node nodes message) ⊎ (why ≡ fault.Memory))
+    ((why ≡ fault.WrongNode) × (to_of message ≢ node))
+    ⊎ (((why ≡ fault.Stranger) × IsStrange node nodes message) ⊎ (why ≡ fault.Memory))
 
 -- a node's clock after it has received a frame: one more than the greater of the two (L. Lamport, CACM 21(7), 1978)
 abbrev pub clock_after : ℕ → ℕ → ℕ
@@ -66,14 +67,15 @@ pub record IsAnswered (node nodes : ℕ) (input output : List ℕ) : Type 0 wher
   pub lines : AreLines (clock_after 0 frame.clock) sends output
 
 -- where each refusal may come: its cause stands, and the cause of none before it. Want of memory and faults of the
--- reader and the writer come from outside.
+-- reader and the writer come from outside, but the writer fails only where there is something to write.
 abbrev pub Refuses : ℕ → ℕ → List ℕ → AnswerError → Type 0
 Refuses node nodes input fault.BadCount = IsNodeNumber nodes → ⊥
 Refuses node nodes input fault.BadNode = IsNodeNumber nodes × (IsMember node nodes → ⊥)
 Refuses node nodes input fault.Read = IsMember node nodes
 Refuses node nodes input fault.Line = IsMember node nodes × ((line : List ℕ) → IsLine input line → ⊥)
 Refuses node nodes input fault.Hex =
-    IsMember node nodes × (digits : List ℕ) × IsLine input digits × ((bytes : List ℕ) → decode_of digits ≡ Ok bytes → ⊥)
+    IsMember node nodes × (digits : List ℕ) × IsLine input digits
+    × ((bytes : List ℕ) → decode_of digits ≡ Ok bytes → ⊥)
 Refuses node nodes input (fault.Frame wrong) =
     IsMember node nodes × (bytes : List ℕ) × Spells input bytes × (first_fault bytes ≡ Some wrong)
 Refuses node nodes input fault.WrongNode =
@@ -81,6 +83,7 @@ Refuses node nodes input fault.WrongNode =
 Refuses node nodes input fault.Stranger =
     IsMember node nodes × (frame : Frame) × Carries input frame × IsStrange node nodes frame.message
 Refuses node nodes input fault.ClockFull =
-    IsMember node nodes × (frame : Frame) × Carries input frame × IsForNode node nodes frame.message × (2 ^ 62 < clock_after 0 frame.clock)
+    IsMember node nodes × (frame : Frame) × Carries input frame × IsForNode node nodes frame.message
+    × (2 ^ 62 < clock_after 0 frame.clock)
 Refuses node nodes input fault.Memory = IsMember node nodes
-Refuses node nodes input fault.Write = (output : List ℕ) × IsAnswered node nodes input output
+Refuses node nodes input fault.Write = (output : List ℕ) × IsAnswered node nodes input output × (output ≢ [])

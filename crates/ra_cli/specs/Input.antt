@@ -1,8 +1,8 @@
 -- What is read.
 use Rattle.std.specs.Prelude.{◌≡◌, ℕ, ◌<◌, ◌≤◌, ◌⊎◌, List, length, Option}
 use Rattle.std.specs.Io.KnownBytes.{Consumes, IsAtEnd}
-use Rattle.ra_cli.specs.declared.fault.AnswerError.{AnswerError}
-use Rattle.ra_cli.specs.declared.fault.AnswerError.TheVariants.{Read, Memory}
+use Rattle.ra_cli.specs.declared.error.AnswerError.{AnswerError}
+use Rattle.ra_cli.specs.declared.error.AnswerError.TheVariants.{Read, Memory}
 
 -- these bytes were read, at most as many as the limit, and fewer only where the input ends
 pub record Reads (old new : Option (List ℕ)) (limit : ℕ) (bytes : List ℕ) : Type 0 where

@@ -1,5 +1,5 @@
 ghost use Rattle.std.specs.Prelude.{◌≡◌, ◌≢◌, ◌≤◌, ◌⊎◌, List, ℕ, ◌∷◌, [], ◌++◌, length, Ok, Some, All, OnOk, IfOk, IfErr, OnErr, IfSome, IsErrOf};
-ghost use Rattle.std.specs.Io.KnownBytes.{Consumes, Appends, Keeps};
+ghost use Rattle.std.specs.Io.KnownBytes.{Consumes, Appends};
 ghost use Rattle.hex.specs.Hex.{decode_of, encode_lower};
 ghost use Rattle.ra_frame.specs.Fits.{Fits};
 ghost use Rattle.ra_frame.specs.FrameText.{IsFrameText};
@@ -13,15 +13,23 @@ use crate::output::write_out;
 use hex::FromHexError;
 use ra_automaton::{Automaton, Reaction, ReceiveError};
 use ra_frame::{Frame, decode, encode};
-use ra_stamp::{Message, Messages, NodeId};
+use ra_stamp::{Memory, Message, Messages, NodeId};
 use std::alloc::Global;
 use std::io::{Read, Write};
 
-/// The node, where there are that many nodes and it is one of them.
+/// Returns the node, where there are that many nodes and it is one of them. It does not allocate.
+///
+/// # Errors
+///
+/// The first that holds:
+///
+/// 1. `BadCount`: there are not 1 to 16 nodes.
+/// 2. `BadNode`: the node is not 1 to `nodes`.
 fn member(node: u16, nodes: u16) -> Result<NodeId, AnswerError>
     ensures ok { IfOk result (λ me. (me ≡ node) × IsMember node nodes) }
     ensures err { IfErr result (λ fault. (input : List ℕ) → Refuses node nodes input fault) }
-    ensures early { IfErr result (λ fault. (fault ≡ AnswerError.BadCount) ⊎ (fault ≡ AnswerError.BadNode)) }
+    ensures early { IfErr result (λ fault.
+        (fault ≡ AnswerError.BadCount) ⊎ (fault ≡ AnswerError.BadNode)) }
 {
     if NodeId::new(nodes).is_none() {
         return Err(AnswerError::BadCount);
@@ -32,11 +40,16 @@ fn member(node: u16, nodes: u16) -> Result<NodeId, AnswerError>
     }
 }
 
-/// The bytes of hexadecimal digits.
+/// Returns the bytes that hexadecimal digits stand for.
+///
+/// # Errors
+///
+/// `Hex`: they are no even number of hexadecimal digits. `Memory`, which may come before it: there is none for the
+/// bytes.
 fn bytes_of(alloc: Global, digits: &[u8]) -> Result<Vec<u8>, AnswerError>
     ensures ok { IfOk result (λ bytes. decode_of digits.now ≡ Ok bytes.items) }
-    ensures err { IfErr result (λ fault.
-        ((fault ≡ AnswerError.Hex) × ((bytes : List ℕ) → decode_of digits.now ≡ Ok bytes → ⊥)) ⊎ (fault ≡ AnswerError.Memory)) }
+    ensures err { IfErr result (λ fault. (fault ≡ AnswerError.Memory)
+        ⊎ ((fault ≡ AnswerError.Hex) × ((bytes : List ℕ) → decode_of digits.now ≡ Ok bytes → ⊥))) }
 {
     match hex::decode(alloc, digits) {
         Ok(bytes) => Ok(bytes),
@@ -45,53 +58,73 @@ fn bytes_of(alloc: Global, digits: &[u8]) -> Result<Vec<u8>, AnswerError>
     }
 }
 
-/// The frame of the input.
+/// Returns the frame that the input carries.
+///
+/// # Errors
+///
+/// The first that holds, but that `Memory` may come before `Hex` and `Frame`:
+///
+/// 1. `Line`: the input is no line.
+/// 2. `Hex`: the line is no even number of hexadecimal digits.
+/// 3. `Frame`: the bytes are no frame.
+/// 4. `Memory`: there is none for the bytes.
 fn frame_in(alloc: Global, input: &[u8]) -> Result<Frame, AnswerError>
     ensures ok { IfOk result (Carries input.now) }
     ensures fits { IfOk result Fits }
-    ensures err { IfErr result (λ fault. (node nodes : ℕ) → IsMember node nodes → Refuses node nodes input.now fault) }
+    ensures err { IfErr result (λ fault.
+        (node nodes : ℕ) → IsMember node nodes → Refuses node nodes input.now fault) }
     ensures early { IfErr result (λ fault. fault ≢ AnswerError.Write) }
 {
     let Some(digits) = line_of(input) else {
         return Err(AnswerError::Line);
     };
     let bytes = bytes_of(alloc, digits)?;
-    match decode(&bytes) {
-        Ok(frame) => Ok(frame),
-        Err(fault) => Err(AnswerError::Frame(fault)),
-    }
+    let frame = decode(&bytes)?;
+    Ok(frame)
 }
 
-/// Adds a frame's line.
-fn push_line(alloc: Global, text: &mut Vec<u8>, frame: &Frame) -> Result<(), AnswerError>
+/// Adds a frame's line to the text.
+///
+/// # Errors
+///
+/// `Memory`: a front of the line may be there.
+fn push_line(alloc: Global, text: &mut Vec<u8>, frame: &Frame) -> Result<(), Memory>
     requires { Fits frame.now }
     ensures ok { OnOk result ((bytes : List ℕ) × IsFrameText bytes frame.now
         × (text.new.items ≡ text.old.items ++ (encode_lower bytes ++ 10 ∷ []))) }
-    ensures err { IfErr result (λ fault. fault ≡ AnswerError.Memory) }
 {
-    let bytes = encode(alloc, frame).map_err(|_| AnswerError::Memory)?;
-    let digits = hex::encode(alloc, &bytes).map_err(|_| AnswerError::Memory)?;
-    text.extend_from_slice(digits.as_bytes())
-        .map_err(|_| AnswerError::Memory)?;
-    text.push(b'\n').map_err(|_| AnswerError::Memory)
+    let bytes = encode(alloc, frame)?;
+    let digits = hex::encode(alloc, &bytes)?;
+    text.extend_from_slice(digits.as_bytes())?;
+    text.push(b'\n')?;
+    Ok(())
 }
 
-/// The lines of messages that are sent at a clock.
-fn lines_of(alloc: Global, clock: u64, sends: &Messages) -> Result<Vec<u8>, AnswerError>
+/// Returns the lines of the frames of messages that are sent at a clock, in time linear in their number.
+///
+/// # Errors
+///
+/// `Memory`: there is none for the lines.
+fn lines_of(alloc: Global, clock: u64, sends: &Messages) -> Result<Vec<u8>, Memory>
     requires { All (λ message. Fits (record { clock = clock; message = message })) sends.now.items }
     ensures ok { IfOk result (λ text. AreLines clock sends.now.items text.items) }
-    ensures err { IfErr result (λ fault. fault ≡ AnswerError.Memory) }
 {
     let mut text = Vec::new(alloc);
-    for place in 0..sends.len() {
-        if let Some(message) = sends.at(place) {
-            push_line(alloc, &mut text, &Frame { clock, message })?;
-        }
+    for &message in sends.as_slice() {
+        push_line(alloc, &mut text, &Frame { clock, message })?;
     }
     Ok(text)
 }
 
-/// What an idle node does when a message comes.
+/// Returns what an idle node does when a message comes.
+///
+/// # Errors
+///
+/// The first that holds:
+///
+/// 1. `WrongNode`: the message is for another node.
+/// 2. `Stranger`: its sender is the node itself, or there is no such node.
+/// 3. `Memory`: there is none for the node, before it looks at the message, or for what it sends.
 fn reaction_to(
     alloc: Global,
     me: NodeId,
@@ -115,7 +148,11 @@ fn reaction_to(
     }
 }
 
-/// What an idle node writes to an input.
+/// Returns the text with which an idle node answers an input.
+///
+/// # Errors
+///
+/// Those of `frame_in` and `reaction_to`, and then `ClockFull`, where the node's clock would pass 2^62, and `Memory`.
 fn answer_to(alloc: Global, me: NodeId, nodes: u16, input: &[u8]) -> Result<Vec<u8>, AnswerError>
     requires { IsMember me nodes }
     ensures ok { IfOk result (λ output. IsAnswered me nodes input.now output.items) }
@@ -127,13 +164,30 @@ fn answer_to(alloc: Global, me: NodeId, nodes: u16, input: &[u8]) -> Result<Vec<
     if frame.clock == Frame::MAX_CLOCK {
         return Err(AnswerError::ClockFull);
     }
-    lines_of(alloc, frame.clock + 1, &reaction.sends)
+    Ok(lines_of(alloc, frame.clock + 1, &reaction.sends)?)
 }
 
-/// Reads one line, a frame in hexadecimal digits, and writes the frames that an idle node sends when it receives
-/// that frame: node `node` of `nodes`, which has met no number before and whose clock was 0. They are written in lower
-/// case, a line each. Errors: the first that holds of those of `AnswerError`, where want of memory may come before a
-/// later one. Nothing is written but after `Write`, which leaves a front of the text.
+/// Reads one line, a frame in hexadecimal digits, and writes the frames that an idle node sends when it receives that
+/// frame, in lower case, a line each. The node is number `node` of `nodes`, it has met no number before, and its clock
+/// was 0. It takes at most 258 bytes from the reader, and no read or write that failed is tried again.
+///
+/// # Errors
+///
+/// The first that holds, but that `Memory` may come before any that stands behind `BadNode`:
+///
+/// 1. `BadCount`: there are not 1 to 16 nodes.
+/// 2. `BadNode`: the node is not 1 to `nodes`.
+/// 3. `Read`: the reader failed, before its end and before it gave 258 bytes.
+/// 4. `Line`: more than 256 bytes stand before a line feed, or bytes behind it.
+/// 5. `Hex`: the line is no even number of hexadecimal digits.
+/// 6. `Frame`: the bytes are no frame.
+/// 7. `WrongNode`: the message is for another node.
+/// 8. `Stranger`: the sender is the node itself, or there is no such node.
+/// 9. `ClockFull`: the node's clock would pass 2^62.
+/// 10. `Memory`: memory ran out.
+/// 11. `Write`: the writer failed or took nothing, with bytes left to write. A front of the text was written.
+///
+/// After each of the others the writer is as before, and after `BadCount` and `BadNode` the reader is too.
 pub fn answer<R: Read, W: Write>(
     alloc: Global,
     node: u16,
@@ -142,23 +196,31 @@ pub fn answer<R: Read, W: Write>(
     writer: &mut W,
 ) -> Result<(), AnswerError>
     // What is read is a line of digits to its end, and what is written is the answer to it and nothing else.
-    ensures ok { OnOk result (IfSome (R.remaining reader.old) (λ input. (output : List ℕ) × IsAnswered node nodes input output
+    ensures ok { OnOk result (IfSome (R.remaining reader.old) (λ input. (output : List ℕ)
+        × IsAnswered node nodes input output
         × Consumes (R.remaining reader.old) (R.remaining reader.new) input
         × Appends (W.contents writer.old) (W.contents writer.new) output)) }
 
-    ensures refused { IfErr result (λ fault. IfSome (R.remaining reader.old) (λ input. Refuses node nodes input fault)) }
+    ensures refused { IfErr result (λ fault.
+        IfSome (R.remaining reader.old) (λ input. Refuses node nodes input fault)) }
     // Where the reader tells nothing of its input, a refusal still has a cause, and the node is one of the nodes.
     ensures cause { IfErr result (λ fault. (input : List ℕ) × Refuses node nodes input fault) }
     ensures member { OnOk result (IsMember node nodes) }
 
-    ensures unwritten { IfErr result (λ fault. fault ≢ AnswerError.Write → Keeps (W.contents writer.old) (W.contents writer.new)) }
-    ensures front { IsErrOf result AnswerError.Write → (IfSome (R.remaining reader.old) (λ input. (front : List ℕ) × (back : List ℕ)
-        × IsAnswered node nodes input (front ++ back) × Appends (W.contents writer.old) (W.contents writer.new) front)) }
+    ensures untouched { IfErr result (λ fault.
+        (fault ≡ AnswerError.BadCount) ⊎ (fault ≡ AnswerError.BadNode) → reader.new ≡ reader.old) }
+    ensures unwritten { IfErr result (λ fault. fault ≢ AnswerError.Write → writer.new ≡ writer.old) }
+    // A fault of the writer comes only with something left to write.
+    ensures front { IsErrOf result AnswerError.Write → IfSome (R.remaining reader.old) (λ input.
+        (front : List ℕ) × (back : List ℕ) × IsAnswered node nodes input (front ++ back) × (back ≢ [])
+        × Appends (W.contents writer.old) (W.contents writer.new) front) }
 
-    ensures at_most { (taken : List ℕ) × (length taken ≤ 258) × Consumes (R.remaining reader.old) (R.remaining reader.new) taken }
+    ensures at_most { (taken : List ℕ) × (length taken ≤ 258)
+        × Consumes (R.remaining reader.old) (R.remaining reader.new) taken }
 {
     let me = member(node, nodes)?;
     let input = read_up_to(alloc, reader, MAX_LINE + 2)?;
     let output = answer_to(alloc, me, nodes, &input)?;
-    write_out(writer, &output).map_err(|_| AnswerError::Write)
+    write_out(writer, &output)?;
+    Ok(())
 }

@@ -1,3 +1,6 @@
+ghost use Rattle.std.specs.Prelude.{Any, IsTrue, IfOk, string_bytes};
+ghost use Rattle.ra_cli.specs.Words.{IsHelpWord, OnHelp};
+
 use clap::error::ErrorKind;
 use clap::{Arg, ArgAction, ArgMatches, Command, Error, value_parser};
 use std::alloc::Global;
@@ -14,10 +17,13 @@ pub enum Task {
 /// Why the words ask for nothing.
 #[derive(Clone, Copy, Debug)]
 pub enum CommandFault {
+    /// They are no command line of `ra`.
     Usage,
+    /// Memory ran out.
     Memory,
 }
 
+/// Makes the option of a number that must be given.
 fn number<'a>(alloc: Global, name: &'a str, help: &'a str) -> Arg<'a> {
     Arg::new(alloc, name)
         .long(name)
@@ -27,6 +33,7 @@ fn number<'a>(alloc: Global, name: &'a str, help: &'a str) -> Arg<'a> {
         .value_parser(value_parser!(u16))
 }
 
+/// Makes the command line that `ra` understands.
 fn command<'a>(alloc: Global) -> Result<Command<'a>, Error> {
     let answer = Command::new(alloc, "answer")
         .about("Answer one frame, a line of hexadecimal digits, as an idle node does")
@@ -40,24 +47,46 @@ fn command<'a>(alloc: Global) -> Result<Command<'a>, Error> {
     Ok(ra)
 }
 
-fn task_of(matches: &ArgMatches<'_>) -> Option<Task> {
+/// Returns the two numbers of a command line that was understood, or `None` where it has no command.
+fn numbers_of(matches: &ArgMatches<'_>) -> Option<(u16, u16)> {
     let answer = matches.subcommand_matches("answer")?;
-    Some(Task::Answer {
-        node: answer.get_one("node")?,
-        nodes: answer.get_one("nodes")?,
-    })
+    Some((answer.get_one("node")?, answer.get_one("nodes")?))
 }
 
-/// The task of the words, of which the first is the program's name.
-pub fn parse(alloc: Global, words: &[String]) -> Result<Task, CommandFault> {
+/// Returns whether a word asks for a text of help. It does not allocate.
+fn asks_for_help(words: &[String]) -> bool
+    ensures { IsTrue result → Any (λ word. IsHelpWord (string_bytes word)) words.now }
+{
+    for word in words {
+        if word.as_str() == "--help" || word.as_str() == "-h" {
+            return true;
+        }
+    }
+    false
+}
+
+/// Returns the task of the words, of which the first is the program's name. It is a text of help only where one of
+/// them asks for it.
+///
+/// # Errors
+///
+/// `Usage`: they are no command line of `ra`. `Memory`: memory ran out.
+pub fn parse(alloc: Global, words: &[String]) -> Result<Task, CommandFault>
+    ensures help { IfOk result (λ task.
+        OnHelp task (Any (λ word. IsHelpWord (string_bytes word)) words.now)) }
+{
     let matches = match command(alloc) {
         Ok(command) => command.try_get_matches_from(words),
         Err(error) => Err(error),
     };
     match matches {
-        Ok(matches) => task_of(&matches).ok_or(CommandFault::Usage),
+        Ok(matches) => match numbers_of(&matches) {
+            Some((node, nodes)) => Ok(Task::Answer { node, nodes }),
+            None => Err(CommandFault::Usage),
+        },
         Err(error) => match error.kind() {
-            ErrorKind::DisplayHelp => match format!(in alloc; "{error}") {
+            // No contract of the parser's says that it gives help only to those who ask.
+            ErrorKind::DisplayHelp if asks_for_help(words) => match format!(in alloc; "{error}") {
                 Ok(text) => Ok(Task::Help(text)),
                 Err(_) => Err(CommandFault::Memory),
             },

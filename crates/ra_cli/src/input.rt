@@ -1,4 +1,4 @@
-ghost use Rattle.std.specs.Prelude.{◌≡◌, ◌≢◌, ◌≤◌, ◌⊎◌, ◌↔◌, List, ℕ, [], ◌∷◌, ◌++◌, length, All, IsTrue, IfOk, IfErr, IfSome, IfNone, MatchOption};
+ghost use Rattle.std.specs.Prelude.{◌≡◌, ◌≢◌, ◌≤◌, ◌⊎◌, ◌↔◌, List, ℕ, [], ◌∷◌, ◌++◌, length, All, IsTrue, IfOk, IfErr, OnErr, IfSome, IfNone, MatchOption};
 ghost use Rattle.std.specs.Io.KnownBytes.{Consumes, IsAtEnd, Keeps};
 ghost use Rattle.ra_cli.specs.Line.{IsLine};
 ghost use Rattle.ra_cli.specs.Input.{Reads, IsFromOutside};
@@ -10,12 +10,18 @@ use std::io::Read;
 /// The most bytes of a line, without its line feed.
 pub const MAX_LINE: usize = 256;
 
-/// The next byte, or `None` at the end. No fault is tried again.
+/// Reads the next byte, or answers `None` at the end. It does not allocate.
+///
+/// # Errors
+///
+/// `Read`: the reader failed. It is not tried again.
 fn next_byte<R: Read>(reader: &mut R) -> Result<Option<u8>, AnswerError>
-    ensures some { IfOk result (λ next. MatchOption next (Keeps (R.remaining reader.old) (R.remaining reader.new))
+    ensures some { IfOk result (λ next. MatchOption next
+        (Keeps (R.remaining reader.old) (R.remaining reader.new))
         (λ byte. Consumes (R.remaining reader.old) (R.remaining reader.new) (byte ∷ []))) }
-    ensures none { IfOk result (λ next. MatchOption next (IsAtEnd (R.remaining reader.new)) (λ _. Unit {0})) }
-    ensures err { IfErr result (λ fault. (fault ≡ AnswerError.Read) × Keeps (R.remaining reader.old) (R.remaining reader.new)) }
+    ensures none { IfOk result (λ next. IfNone next (IsAtEnd (R.remaining reader.new))) }
+    ensures err { IfErr result (λ fault. fault ≡ AnswerError.Read) }
+    ensures untaken { OnErr result (Keeps (R.remaining reader.old) (R.remaining reader.new)) }
 {
     let mut byte = [0];
     match reader.read(&mut byte) {
@@ -25,27 +31,33 @@ fn next_byte<R: Read>(reader: &mut R) -> Result<Option<u8>, AnswerError>
     }
 }
 
-/// Reads to the end, and at most `limit` bytes. It takes memory for them.
+/// Reads to the end, and at most `limit` bytes.
+///
+/// # Errors
+///
+/// `Read`: the reader failed, and is not tried again. `Memory`: there is none for the bytes.
 pub fn read_up_to<R: Read>(
     alloc: Global,
     reader: &mut R,
     limit: usize,
 ) -> Result<Vec<u8>, AnswerError>
-    ensures bytes { IfOk result (λ bytes. Reads (R.remaining reader.old) (R.remaining reader.new) limit bytes.items) }
-    ensures at_most { (taken : List ℕ) × (length taken ≤ limit) × Consumes (R.remaining reader.old) (R.remaining reader.new) taken }
+    ensures bytes { IfOk result (λ bytes.
+        Reads (R.remaining reader.old) (R.remaining reader.new) limit bytes.items) }
+    ensures at_most { (taken : List ℕ) × (length taken ≤ limit)
+        × Consumes (R.remaining reader.old) (R.remaining reader.new) taken }
     ensures err { IfErr result IsFromOutside }
 {
-    let mut bytes = Vec::with_capacity(alloc, limit).map_err(|_| AnswerError::Memory)?;
+    let mut bytes = Vec::with_capacity(alloc, limit)?;
     for _turn in 0..limit {
         match next_byte(reader)? {
-            Some(byte) => bytes.push(byte).map_err(|_| AnswerError::Memory)?,
+            Some(byte) => bytes.push(byte)?,
             None => break,
         }
     }
     Ok(bytes)
 }
 
-/// The input without the line feed at its end, if it has one there.
+/// Returns the input without the line feed at its end, if it has one there. It does not allocate.
 fn without_feed(input: &[u8]) -> &[u8]
     ensures whole { (input.now ≡ result.now) ⊎ (input.now ≡ result.now ++ 10 ∷ []) }
     ensures only { (line : List ℕ) → All (λ byte. byte ≢ 10) line
@@ -57,13 +69,14 @@ fn without_feed(input: &[u8]) -> &[u8]
     }
 }
 
+/// Returns whether no byte is a line feed. It does not allocate.
 fn has_no_feed(line: &[u8]) -> bool
     ensures { IsTrue result ↔ All (λ byte. byte ≢ 10) line.now }
 {
     line.iter().all(|&byte| byte != b'\n')
 }
 
-/// The input's one line, or `None` where it is none.
+/// Returns the input's one line without its line feed, or `None` where the input is none. It does not allocate.
 pub fn line_of(input: &[u8]) -> Option<&[u8]>
     ensures none { IfNone result ((line : List ℕ) → IsLine input.now line → ⊥) }
     ensures some { IfSome result (λ line. IsLine input.now line.now) }

@@ -3,13 +3,13 @@
 
 mod answering;
 mod command_line;
-mod fault;
+mod error;
 mod input;
 mod output;
 mod serving;
 
 pub use answering::answer;
-pub use fault::AnswerError;
+pub use error::AnswerError;
 pub use serving::serve;
 
 #[cfg(test)]

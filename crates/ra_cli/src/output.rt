@@ -1,4 +1,4 @@
-ghost use Rattle.std.specs.Prelude.{◌≡◌, List, ℕ, ◌++◌, OnOk, OnErr};
+ghost use Rattle.std.specs.Prelude.{◌≡◌, ◌≢◌, List, ℕ, [], ◌++◌, OnOk, OnErr};
 ghost use Rattle.std.specs.Io.KnownBytes.{Appends};
 
 use std::io::Write;
@@ -7,11 +7,17 @@ use std::io::Write;
 #[derive(Clone, Copy, Debug)]
 pub struct WriteFault;
 
-/// Writes all of the bytes. After a fault the writer has taken a front of them. No fault is tried again, and a
-/// write that takes nothing is one.
+/// Writes all of the bytes. It does not allocate.
+///
+/// # Errors
+///
+/// `WriteFault`: a write failed, or took nothing. It is not tried again: the writer has taken a front of the bytes,
+/// and some are left.
 pub fn write_out<W: Write>(writer: &mut W, bytes: &[u8]) -> Result<(), WriteFault>
     ensures ok { OnOk result (Appends (W.contents writer.old) (W.contents writer.new) bytes.now) }
-    ensures err { OnErr result ((front : List ℕ) × (back : List ℕ) × (bytes.now ≡ front ++ back) × Appends (W.contents writer.old) (W.contents writer.new) front) }
+    ensures err { OnErr result ((front : List ℕ) × (back : List ℕ)
+        × (bytes.now ≡ front ++ back) × (back ≢ [])
+        × Appends (W.contents writer.old) (W.contents writer.new) front) }
 {
     let mut rest = bytes;
     while !rest.is_empty() {

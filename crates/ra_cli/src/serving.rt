@@ -1,6 +1,9 @@
-ghost use Rattle.std.specs.Prelude.{◌≡◌, ◌≤◌, ◌⊎◌, List, ℕ, IfSome};
+ghost use Rattle.std.specs.Prelude.{◌≡◌, ◌≤◌, ◌⊎◌, List, ℕ, Any, IfSome, string_bytes};
 ghost use Rattle.std.specs.Io.KnownBytes.{Consumes, Appends};
 ghost use Rattle.ra_cli.specs.Answer.{IsAnswered};
+ghost use Rattle.ra_cli.specs.Words.{IsHelpWord};
+ghost use Rattle.ra_cli.specs.declared.command_line.CommandFault.{CommandFault};
+ghost use Rattle.ra_cli.specs.declared.serving.Refusal.{Refusal};
 
 use crate::command_line::{CommandFault, Task, parse};
 use crate::output::write_out;
@@ -30,6 +33,10 @@ enum Refusal {
 }
 
 impl From<CommandFault> for Refusal {
+    ghost from_gives = { λ fault refusal. (fault ≡ CommandFault.Usage → refusal ≡ Refusal.Usage)
+        × (fault ≡ CommandFault.Memory → refusal ≡ Refusal.Memory) };
+
+    /// Returns the refusal of the same word.
     fn from(fault: CommandFault) -> Refusal {
         match fault {
             CommandFault::Usage => Refusal::Usage,
@@ -38,7 +45,7 @@ impl From<CommandFault> for Refusal {
     }
 }
 
-/// The status of a text that was to be written.
+/// Writes a text and returns the status, or that of a fault where the writer fails. It does not allocate.
 fn written<W: Write>(writer: &mut W, text: &[u8], status: u8) -> u8
     requires { status ≤ 2 }
     ensures range { result ≤ 2 }
@@ -50,11 +57,11 @@ fn written<W: Write>(writer: &mut W, text: &[u8], status: u8) -> u8
     }
 }
 
-/// Prints a refusal, but after a fault of the writer, when nothing more is written.
+/// Prints a refusal and returns its status. After a fault of the writer it prints nothing.
 fn refuse<W: Write>(alloc: Global, writer: &mut W, refusal: Refusal) -> u8
     ensures range { result ≤ 2 }
     ensures not_done { 1 ≤ result }
-    ensures unwritten { refusal ≡ Refusal.Answer AnswerError.Write → W.contents writer.new ≡ W.contents writer.old }
+    ensures unwritten { refusal ≡ Refusal.Answer AnswerError.Write → writer.new ≡ writer.old }
 {
     let status = match refusal {
         Refusal::Answer(AnswerError::Write) => return BROKEN,
@@ -67,9 +74,10 @@ fn refuse<W: Write>(alloc: Global, writer: &mut W, refusal: Refusal) -> u8
     }
 }
 
-/// Does what the words ask for, of which the first is the program's name, and answers the exit status: 0 done,
-/// 1 a fault of the input or the output, 2 refused. A refusal is printed as one line, `refused` and its word. It waits
-/// for nobody but the reader and the writer.
+/// Does what the words ask for, of which the first is the program's name, and returns the exit status: 0 done,
+/// 1 a fault of the input or the output, 2 refused. A refusal is printed as one line, `refused` and its word. No read
+/// or write that failed is tried again, and after a fault of the output nothing more is written. It waits for nobody
+/// but the reader and the writer.
 pub fn serve<T, R: Read, W: Write>(
     _rt: &T,
     alloc: Global,
@@ -78,9 +86,11 @@ pub fn serve<T, R: Read, W: Write>(
     writer: &mut W,
 ) -> u8
     ensures range { result ≤ 2 }
-    // Status 0 comes only where the input was answered, or where none of it was read, as for a text of help.
-    ensures done { result ≡ 0 → (R.remaining reader.new ≡ R.remaining reader.old)
-        ⊎ ((node : ℕ) × (nodes : ℕ) × IfSome (R.remaining reader.old) (λ input. (output : List ℕ) × IsAnswered node nodes input output
+    // Status 0 comes only where the input was answered, or where a word asks for a text of help and nothing was read.
+    ensures done { result ≡ 0
+        → ((reader.new ≡ reader.old) × Any (λ word. IsHelpWord (string_bytes word)) words.now)
+        ⊎ ((node : ℕ) × (nodes : ℕ) × IfSome (R.remaining reader.old) (λ input. (output : List ℕ)
+        × IsAnswered node nodes input output
         × Consumes (R.remaining reader.old) (R.remaining reader.new) input
         × Appends (W.contents writer.old) (W.contents writer.new) output)) }
 {

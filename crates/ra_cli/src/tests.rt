@@ -11,19 +11,39 @@ const REQUEST: &str = "0101010201000000000000000100000000000000010172";
 /// The REPLY to it, at clock 2.
 const REPLY: &str = "0102020100000000000000000100000000000000020172";
 
-/// Gives one byte at a time, and fails where no byte is left before the fault.
+/// Faults that other readers and writers would try again, and one that they would not.
+const FAULTS: [io::ErrorKind; 3] = [
+    io::ErrorKind::Interrupted,
+    io::ErrorKind::WouldBlock,
+    io::ErrorKind::BrokenPipe,
+];
+
+/// The same, and that nothing is taken.
+const WRITE_FAULTS: [Option<io::ErrorKind>; 4] = [
+    Some(io::ErrorKind::Interrupted),
+    Some(io::ErrorKind::WouldBlock),
+    Some(io::ErrorKind::BrokenPipe),
+    None,
+];
+
+/// Gives one byte at a time. After so many reads it fails once, and then goes on.
 #[derive(Drop)]
 struct FailingReader<'a> {
     bytes: &'a [u8],
-    before_fault: usize,
+    before_fault: Option<usize>,
+    fault: io::ErrorKind,
 }
 
 impl Read for FailingReader<'_> {
     fn read(&mut self, buf: &mut [u8]) -> io::Result<usize> {
-        if self.before_fault == 0 {
-            return Err(io::ErrorKind::Interrupted.into());
+        match self.before_fault {
+            Some(0) => {
+                self.before_fault = None;
+                return Err(self.fault.into());
+            }
+            Some(reads) => self.before_fault = Some(reads - 1),
+            None => {}
         }
-        self.before_fault -= 1;
         if self.bytes.is_empty() || buf.is_empty() {
             return Ok(0);
         }
@@ -33,38 +53,33 @@ impl Read for FailingReader<'_> {
     }
 }
 
-/// Takes one byte at a time, and fails where it may take no more.
+/// Takes one byte at a time. After so many writes it fails once, or takes nothing once where there is no fault, and
+/// then goes on.
 #[derive(Drop)]
 struct FailingWriter {
     taken: Vec<u8>,
-    before_fault: usize,
+    before_fault: Option<usize>,
+    fault: Option<io::ErrorKind>,
 }
 
 impl Write for FailingWriter {
     fn write(&mut self, buf: &[u8]) -> io::Result<usize> {
-        if self.before_fault == 0 {
-            return Err(io::ErrorKind::Interrupted.into());
+        match self.before_fault {
+            Some(0) => {
+                self.before_fault = None;
+                return match self.fault {
+                    Some(kind) => Err(kind.into()),
+                    None => Ok(0),
+                };
+            }
+            Some(writes) => self.before_fault = Some(writes - 1),
+            None => {}
         }
-        self.before_fault -= 1;
         if buf.is_empty() {
             return Ok(0);
         }
         self.taken.push(buf[0])?;
         Ok(1)
-    }
-
-    fn flush(&mut self) -> io::Result<()> {
-        Ok(())
-    }
-}
-
-/// A writer that takes nothing.
-#[derive(Drop)]
-struct FullWriter;
-
-impl Write for FullWriter {
-    fn write(&mut self, _buf: &[u8]) -> io::Result<usize> {
-        Ok(0)
     }
 
     fn flush(&mut self) -> io::Result<()> {
@@ -329,38 +344,84 @@ Options:
     assert_eq!(rt; status, 0);
     assert_eq!(rt; output.as_slice(), text.as_bytes());
 
-    let (status, output) = run(&rt, "ra --help", "")?;
-    assert_eq!(rt; status, 0);
-    assert!(rt;
-        output
-            .as_slice()
-            .starts_with(b"Lock named resources by messages alone\n".as_slice())
-    );
+    for line in ["ra --help", "ra -h"] {
+        let (status, output) = run(&rt, line, "")?;
+        assert_eq!(rt; status, 0, "{line}");
+        assert!(rt;
+            output
+                .as_slice()
+                .starts_with(b"Lock named resources by messages alone\n".as_slice()),
+            "{line}"
+        );
+    }
     Ok(())
 }
 
-#[test]
-fn a_reader_that_fails_at_any_byte_is_a_fault(rt: HostRuntime) -> Result<(), Fail> {
+/// Asserts that the fault of a reader that fails once, behind so many of its bytes, is the answer, that no byte is
+/// read after it, and that `serve` prints it.
+fn assert_read_fault<T: Abort + AllocGlobal>(
+    rt: &T,
+    bytes: &[u8],
+    before_fault: usize,
+) -> Result<(), Fail> {
     let alloc = rt.alloc();
     let words = words_of(alloc, "ra answer --node 2 --nodes 3")?;
-    let line = format!(in alloc; "{REQUEST}\n")?;
-    for before_fault in 0..=line.len() {
+    for fault in FAULTS {
         let mut reader = FailingReader {
-            bytes: line.as_bytes(),
-            before_fault,
+            bytes,
+            before_fault: Some(before_fault),
+            fault,
         };
         let mut output = Vec::new(alloc);
-        let status = serve(&rt, alloc, words.as_slice(), &mut reader, &mut output);
+        let answered = answer(alloc, 2, 3, &mut reader, &mut output);
+        assert_eq!(rt;
+            answered,
+            Err(AnswerError::Read),
+            "after {before_fault} bytes"
+        );
+        assert_eq!(rt;
+            Some(reader.bytes),
+            bytes.get(before_fault..),
+            "after {before_fault} bytes"
+        );
+        assert_eq!(rt;
+            output.as_slice(),
+            b"".as_slice(),
+            "after {before_fault} bytes"
+        );
+
+        let mut reader = FailingReader {
+            bytes,
+            before_fault: Some(before_fault),
+            fault,
+        };
+        let status = serve(rt, alloc, words.as_slice(), &mut reader, &mut output);
         assert_eq!(rt; status, 1, "after {before_fault} bytes");
+        assert_eq!(rt;
+            Some(reader.bytes),
+            bytes.get(before_fault..),
+            "after {before_fault} bytes"
+        );
         assert_eq!(rt;
             output.as_slice(),
             b"refused Read\n".as_slice(),
             "after {before_fault} bytes"
         );
     }
+    Ok(())
+}
+
+#[test]
+fn a_reader_that_fails_once_at_any_byte_is_a_fault(rt: HostRuntime) -> Result<(), Fail> {
+    let alloc = rt.alloc();
+    let line = format!(in alloc; "{REQUEST}\n")?;
+    for before_fault in 0..=line.len() {
+        assert_read_fault(&rt, line.as_bytes(), before_fault)?;
+    }
     let mut reader = FailingReader {
         bytes: line.as_bytes(),
-        before_fault: line.len() + 1,
+        before_fault: Some(line.len() + 1),
+        fault: io::ErrorKind::Interrupted,
     };
     let mut output = Vec::new(alloc);
     assert_eq!(rt; answer(alloc, 2, 3, &mut reader, &mut output), Ok(()));
@@ -368,49 +429,108 @@ fn a_reader_that_fails_at_any_byte_is_a_fault(rt: HostRuntime) -> Result<(), Fai
 }
 
 #[test]
-fn a_writer_that_fails_after_any_byte_has_those_before(rt: HostRuntime) -> Result<(), Fail> {
+fn a_fault_of_the_reader_comes_before_what_is_wrong_with_the_line(
+    rt: HostRuntime,
+) -> Result<(), Fail> {
     let alloc = rt.alloc();
-    let words = words_of(alloc, "ra answer --node 2 --nodes 3")?;
-    let printed = format!(in alloc; "{REPLY}\n")?;
-    for before_fault in 0..printed.len() {
-        let mut reader = REQUEST.as_bytes();
-        let mut writer = FailingWriter {
-            taken: Vec::new(alloc),
-            before_fault,
-        };
-        let status = serve(&rt, alloc, words.as_slice(), &mut reader, &mut writer);
-        assert_eq!(rt; status, 1, "after {before_fault} bytes");
-        assert_eq!(rt; writer.taken.len(), before_fault);
-        assert!(rt;
-            printed.as_bytes().starts_with(writer.taken.as_slice()),
-            "after {before_fault} bytes"
-        );
+    let mut digits = String::new(alloc);
+    for _ in 0..257 {
+        digits.push('0')?;
     }
-    let mut reader = REQUEST.as_bytes();
-    let mut writer = FailingWriter {
-        taken: Vec::new(alloc),
-        before_fault: printed.len(),
-    };
-    let status = serve(&rt, alloc, words.as_slice(), &mut reader, &mut writer);
-    assert_eq!(rt; status, 0);
-    assert_eq!(rt; writer.taken.as_slice(), printed.as_bytes());
+    let followed = format!(in alloc; "{REQUEST}\n0")?;
+    let fed_twice = format!(in alloc; "{REQUEST}\n\n")?;
+    for line in [
+        digits.as_str(),
+        followed.as_str(),
+        fed_twice.as_str(),
+        "zz\nzz",
+        "zz",
+    ] {
+        assert_read_fault(&rt, line.as_bytes(), line.len())?;
+    }
+    Ok(())
+}
+
+/// Asserts that where `serve` prints these bytes, the fault of a writer that fails once, or takes nothing once, after
+/// any of them is the status, and that the writer has those before it and no more.
+fn assert_write_fault<T: Abort + AllocGlobal>(
+    rt: &T,
+    line: &str,
+    input: &str,
+    printed: &[u8],
+) -> Result<(), Fail> {
+    let alloc = rt.alloc();
+    let words = words_of(alloc, line)?;
+    for before_fault in 0..printed.len() {
+        for fault in WRITE_FAULTS {
+            let mut reader = input.as_bytes();
+            let mut writer = FailingWriter {
+                taken: Vec::new(alloc),
+                before_fault: Some(before_fault),
+                fault,
+            };
+            let status = serve(rt, alloc, words.as_slice(), &mut reader, &mut writer);
+            assert_eq!(rt; status, 1, "after {before_fault} bytes");
+            assert_eq!(rt;
+                Some(writer.taken.as_slice()),
+                printed.get(..before_fault),
+                "after {before_fault} bytes"
+            );
+        }
+    }
     Ok(())
 }
 
 #[test]
-fn a_writer_that_takes_nothing_is_a_fault(rt: HostRuntime) -> Result<(), Fail> {
+fn a_writer_that_fails_once_has_the_bytes_before_and_no_more(rt: HostRuntime) -> Result<(), Fail> {
     let alloc = rt.alloc();
-    let mut reader = REQUEST.as_bytes();
-    assert_eq!(rt;
-        answer(alloc, 2, 3, &mut reader, &mut FullWriter),
-        Err(AnswerError::Write)
-    );
+    let printed = format!(in alloc; "{REPLY}\n")?;
+    for before_fault in 0..printed.len() {
+        for fault in WRITE_FAULTS {
+            let mut reader = REQUEST.as_bytes();
+            let mut writer = FailingWriter {
+                taken: Vec::new(alloc),
+                before_fault: Some(before_fault),
+                fault,
+            };
+            let answered = answer(alloc, 2, 3, &mut reader, &mut writer);
+            assert_eq!(rt;
+                answered,
+                Err(AnswerError::Write),
+                "after {before_fault} bytes"
+            );
+            assert_eq!(rt;
+                Some(writer.taken.as_slice()),
+                printed.as_bytes().get(..before_fault),
+                "after {before_fault} bytes"
+            );
+        }
+    }
 
+    let answers = "ra answer --node 2 --nodes 3";
+    assert_write_fault(&rt, answers, REQUEST, printed.as_bytes())?;
+    assert_write_fault(&rt, answers, "zz", b"refused Hex\n".as_slice())?;
+    assert_write_fault(&rt, "ra sim", REQUEST, b"refused Usage\n".as_slice())?;
+    assert_write_fault(&rt, "ra --help", "", b"Lock named resources".as_slice())
+}
+
+#[test]
+fn a_writer_fails_only_where_something_is_to_be_written(rt: HostRuntime) -> Result<(), Fail> {
+    let alloc = rt.alloc();
     let words = words_of(alloc, "ra answer --node 2 --nodes 3")?;
-    let mut bad = "zz".as_bytes();
-    assert_eq!(rt;
-        serve(&rt, alloc, words.as_slice(), &mut bad, &mut FullWriter),
-        1
-    );
+    let printed = format!(in alloc; "{REPLY}\n")?;
+    // A REPLY is taken in silence.
+    let silent = "0102010200000000000000000100000000000000010172";
+    for (input, printed) in [(REQUEST, printed.as_bytes()), (silent, b"".as_slice())] {
+        let mut reader = input.as_bytes();
+        let mut writer = FailingWriter {
+            taken: Vec::new(alloc),
+            before_fault: Some(printed.len()),
+            fault: Some(io::ErrorKind::BrokenPipe),
+        };
+        let status = serve(&rt, alloc, words.as_slice(), &mut reader, &mut writer);
+        assert_eq!(rt; status, 0, "{input}");
+        assert_eq!(rt; writer.taken.as_slice(), printed, "{input}");
+    }
     Ok(())
 }

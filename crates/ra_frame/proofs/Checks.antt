@@ -6,8 +6,8 @@ use Rattle.std.proofs.lemmas.Bool.{ltb-false, le-ltb}
 use Rattle.std.proofs.lemmas.Bool.Decides.{nat_tests}
 use Rattle.std.proofs.lemmas.List.Sums.{AllPass-from_list_all, list_all-from_AllPass}
 use Rattle.ra_stamp.specs.Name.{IsName, is_name_byte}
-use Rattle.ra_frame.specs.declared.fault.FrameError.{FrameError}
-use Rattle.ra_frame.specs.declared.fault.FrameError.TheVariants.{Short}
+use Rattle.ra_frame.specs.declared.error.FrameError.{FrameError}
+use Rattle.ra_frame.specs.declared.error.FrameError.TheVariants.{Short}
 use Rattle.ra_frame.specs.Faults.{Check, first_failing, checks_of, first_fault, number_at, is_within, greatest_mode}
 
 -- each check passes

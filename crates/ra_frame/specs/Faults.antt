@@ -3,8 +3,8 @@ use Rattle.std.specs.Prelude.{ℕ, ◌+◌, ◌^◌, Bool, not, ◌&&◌, ◌||�
 use Rattle.std.specs.List.{list_all}
 use Rattle.std.specs.Int.{w64, from_be_bytes}
 use Rattle.ra_stamp.specs.Name.{is_name_byte}
-use Rattle.ra_frame.specs.declared.fault.FrameError.{FrameError}
-use Rattle.ra_frame.specs.declared.fault.FrameError.TheVariants.{Short, Version, Kind, From, To, SameNode, Mode, Seq, Clock, NameLength, NameByte, Trailing}
+use Rattle.ra_frame.specs.declared.error.FrameError.{FrameError}
+use Rattle.ra_frame.specs.declared.error.FrameError.TheVariants.{Short, Version, Kind, From, To, SameNode, Mode, Seq, Clock, NameLength, NameByte, Trailing}
 
 -- a check of one field: how many bytes there must be for it, whether the field is right, and the fault if not
 pub record Check : Type 0 where
@@ -16,7 +16,8 @@ pub record Check : Type 0 where
 abbrev pub first_failing : ℕ → List Check → Option FrameError
 first_failing len [] = None
 first_failing len (check ∷ checks) =
-    if nat_lt len check.end then Some Short else if check.is_right then first_failing len checks else Some check.fault
+    if nat_lt len check.end then Some Short
+    else if check.is_right then first_failing len checks else Some check.fault
 
 -- eight bytes from a place on, the highest first
 abbrev pub number_at : List ℕ → ℕ → ℕ

@@ -24,12 +24,14 @@ pub record HasFields (bytes : List ℕ) (kind from to mode seq clock : ℕ) (nam
   pub seq_range : (1 ≤ seq) × (seq < 2 ^ 64)
   pub clock_range : IsClock clock
   pub is_name : IsName name
-  pub spelled : bytes ≡ 1 ∷ kind ∷ from ∷ to ∷ mode ∷ (to_be_bytes w64 seq ++ (to_be_bytes w64 clock ++ length name ∷ name))
+  pub spelled : bytes ≡ 1 ∷ kind ∷ from ∷ to ∷ mode
+      ∷ (to_be_bytes w64 seq ++ (to_be_bytes w64 clock ++ length name ∷ name))
 
 -- the bytes stand for a message that is sent at a clock: the kind is 1 for a REQUEST and 2 for a REPLY, and the
 -- mode of a REPLY is 0
 abbrev pub IsMessageText : List ℕ → ℕ → Message → Type 0
-IsMessageText bytes clock (Request from to name mode seq) = HasFields bytes 1 from to (mode_byte mode) seq clock name
+IsMessageText bytes clock (Request from to name mode seq) =
+    HasFields bytes 1 from to (mode_byte mode) seq clock name
 IsMessageText bytes clock (Reply from to name seq) = HasFields bytes 2 from to 0 seq clock name
 
 -- the bytes are the text of the frame

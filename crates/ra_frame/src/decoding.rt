@@ -13,7 +13,7 @@ use crate::format::{
 use crate::{Frame, FrameError};
 use ra_stamp::{Message, Mode, Name, NodeId};
 
-/// Eight bytes from a place on, the highest first.
+/// Returns the number of the eight bytes from a place on, the highest first. It does not allocate.
 fn number_at(bytes: &[u8], place: usize) -> u64
     requires { place + 8 ≤ length bytes.now }
     ensures { result ≡ spec.number_at bytes.now place }
@@ -23,13 +23,14 @@ fn number_at(bytes: &[u8], place: usize) -> u64
     u64::from_be_bytes(eight)
 }
 
+/// Returns whether a number is one of a range, whose ends count. It does not allocate.
 fn is_within(low: u64, high: u64, n: u64) -> bool
     ensures { result ≡ spec.is_within low high n }
 {
     low <= n && n <= high
 }
 
-/// Whether all bytes of a name are such as names may have.
+/// Returns whether a name may have each of the bytes. It does not allocate.
 fn are_name_bytes(name: &[u8]) -> bool
     requires not_empty { 1 ≤ length name.now }
     requires not_long { length name.now ≤ 32 }
@@ -54,7 +55,8 @@ macro_rules! first_failing {
     }};
 }
 
-/// The first field that is short or not right, in the order of the fields.
+/// Returns the fault of the first field that is short or not right, in the order of the fields, or `None` where all are
+/// right. It does not allocate.
 fn first_fault(bytes: &[u8]) -> Option<FrameError>
     ensures { result ≡ spec.first_fault bytes.now }
 {
@@ -68,12 +70,14 @@ fn first_fault(bytes: &[u8]) -> Option<FrameError>
         13, number_at(bytes, SEQ) >= 1 => Seq;
         21, is_within(1, Frame::MAX_CLOCK, number_at(bytes, CLOCK)) => Clock;
         22, is_within(1, MAX_NAME, u64::from(bytes[NAME_LENGTH])) => NameLength;
-        NAME + usize::from(bytes[NAME_LENGTH]), are_name_bytes(&bytes[NAME..NAME + usize::from(bytes[NAME_LENGTH])]) => NameByte;
-        NAME + usize::from(bytes[NAME_LENGTH]), bytes.len() == NAME + usize::from(bytes[NAME_LENGTH]) => Trailing;
+        NAME + usize::from(bytes[NAME_LENGTH]),
+            are_name_bytes(&bytes[NAME..NAME + usize::from(bytes[NAME_LENGTH])]) => NameByte;
+        NAME + usize::from(bytes[NAME_LENGTH]),
+            bytes.len() == NAME + usize::from(bytes[NAME_LENGTH]) => Trailing;
     }
 }
 
-/// The node whose number is the byte at a place.
+/// Returns the node whose number is the byte at a place. It does not allocate.
 fn node_at(bytes: &[u8], place: usize) -> NodeId
     requires there { place < length bytes.now }
     requires valid { IsNodeNumber (slice_index bytes.now place) }
@@ -82,7 +86,7 @@ fn node_at(bytes: &[u8], place: usize) -> NodeId
     NodeId::new(u16::from(bytes[place])).unwrap()
 }
 
-/// The mode of a byte.
+/// Returns the mode of a byte. It does not allocate.
 fn mode_of(byte: u8) -> Mode
     requires { byte ≤ 1 }
     ensures { mode_byte result ≡ byte }
@@ -94,7 +98,7 @@ fn mode_of(byte: u8) -> Mode
     }
 }
 
-/// The name, behind its length.
+/// Returns the name, which stands behind its length. It does not allocate.
 fn name_at(bytes: &[u8]) -> Name
     requires { spec.first_fault bytes.now ≡ None }
     ensures { result ≡ slice_range bytes.now 22 (22 + slice_index bytes.now 21) }
@@ -102,7 +106,7 @@ fn name_at(bytes: &[u8]) -> Name
     Name::new(&bytes[NAME..NAME + usize::from(bytes[NAME_LENGTH])]).unwrap()
 }
 
-/// The message whose text has no fault.
+/// Returns the message of bytes that have no fault. It does not allocate.
 fn message_of(bytes: &[u8]) -> Message
     requires { spec.first_fault bytes.now ≡ None }
     ensures { IsMessageText bytes.now (spec.number_at bytes.now 13) result }
@@ -129,8 +133,24 @@ fn message_of(bytes: &[u8]) -> Message
     }
 }
 
-/// The frame that the bytes are the text of. Errors: the first field, in their order, that is not all there
-/// (`Short`) or not right. It takes no memory.
+/// Returns the frame that the bytes are the text of. It does not allocate.
+///
+/// # Errors
+///
+/// The fields are looked at in their order, and the first that is not right is named. One of which a byte is missing is
+/// `Short` at its place in that order; the name is one field, and is looked at once all of it is there.
+///
+/// 1. `Version`: the version is not 1.
+/// 2. `Kind`: the kind is neither 1 nor 2.
+/// 3. `From`: the sender is not 1 to 16.
+/// 4. `To`: the receiver is not 1 to 16.
+/// 5. `SameNode`: the sender is the receiver.
+/// 6. `Mode`: the mode is neither 0 nor 1, or not 0 in a REPLY.
+/// 7. `Seq`: the sequence number is 0.
+/// 8. `Clock`: the clock is not 1 to 2^62.
+/// 9. `NameLength`: the length of the name is not 1 to 32.
+/// 10. `NameByte`: a byte of the name is none that a name may have.
+/// 11. `Trailing`: bytes follow the name.
 pub fn decode(bytes: &[u8]) -> Result<Frame, FrameError>
     // It is Ok exactly on frame texts, and gives their frame.
     ensures found { IfOk result (IsFrameText bytes.now) }
@@ -156,8 +176,10 @@ pub fn one_spelling()
 /// What is written is read again, and what is read is written again: a text has no fault and stands for one frame, and
 /// bytes with no fault are the text of a frame, whose one text they are.
 pub fn round_trip()
-    ensures no_fault { (bytes : List ℕ) (frame : Frame) → IsFrameText bytes frame → spec.first_fault bytes ≡ None }
+    ensures no_fault { (bytes : List ℕ) (frame : Frame) → IsFrameText bytes frame
+        → spec.first_fault bytes ≡ None }
     ensures one_frame { (bytes : List ℕ) (a b : Frame) → IsFrameText bytes a → IsFrameText bytes b → a ≡ b }
     ensures has_frame { (bytes : List ℕ) → All (λ byte. byte < 256) bytes → spec.first_fault bytes ≡ None
-        → (frame : Frame) × IsFrameText bytes frame × ((other : List ℕ) → IsFrameText other frame → other ≡ bytes) }
+        → (frame : Frame) × IsFrameText bytes frame
+        × ((other : List ℕ) → IsFrameText other frame → other ≡ bytes) }
 {}

@@ -7,7 +7,11 @@ use crate::format::{NAME, NO_MODE, REPLY, REQUEST, VERSION, mode_byte};
 use ra_stamp::{Memory, Message};
 use std::alloc::Global;
 
-/// The bytes of a frame that fits: 22 and those of its name. Errors: `Memory`, there is none for them.
+/// Returns the bytes of a frame that fits: 22 and those of its name.
+///
+/// # Errors
+///
+/// `Memory`: there is none for the bytes.
 pub fn encode(alloc: Global, frame: &Frame) -> Result<Vec<u8>, Memory>
     requires { Fits frame.now }
     ensures { IfOk result (λ bytes. IsFrameText bytes.items frame.now) }

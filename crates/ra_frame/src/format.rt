@@ -45,7 +45,7 @@ pub const MAX_NODE: u64 = 16;
 /// The most bytes of a name.
 pub const MAX_NAME: u64 = 32;
 
-/// The byte of the mode of a REQUEST.
+/// Returns the byte of the mode of a REQUEST. It does not allocate.
 pub fn mode_byte(mode: Mode) -> u8
     ensures { result ≡ spec.mode_byte mode }
 {

@@ -17,8 +17,8 @@ impl Frame {
     /// The greatest clock that a frame may carry.
     pub const MAX_CLOCK: u64 = 1 << 62;
 
-    /// Whether it may be sent: its clock is 1 to 2^62, its sequence number is 1 or more, and its sender is not
-    /// its receiver.
+    /// Returns whether it may be sent: its clock is 1 to 2^62, its sequence number is 1 or more, and its sender is not
+    /// its receiver. It does not allocate.
     pub fn fits(&self) -> bool
         ensures { IsTrue result ↔ Fits self.now }
     {

@@ -3,13 +3,13 @@
 
 mod decoding;
 mod encoding;
-mod fault;
+mod error;
 mod format;
 mod frame;
 
 pub use decoding::{decode, one_spelling, round_trip};
 pub use encoding::encode;
-pub use fault::FrameError;
+pub use error::FrameError;
 pub use frame::Frame;
 
 #[cfg(test)]

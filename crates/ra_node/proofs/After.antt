@@ -1,5 +1,5 @@
 -- What a turn at the slot of a name makes of a node.
-use Rattle.std.proofs.Common.{◌≡◌, ℕ, List, [], ◌∷◌, ◌++◌, Option, Some, None, set, sym, ap, ◌∙◌, subst}
+use Rattle.std.proofs.Common.{◌≡◌, ℕ, List, [], ◌∷◌, ◌++◌, Option, None, set, sym, ap, ◌∙◌, subst}
 use Rattle.std.specs.Prelude.{unwrap_or}
 use Rattle.std.specs.FinMap as finmap
 use Rattle.ra_stamp.specs.declared.mode.Mode.{Mode}
@@ -13,6 +13,7 @@ use Rattle.ra_node.specs.Turns.{AskTurn, LeaveTurn, ReceiveTurn}
 use Rattle.ra_node.specs.Node.{NodeState, resource_at}
 use Rattle.ra_node.specs.Events.{AskEvent, LeaveEvent, ReceiveEvent}
 use Rattle.ra_node.specs.View.{node_with, AreKept}
+use Rattle.std.proofs.lemmas.Option.{none-some}
 use Rattle.ra_node.proofs.Kept.{ask_kept, leave_kept, receive_kept}
 use Rattle.ra_node.proofs.Opening.{unmet_is_consistent}
 use Rattle.ra_node.proofs.NodeLemmas.{IsSlot, AreAfter, after_change, after_push}
@@ -65,7 +66,4 @@ unmet_here me nodes start slots now name is none = ap (λ (m : NodeState). unmet
 
 -- nobody holds a resource that nothing was about yet
 pub nobody_holds : (r : Resource) (me nodes : ℕ) (name : List ℕ) (start : ℕ) → r ≡ unmet me nodes name start → (client : ℕ) (entry : Entry) → Holds r client entry → ⊥
-nobody_holds r me nodes name start is client entry held = none_is_some entry (sym (ap holder_of is) ∙ held.granted)
-  where
-    none_is_some : (e : Entry) → None ≡ Some e → ⊥
-    none_is_some e is = cc
+nobody_holds r me nodes name start is client entry held = none-some entry (sym (ap holder_of is) ∙ held.granted)

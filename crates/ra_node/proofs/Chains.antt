@@ -1,18 +1,47 @@
 -- Events one after the other.
-use Rattle.std.proofs.Common.{◌≡◌, List, [], ◌∷◌, ◌++◌, refl, sym, subst}
+use Rattle.std.proofs.Common.{◌≡◌, ℕ, List, [], ◌∷◌, ◌++◌, refl, sym, ap, ◌∙◌, subst}
+use Rattle.std.proofs.lemmas.List.Elements.{All-head, All-tail, All-weaker}
 use Rattle.ra_stamp.specs.declared.entry.Mark.{Mark}
 use Rattle.ra_stamp.specs.declared.message.Message.{Message}
-use Rattle.ra_node.specs.Node.{NodeState}
-use Rattle.ra_node.specs.Events.{Event, Happening, NodeEvent, Events}
+use Rattle.ra_automaton.specs.State.{IsForNode}
+use Rattle.ra_node.specs.Node.{NodeState, IsConsistentNode}
+use Rattle.ra_node.specs.Events.{Event, Happening, NodeEvent, NodeEvents, IsForThisNode, AreForThisNode}
+use Rattle.ra_node.specs.Events.Event.{Ask, Leave, Receive}
+use Rattle.ra_node.proofs.EventLemmas.{same_node}
 
-pub events_join : (front back : List Happening) (a b c : NodeState) → Events a front b → Events b back c → Events a (front ++ back) c
-events_join [] back a b c p q = subst (λ (n : NodeState). Events n back c) p q
+pub events_join : (front back : List Happening) (a b c : NodeState) → NodeEvents a front b → NodeEvents b back c → NodeEvents a (front ++ back) c
+events_join [] back a b c p q = subst (λ (n : NodeState). NodeEvents n back c) p q
 events_join (h ∷ front) back a b c p q = (p.0, p.1, events_join front back p.0 b c p.2 q)
 
-pub events_split : (front back : List Happening) (a c : NodeState) → Events a (front ++ back) c → (b : NodeState) × Events a front b × Events b back c
+pub events_split : (front back : List Happening) (a c : NodeState) → NodeEvents a (front ++ back) c → (b : NodeState) × NodeEvents a front b × NodeEvents b back c
 events_split [] back a c p = (a, refl, p)
 events_split (h ∷ front) back a c p = let rest = events_split front back p.0 c p.2 in (rest.0, (p.0, p.1, rest.1), rest.2)
 
-pub events_step : (happened : List Happening) (event : Event) (sends : List Message) (marks : List Mark) (a b c : NodeState) → Events a happened b → NodeEvent b event sends marks c
-    → Events a (happened ++ record { event = event; sends = sends; marks = marks } ∷ []) c
+pub events_step : (happened : List Happening) (event : Event) (sends : List Message) (marks : List Mark) (a b c : NodeState) → NodeEvents a happened b → NodeEvent b event sends marks c
+    → NodeEvents a (happened ++ record { event = event; sends = sends; marks = marks } ∷ []) c
 events_step happened event sends marks a b c p q = events_join happened (record { event = event; sends = sends; marks = marks } ∷ []) a b c p (c, q, refl)
+
+-- ---- What a history keeps
+
+pub history_same_node : (happened : List Happening) (old new : NodeState) → NodeEvents old happened new → (new.me ≡ old.me) × (new.nodes ≡ old.nodes) × (new.start ≡ old.start)
+history_same_node [] old new is = (ap (λ (n : NodeState). n.me) is, ap (λ (n : NodeState). n.nodes) is, ap (λ (n : NodeState). n.start) is)
+history_same_node (h ∷ hs) old new (next, first, rest) =
+    let here = same_node old next h.event h.sends h.marks first in
+    let later = history_same_node hs next new rest in
+    (later.0 ∙ here.0, later.1 ∙ here.1, later.2 ∙ here.2)
+
+-- an event that is for a node is so after other events of it
+still_for : (old next : NodeState) (event : Event) → next.me ≡ old.me → next.nodes ≡ old.nodes → IsForThisNode old event → IsForThisNode next event
+still_for old next (Ask client name mode) me nodes for = tt
+still_for old next (Leave client name) me nodes for = tt
+still_for old next (Receive message) me nodes for = subst (λ (k : ℕ). IsForNode k next.nodes message) (sym me) (subst (λ (k : ℕ). IsForNode old.me k message) (sym nodes) for)
+
+pub history_kept : ((old new : NodeState) (event : Event) (sends : List Message) (marks : List Mark) → IsConsistentNode old → IsForThisNode old event → NodeEvent old event sends marks new → IsConsistentNode new)
+    → (happened : List Happening) (old new : NodeState) → IsConsistentNode old → AreForThisNode old happened → NodeEvents old happened new → IsConsistentNode new
+history_kept kept [] old new h for is = subst IsConsistentNode (sym is) h
+history_kept kept (e ∷ es) old new h for (next, first, rest) =
+    let same = same_node old next e.event e.sends e.marks first in
+    let IsForOld : Happening → Type 0 = λ x. IsForThisNode old x.event in
+    let IsForNext : Happening → Type 0 = λ x. IsForThisNode next x.event in
+    let after = kept old next e.event e.sends e.marks h (All-head IsForOld e es for) first in
+    history_kept kept es next new after (All-weaker IsForOld IsForNext (λ x is. still_for old next x.event same.0 same.1 is) es (All-tail IsForOld e es for)) rest

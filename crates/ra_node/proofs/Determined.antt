@@ -1,6 +1,5 @@
 -- A state and an event decide what comes of it.
-use Rattle.std.proofs.Common.{◌≡◌, ◌≢◌, ℕ, ◌+◌, ◌<◌, ◌≤◌, ◌⊎◌, Bool, true, false, List, [], ◌∷◌, ◌++◌, Option, Some, None, refl, sym, ap, ◌∙◌, subst, arith, inl, inr}
-use Rattle.std.specs.Prelude.{unwrap_or}
+use Rattle.std.proofs.Common.{◌≡◌, ℕ, ◌<◌, ◌≤◌, ◌⊎◌, Bool, true, false, List, [], ◌∷◌, ◌++◌, sym, ap, ◌∙◌, subst, arith, inl, inr}
 use Rattle.std.specs.FinSet as set
 use Rattle.ra_stamp.specs.declared.entry.Entry.{Entry}
 use Rattle.ra_stamp.specs.declared.entry.Mark.{Mark}
@@ -11,14 +10,15 @@ use Rattle.ra_stamp.specs.declared.mode.Mode.{Mode}
 use Rattle.ra_automaton.specs.declared.phase.Phase.{Phase}
 use Rattle.ra_automaton.specs.declared.phase.Phase.TheVariants.{Idle, Waiting, Inside}
 use Rattle.ra_automaton.specs.State.{State}
-use Rattle.ra_automaton.specs.Steps.{last_number, Begins, RequestStep, Defers, RepliesAtOnce, Awaits, TakesReply, ReceiveStep, LeaveStep, LeaveAndRequestStep}
+use Rattle.ra_automaton.specs.Steps.{greatest_number, Begins, RequestStep, TakesReply, ReceiveStep, LeaveStep}
 use Rattle.ra_node.specs.declared.queued.Queued.{Queued}
-use Rattle.ra_node.specs.Resource.{Resource, holder_of, Holds}
-use Rattle.ra_node.specs.Turns.{request_marks, next_entry, EntersBy, AsksAtOnce, QueuesUp, AskTurn, LeavesToNobody, LeavesToNext, LeaveTurn, ReceiveTurn}
+use Rattle.ra_node.specs.Resource.{Resource, Holds}
+use Rattle.ra_node.specs.Turns.{request_marks, next_entry, EntersBy, AsksAtOnce, AskTurn, LeavesToNext, LeaveTurn, ReceiveTurn}
 use Rattle.ra_node.specs.Node.{NodeState, resource_at, with_resource}
 use Rattle.ra_stamp.specs.Message.{name_of}
-use Rattle.ra_node.specs.Events.{Event, Happening, NodeEvent, Events}
+use Rattle.ra_node.specs.Events.{Event, Happening, NodeEvent, NodeEvents}
 use Rattle.ra_node.specs.Events.Event.{Ask, Leave, Receive}
+use Rattle.ra_node.proofs.Uses.{some_is}
 
 -- ---- Steps of the automaton
 
@@ -46,12 +46,6 @@ request_one old mode ms ns e f a b p q =
 
 leave_one : (old : State) (ms ns : List Message) (a b : State) → LeaveStep old ms a → LeaveStep old ns b → (ms ≡ ns) × (a ≡ b)
 leave_one old ms ns a b p q = (p.sends_are ∙ sym q.sends_are, p.new_is ∙ sym q.new_is)
-
-both_one : (old : State) (mode : Mode) (ms ns : List Message) (e f : Bool) (a b : State) → LeaveAndRequestStep old mode ms e a → LeaveAndRequestStep old mode ns f b → SameStep ms e a ns f b
-both_one old mode ms ns e f a b p q =
-    let left = leave_one old p.replies q.replies p.between q.between p.leaves q.leaves in
-    let asked = request_one q.between mode p.requests q.requests e f a b (subst (λ (s : State). RequestStep s mode p.requests e a) left.1 p.asks) q.asks in
-    (p.sends_are ∙ (λ i. left.0 i ++ asked.0 i) ∙ sym q.sends_are, asked.1, asked.2)
 
 waiting_mode : (seq : ℕ) (a b : Mode) → Waiting seq a ≡ Waiting seq b → a ≡ b
 waiting_mode seq a b e = ap mode_in e
@@ -115,16 +109,19 @@ SameTurn ms xs a ns ys b = (ms ≡ ns) × (xs ≡ ys) × (a ≡ b)
 same_resource : (a b : Resource) → a.state ≡ b.state → a.client ≡ b.client → a.queue ≡ b.queue → a ≡ b
 same_resource a b s c q = λ i. record { state = s i; client = c i; queue = q i }
 
+asks_one : (old : Resource) (client : ℕ) (mode : Mode) (ms ns : List Message) (xs ys : List Mark) (a b : Resource) → AsksAtOnce old client mode ms xs a → AsksAtOnce old client mode ns ys b → SameTurn ms xs a ns ys b
+asks_one old client mode ms ns xs ys a b x y =
+    let step = request_one old.state mode ms ns x.entered y.entered a.state b.state x.step y.step in (
+      step.0,
+      x.marks_are ∙ ap (λ (t : Bool). request_marks t (next_entry old client mode)) step.1 ∙ sym y.marks_are,
+      same_resource a b step.2 (x.client_is ∙ sym y.client_is) (x.queue_is ∙ sym y.queue_is),
+    )
+
 ask_one : (old : Resource) (client : ℕ) (mode : Mode) (ms ns : List Message) (xs ys : List Mark) (a b : Resource) → AskTurn old client mode ms xs a → AskTurn old client mode ns ys b → SameTurn ms xs a ns ys b
 ask_one old client mode ms ns xs ys a b p q =
     elim p.1 [
       | inl x ↦ elim q.1 [
-        | inl y ↦
-            let step = request_one old.state mode ms ns x.entered y.entered a.state b.state x.step y.step in (
-              step.0,
-              x.marks_are ∙ ap (λ (t : Bool). request_marks t (next_entry old client mode)) step.1 ∙ sym y.marks_are,
-              same_resource a b step.2 (x.client_is ∙ sym y.client_is) (x.queue_is ∙ sym y.queue_is),
-            )
+        | inl y ↦ asks_one old client mode ms ns xs ys a b x y
         | inr y ↦ absurd (y.in_use x.step.idle)
       ]
       | inr x ↦ elim q.1 [
@@ -132,9 +129,6 @@ ask_one old client mode ms ns xs ys a b p q =
         | inr y ↦ (x.sends_are ∙ sym y.sends_are, x.marks_are ∙ sym y.marks_are, x.new_is ∙ sym y.new_is)
       ]
     ]
-
-some_is : {X : Type 0} (x y : X) → Some x ≡ Some y → x ≡ y
-some_is x y e = ap (λ (o : Option _). unwrap_or o x) e
 
 held_one : (r : Resource) (client : ℕ) (a b : Entry) → Holds r client a → Holds r client b → a ≡ b
 held_one r client a b p q = some_is a b (sym p.granted ∙ q.granted)
@@ -154,36 +148,46 @@ abbrev tail_of : List Queued → List Queued
 tail_of [] = []
 tail_of (q ∷ qs) = qs
 
-nobody_or_next : (r : Resource) (next : Queued) (rest : List Queued) → (r.queue ≡ []) ⊎ (last_number ≤ r.state.highest) → r.queue ≡ next ∷ rest → r.state.highest < last_number → ⊥
+nobody_or_next : (r : Resource) (next : Queued) (rest : List Queued) → (r.queue ≡ []) ⊎ (greatest_number ≤ r.state.highest) → r.queue ≡ next ∷ rest → r.state.highest < greatest_number → ⊥
 nobody_or_next r next rest nobody queue number =
     elim nobody [
       | inl none ↦ not_empty next rest r.queue none queue
       | inr last ↦ absurd (omega (arith, last, number))
     ]
 
+-- a number is left where a client is next
+left_number : (old : Resource) (client : ℕ) (new : Resource) (sends : List Message) (marks : List Mark) → LeavesToNext old client sends marks new → old.state.highest < greatest_number
+left_number old client new sends marks hands = omega (arith, hands.may.number_left, ap (λ (s : State). s.highest) hands.leaves.step.new_is)
+
 leave_turn_one : (old : Resource) (client : ℕ) (ms ns : List Message) (xs ys : List Mark) (a b : Resource) → LeaveTurn old client ms xs a → LeaveTurn old client ns ys b → SameTurn ms xs a ns ys b
 leave_turn_one old client ms ns xs ys a b p q =
     elim p [
       | inl x ↦ elim q [
         | inl y ↦
-            let step = leave_one old.state ms ns a.state b.state x.step y.step in (
+            let step = leave_one old.state ms ns a.state b.state x.leaves.step y.leaves.step in (
               step.0,
-              x.marks_are ∙ ap (λ (e : Entry). Left e ∷ []) (held_one old client x.entry y.entry x.holds y.holds) ∙ sym y.marks_are,
-              same_resource a b step.1 (x.client_is ∙ sym y.client_is) (x.queue_is ∙ sym y.queue_is),
+              x.marks_are ∙ ap (λ (e : Entry). Left e ∷ []) (held_one old client x.entry y.entry x.leaves.holds y.leaves.holds) ∙ sym y.marks_are,
+              same_resource a b step.1 (x.leaves.client_is ∙ sym y.leaves.client_is) (x.leaves.queue_is ∙ sym y.leaves.queue_is),
             )
-        | inr y ↦ absurd (nobody_or_next old y.next b.queue x.nobody y.queue_was y.may.number_left)
+        | inr y ↦ absurd (nobody_or_next old y.next y.rest x.nobody y.queue_was (left_number old client b ns ys y))
       ]
       | inr x ↦ elim q [
-        | inl y ↦ absurd (nobody_or_next old x.next a.queue y.nobody x.queue_was x.may.number_left)
+        | inl y ↦ absurd (nobody_or_next old x.next x.rest y.nobody x.queue_was (left_number old client a ms xs x))
         | inr y ↦
-            let queues : x.next ∷ a.queue ≡ y.next ∷ b.queue = sym x.queue_was ∙ y.queue_was in
+            let queues : x.next ∷ x.rest ≡ y.next ∷ y.rest = sym x.queue_was ∙ y.queue_was in
             let next : x.next ≡ y.next = ap (head_or x.next) queues in
-            let step = both_one old.state y.next.mode ms ns x.entered y.entered a.state b.state (subst (λ (k : Queued). LeaveAndRequestStep old.state k.mode ms x.entered a.state) next x.step) y.step in (
-              step.0,
-              x.marks_are
-                  ∙ (λ i. Left (held_one old client x.entry y.entry x.holds y.holds i) ∷ request_marks (step.1 i) (next_entry old (next i).client (next i).mode))
-                  ∙ sym y.marks_are,
-              same_resource a b step.2 (x.client_is ∙ ap (λ (k : Queued). Some k.client) next ∙ sym y.client_is) (ap tail_of queues),
+            let rest : x.rest ≡ y.rest = ap tail_of queues in
+            let left = leave_one old.state x.replies y.replies x.between.state y.between.state x.leaves.step y.leaves.step in
+            let between : x.between ≡ y.between = same_resource x.between y.between left.1 (x.leaves.client_is ∙ sym y.leaves.client_is) (x.leaves.queue_is ∙ sym y.leaves.queue_is) in
+            let before : Resource = record y.between { queue = y.rest } in
+            let asks : AsksAtOnce before y.next.client y.next.mode x.requests x.asked a =
+            subst (λ (q : Queued). AsksAtOnce before q.client q.mode x.requests x.asked a) next
+            (subst (λ (r : Resource). AsksAtOnce r x.next.client x.next.mode x.requests x.asked a) (λ i. record (between i) { queue = rest i }) x.asks)
+            in
+            let asked = asks_one before y.next.client y.next.mode x.requests y.requests x.asked y.asked a b asks y.asks in (
+              x.sends_are ∙ (λ i. left.0 i ++ asked.0 i) ∙ sym y.sends_are,
+              x.marks_are ∙ (λ i. Left (held_one old client x.entry y.entry x.leaves.holds y.leaves.holds i) ∷ asked.1 i) ∙ sym y.marks_are,
+              asked.2,
             )
       ]
     ]
@@ -206,20 +210,20 @@ receive_turn_one old message ms ns xs ys a b p q =
 abbrev pub SameOutcome : List Message → List Mark → NodeState → List Message → List Mark → NodeState → Type 0
 SameOutcome ms xs a ns ys b = (ms ≡ ns) × (xs ≡ ys) × (a ≡ b)
 
-same_node : (old : NodeState) (name : List ℕ) (ms ns : List Message) (xs ys : List Mark) (r t : Resource) (a b : NodeState) → SameTurn ms xs r ns ys t → a ≡ with_resource old name r → b ≡ with_resource old name t
+same_outcome : (old : NodeState) (name : List ℕ) (ms ns : List Message) (xs ys : List Mark) (r t : Resource) (a b : NodeState) → SameTurn ms xs r ns ys t → a ≡ with_resource old name r → b ≡ with_resource old name t
     → SameOutcome ms xs a ns ys b
-same_node old name ms ns xs ys r t a b same p q = (same.0, same.1, p ∙ ap (λ (x : Resource). with_resource old name x) same.2 ∙ sym q)
+same_outcome old name ms ns xs ys r t a b same p q = (same.0, same.1, p ∙ ap (λ (x : Resource). with_resource old name x) same.2 ∙ sym q)
 
 pub event_one : (old a b : NodeState) (event : Event) (ms ns : List Message) (xs ys : List Mark) → NodeEvent old event ms xs a → NodeEvent old event ns ys b → SameOutcome ms xs a ns ys b
 event_one old a b (Ask client name mode) ms ns xs ys p q =
-    same_node old name ms ns xs ys p.resource q.resource a b (ask_one (resource_at old name) client mode ms ns xs ys p.resource q.resource p.turn q.turn) p.new_is q.new_is
+    same_outcome old name ms ns xs ys p.resource q.resource a b (ask_one (resource_at old name) client mode ms ns xs ys p.resource q.resource p.turn q.turn) p.new_is q.new_is
 event_one old a b (Leave client name) ms ns xs ys p q =
-    same_node old name ms ns xs ys p.resource q.resource a b (leave_turn_one (resource_at old name) client ms ns xs ys p.resource q.resource p.turn q.turn) p.new_is q.new_is
+    same_outcome old name ms ns xs ys p.resource q.resource a b (leave_turn_one (resource_at old name) client ms ns xs ys p.resource q.resource p.turn q.turn) p.new_is q.new_is
 event_one old a b (Receive message) ms ns xs ys p q =
-    same_node old (name_of message) ms ns xs ys p.resource q.resource a b (receive_turn_one (resource_at old (name_of message)) message ms ns xs ys p.resource q.resource p.turn q.turn) p.new_is q.new_is
+    same_outcome old (name_of message) ms ns xs ys p.resource q.resource a b (receive_turn_one (resource_at old (name_of message)) message ms ns xs ys p.resource q.resource p.turn q.turn) p.new_is q.new_is
 
-pub events_one : (hs : List Happening) (old a b : NodeState) → Events old hs a → Events old hs b → a ≡ b
+pub events_one : (hs : List Happening) (old a b : NodeState) → NodeEvents old hs a → NodeEvents old hs b → a ≡ b
 events_one [] old a b p q = p ∙ sym q
 events_one (h ∷ hs) old a b p q =
     let same = event_one old p.0 q.0 h.event h.sends h.sends h.marks h.marks p.1 q.1 in
-    events_one hs q.0 a b (subst (λ (n : NodeState). Events n hs a) same.2 p.2) q.2
+    events_one hs q.0 a b (subst (λ (n : NodeState). NodeEvents n hs a) same.2 p.2) q.2

@@ -1,11 +1,11 @@
 -- No client stands at a resource twice.
-use Rattle.std.proofs.Common.{◌≡◌, ◌≢◌, ◌⊎◌, ◌↔◌, ℕ, zero, suc, ◌+◌, ◌<◌, List, [], ◌∷◌, ◌++◌, All, Any, Contains, length, get_or, map, Option, Some, None, refl, sym, ap, ◌∙◌, subst, append_assoc, arith, inl, inr}
+use Rattle.std.proofs.Common.{◌≡◌, ◌≢◌, ◌⊎◌, ◌↔◌, ℕ, zero, suc, ◌<◌, List, [], ◌∷◌, ◌++◌, Any, Contains, length, get_or, map, Option, Some, None, refl, sym, ap, ◌∙◌, subst, append_assoc, arith, inl, inr}
 use Rattle.std.specs.Prelude.{AllPairs, option_to_list}
 use Rattle.std.proofs.lemmas.List.{get_or_default, get_or-map, length-map, map-append}
 use Rattle.std.proofs.lemmas.List.Elements.{Contains-append_left, Contains-append_right, Contains-append_cases}
 use Rattle.std.proofs.lemmas.List.Kept.{AllPairs-cons}
 use Rattle.std.proofs.lemmas.List.Quantifiers.{all_pairs_push}
-use Rattle.ra_automaton.specs.Steps.{last_number}
+use Rattle.ra_automaton.specs.Steps.{greatest_number}
 use Rattle.ra_node.specs.declared.queued.Queued.{Queued}
 use Rattle.ra_node.specs.Resource.{Resource, IsBusy, clients_of}
 use Rattle.ra_node.specs.Turns.{MayAsk}
@@ -86,9 +86,14 @@ leaves_once (Some c) queue h = λ i j d before within. h (suc i) (suc j) d (omeg
 pub hands_once : (client : Option ℕ) (next : Queued) (rest : List Queued) → Once (standing client (next ∷ rest)) → Once (standing (Some next.client) rest)
 hands_once client next rest h = leaves_once client (next ∷ rest) h
 
--- which it may do
-pub next_may_ask : (r : Resource) (next : Queued) (rest : List Queued) → r.queue ≡ next ∷ rest → r.state.highest < last_number → Once (clients_of r)
-    → MayAsk (record r { client = None; queue = rest }) next.client
-next_may_ask r next rest queue left h =
+-- which it may do, once nobody is current and it is out of the queue
+pub next_may_ask : (r between : Resource) (next : Queued) (rest : List Queued) → r.queue ≡ next ∷ rest → between.client ≡ None → between.state.highest < greatest_number → Once (clients_of r)
+    → MayAsk (record between { queue = rest }) next.client
+next_may_ask r between next rest queue nobody left h =
     let once = leaves_once r.client (next ∷ rest) (subst (λ (qs : List Queued). Once (standing r.client qs)) queue h) in
-    record { not_busy = λ at. once 0 (suc at.0) next.client (omega arith) (omega (arith, at.1)) (sym at.2); number_left = left }
+    record {
+      not_busy = λ busy.
+          let at = subst (λ (cs : List ℕ). Contains cs next.client) (nobody_before between.client rest nobody) busy in
+          once 0 (suc at.0) next.client (omega arith) (omega (arith, at.1)) (sym at.2);
+      number_left = left;
+    }

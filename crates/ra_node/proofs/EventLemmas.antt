@@ -1,14 +1,11 @@
 -- What the messages and marks of an event are about.
-use Rattle.std.proofs.Common.{◌≡◌, ◌≢◌, ℕ, ◌*◌, ◌≤◌, Bool, true, false, cond, List, [], ◌∷◌, ◌++◌, All, length, Option, Some, None, refl, sym, ap, ◌∙◌, subst, inl, inr}
+use Rattle.std.proofs.Common.{◌≡◌, ◌≢◌, ℕ, ◌*◌, ◌≤◌, List, All, length, sym, ap, ◌∙◌, subst}
 use Rattle.std.specs.Prelude.{unwrap_or}
-use Rattle.std.specs.declared.cmp.Ordering.{Ordering}
-use Rattle.std.specs.Ordering.{nat_cmp, eq_by_cmp}
-use Rattle.std.specs.Cmp.Lexicographic.{slice_cmp, nat_list_cmp_total}
 use Rattle.std.specs.FinMap as finmap
 use Rattle.ra_stamp.specs.declared.mode.Mode.{Mode}
 use Rattle.ra_stamp.specs.declared.message.Message.{Message}
 use Rattle.ra_stamp.specs.declared.entry.Mark.{Mark}
-use Rattle.ra_stamp.specs.Message.{from_of, name_of, seq_of}
+use Rattle.ra_stamp.specs.Message.{name_of, seq_of}
 use Rattle.ra_automaton.specs.State.{State, IsForNode, IsAddressed}
 use Rattle.ra_node.specs.Resource.{Resource, unmet, use_of, IsConsistentResource}
 use Rattle.ra_node.specs.Node.{NodeState, resource_at, with_resource, IsConsistentNode}
@@ -17,23 +14,9 @@ use Rattle.ra_node.specs.Events.Event.{Ask, Leave, Receive}
 use Rattle.ra_node.specs.Carried.{IsSend, IsMark, MarksLead}
 use Rattle.ra_node.proofs.Leading.{ask_leads, leave_leads, receive_leads}
 use Rattle.ra_node.proofs.Room.{ask_room, leave_turn_room, receive_room}
-use Rattle.ra_node.proofs.Named.{tied, untied}
-use Rattle.ra_node.proofs.Sends.{IsNumberedSend, answers_are_sends}
+use Rattle.ra_node.specs.Lookups.{resource_changed, entry_stays}
+use Rattle.ra_node.proofs.Sends.{answers_are_sends}
 use Rattle.ra_node.proofs.Kept.{ask_sends, ask_marks, leave_sends, leave_marks, receive_marks}
-
-abbrev cmp : List ℕ → List ℕ → Ordering
-cmp = slice_cmp nat_cmp
-
--- ---- The resources after an event
-
-pub resource_changed : (n : NodeState) (name : List ℕ) (r : Resource) → resource_at (with_resource n name r) name ≡ r
-resource_changed n name r =
-    ap (λ (o : Option Resource). unwrap_or o (unmet n.me n.nodes name n.start))
-    (finmap.get-insert nat_list_cmp_total n.resources name r name ∙ ap (λ b. cond b (Some r) (finmap.get n.resources name)) (tied name name refl))
-
-pub entry_stays : (n : NodeState) (name other : List ℕ) (r : Resource) → other ≢ name → finmap.get (with_resource n name r).resources other ≡ finmap.get n.resources other
-entry_stays n name other r apart =
-    finmap.get-insert nat_list_cmp_total n.resources name r other ∙ ap (λ b. cond b (Some r) (finmap.get n.resources other)) (untied other name apart)
 
 -- ---- Messages and marks
 
@@ -147,14 +130,14 @@ other_entry old new (Leave client name) sends marks other event apart = ap (λ (
 other_entry old new (Receive message) sends marks other event apart =
     ap (λ (n : NodeState). finmap.get n.resources other) event.new_is ∙ entry_stays old (name_of message) other event.resource apart
 
-pub same_place : (old new : NodeState) (event : Event) (sends : List Message) (marks : List Mark) → NodeEvent old event sends marks new → (new.me ≡ old.me) × (new.nodes ≡ old.nodes) × (new.start ≡ old.start)
-same_place old new (Ask client name mode) sends marks event = (ap (λ (n : NodeState). n.me) event.new_is, ap (λ (n : NodeState). n.nodes) event.new_is, ap (λ (n : NodeState). n.start) event.new_is)
-same_place old new (Leave client name) sends marks event = (ap (λ (n : NodeState). n.me) event.new_is, ap (λ (n : NodeState). n.nodes) event.new_is, ap (λ (n : NodeState). n.start) event.new_is)
-same_place old new (Receive message) sends marks event = (ap (λ (n : NodeState). n.me) event.new_is, ap (λ (n : NodeState). n.nodes) event.new_is, ap (λ (n : NodeState). n.start) event.new_is)
+pub same_node : (old new : NodeState) (event : Event) (sends : List Message) (marks : List Mark) → NodeEvent old event sends marks new → (new.me ≡ old.me) × (new.nodes ≡ old.nodes) × (new.start ≡ old.start)
+same_node old new (Ask client name mode) sends marks event = (ap (λ (n : NodeState). n.me) event.new_is, ap (λ (n : NodeState). n.nodes) event.new_is, ap (λ (n : NodeState). n.start) event.new_is)
+same_node old new (Leave client name) sends marks event = (ap (λ (n : NodeState). n.me) event.new_is, ap (λ (n : NodeState). n.nodes) event.new_is, ap (λ (n : NodeState). n.start) event.new_is)
+same_node old new (Receive message) sends marks event = (ap (λ (n : NodeState). n.me) event.new_is, ap (λ (n : NodeState). n.nodes) event.new_is, ap (λ (n : NodeState). n.start) event.new_is)
 
 pub other_resource : (old new : NodeState) (event : Event) (sends : List Message) (marks : List Mark) (other : List ℕ) → NodeEvent old event sends marks new → other ≢ name_of_event event
     → resource_at new other ≡ resource_at old other
 other_resource old new event sends marks other h apart =
     let entry = other_entry old new event sends marks other h apart in
-    let place = same_place old new event sends marks h in
-    λ i. unwrap_or (entry i) (unmet (place.0 i) (place.1 i) other (place.2 i))
+    let node = same_node old new event sends marks h in
+    λ i. unwrap_or (entry i) (unmet (node.0 i) (node.1 i) other (node.2 i))

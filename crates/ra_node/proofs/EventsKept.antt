@@ -1,32 +1,26 @@
 -- An event leads from a consistent node to a consistent one, since each step of an automaton keeps its state so.
-use Rattle.std.proofs.Common.{◌≡◌, ◌≢◌, ◌⊎◌, ℕ, ◌≤◌, Bool, List, All, Option, sym, ap, subst, inl, inr, ◌*◌, length, refl, arith}
+use Rattle.std.proofs.Common.{◌≡◌, ℕ, ◌≤◌, Bool, List, All, Option, sym, ap, subst, inl, inr, ◌*◌, length, refl, arith}
 use Rattle.std.specs.Prelude.{unwrap_or}
 use Rattle.std.proofs.lemmas.List.Elements.{All-weaker}
-use Rattle.std.specs.Ordering.{nat_cmp}
-use Rattle.std.specs.Cmp.Lexicographic.{slice_cmp}
-use Rattle.std.specs.FinMap as finmap
 use Rattle.ra_stamp.specs.NodeId.{IsNodeNumber}
 use Rattle.ra_stamp.specs.declared.mode.Mode.{Mode}
 use Rattle.ra_stamp.specs.declared.message.Message.{Message}
 use Rattle.ra_stamp.specs.declared.entry.Mark.{Mark}
 use Rattle.ra_stamp.specs.Message.{from_of, name_of, seq_of}
 use Rattle.ra_automaton.specs.State.{State, IsOther, IsConsistent}
-use Rattle.ra_automaton.specs.Steps.{RequestStep, ReceiveStep, LeaveStep, LeaveAndRequestStep}
+use Rattle.ra_automaton.specs.Steps.{RequestStep, ReceiveStep, LeaveStep}
 use Rattle.ra_node.specs.Resource.{Resource, unmet, use_of, IsConsistentResource}
-use Rattle.ra_node.specs.Turns.{AskTurn, LeaveTurn, ReceiveTurn}
+use Rattle.ra_node.specs.Turns.{AskTurn, LeaveTurn}
 use Rattle.ra_node.specs.Node.{NodeState, opening_node, resource_at, with_resource, IsConsistentNode}
 use Rattle.ra_node.specs.Events.{Event, name_of_event, NodeEvent, IsForThisNode}
 use Rattle.ra_node.specs.Events.Event.{Ask, Leave, Receive}
-use Rattle.ra_node.specs.Carried.{IsSend, IsMark, MarksLead}
-use Rattle.ra_node.proofs.Named.{same_or_apart}
+use Rattle.ra_node.specs.Carried.{IsSend, IsMark, MarksLead, sends_at_most, marks_at_most}
+use Rattle.ra_node.specs.Lookups.{same_or_apart, nothing_met, resource_changed, entry_stays}
 use Rattle.ra_node.proofs.Opening.{unmet_is_consistent}
 use Rattle.ra_node.proofs.Kept.{ask_kept, leave_kept, receive_kept}
-use Rattle.ra_node.proofs.EventLemmas.{resource_changed, entry_stays, addressed, ask_event_room, leave_event_room, receive_event_room, ask_event_sends, leave_event_sends, receive_event_sends, ask_event_marks, leave_event_marks, receive_event_marks, ask_event_leads, leave_event_leads, receive_event_leads}
+use Rattle.ra_node.proofs.EventLemmas.{addressed, ask_event_room, leave_event_room, receive_event_room, ask_event_sends, leave_event_sends, receive_event_sends, ask_event_marks, leave_event_marks, receive_event_marks, ask_event_leads, leave_event_leads, receive_event_leads}
 
 -- ---- One resource
-
-nothing_met : (me nodes start : ℕ) (name : List ℕ) → resource_at (opening_node me nodes start) name ≡ unmet me nodes name start
-nothing_met me nodes start name = ap (λ (o : Option Resource). unwrap_or o (unmet me nodes name start)) (finmap.get-empty (slice_cmp nat_cmp) name)
 
 pub opening_is_consistent : (me nodes start : ℕ) → IsNodeNumber nodes → (1 ≤ me) × (me ≤ nodes) → IsConsistentNode (opening_node me nodes start)
 opening_is_consistent me nodes start count member = record { count = count; member = member; each = λ name. subst (λ (r : Resource). IsConsistentResource me nodes name start r) (sym (nothing_met me nodes start name)) (unmet_is_consistent me nodes name start count member) }
@@ -52,7 +46,6 @@ module _
     (request : (old new : State) (mode : Mode) (sends : List Message) (entered : Bool) → IsConsistent old → RequestStep old mode sends entered new → IsConsistent new)
     (receive : (old new : State) (message : Message) (sends : List Message) (entered : Bool) → IsConsistent old → IsOther old (from_of message) → ReceiveStep old message sends entered new → IsConsistent new)
     (leave : (old new : State) (sends : List Message) → IsConsistent old → LeaveStep old sends new → IsConsistent new)
-    (leave_and_request : (old new : State) (mode : Mode) (sends : List Message) (entered : Bool) → IsConsistent old → LeaveAndRequestStep old mode sends entered new → IsConsistent new)
   where
     asked : (old : Resource) (client : ℕ) (mode : Mode) (sends : List Message) (marks : List Mark) (new : Resource) → AskTurn old client mode sends marks new → IsConsistent old.state → IsConsistent new.state
     asked old client mode sends marks new turn h =
@@ -64,8 +57,8 @@ module _
     left : (old : Resource) (client : ℕ) (sends : List Message) (marks : List Mark) (new : Resource) → LeaveTurn old client sends marks new → IsConsistent old.state → IsConsistent new.state
     left old client sends marks new turn h =
         elim turn [
-          | inl leaves ↦ leave old.state new.state sends h leaves.step
-          | inr hands ↦ leave_and_request old.state new.state hands.next.mode sends hands.entered h hands.step
+          | inl leaves ↦ leave old.state new.state sends h leaves.leaves.step
+          | inr hands ↦ request hands.between.state new.state hands.next.mode hands.requests hands.asks.entered (leave old.state hands.between.state hands.replies h hands.leaves.step) hands.asks.step
         ]
 
     pub event_kept : (old new : NodeState) (event : Event) (sends : List Message) (marks : List Mark) → IsConsistentNode old → IsForThisNode old event → NodeEvent old event sends marks new → IsConsistentNode new
@@ -121,11 +114,29 @@ event_numbers old new event sends marks h for happens came =
     All-weaker (λ m. IsSend old.me old.nodes (name_of_event event) m × HasNumber event m) (λ m. 1 ≤ seq_of m) (λ m is. has_number event m is.1 came) sends
     (event_sends_all old new event sends marks h for happens)
 
+pub event_answers : (old new : NodeState) (message : Message) (sends : List Message) (marks : List Mark) → IsConsistentNode old → IsForThisNode old (Receive message)
+    → NodeEvent old (Receive message) sends marks new → All (λ m. seq_of m ≡ seq_of message) sends
+event_answers old new message sends marks h for event =
+    All-weaker (λ m. IsSend old.me old.nodes (name_of message) m × (seq_of m ≡ seq_of message)) (λ m. seq_of m ≡ seq_of message) (λ m is. is.1) sends
+    (receive_event_sends old message sends marks new h for event)
+
 pub event_room : (old new : NodeState) (event : Event) (sends : List Message) (marks : List Mark) → IsConsistentNode old → NodeEvent old event sends marks new
-    → (length sends ≤ 2 * old.nodes) × (length marks ≤ 3)
-event_room old new (Ask client name mode) sends marks h event = let room = ask_event_room old client name mode sends marks new h event in (omega (arith, room.0), omega (arith, room.1))
+    → (length sends ≤ sends_at_most old.nodes event) × (length marks ≤ marks_at_most event)
+event_room old new (Ask client name mode) sends marks h event = ask_event_room old client name mode sends marks new h event
 event_room old new (Leave client name) sends marks h event = leave_event_room old client name sends marks new h event
-event_room old new (Receive message) sends marks h event = let room = receive_event_room old message sends marks new event in (omega (arith, room.0, h.count.0), omega (arith, room.1))
+event_room old new (Receive message) sends marks h event = receive_event_room old message sends marks new event
+
+room_of_each : (nodes : ℕ) (event : Event) → 1 ≤ nodes → (sends_at_most nodes event ≤ 2 * nodes) × (marks_at_most event ≤ 3)
+room_of_each nodes (Ask client name mode) some = (omega arith, omega arith)
+room_of_each nodes (Leave client name) some = (omega arith, omega arith)
+room_of_each nodes (Receive message) some = (omega (arith, some), omega arith)
+
+pub event_room_of_all : (old new : NodeState) (event : Event) (sends : List Message) (marks : List Mark) → IsConsistentNode old → NodeEvent old event sends marks new
+    → (length sends ≤ 2 * old.nodes) × (length marks ≤ 3)
+event_room_of_all old new event sends marks h happens =
+    let room = event_room old new event sends marks h happens in
+    let most = room_of_each old.nodes event h.count.0 in
+    (omega (arith, room.0, most.0), omega (arith, room.1, most.1))
 
 pub event_marks : (old new : NodeState) (event : Event) (sends : List Message) (marks : List Mark) → IsConsistentNode old → IsConsistentNode new → NodeEvent old event sends marks new
     → All (IsMark old.me (name_of_event event)) marks

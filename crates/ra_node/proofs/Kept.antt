@@ -1,6 +1,5 @@
 -- What a turn keeps of a resource, and what its marks are about.
-use Rattle.std.proofs.Common.{◌≡◌, ◌≢◌, ℕ, ◌+◌, ◌<◌, ◌≤◌, max, Bool, true, false, List, [], ◌∷◌, ◌++◌, All, Option, Some, None, IsSome, refl, sym, ap, ◌∙◌, subst, arith, inl, inr}
-use Rattle.std.specs.Prelude.{unwrap_or}
+use Rattle.std.proofs.Common.{◌≡◌, ◌≢◌, ℕ, ◌+◌, ◌≤◌, Bool, true, false, List, [], ◌∷◌, All, Option, Some, None, refl, sym, ap, ◌∙◌, subst, arith, inl, inr}
 use Rattle.std.proofs.lemmas.List.Elements.{All-nil, All-cons, All-append}
 use Rattle.ra_stamp.specs.declared.entry.Entry.{Entry}
 use Rattle.ra_stamp.specs.declared.entry.Mark.{Mark}
@@ -8,17 +7,19 @@ use Rattle.ra_stamp.specs.declared.entry.Mark.TheVariants.{Requested, Entered, L
 use Rattle.ra_stamp.specs.declared.message.Message.{Message}
 use Rattle.ra_stamp.specs.declared.message.Message.TheVariants.{Request, Reply}
 use Rattle.ra_stamp.specs.declared.mode.Mode.{Mode}
-use Rattle.ra_stamp.specs.Message.{from_of, to_of, seq_of}
+use Rattle.ra_stamp.specs.Message.{to_of}
 use Rattle.ra_automaton.specs.declared.phase.Phase.{Phase}
 use Rattle.ra_automaton.specs.declared.phase.Phase.TheVariants.{Idle, Waiting, Inside}
-use Rattle.ra_automaton.specs.State.{State, HasNumber, IsOtherNode, IsAddressed, IsConsistent}
-use Rattle.ra_automaton.specs.Steps.{last_number, RequestStep, LeaveStep, LeaveAndRequestStep, ReceiveStep}
-use Rattle.ra_node.specs.Resource.{Resource, holder_in, holder_of, ClientFits, IsConsistentResource}
-use Rattle.ra_node.specs.Turns.{request_marks, next_entry, EntersBy, AsksAtOnce, QueuesUp, AskTurn, LeavesToNobody, LeavesToNext, LeaveTurn, ReceiveTurn}
+use Rattle.ra_automaton.specs.State.{State, HasNumber, IsOtherNode, IsConsistent}
+use Rattle.ra_automaton.specs.Steps.{greatest_number, RequestStep, LeaveStep, ReceiveStep}
+use Rattle.ra_node.specs.Resource.{Resource, use_in, granted_in, ClientFits, IsConsistentResource}
+use Rattle.ra_node.specs.Turns.{request_marks, next_entry, EntersBy, AskTurn, Leaves, LeavesToNext, LeaveTurn, ReceiveTurn}
 use Rattle.ra_node.specs.Carried.{IsMark}
 use Rattle.ra_node.specs.declared.queued.Queued.{Queued}
+use Rattle.std.proofs.lemmas.Option.{none-some}
+use Rattle.ra_node.proofs.Uses.{some_is}
 use Rattle.ra_node.proofs.Distinct.{standing, Once, asks_once, queues_once, leaves_once, hands_once}
-use Rattle.ra_node.proofs.Sends.{IsNumberedSend, requests_are_sends, replies_are_sends, answers_are_sends}
+use Rattle.ra_node.proofs.Sends.{IsNumberedSend, requests_are_sends, replies_are_sends}
 
 -- ---- What a step keeps of a state
 
@@ -43,6 +44,11 @@ leave_keeps old sends new step = kept_by old new _ step.new_is (record { me_is =
 
 keeps_on : (a b c : State) → Keeps a b → Keeps b c → Keeps a c
 keeps_on a b c p q = record { me_is = q.me_is ∙ p.me_is; nodes_is = q.nodes_is ∙ p.nodes_is; name_is = q.name_is ∙ p.name_is; higher = omega (arith, p.higher, q.higher) }
+
+handed_keeps : (old : Resource) (client : ℕ) (sends : List Message) (marks : List Mark) (new : Resource) → LeavesToNext old client sends marks new → Keeps old.state new.state
+handed_keeps old client sends marks new hands =
+    let between = hands.between.state in
+    keeps_on old.state between new.state (leave_keeps old.state hands.replies between hands.leaves.step) (request_keeps between hands.next.mode hands.requests hands.asks.entered new.state hands.asks.step)
 
 receive_keeps : (old : State) (message : Message) (sends : List Message) (entered : Bool) (new : State) → ReceiveStep old message sends entered new → Keeps old new
 receive_keeps old (Request from to name mode seq) sends entered new step =
@@ -122,7 +128,7 @@ nobody_when_idle phase client idle fits = subst (λ (p : Phase). ClientFits p cl
 
 module _ (me nodes : ℕ) (name : List ℕ) (start : ℕ) where
   kept_resource : (old new : Resource) → IsConsistentResource me nodes name start old → Keeps old.state new.state → IsConsistent new.state → ClientFits new.state.phase new.client
-      → Once (standing new.client new.queue) → (new.state.phase ≡ Idle → new.queue ≢ [] → last_number ≤ new.state.highest) → IsConsistentResource me nodes name start new
+      → Once (standing new.client new.queue) → (new.state.phase ≡ Idle → new.queue ≢ [] → greatest_number ≤ new.state.highest) → IsConsistentResource me nodes name start new
   kept_resource old new h keeps state fits once stays =
       record {
         state = state;
@@ -159,22 +165,24 @@ module _ (me nodes : ℕ) (name : List ℕ) (start : ℕ) where
   leave_kept old client sends marks new turn state h =
       elim turn [
         | inl leaves ↦
-            let keeps = leave_keeps old.state sends new.state leaves.step in
-            let idle : new.state.phase ≡ Idle = ap (λ (s : State). s.phase) leaves.step.new_is in
+            let left = leaves.leaves in
+            let keeps = leave_keeps old.state sends new.state left.step in
+            let idle : new.state.phase ≡ Idle = ap (λ (s : State). s.phase) left.step.new_is in
             kept_resource old new h keeps state
-            (subst (λ (p : Phase). ClientFits p new.client) (sym idle) leaves.client_is)
-            (subst Once (λ i. standing (sym leaves.client_is i) (sym leaves.queue_is i)) (leaves_once old.client old.queue h.once))
+            (subst (λ (p : Phase). ClientFits p new.client) (sym idle) left.client_is)
+            (subst Once (λ i. standing (sym left.client_is i) (sym left.queue_is i)) (leaves_once old.client old.queue h.once))
             (λ _ some. elim leaves.nobody [
-              | inl none ↦ absurd (some (leaves.queue_is ∙ none))
+              | inl none ↦ absurd (some (left.queue_is ∙ none))
               | inr last ↦ omega (arith, last, keeps.higher)
             ])
         | inr hands ↦
-            let step = hands.step in
-            let busy = request_is_busy step.between hands.next.mode step.requests hands.entered new.state step.asks in
-            kept_resource old new h (keeps_on old.state step.between new.state (leave_keeps old.state step.replies step.between step.leaves) (request_keeps step.between hands.next.mode step.requests hands.entered new.state step.asks)) state
-            (subst (λ (c : Option ℕ). ClientFits new.state.phase c) (sym hands.client_is) (some_fits new.state.phase hands.next.client busy))
-            (subst (λ (c : Option ℕ). Once (standing c new.queue)) (sym hands.client_is)
-            (hands_once old.client hands.next new.queue (subst (λ (qs : List Queued). Once (standing old.client qs)) hands.queue_was h.once)))
+            let between = hands.between.state in
+            let asks = hands.asks in
+            let busy = request_is_busy between hands.next.mode hands.requests asks.entered new.state asks.step in
+            kept_resource old new h (handed_keeps old client sends marks new hands) state
+            (subst (λ (c : Option ℕ). ClientFits new.state.phase c) (sym asks.client_is) (some_fits new.state.phase hands.next.client busy))
+            (subst Once (λ i. standing (sym asks.client_is i) (sym asks.queue_is i))
+            (hands_once old.client hands.next hands.rest (subst (λ (qs : List Queued). Once (standing old.client qs)) hands.queue_was h.once)))
             (λ idle some. absurd (not_idle new.state.phase busy idle))
       ]
 
@@ -211,14 +219,14 @@ leave_step_sends old sends new h step = subst (λ (ms : List Message). All (IsNu
 pub leave_sends : (old : Resource) (client : ℕ) (sends : List Message) (marks : List Mark) (new : Resource) → IsConsistent old.state → LeaveTurn old client sends marks new → All (IsNumberedSend old.state) sends
 leave_sends old client sends marks new h turn =
     elim turn [
-      | inl leaves ↦ leave_step_sends old.state sends new.state h leaves.step
+      | inl leaves ↦ leave_step_sends old.state sends new.state h leaves.leaves.step
       | inr hands ↦
-          let step = hands.step in
-          let keeps = leave_keeps old.state step.replies step.between step.leaves in
-          subst (λ (ms : List Message). All (IsNumberedSend old.state) ms) (sym step.sends_are)
-          (All-append (IsNumberedSend old.state) step.replies step.requests
-          (leave_step_sends old.state step.replies step.between h step.leaves)
-          (λ k d lt. IsSendOf-moved old.state step.between _ keeps.me_is keeps.nodes_is keeps.name_is (request_sends step.between hands.next.mode step.requests hands.entered new.state step.asks k d lt)))
+          let between = hands.between.state in
+          let keeps = leave_keeps old.state hands.replies between hands.leaves.step in
+          subst (λ (ms : List Message). All (IsNumberedSend old.state) ms) (sym hands.sends_are)
+          (All-append (IsNumberedSend old.state) hands.replies hands.requests
+          (leave_step_sends old.state hands.replies between h hands.leaves.step)
+          (λ k d lt. IsSendOf-moved old.state between _ keeps.me_is keeps.nodes_is keeps.name_is (request_sends between hands.next.mode hands.requests hands.asks.entered new.state hands.asks.step k d lt)))
     ]
 
 -- ---- The marks of each turn
@@ -251,31 +259,34 @@ pub record IsOwn (s : State) (e : Entry) : Type 0 where
   pub name_is : e.name ≡ s.name
   pub numbered : 1 ≤ e.stamp.seq
 
-some_is : (a b : Entry) → Some a ≡ Some b → a ≡ b
-some_is a b e = ap (λ (o : Option Entry). unwrap_or o a) e
-
-none_is_some : (e : Entry) → None ≡ Some e → ⊥
-none_is_some e is = cc
-
-pub holder_is_own : (s : State) (phase : Phase) (client : Option ℕ) (e : Entry) → HasNumber phase s.highest → holder_in s phase client ≡ Some e → IsOwn s e
-holder_is_own s Idle client e numbered is = absurd (none_is_some e is)
-holder_is_own s (Waiting seq mode) client e numbered is = absurd (none_is_some e is)
-holder_is_own s (Inside seq mode) None e numbered is = absurd (none_is_some e is)
+pub holder_is_own : (s : State) (phase : Phase) (client : Option ℕ) (e : Entry) → HasNumber phase s.highest → granted_in (use_in s phase client) ≡ Some e → IsOwn s e
+holder_is_own s Idle None e numbered is = absurd (none-some e is)
+holder_is_own s Idle (Some client) e numbered is = absurd (none-some e is)
+holder_is_own s (Waiting seq mode) None e numbered is = absurd (none-some e is)
+holder_is_own s (Waiting seq mode) (Some client) e numbered is = absurd (none-some e is)
+holder_is_own s (Inside seq mode) None e numbered is = absurd (none-some e is)
 holder_is_own s (Inside seq mode) (Some client) e numbered is = subst (λ (x : Entry). IsOwn s x) (some_is _ e is) (record { node_is = refl; name_is = refl; numbered = numbered.0 })
+
+-- the mark of a client that leaves, before others
+left_first : (old : Resource) (client : ℕ) (entry : Entry) (sends : List Message) (new : Resource) (marks : List Mark) → IsConsistent old.state → Leaves old client entry sends new
+    → All (IsMark old.state.me old.state.name) marks → All (IsMark old.state.me old.state.name) (Left entry ∷ marks)
+left_first old client entry sends new marks h leaves others =
+    let own = holder_is_own old.state old.state.phase old.client entry h.numbered leaves.holds.granted in
+    All-cons (IsMark old.state.me old.state.name) (Left entry) marks (left_marked old.state.me old.state.name entry own.node_is own.name_is own.numbered) others
 
 pub leave_marks : (old : Resource) (client : ℕ) (sends : List Message) (marks : List Mark) (new : Resource) → IsConsistent old.state → LeaveTurn old client sends marks new → All (IsMark old.state.me old.state.name) marks
 leave_marks old client sends marks new h turn =
     elim turn [
       | inl leaves ↦
-          let own = holder_is_own old.state old.state.phase old.client leaves.entry h.numbered leaves.holds.granted in
           subst (λ (ms : List Mark). All (IsMark old.state.me old.state.name) ms) (sym leaves.marks_are)
-          (All-cons (IsMark old.state.me old.state.name) (Left leaves.entry) [] (left_marked old.state.me old.state.name leaves.entry own.node_is own.name_is own.numbered) (All-nil (IsMark old.state.me old.state.name)))
+          (left_first old client leaves.entry sends new [] h leaves.leaves (All-nil (IsMark old.state.me old.state.name)))
       | inr hands ↦
-          let own = holder_is_own old.state old.state.phase old.client hands.entry h.numbered hands.holds.granted in
-          let next = next_entry old hands.next.client hands.next.mode in
+          let asks = hands.asks in
+          let keeps = leave_keeps old.state hands.replies hands.between.state hands.leaves.step in
+          let requested = request_marked old.state.me old.state.name asks.entered (next_entry hands.between hands.next.client hands.next.mode) keeps.me_is keeps.name_is (omega arith) in
           subst (λ (ms : List Mark). All (IsMark old.state.me old.state.name) ms) (sym hands.marks_are)
-          (All-cons (IsMark old.state.me old.state.name) (Left hands.entry) (request_marks hands.entered next) (left_marked old.state.me old.state.name hands.entry own.node_is own.name_is own.numbered)
-          (request_marked old.state.me old.state.name hands.entered next refl refl (omega arith)))
+          (left_first old client hands.entry hands.replies hands.between hands.asked h hands.leaves
+          (subst (λ (ms : List Mark). All (IsMark old.state.me old.state.name) ms) (sym asks.marks_are) requested))
     ]
 
 enters_marked : (me : ℕ) (name : List ℕ) (entered : Bool) (new : Resource) (marks : List Mark) → new.state.me ≡ me → new.state.name ≡ name → IsConsistent new.state → EntersBy entered new marks → All (IsMark me name) marks

@@ -1,7 +1,9 @@
+pub mod Uses
 pub mod Named
 pub mod Opening
 pub mod Sends
 pub mod Distinct
+pub mod Handing
 pub mod Kept
 pub mod Leading
 pub mod Room

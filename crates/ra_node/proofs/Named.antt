@@ -1,18 +1,20 @@
 -- What the slots of a node are as a map from names to resources.
-use Rattle.std.proofs.Common.{◌≡◌, ◌≢◌, ℕ, zero, suc, ◌+◌, ◌<◌, Bool, true, false, cond, List, [], ◌∷◌, ◌++◌, All, length, get_or, set, map, Option, Some, None, refl, sym, ap, ◌∙◌, subst, arith, ◌⊎◌, inl, inr}
+use Rattle.std.proofs.Common.{◌≡◌, ◌≢◌, ℕ, zero, suc, ◌+◌, ◌<◌, true, false, cond, List, [], ◌∷◌, ◌++◌, All, length, get_or, set, Option, Some, None, refl, sym, ap, ◌∙◌, subst, arith}
 use Rattle.std.specs.Prelude.{sum_by, unwrap_or}
 use Rattle.std.specs.declared.cmp.Ordering.{Ordering}
 use Rattle.std.specs.declared.cmp.Ordering.TheVariants.{Less, Equal, Greater}
 use Rattle.std.specs.Ordering.{nat_cmp, eq_by_cmp, is_eq}
-use Rattle.std.specs.Cmp.{tied_itself}
 use Rattle.std.specs.Cmp.Lexicographic.{slice_cmp, nat_list_cmp_total}
 use Rattle.std.specs.FinMap as finmap
 use Rattle.std.specs.FinMap.Entries.{by_order, put, find, find-append}
+use Rattle.std.proofs.lemmas.Bool.{false≢true}
+use Rattle.std.proofs.lemmas.Option.{none-some}
 use Rattle.std.proofs.lemmas.List.{map-append}
 use Rattle.std.proofs.lemmas.List.Elements.{All-head, All-tail}
 use Rattle.std.proofs.lemmas.List.Sums.{sum_by-cons}
 use Rattle.ra_node.specs.Resource.{Resource}
 use Rattle.ra_node.specs.View.{named, AreApart}
+use Rattle.ra_node.specs.Lookups.{names-Decides, same_name, other_name}
 
 abbrev cmp : List ℕ → List ℕ → Ordering
 cmp = slice_cmp nat_cmp
@@ -20,50 +22,21 @@ cmp = slice_cmp nat_cmp
 same_names : finmap.IsAntisymmetric cmp
 same_names = finmap.slice_cmp-IsAntisymmetric finmap.nat_cmp-IsAntisymmetric
 
--- whether two names are the same
-pub tied : (a b : List ℕ) → a ≡ b → eq_by_cmp cmp a b ≡ true
-tied a b e = ap is_eq (subst (λ (x : List ℕ). cmp a x ≡ Equal) e (tied_itself nat_list_cmp_total a))
-
-equal_of : (r : Ordering) → is_eq r ≡ true → r ≡ Equal
-equal_of Less e = absurd cc
-equal_of Equal e = refl
-equal_of Greater e = absurd cc
-
-pub untied : (a b : List ℕ) → a ≢ b → eq_by_cmp cmp a b ≡ false
-untied a b apart =
-    elim (eq_by_cmp cmp a b) as (λ t. eq_by_cmp cmp a b ≡ t → t ≡ false) [
-      | true ↦ λ e. absurd (apart (same_names a b (equal_of (cmp a b) e)))
-      | false ↦ λ e. refl
-    ] refl
-
-false_is_not_true : false ≡ true → ⊥
-false_is_not_true e = cc
-
-pub same_or_apart : (a b : List ℕ) → (a ≡ b) ⊎ (a ≢ b)
-same_or_apart a b =
-    elim (eq_by_cmp cmp a b) as (λ t. eq_by_cmp cmp a b ≡ t → (a ≡ b) ⊎ (a ≢ b)) [
-      | true ↦ λ e. inl (same_names a b (equal_of (cmp a b) e))
-      | false ↦ λ e. inr (λ same. false_is_not_true (sym e ∙ tied a b same))
-    ] refl
-
 -- ---- Looking a name up
 
 pub find_absent : (rs : List Resource) (name : List ℕ) → All (λ r. r.state.name ≢ name) rs → find cmp name (named rs) ≡ None
 find_absent [] name all = refl
 find_absent (r ∷ rs) name all =
-    ap (λ b. cond b (Some r) (find cmp name (named rs))) (untied name r.state.name (λ e. All-head (λ x. x.state.name ≢ name) r rs all (sym e)))
+    ap (λ b. cond b (Some r) (find cmp name (named rs))) (other_name name r.state.name (λ e. All-head (λ x. x.state.name ≢ name) r rs all (sym e)))
     ∙ find_absent rs name (All-tail (λ x. x.state.name ≢ name) r rs all)
-
-not_none : {X : Type 0} (x : X) → Some x ≡ None → ⊥
-not_none x e = cc
 
 -- a slot that is not the first has another name than the first
 later_is_apart : (rs : List Resource) (place : ℕ) (d : Resource) (name : List ℕ) → place < length rs → find cmp name (named rs) ≡ None → (get_or rs place d).state.name ≢ name
 later_is_apart [] place d name lt none e = absurd (omega (arith, lt))
-later_is_apart (r ∷ rs) zero d name lt none e = not_none r (sym (ap (λ b. cond b (Some r) (find cmp name (named rs))) (tied name r.state.name (sym e))) ∙ none)
+later_is_apart (r ∷ rs) zero d name lt none e = none-some r (sym none ∙ ap (λ b. cond b (Some r) (find cmp name (named rs))) (same_name name r.state.name (sym e)))
 later_is_apart (r ∷ rs) (suc place) d name lt none e =
     elim (eq_by_cmp cmp name r.state.name) as (λ b. cond b (Some r) (find cmp name (named rs)) ≡ None → ⊥) [
-      | true ↦ λ k. not_none r k
+      | true ↦ λ k. none-some r (sym k)
       | false ↦ λ k. later_is_apart rs place d name (omega (arith, lt)) k e
     ] none
 
@@ -71,9 +44,9 @@ later_is_apart (r ∷ rs) (suc place) d name lt none e =
 pub find_present : (rs : List Resource) (place : ℕ) (d : Resource) (name : List ℕ) → AreApart rs → place < length rs → (get_or rs place d).state.name ≡ name
     → find cmp name (named rs) ≡ Some (get_or rs place d)
 find_present [] place d name apart lt e = absurd (omega (arith, lt))
-find_present (r ∷ rs) zero d name apart lt e = ap (λ b. cond b (Some r) (find cmp name (named rs))) (tied name r.state.name (sym e))
+find_present (r ∷ rs) zero d name apart lt e = ap (λ b. cond b (Some r) (find cmp name (named rs))) (same_name name r.state.name (sym e))
 find_present (r ∷ rs) (suc place) d name apart lt e =
-    ap (λ b. cond b (Some r) (find cmp name (named rs))) (untied name r.state.name (λ same. later_is_apart rs place d r.state.name (omega (arith, lt)) apart.0 (e ∙ same)))
+    ap (λ b. cond b (Some r) (find cmp name (named rs))) (other_name name r.state.name (λ same. later_is_apart rs place d r.state.name (omega (arith, lt)) apart.0 (e ∙ same)))
     ∙ find_present rs place d name apart.1 (omega (arith, lt)) e
 
 abbrev resources_of : List Resource → finmap.FinMap cmp Resource
@@ -90,7 +63,7 @@ found_meets : (P : List ℕ → Resource → Type 0) (rs : List Resource) (name 
 found_meets P [] name else all other = other
 found_meets P (r ∷ rs) name else all other =
     elim (eq_by_cmp cmp name r.state.name) as (λ b. eq_by_cmp cmp name r.state.name ≡ b → P name (unwrap_or (cond b (Some r) (find cmp name (named rs))) else)) [
-      | true ↦ λ t. subst (λ (n : List ℕ). P n r) (sym (same_names name r.state.name (equal_of (cmp name r.state.name) t))) (All-head (λ x. P x.state.name x) r rs all)
+      | true ↦ λ t. subst (λ (n : List ℕ). P n r) (sym ((names-Decides name r.state.name).0 t)) (All-head (λ x. P x.state.name x) r rs all)
       | false ↦ λ _. found_meets P rs name else (All-tail (λ x. P x.state.name x) r rs all) other
     ] refl
 
@@ -113,7 +86,7 @@ find_changed (r ∷ rs) (suc place) d new name q apart lt e is =
     let rest = find_changed rs place d new name q apart.1 (omega (arith, lt)) e is in
     let other : r.state.name ≢ name = λ same. later_is_apart rs place d r.state.name (omega (arith, lt)) apart.0 (e ∙ sym same) in
     elim (eq_by_cmp cmp q r.state.name) as (λ b. eq_by_cmp cmp q r.state.name ≡ b → cond b (Some r) (find cmp q (named (set rs place new))) ≡ cond (eq_by_cmp cmp q name) (Some new) (cond b (Some r) (find cmp q (named rs)))) [
-      | true ↦ λ t. sym (ap (λ b. cond b (Some new) (Some r)) (untied q name (λ same. other (sym (same_names q r.state.name (equal_of (cmp q r.state.name) t)) ∙ same))))
+      | true ↦ λ t. sym (ap (λ b. cond b (Some new) (Some r)) (other_name q name (λ same. other (sym ((names-Decides q r.state.name).0 t) ∙ same))))
       | false ↦ λ _. rest
     ] refl
 
@@ -129,7 +102,7 @@ changed rs place d new name apart lt e is =
 none_after : (rs : List Resource) (place : ℕ) (d new : Resource) (name q : List ℕ) → AreApart rs → place < length rs → (get_or rs place d).state.name ≡ name → new.state.name ≡ name
     → q ≢ name → find cmp q (named rs) ≡ None → find cmp q (named (set rs place new)) ≡ None
 none_after rs place d new name q apart lt e is other none =
-    find_changed rs place d new name q apart lt e is ∙ ap (λ b. cond b (Some new) (find cmp q (named rs))) (untied q name other) ∙ none
+    find_changed rs place d new name q apart lt e is ∙ ap (λ b. cond b (Some new) (find cmp q (named rs))) (other_name q name other) ∙ none
 
 pub apart_changed : (rs : List Resource) (place : ℕ) (d new : Resource) → AreApart rs → place < length rs → new.state.name ≡ (get_or rs place d).state.name → AreApart (set rs place new)
 apart_changed [] place d new apart lt is = absurd (omega (arith, lt))
@@ -152,12 +125,12 @@ pub apart_pushed : (rs : List Resource) (new : Resource) → AreApart rs → fin
 apart_pushed [] new apart none = (refl, tt)
 apart_pushed (r ∷ rs) new apart none =
     elim (eq_by_cmp cmp new.state.name r.state.name) as (λ b. eq_by_cmp cmp new.state.name r.state.name ≡ b → cond b (Some r) (find cmp new.state.name (named rs)) ≡ None → AreApart ((r ∷ rs) ++ new ∷ [])) [
-      | true ↦ λ _ k. absurd (not_none r k)
+      | true ↦ λ _ k. absurd (none-some r (sym k))
       | false ↦ λ t k.
-          let other : r.state.name ≢ new.state.name = λ same. false_is_not_true (sym t ∙ tied new.state.name r.state.name (sym same)) in (
+          let other : r.state.name ≢ new.state.name = λ same. false≢true (sym t ∙ same_name new.state.name r.state.name (sym same)) in (
             ap (find cmp r.state.name) (map-append (λ (x : Resource). (x.state.name, x)) rs (new ∷ []))
                 ∙ find-append cmp nat_list_cmp_total (named rs) new.state.name new r.state.name k
-                ∙ ap (λ b. cond b (Some new) (find cmp r.state.name (named rs))) (untied r.state.name new.state.name other)
+                ∙ ap (λ b. cond b (Some new) (find cmp r.state.name (named rs))) (other_name r.state.name new.state.name other)
                 ∙ apart.0,
             apart_pushed rs new apart.1 k,
           )
@@ -171,7 +144,7 @@ sum_by-put f alike k v [] none = sum_by-cons f (k, v) []
 sum_by-put f alike k v (e ∷ es) none =
     elim (cmp k e.0) as (λ r. cond (is_eq r) (Some e.1) (find cmp k es) ≡ None → sum_by f (by_order r ((k, v) ∷ e ∷ es) ((e.0, v) ∷ es) (e ∷ put cmp k v es)) ≡ f (k, v) + sum_by f (e ∷ es)) [
       | Less ↦ λ _. sum_by-cons f (k, v) (e ∷ es)
-      | Equal ↦ λ n. absurd (not_none e.1 n)
+      | Equal ↦ λ n. absurd (none-some e.1 (sym n))
       | Greater ↦ λ n.
           let rest = sum_by-put f alike k v es n in
           omega (arith, rest, sum_by-cons f e (put cmp k v es), sum_by-cons f e es)

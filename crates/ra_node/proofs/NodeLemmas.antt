@@ -1,5 +1,5 @@
 -- A node's slots, and what becomes of the node where one of them changes or comes.
-use Rattle.std.proofs.Common.{◌≡◌, ◌≢◌, ℕ, ◌<◌, List, [], ◌∷◌, ◌++◌, All, length, get_or, set, None, Result, Ok, Err, IfOk, OnOk, OnErr, refl, sym, ap, ◌∙◌, subst}
+use Rattle.std.proofs.Common.{◌≡◌, ◌≢◌, ℕ, ◌<◌, List, [], ◌∷◌, ◌++◌, All, length, get_or, set, None, Result, Ok, Err, IfOk, OnOk, OnErr, sym, ap, ◌∙◌, subst}
 use Rattle.std.specs.Ordering.{nat_cmp}
 use Rattle.std.specs.Cmp.Lexicographic.{slice_cmp, nat_list_cmp_total}
 use Rattle.std.specs.FinMap as finmap
@@ -7,7 +7,7 @@ use Rattle.std.specs.FinMap.Entries.{find}
 use Rattle.std.proofs.lemmas.List.Elements.{All-set, All-push}
 use Rattle.ra_node.specs.Resource.{Resource, unmet, IsConsistentResource}
 use Rattle.ra_node.specs.Node.{NodeState, resource_at, with_resource, IsConsistentNode}
-use Rattle.ra_node.specs.View.{named, AreApart, node_with, AreKept}
+use Rattle.ra_node.specs.View.{named, node_with, AreKept}
 use Rattle.ra_node.proofs.Named.{find_absent, at_absent, at_present, every_meets, changed, apart_changed, pushed, apart_pushed}
 use Rattle.ra_node.proofs.Opening.{unmet_is_consistent}
 

@@ -1,5 +1,5 @@
 -- A resource that nothing was about yet is consistent.
-use Rattle.std.proofs.Common.{◌≡◌, ℕ, ◌≤◌, List, [], refl, arith, rules}
+use Rattle.std.proofs.Common.{ℕ, ◌≤◌, List, refl, arith, rules}
 use Rattle.std.specs.FinSet.{members}
 use Rattle.std.specs.FinMap.{gets}
 use Rattle.ra_stamp.specs.NodeId.{IsNodeNumber}

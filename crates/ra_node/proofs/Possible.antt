@@ -1,11 +1,9 @@
 -- Which events there are.
-use Rattle.std.proofs.Common.{◌≡◌, ◌≢◌, ℕ, ◌+◌, ◌<◌, ◌≤◌, ◌⊎◌, max, Bool, true, false, cond, List, [], ◌∷◌, ◌++◌, map, Option, Some, None, IsSome, refl, sym, ap, ◌∙◌, subst, arith, inl, inr, nat_eq}
-use Rattle.std.specs.Prelude.{option_map, IsTrue}
+use Rattle.std.proofs.Common.{◌≡◌, ◌≢◌, ℕ, ◌+◌, ◌<◌, ◌≤◌, ◌⊎◌, Bool, true, false, List, [], ◌∷◌, ◌++◌, map, Option, Some, None, IsSome, refl, sym, ap, ◌∙◌, subst, arith, inl, inr}
 use Rattle.std.specs.Ordering.{nat_cmp}
 use Rattle.std.specs.FinSet as set
 use Rattle.std.specs.FinMap as finmap
-use Rattle.std.proofs.lemmas.Bool.{cases_lt, false≢true}
-use Rattle.std.proofs.lemmas.Bool.Decides.{nat_tests}
+use Rattle.std.proofs.lemmas.Bool.{cases_eq, cases_lt, false≢true}
 use Rattle.ra_stamp.specs.declared.entry.Entry.{Entry}
 use Rattle.ra_stamp.specs.declared.entry.Mark.{Mark}
 use Rattle.ra_stamp.specs.declared.entry.Mark.TheVariants.{Entered, Left}
@@ -17,14 +15,15 @@ use Rattle.ra_stamp.specs.Message.{name_of}
 use Rattle.ra_stamp.specs.Stamp.{IsEarlier}
 use Rattle.ra_automaton.specs.declared.phase.Phase.{Phase}
 use Rattle.ra_automaton.specs.declared.phase.Phase.TheVariants.{Idle, Waiting, Inside}
-use Rattle.ra_automaton.specs.State.{State, IsWaiting, IsConsistent}
-use Rattle.ra_automaton.specs.Steps.{last_number, others_of, later_of, GoesFirst, OwnGoesFirst, Begins, RequestStep, Defers, RepliesAtOnce, Awaits, TakesReply, ReceiveStep, LeaveStep, LeaveAndRequestStep}
+use Rattle.ra_automaton.specs.State.{State}
+use Rattle.ra_automaton.specs.Steps.{greatest_number, others_of, GoesFirst, OwnGoesFirst, RequestStep, Awaits, TakesReply, ReceiveStep, LeaveStep}
 use Rattle.ra_node.specs.declared.queued.Queued.{Queued}
-use Rattle.ra_node.specs.Resource.{Resource, holder_in, holder_of, Holds, ClientFits, clients_of, IsConsistentResource}
-use Rattle.ra_node.specs.Turns.{request_marks, next_entry, MayAsk, EntersBy, AskTurn, LeaveTurn, ReceiveTurn}
+use Rattle.ra_node.specs.Resource.{Resource, use_in, granted_in, holder_of, Holds, ClientFits, clients_of}
+use Rattle.ra_node.specs.Turns.{request_marks, next_entry, MayAsk, EntersBy, AsksAtOnce, AskTurn, Leaves, LeaveTurn}
 use Rattle.ra_node.specs.Node.{NodeState, resource_at, with_resource, IsConsistentNode}
-use Rattle.ra_node.specs.Events.{AskEvent, LeaveEvent, ReceiveEvent, Event, NodeEvent, Allows}
+use Rattle.ra_node.specs.Events.{AllowsEvent}
 use Rattle.ra_node.specs.Events.Event.{Ask, Leave, Receive}
+use Rattle.ra_node.proofs.Uses.{granted_inside}
 use Rattle.ra_node.proofs.Distinct.{Once, next_may_ask}
 
 -- ---- Asking
@@ -44,7 +43,7 @@ one_or_more nodes low = elim (cases_lt 1 nodes) [
 requests_of : State → Mode → List Message
 requests_of s mode = map (λ other. Request s.me other s.name mode (s.highest + 1)) (others_of s.me s.nodes)
 
-possible_request : (old : State) (mode : Mode) → 1 ≤ old.nodes → old.phase ≡ Idle → old.highest < last_number → (entered : Bool) × (new : State) × RequestStep old mode (requests_of old mode) entered new
+possible_request : (old : State) (mode : Mode) → 1 ≤ old.nodes → old.phase ≡ Idle → old.highest < greatest_number → (entered : Bool) × (new : State) × RequestStep old mode (requests_of old mode) entered new
 unfolding requests_of
 possible_request old mode low idle left =
     elim (one_or_more old.nodes low) [
@@ -65,22 +64,16 @@ possible_ask old client mode low may =
       | inr in-use ↦ ([], [], _, (may, inr (record { in_use = in-use; sends_are = refl; marks_are = refl; new_is = refl })))
     ]
 
-pub ask_is_possible : (old : NodeState) (client : ℕ) (name : List ℕ) (mode : Mode) → IsConsistentNode old → MayAsk (resource_at old name) client → Allows old (Ask client name mode)
+pub ask_is_possible : (old : NodeState) (client : ℕ) (name : List ℕ) (mode : Mode) → IsConsistentNode old → MayAsk (resource_at old name) client → AllowsEvent old (Ask client name mode)
 ask_is_possible old client name mode h may =
     let here = h.each name in
     let turn = possible_ask (resource_at old name) client mode here.state.count.0 may in
     (turn.0, turn.1, with_resource old name turn.2, record { resource = turn.2; turn = turn.3; new_is = refl })
 
-pub ask_was_allowed : (old : NodeState) (client : ℕ) (name : List ℕ) (mode : Mode) → Allows old (Ask client name mode) → MayAsk (resource_at old name) client
+pub ask_was_allowed : (old : NodeState) (client : ℕ) (name : List ℕ) (mode : Mode) → AllowsEvent old (Ask client name mode) → MayAsk (resource_at old name) client
 ask_was_allowed old client name mode event = event.3.turn.0
 
 -- ---- Leaving
-
--- who is granted is inside
-held_inside : (s : State) (phase : Phase) (client : Option ℕ) (e : Entry) → holder_in s phase client ≡ Some e → (seq : ℕ) × (mode : Mode) × (phase ≡ Inside seq mode)
-held_inside s Idle client e is = absurd cc
-held_inside s (Waiting seq mode) client e is = absurd cc
-held_inside s (Inside seq mode) client e is = (seq, mode, refl)
 
 replies_of : State → List Message
 replies_of s = map (λ deferred. Reply s.me deferred.0 s.name deferred.1) (finmap.entries s.deferred)
@@ -92,40 +85,44 @@ possible_leave : (s : State) (seq : ℕ) (mode : Mode) → s.phase ≡ Inside se
 unfolding replies_of
 possible_leave s seq mode inside = record { seq = seq; mode = mode; inside = inside; sends_are = refl; new_is = refl }
 
-leave_to_nobody : (old : Resource) (client : ℕ) (e : Entry) → Holds old client e → (old.queue ≡ []) ⊎ (last_number ≤ old.state.highest) → (sends : List Message) × (marks : List Mark) × (new : Resource) × LeaveTurn old client sends marks new
-leave_to_nobody old client e holds nobody =
-    let inside = held_inside old.state old.state.phase old.client e holds.granted in (
-      replies_of old.state,
-      Left e ∷ [],
-      record { state = left_state old.state; client = None; queue = old.queue },
-      inl (record { entry = e; holds = holds; nobody = nobody; step = possible_leave old.state inside.0 inside.1 inside.2; marks_are = refl; client_is = refl; queue_is = refl }),
-    )
+-- the resource after its client left
+abbrev left_resource : Resource → Resource
+left_resource r = record { state = left_state r.state; client = None; queue = r.queue }
 
-leave_to_next : (old : Resource) (client : ℕ) (e : Entry) (next : Queued) (rest : List Queued) → 1 ≤ old.state.nodes → Holds old client e → old.queue ≡ next ∷ rest → old.state.highest < last_number → Once (clients_of old)
+possible_leaves : (old : Resource) (client : ℕ) (e : Entry) → Holds old client e → Leaves old client e (replies_of old.state) (left_resource old)
+possible_leaves old client e holds =
+    let inside = granted_inside old.state old.state.phase old.client e holds.granted in
+    record { holds = holds; step = possible_leave old.state inside.0 inside.1 inside.2; client_is = refl; queue_is = refl }
+
+leave_to_nobody : (old : Resource) (client : ℕ) (e : Entry) → Holds old client e → (old.queue ≡ []) ⊎ (greatest_number ≤ old.state.highest) → (sends : List Message) × (marks : List Mark) × (new : Resource) × LeaveTurn old client sends marks new
+leave_to_nobody old client e holds nobody =
+    (replies_of old.state, Left e ∷ [], left_resource old, inl (record { entry = e; leaves = possible_leaves old client e holds; nobody = nobody; marks_are = refl }))
+
+leave_to_next : (old : Resource) (client : ℕ) (e : Entry) (next : Queued) (rest : List Queued) → 1 ≤ old.state.nodes → Holds old client e → old.queue ≡ next ∷ rest → old.state.highest < greatest_number → Once (clients_of old)
     → (sends : List Message) × (marks : List Mark) × (new : Resource) × LeaveTurn old client sends marks new
 leave_to_next old client e next rest low holds queue left once =
-    let inside = held_inside old.state old.state.phase old.client e holds.granted in
-    let request = possible_request (left_state old.state) next.mode low refl left in (
-      replies_of old.state ++ requests_of (left_state old.state) next.mode,
-      Left e ∷ request_marks request.0 (next_entry old next.client next.mode),
-      record { state = request.1; client = Some next.client; queue = rest },
+    let request = possible_request (left_state old.state) next.mode low refl left in
+    let requests = requests_of (left_state old.state) next.mode in
+    let asked = request_marks request.0 (next_entry old next.client next.mode) in
+    let new : Resource = record { state = request.1; client = Some next.client; queue = rest } in
+    let asks : AsksAtOnce (record (left_resource old) { queue = rest }) next.client next.mode requests asked new = record { entered = request.0; step = request.2; marks_are = refl; client_is = refl; queue_is = refl } in (
+      replies_of old.state ++ requests,
+      Left e ∷ asked,
+      new,
       inr (record {
         entry = e;
-        holds = holds;
+        between = left_resource old;
+        replies = replies_of old.state;
+        leaves = possible_leaves old client e holds;
         next = next;
+        rest = rest;
         queue_was = queue;
-        may = next_may_ask old next rest queue left once;
-        entered = request.0;
-        step = record {
-          between = left_state old.state;
-          replies = replies_of old.state;
-          requests = requests_of (left_state old.state) next.mode;
-          leaves = possible_leave old.state inside.0 inside.1 inside.2;
-          asks = request.2;
-          sends_are = refl;
-        };
+        requests = requests;
+        asked = asked;
+        may = next_may_ask old (left_resource old) next rest queue refl left once;
+        asks = asks;
+        sends_are = refl;
         marks_are = refl;
-        client_is = refl;
       }),
     )
 
@@ -137,22 +134,22 @@ possible_leave_turn : (old : Resource) (client : ℕ) (e : Entry) → 1 ≤ old.
 possible_leave_turn old client e low once holds =
     elim (empty_or_not old.queue) [
       | inl none ↦ leave_to_nobody old client e holds (inl none)
-      | inr some ↦ elim (cases_lt old.state.highest last_number) [
+      | inr some ↦ elim (cases_lt old.state.highest greatest_number) [
         | inl left ↦ leave_to_next old client e some.0 some.1 low holds some.2 left once
         | inr last ↦ leave_to_nobody old client e holds (inr last)
       ]
     ]
 
-pub leave_is_possible : (old : NodeState) (client : ℕ) (name : List ℕ) → IsConsistentNode old → (entry : Entry) × Holds (resource_at old name) client entry → Allows old (Leave client name)
+pub leave_is_possible : (old : NodeState) (client : ℕ) (name : List ℕ) → IsConsistentNode old → (entry : Entry) × Holds (resource_at old name) client entry → AllowsEvent old (Leave client name)
 leave_is_possible old client name h held =
     let turn = possible_leave_turn (resource_at old name) client held.0 (h.each name).state.count.0 (h.each name).once held.1 in
     (turn.0, turn.1, with_resource old name turn.2, record { resource = turn.2; turn = turn.3; new_is = refl })
 
-pub leave_was_allowed : (old : NodeState) (client : ℕ) (name : List ℕ) → Allows old (Leave client name) → (entry : Entry) × Holds (resource_at old name) client entry
+pub leave_was_allowed : (old : NodeState) (client : ℕ) (name : List ℕ) → AllowsEvent old (Leave client name) → (entry : Entry) × Holds (resource_at old name) client entry
 leave_was_allowed old client name event =
     elim event.3.turn [
-      | inl x ↦ (x.entry, x.holds)
-      | inr x ↦ (x.entry, x.holds)
+      | inl x ↦ (x.entry, x.leaves.holds)
+      | inr x ↦ (x.entry, x.leaves.holds)
     ]
 
 -- ---- Receiving
@@ -195,9 +192,6 @@ own_decided Idle me other number wanted = inr (λ e. e)
 own_decided (Waiting seq mode) me other number wanted = first_decided me seq mode other number wanted
 own_decided (Inside seq mode) me other number wanted = first_decided me seq mode other number wanted
 
-same_or_not : (a b : ℕ) → (a ≡ b) ⊎ (a ≢ b)
-same_or_not a b = grind (arith, nat_tests)
-
 abbrev number_in : Phase → ℕ
 number_in Idle = 0
 number_in (Waiting seq mode) = seq
@@ -207,7 +201,7 @@ waits_decided : (phase : Phase) (number : ℕ) → ((mode : Mode) × (phase ≡ 
 waits_decided Idle number = inr (λ mode e. cc)
 waits_decided (Inside seq mode) number = inr (λ m e. cc)
 waits_decided (Waiting seq mode) number =
-    elim (same_or_not seq number) [
+    elim (cases_eq seq number) [
       | inl same ↦ inl (mode, ap (λ (k : ℕ). Waiting k mode) same)
       | inr apart ↦ inr (λ m e. apart (ap number_in e))
     ]
@@ -224,7 +218,7 @@ awaits_decided s other number =
 
 empty_decided : (s : set.FinSet nat_cmp) → IsDecided (s ≡ set.empty)
 empty_decided s =
-    elim (same_or_not (set.len s) 0) [
+    elim (cases_eq (set.len s) 0) [
       | inl none ↦ inl (set.empty_of_len s none)
       | inr some ↦ inr (λ e. some (ap (λ (x : set.FinSet nat_cmp). set.len x) e ∙ set.len-empty nat_cmp))
     ]
@@ -251,7 +245,7 @@ possible_receive s (Reply from to name seq) =
 
 -- where a message lets a node enter, the node waited, and so it has a client
 entered_holds : (old : State) (message : Message) (sends : List Message) (new : State) (client : Option ℕ) → ReceiveStep old message sends true new → ClientFits old.phase client
-    → (e : Entry) × (holder_in new new.phase client ≡ Some e)
+    → (e : Entry) × (granted_in (use_in new new.phase client) ≡ Some e)
 entered_holds old (Request from to name mode seq) sends new client step fits = absurd (false≢true (sym step.0))
 entered_holds old (Reply from to name seq) sends new client step fits =
     elim step.1 [
@@ -259,12 +253,12 @@ entered_holds old (Reply from to name seq) sends new client step fits =
       | inr awaited ↦ elim awaited.1 [
         | inl enters ↦
             let some : IsSome client = subst (λ (p : Phase). ClientFits p client) enters.awaits.waits fits in
-            subst (λ (s : State). (e : Entry) × (holder_in s s.phase client ≡ Some e)) (sym enters.new_is) (granted (record old { phase = Inside seq awaited.0; awaited = set.empty }) seq awaited.0 client some)
+            subst (λ (s : State). (e : Entry) × (granted_in (use_in s s.phase client) ≡ Some e)) (sym enters.new_is) (granted (record old { phase = Inside seq awaited.0; awaited = set.empty }) seq awaited.0 client some)
         | inr waits ↦ absurd (false≢true (sym waits.entered_is))
       ]
     ]
   where
-    granted : (s : State) (seq : ℕ) (mode : Mode) (client : Option ℕ) → IsSome client → (e : Entry) × (holder_in s (Inside seq mode) client ≡ Some e)
+    granted : (s : State) (seq : ℕ) (mode : Mode) (client : Option ℕ) → IsSome client → (e : Entry) × (granted_in (use_in s (Inside seq mode) client) ≡ Some e)
     granted s seq mode None some = absurd (false≢true some)
     granted s seq mode (Some c) some = (_, refl)
 
@@ -272,7 +266,7 @@ marks_of_entry : (entered : Bool) (new : Resource) → (entered ≡ true → (e 
 marks_of_entry false new held = ([], refl)
 marks_of_entry true new held = let e = held refl in (Entered e.0 ∷ [], (e.0, e.1, refl))
 
-pub receive_is_possible : (old : NodeState) (message : Message) → IsConsistentNode old → Allows old (Receive message)
+pub receive_is_possible : (old : NodeState) (message : Message) → IsConsistentNode old → AllowsEvent old (Receive message)
 receive_is_possible old message h =
     let name = name_of message in
     let r = resource_at old name in

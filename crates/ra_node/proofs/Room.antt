@@ -1,8 +1,7 @@
 -- How many messages and marks a turn can make.
-use Rattle.std.proofs.Common.{◌≡◌, ℕ, zero, suc, ◌+◌, ◌-◌, ◌*◌, ◌<◌, ◌≤◌, Bool, true, false, cond, not, T, List, [], ◌∷◌, ◌++◌, All, length, map, filter, refl, sym, ap, ◌∙◌, subst, arith, inl, inr}
+use Rattle.std.proofs.Common.{◌≡◌, ℕ, suc, ◌+◌, ◌-◌, ◌*◌, ◌<◌, ◌≤◌, Bool, true, false, cond, not, T, List, [], ◌∷◌, All, length, filter, refl, sym, subst, arith, inl, inr}
 use Rattle.std.specs.Prelude.{◌==◌}
 use Rattle.std.specs.List.{range_with_len}
-use Rattle.std.specs.declared.cmp.Ordering.{Ordering}
 use Rattle.std.specs.declared.cmp.Ordering.TheVariants.{Less, Equal, Greater}
 use Rattle.std.specs.Ordering.{nat_cmp, is_lt}
 use Rattle.std.specs.Cmp.{ranked}
@@ -13,16 +12,16 @@ use Rattle.std.proofs.lemmas.List.Elements.{All-nil, All-cons, All-head, All-tai
 use Rattle.std.proofs.lemmas.List.FromFn.{length-range_with_len}
 use Rattle.ra_stamp.specs.declared.entry.Entry.{Entry}
 use Rattle.ra_stamp.specs.declared.entry.Mark.{Mark}
-use Rattle.ra_stamp.specs.declared.entry.Mark.TheVariants.{Left}
 use Rattle.ra_stamp.specs.declared.message.Message.{Message}
 use Rattle.ra_stamp.specs.declared.message.Message.TheVariants.{Request, Reply}
 use Rattle.ra_stamp.specs.declared.mode.Mode.{Mode}
 use Rattle.ra_automaton.specs.State.{State, IsOther, IsConsistent}
 use Rattle.ra_automaton.specs.Steps.{others_of, RequestStep, LeaveStep, ReceiveStep}
 use Rattle.ra_node.specs.Resource.{Resource}
-use Rattle.ra_node.specs.Turns.{request_marks, next_entry, EntersBy, AskTurn, LeaveTurn, ReceiveTurn}
+use Rattle.ra_node.specs.Turns.{request_marks, next_entry, EntersBy, AsksAtOnce, AskTurn, LeaveTurn, ReceiveTurn}
 use Rattle.ra_node.proofs.Kept.{leave_keeps}
-use Rattle.ra_node.proofs.Sends.{true_of, all_deferred}
+use Rattle.ra_node.specs.Lookups.{true_of}
+use Rattle.ra_node.proofs.Sends.{all_deferred}
 
 filter_is_shorter : (p : ℕ → Bool) (xs : List ℕ) → length (filter p xs) ≤ length xs
 filter_is_shorter p [] = omega arith
@@ -79,10 +78,14 @@ request_marks_room : (entered : Bool) (e : Entry) → length (request_marks ente
 request_marks_room false e = omega arith
 request_marks_room true e = omega arith
 
+asks_room : (old : Resource) (client : ℕ) (mode : Mode) (sends : List Message) (marks : List Mark) (new : Resource) → AsksAtOnce old client mode sends marks new → (length sends ≤ old.state.nodes) × (length marks ≤ 2)
+asks_room old client mode sends marks new asks =
+    (request_room old.state mode sends asks.entered new.state asks.step, subst (λ (ms : List Mark). length ms ≤ 2) (sym asks.marks_are) (request_marks_room asks.entered (next_entry old client mode)))
+
 pub ask_room : (old : Resource) (client : ℕ) (mode : Mode) (sends : List Message) (marks : List Mark) (new : Resource) → AskTurn old client mode sends marks new → (length sends ≤ old.state.nodes) × (length marks ≤ 2)
 ask_room old client mode sends marks new turn =
     elim turn.1 [
-      | inl asks ↦ (request_room old.state mode sends asks.entered new.state asks.step, subst (λ (ms : List Mark). length ms ≤ 2) (sym asks.marks_are) (request_marks_room asks.entered (next_entry old client mode)))
+      | inl asks ↦ asks_room old client mode sends marks new asks
       | inr queues ↦ (subst (λ (ms : List Message). length ms ≤ old.state.nodes) (sym queues.sends_are) (omega arith), subst (λ (ms : List Mark). length ms ≤ 2) (sym queues.marks_are) (omega arith))
     ]
 
@@ -90,17 +93,16 @@ pub leave_turn_room : (old : Resource) (client : ℕ) (sends : List Message) (ma
     → (length sends ≤ 2 * old.state.nodes) × (length marks ≤ 3)
 leave_turn_room old client sends marks new h turn =
     elim turn [
-      | inl leaves ↦
-          let replies = leave_room old.state sends new.state h leaves.step in
-          (omega (arith, replies), subst (λ (ms : List Mark). length ms ≤ 3) (sym leaves.marks_are) (omega arith))
+      | inl nobody ↦
+          let replies = leave_room old.state sends new.state h nobody.leaves.step in
+          (omega (arith, replies), subst (λ (ms : List Mark). length ms ≤ 3) (sym nobody.marks_are) (omega arith))
       | inr hands ↦
-          let step = hands.step in
-          let replies = leave_room old.state step.replies step.between h step.leaves in
-          let requests = request_room step.between hands.next.mode step.requests hands.entered new.state step.asks in
-          let nodes = (leave_keeps old.state step.replies step.between step.leaves).nodes_is in
-          let marked = request_marks_room hands.entered (next_entry old hands.next.client hands.next.mode) in (
-            subst (λ (ms : List Message). length ms ≤ 2 * old.state.nodes) (sym step.sends_are) (omega (arith, length-append step.replies step.requests, replies, requests, nodes)),
-            subst (λ (ms : List Mark). length ms ≤ 3) (sym hands.marks_are) (omega (arith, marked)),
+          let step = hands.leaves.step in
+          let replies = leave_room old.state hands.replies hands.between.state h step in
+          let asked = asks_room (record hands.between { queue = hands.rest }) hands.next.client hands.next.mode hands.requests hands.asked new hands.asks in
+          let nodes = (leave_keeps old.state hands.replies hands.between.state step).nodes_is in (
+            subst (λ (ms : List Message). length ms ≤ 2 * old.state.nodes) (sym hands.sends_are) (omega (arith, length-append hands.replies hands.requests, replies, asked.0, nodes)),
+            subst (λ (ms : List Mark). length ms ≤ 3) (sym hands.marks_are) (omega (arith, asked.1)),
           )
     ]
 

@@ -1,21 +1,21 @@
 -- Whom the messages of an automaton's steps are for.
-use Rattle.std.proofs.Common.{◌≡◌, ◌≢◌, ℕ, zero, suc, ◌+◌, ◌<◌, ◌≤◌, Bool, true, false, cond, not, ◌&&◌, T, List, [], ◌∷◌, ◌++◌, All, get_or, map, filter, Option, Some, refl, sym, ap, ◌∙◌, subst, arith, inl, inr}
+use Rattle.std.proofs.Common.{◌≡◌, ◌≢◌, ℕ, zero, suc, ◌+◌, ◌<◌, ◌≤◌, Bool, true, false, cond, not, T, List, [], ◌∷◌, All, get_or, map, filter, Some, refl, sym, ap, ◌∙◌, subst, arith, inl, inr}
 use Rattle.std.specs.Prelude.{◌==◌}
 use Rattle.std.specs.List.{range_with_len}
 use Rattle.std.specs.Ordering.{nat_cmp, eq_by_cmp, is_eq, is_lt}
 use Rattle.std.specs.declared.cmp.Ordering.{Ordering}
-use Rattle.std.specs.declared.cmp.Ordering.TheVariants.{Less, Equal, Greater}
-use Rattle.std.specs.Cmp.{nat_cmp_total, tied_itself}
+use Rattle.std.specs.Cmp.{nat_cmp_total, tied_itself, Equal-is}
 use Rattle.std.specs.FinMap as finmap
 use Rattle.std.specs.FinMap.Entries.{find, is_sorted, below_all}
-use Rattle.std.proofs.lemmas.List.Elements.{All-nil, All-cons, All-map, All-append, All-weaker}
+use Rattle.std.proofs.lemmas.List.Elements.{All-nil, All-cons, All-map, All-weaker}
 use Rattle.std.proofs.lemmas.Bool.Decides.{nat_tests}
 use Rattle.ra_stamp.specs.declared.message.Message.{Message}
 use Rattle.ra_stamp.specs.declared.message.Message.TheVariants.{Request, Reply}
-use Rattle.ra_stamp.specs.Message.{from_of, seq_of}
+use Rattle.ra_stamp.specs.Message.{seq_of}
 use Rattle.ra_automaton.specs.State.{State, IsOther, IsAddressed, IsConsistent}
-use Rattle.ra_automaton.specs.Steps.{others_of, RequestStep, LeaveStep, ReceiveStep}
+use Rattle.ra_automaton.specs.Steps.{others_of, ReceiveStep}
 use Rattle.ra_node.specs.Carried.{IsSend}
+use Rattle.ra_node.specs.Lookups.{true_of}
 
 -- a message of this node about this resource, with a number
 abbrev pub IsNumberedSend : State → Message → Type 0
@@ -51,22 +51,12 @@ requests_are_sends s mode number low =
 
 -- ---- The deferred nodes
 
-pub true_of : (a b : Bool) → T (a && b) → T a × T b
-true_of true true t = (tt, tt)
-true_of true false t = absurd t
-true_of false b t = absurd t
-
 not_tied : (a b : ℕ) → T (is_lt (nat_cmp a b)) → eq_by_cmp nat_cmp b a ≡ false
 not_tied a b lt =
     elim (eq_by_cmp nat_cmp b a) as (λ t. eq_by_cmp nat_cmp b a ≡ t → t ≡ false) [
-      | true ↦ λ e. absurd (subst (λ (r : Ordering). T (is_lt r)) (ap (nat_cmp a) (finmap.nat_cmp-IsAntisymmetric b a (equal_of (nat_cmp b a) e)) ∙ tied_itself nat_cmp_total a) lt)
+      | true ↦ λ e. absurd (subst (λ (r : Ordering). T (is_lt r)) (ap (nat_cmp a) (finmap.nat_cmp-IsAntisymmetric b a ((Equal-is (nat_cmp b a)).0 e)) ∙ tied_itself nat_cmp_total a) lt)
       | false ↦ λ _. refl
     ] refl
-  where
-    equal_of : (r : Ordering) → is_eq r ≡ true → r ≡ Equal
-    equal_of Less e = absurd cc
-    equal_of Equal e = refl
-    equal_of Greater e = absurd cc
 
 all_above : (k : ℕ) (es : List (ℕ × ℕ)) → T (below_all nat_cmp k es) → All (λ e. eq_by_cmp nat_cmp e.0 k ≡ false) es
 all_above k [] t = All-nil (λ e. eq_by_cmp nat_cmp e.0 k ≡ false)

@@ -1,5 +1,5 @@
 -- What those who carry a node's messages and marks know of them.
-use Rattle.std.specs.Prelude.{◌≡◌, ℕ, ◌≤◌, List, [], ◌∷◌}
+use Rattle.std.specs.Prelude.{◌≡◌, ℕ, ◌*◌, ◌≤◌, List, [], ◌∷◌}
 use Rattle.ra_stamp.specs.declared.entry.Entry.{Entry}
 use Rattle.ra_stamp.specs.declared.entry.Mark.{Mark}
 use Rattle.ra_stamp.specs.declared.entry.Mark.TheVariants.{Requested, Entered, Left}
@@ -7,7 +7,9 @@ use Rattle.ra_stamp.specs.declared.message.Message.{Message}
 use Rattle.ra_stamp.specs.Message.{from_of, to_of, name_of}
 use Rattle.ra_automaton.specs.State.{IsOtherNode}
 use Rattle.ra_node.specs.Resource.{Use}
-use Rattle.ra_node.specs.Resource.Use.{Nobody, Waits, IsGranted}
+use Rattle.ra_node.specs.Resource.Use.{Nobody, WaitsBy, HoldsBy}
+use Rattle.ra_node.specs.Events.{Event}
+use Rattle.ra_node.specs.Events.Event.{Ask, Leave, Receive}
 
 -- a message that a node sends about a resource: it is from this node, and for another one
 pub record IsSend (me nodes : ℕ) (name : List ℕ) (message : Message) : Type 0 where
@@ -27,10 +29,22 @@ pub record IsMark (me : ℕ) (name : List ℕ) (mark : Mark) : Type 0 where
   pub name_is : (entry_in mark).name ≡ name
   pub numbered : 1 ≤ (entry_in mark).stamp.seq
 
+-- what an event sends at most, at one of so many nodes
+abbrev pub sends_at_most : ℕ → Event → ℕ
+sends_at_most nodes (Ask client name mode) = nodes
+sends_at_most nodes (Leave client name) = 2 * nodes
+sends_at_most nodes (Receive message) = 1
+
+-- how many marks it makes at most
+abbrev pub marks_at_most : Event → ℕ
+marks_at_most (Ask client name mode) = 2
+marks_at_most (Leave client name) = 3
+marks_at_most (Receive message) = 1
+
 -- the marks lead from one use of a resource to another: a node has at most one request on a name at a time, which waits
 -- once it is made, is granted once it enters, and is gone once it leaves
 abbrev pub MarksLead : Use → List Mark → Use → Type 0
 MarksLead before [] after = after ≡ before
-MarksLead before (Requested e ∷ marks) after = (before ≡ Nobody) × MarksLead (Waits e) marks after
-MarksLead before (Entered e ∷ marks) after = (before ≡ Waits e) × MarksLead (IsGranted e) marks after
-MarksLead before (Left e ∷ marks) after = (before ≡ IsGranted e) × MarksLead Nobody marks after
+MarksLead before (Requested e ∷ marks) after = (before ≡ Nobody) × MarksLead (WaitsBy e) marks after
+MarksLead before (Entered e ∷ marks) after = (before ≡ WaitsBy e) × MarksLead (HoldsBy e) marks after
+MarksLead before (Left e ∷ marks) after = (before ≡ HoldsBy e) × MarksLead Nobody marks after

@@ -1,5 +1,5 @@
 -- The events of a node. Each is a turn at one resource, and the other resources stay.
-use Rattle.std.specs.Prelude.{◌≡◌, ℕ, List, [], ◌∷◌}
+use Rattle.std.specs.Prelude.{◌≡◌, ℕ, List, [], ◌∷◌, All}
 use Rattle.ra_stamp.specs.declared.entry.Mark.{Mark}
 use Rattle.ra_stamp.specs.declared.message.Message.{Message}
 use Rattle.ra_stamp.specs.declared.mode.Mode.{Mode}
@@ -51,8 +51,8 @@ IsForThisNode n (Leave client name) = Unit {0}
 IsForThisNode n (Receive message) = IsForNode n.me n.nodes message
 
 -- some event of this kind is possible
-abbrev pub Allows : NodeState → Event → Type 0
-Allows old event = (sends : List Message) × (marks : List Mark) × (new : NodeState) × NodeEvent old event sends marks new
+abbrev pub AllowsEvent : NodeState → Event → Type 0
+AllowsEvent old event = (sends : List Message) × (marks : List Mark) × (new : NodeState) × NodeEvent old event sends marks new
 
 -- an event, and what came of it: the messages that it sent and its marks
 pub record Happening : Type 0 where
@@ -60,7 +60,11 @@ pub record Happening : Type 0 where
   pub sends : List Message
   pub marks : List Mark
 
+-- each of these events is one of this node
+abbrev pub AreForThisNode : NodeState → List Happening → Type 0
+AreForThisNode n happened = All (λ h. IsForThisNode n h.event) happened
+
 -- from one state of a node to another by these events, in order
-abbrev pub Events : NodeState → List Happening → NodeState → Type 0
-Events old [] new = new ≡ old
-Events old (h ∷ hs) new = (next : NodeState) × NodeEvent old h.event h.sends h.marks next × Events next hs new
+abbrev pub NodeEvents : NodeState → List Happening → NodeState → Type 0
+NodeEvents old [] new = new ≡ old
+NodeEvents old (h ∷ hs) new = (next : NodeState) × NodeEvent old h.event h.sends h.marks next × NodeEvents next hs new

@@ -1,6 +1,9 @@
+pub mod Faults
 pub mod Resource
 pub mod Turns
 pub mod Node
 pub mod Events
 pub mod Carried
 pub mod View
+pub mod Lookups
+pub mod Handed

@@ -1,5 +1,5 @@
 -- A node: its resources by their names.
-use Rattle.std.specs.Prelude.{◌≡◌, ℕ, ◌≤◌, List, Option, Some, None, unwrap_or, length, sum_by, refl}
+use Rattle.std.specs.Prelude.{ℕ, ◌≤◌, List, unwrap_or, length, sum_by, refl}
 use Rattle.std.specs.Coded.{Coded, code_by, coded×, coded_ℕ, coded_list}
 use Rattle.std.specs.Ordering.{nat_cmp}
 use Rattle.std.specs.Cmp.Lexicographic.{slice_cmp}

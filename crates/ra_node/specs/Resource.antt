@@ -1,12 +1,12 @@
 -- One resource at one node: what the algorithm keeps of it, and the clients of the node that use it.
-use Rattle.std.specs.Prelude.{◌≡◌, ◌≢◌, ℕ, ◌≤◌, List, [], ◌++◌, map, Option, Some, None, option_map, option_to_list, AllPairs, Contains, IsSome, refl}
+use Rattle.std.specs.Prelude.{◌≡◌, ◌≢◌, ℕ, ◌≤◌, List, [], ◌++◌, map, Option, Some, None, option_to_list, AllPairs, Contains, IsSome, refl}
 use Rattle.std.specs.Coded.{Coded, code_by, coded×, coded_ℕ, coded_list, coded_option}
 use Rattle.ra_stamp.specs.declared.entry.Entry.{Entry}
 use Rattle.ra_stamp.specs.declared.mode.Mode.{Mode}
 use Rattle.ra_automaton.specs.declared.phase.Phase.{Phase}
 use Rattle.ra_automaton.specs.declared.phase.Phase.TheVariants.{Idle, Waiting, Inside}
 use Rattle.ra_automaton.specs.State.{State, IsConsistent, opening}
-use Rattle.ra_automaton.specs.Steps.{last_number}
+use Rattle.ra_automaton.specs.Steps.{greatest_number}
 use Rattle.ra_node.specs.declared.queued.Queued.{Queued}
 
 -- the automaton's state, the current client, whose request waits or is granted, and the clients that queue, the first
@@ -24,29 +24,30 @@ unmet me nodes name start = record { state = opening me nodes name start; client
 abbrev pub entry_of : ℕ → List ℕ → ℕ → ℕ → Mode → Entry
 entry_of me name seq client mode = record { name = name; stamp = record { seq = seq; node = me }; client = client; mode = mode }
 
-abbrev pub holder_in : State → Phase → Option ℕ → Option Entry
-holder_in s Idle client = None
-holder_in s (Waiting seq mode) client = None
-holder_in s (Inside seq mode) client = option_map (λ c. entry_of s.me s.name seq c mode) client
-
--- the request that is granted here
-abbrev pub holder_of : Resource → Option Entry
-holder_of r = holder_in r.state r.state.phase r.client
-
 -- what the node's clients make of a resource: nothing, or one request, which waits or is granted
 pub data Use : Type 0 where
   Nobody : Use
-  Waits : (entry : Entry) → Use
-  IsGranted : (entry : Entry) → Use
+  WaitsBy : (entry : Entry) → Use
+  HoldsBy : (entry : Entry) → Use
 
 abbrev pub use_in : State → Phase → Option ℕ → Use
 use_in s phase None = Nobody
 use_in s Idle (Some client) = Nobody
-use_in s (Waiting seq mode) (Some client) = Waits (entry_of s.me s.name seq client mode)
-use_in s (Inside seq mode) (Some client) = IsGranted (entry_of s.me s.name seq client mode)
+use_in s (Waiting seq mode) (Some client) = WaitsBy (entry_of s.me s.name seq client mode)
+use_in s (Inside seq mode) (Some client) = HoldsBy (entry_of s.me s.name seq client mode)
 
+-- what they make of it now
 abbrev pub use_of : Resource → Use
 use_of r = use_in r.state r.state.phase r.client
+
+abbrev pub granted_in : Use → Option Entry
+granted_in Nobody = None
+granted_in (WaitsBy e) = None
+granted_in (HoldsBy e) = Some e
+
+-- the request that is granted here
+abbrev pub holder_of : Resource → Option Entry
+holder_of r = granted_in (use_of r)
 
 -- the client holds the resource, by this request
 pub record Holds (r : Resource) (client : ℕ) (entry : Entry) : Type 0 where
@@ -87,7 +88,7 @@ pub record IsConsistentResource (me nodes : ℕ) (name : List ℕ) (start : ℕ)
   -- no client stands here twice
   pub once : AllPairs (λ a b. a ≢ b) (clients_of r)
   -- clients queue at an idle node only where no number is left
-  pub queue_stays : r.state.phase ≡ Idle → r.queue ≢ [] → last_number ≤ r.state.highest
+  pub queue_stays : r.state.phase ≡ Idle → r.queue ≢ [] → greatest_number ≤ r.state.highest
 
 -- a resource is stored as its fields
 abbrev pub resource_code : Coded State → Coded Queued → Coded Resource

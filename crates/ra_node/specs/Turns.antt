@@ -8,9 +8,8 @@ use Rattle.ra_stamp.specs.declared.entry.Mark.TheVariants.{Requested, Entered, L
 use Rattle.ra_stamp.specs.declared.message.Message.{Message}
 use Rattle.ra_stamp.specs.declared.mode.Mode.{Mode}
 use Rattle.ra_automaton.specs.declared.phase.Phase.TheVariants.{Idle}
-use Rattle.ra_automaton.specs.State.{State}
 use Rattle.ra_automaton.specs.Steps as automaton
-use Rattle.ra_automaton.specs.Steps.{last_number}
+use Rattle.ra_automaton.specs.Steps.{greatest_number}
 use Rattle.ra_node.specs.declared.queued.Queued.{Queued}
 use Rattle.ra_node.specs.Resource.{Resource, entry_of, holder_of, Holds, IsBusy}
 
@@ -28,7 +27,7 @@ next_entry r client mode = entry_of r.state.me r.state.name (r.state.highest + 1
 -- the client neither waits, nor is queued, nor holds here, and a number is left
 pub record MayAsk (r : Resource) (client : ℕ) : Type 0 where
   pub not_busy : IsBusy r client → ⊥
-  pub number_left : r.state.highest < last_number
+  pub number_left : r.state.highest < greatest_number
 
 -- where the node is idle its request is made at once
 pub record AsksAtOnce (old : Resource) (client : ℕ) (mode : Mode) (sends : List Message) (marks : List Mark) (new : Resource) : Type 0 where
@@ -51,28 +50,35 @@ AskTurn old client mode sends marks new =
 
 -- ---- The client that holds leaves.
 
--- no client queues, or no number is left for it: nobody is next
-pub record LeavesToNobody (old : Resource) (client : ℕ) (sends : List Message) (marks : List Mark) (new : Resource) : Type 0 where
-  pub entry : Entry
+-- its request is given back, each deferred REPLY goes out, and nobody uses the resource
+pub record Leaves (old : Resource) (client : ℕ) (entry : Entry) (sends : List Message) (new : Resource) : Type 0 where
   pub holds : Holds old client entry
-  pub nobody : (old.queue ≡ []) ⊎ (last_number ≤ old.state.highest)
   pub step : automaton.LeaveStep old.state sends new.state
-  pub marks_are : marks ≡ Left entry ∷ []
   pub client_is : new.client ≡ None
   pub queue_is : new.queue ≡ old.queue
 
--- the first client of the queue asks in the same event, after the deferred REPLYs
+-- no client queues, or no number is left for it: nobody is next
+pub record LeavesToNobody (old : Resource) (client : ℕ) (sends : List Message) (marks : List Mark) (new : Resource) : Type 0 where
+  pub entry : Entry
+  pub leaves : Leaves old client entry sends new
+  pub nobody : (old.queue ≡ []) ⊎ (greatest_number ≤ old.state.highest)
+  pub marks_are : marks ≡ Left entry ∷ []
+
+-- the first client of the queue, once it is out of it, asks in the same event: the REPLYs come before its REQUESTs
 pub record LeavesToNext (old : Resource) (client : ℕ) (sends : List Message) (marks : List Mark) (new : Resource) : Type 0 where
   pub entry : Entry
-  pub holds : Holds old client entry
+  pub between : Resource
+  pub replies : List Message
+  pub leaves : Leaves old client entry replies between
   pub next : Queued
-  pub queue_was : old.queue ≡ next ∷ new.queue
-  -- it may ask, once it is out of the queue and nobody holds
-  pub may : MayAsk (record old { client = None; queue = new.queue }) next.client
-  pub entered : Bool
-  pub step : automaton.LeaveAndRequestStep old.state next.mode sends entered new.state
-  pub marks_are : marks ≡ Left entry ∷ request_marks entered (next_entry old next.client next.mode)
-  pub client_is : new.client ≡ Some next.client
+  pub rest : List Queued
+  pub queue_was : old.queue ≡ next ∷ rest
+  pub requests : List Message
+  pub asked : List Mark
+  pub may : MayAsk (record between { queue = rest }) next.client
+  pub asks : AsksAtOnce (record between { queue = rest }) next.client next.mode requests asked new
+  pub sends_are : sends ≡ replies ++ requests
+  pub marks_are : marks ≡ Left entry ∷ asked
 
 abbrev pub LeaveTurn : Resource → ℕ → List Message → List Mark → Resource → Type 0
 LeaveTurn old client sends marks new =

@@ -10,8 +10,8 @@ ghost use Rattle.ra_stamp.specs.NodeId.{IsNodeNumber};
 ghost use Rattle.ra_node.specs.Resource.{Holds, use_of};
 ghost use Rattle.ra_node.specs.Turns.{MayAsk};
 ghost use Rattle.ra_node.specs.Node.{NodeState, opening_node, resource_at, IsConsistentNode};
-ghost use Rattle.ra_node.specs.Events.{Event, Happening, name_of_event, NodeEvent, Events, Allows, IsForThisNode};
-ghost use Rattle.ra_node.specs.Carried.{IsSend, IsMark, MarksLead};
+ghost use Rattle.ra_node.specs.Events.{Event, Happening, name_of_event, NodeEvent, NodeEvents, AllowsEvent, IsForThisNode, AreForThisNode};
+ghost use Rattle.ra_node.specs.Carried.{IsSend, IsMark, MarksLead, sends_at_most, marks_at_most};
 
 use ra_automaton::steps_keep_a_state_consistent;
 
@@ -31,14 +31,16 @@ pub fn events_leave_other_names()
 {}
 
 /// A node that has met nothing is consistent, and each event of a node leads from a consistent node to one. What the
-/// event sends goes from this node to another one, and has a number, if the message that came has one; its marks are of
-/// this node. Both are about the event's name, and they are few. The marks lead from one use of the name to the next, so
-/// that a node has at most one request on a name.
+/// event sends goes from this node to another one, and has a number, if the message that came has one: what is sent at a
+/// message has the number of that message. Its marks are of this node. Both are about the event's name, and they are few,
+/// so a caller can make room for them before the event. The marks lead from one use of the name to the next, so that a
+/// node has at most one request on a name.
 pub fn events_keep_a_node_consistent()
     ensures opening { (me nodes start : ℕ) → IsNodeNumber nodes → (1 ≤ me) × (me ≤ nodes)
         → IsConsistentNode (opening_node me nodes start) }
     ensures consistent { (old new : NodeState) (event : Event) (sends : List Message) (marks : List Mark)
-        → IsConsistentNode old → IsForThisNode old event → NodeEvent old event sends marks new → IsConsistentNode new }
+        → IsConsistentNode old → IsForThisNode old event → NodeEvent old event sends marks new
+        → IsConsistentNode new }
     ensures sends { (old new : NodeState) (event : Event) (sends : List Message) (marks : List Mark)
         → IsConsistentNode old → IsForThisNode old event → NodeEvent old event sends marks new
         → All (IsSend old.me old.nodes (name_of_event event)) sends }
@@ -46,12 +48,19 @@ pub fn events_keep_a_node_consistent()
         → IsConsistentNode old → IsForThisNode old event → NodeEvent old event sends marks new
         → ((message : Message) → event ≡ Event.Receive message → 1 ≤ seq_of message)
         → All (λ message. 1 ≤ seq_of message) sends }
+    ensures answers { (old new : NodeState) (message : Message) (sends : List Message) (marks : List Mark)
+        → IsConsistentNode old → IsForThisNode old (Event.Receive message)
+        → NodeEvent old (Event.Receive message) sends marks new
+        → All (λ sent. seq_of sent ≡ seq_of message) sends }
     ensures marks { (old new : NodeState) (event : Event) (sends : List Message) (marks : List Mark)
         → IsConsistentNode old → IsForThisNode old event → NodeEvent old event sends marks new
         → All (IsMark old.me (name_of_event event)) marks }
     ensures room { (old new : NodeState) (event : Event) (sends : List Message) (marks : List Mark)
         → IsConsistentNode old → NodeEvent old event sends marks new
         → (length sends ≤ 2 * old.nodes) × (length marks ≤ 3) }
+    ensures room_by_event { (old new : NodeState) (event : Event) (sends : List Message) (marks : List Mark)
+        → IsConsistentNode old → NodeEvent old event sends marks new
+        → (length sends ≤ sends_at_most old.nodes event) × (length marks ≤ marks_at_most event) }
     ensures one_request { (old new : NodeState) (event : Event) (sends : List Message) (marks : List Mark)
         → NodeEvent old event sends marks new
         → MarksLead (use_of (resource_at old (name_of_event event))) marks
@@ -60,13 +69,29 @@ pub fn events_keep_a_node_consistent()
     steps_keep_a_state_consistent();
 }
 
+/// Events of a node, one after the other, lead from a consistent node to one, and so do those of a node that had met
+/// nothing. Who the node is stays. That each is for this node may be said of the node as it was first.
+pub fn histories_keep_a_node_consistent()
+    ensures consistent { (old new : NodeState) (happened : List Happening)
+        → IsConsistentNode old → AreForThisNode old happened → NodeEvents old happened new
+        → IsConsistentNode new }
+    ensures from_opening { (me nodes start : ℕ) (new : NodeState) (happened : List Happening)
+        → IsNodeNumber nodes → (1 ≤ me) × (me ≤ nodes) → AreForThisNode (opening_node me nodes start) happened
+        → NodeEvents (opening_node me nodes start) happened new → IsConsistentNode new }
+    ensures node { (old new : NodeState) (happened : List Happening) → NodeEvents old happened new
+        → (new.me ≡ old.me) × (new.nodes ≡ old.nodes) × (new.start ≡ old.start) }
+{
+    events_keep_a_node_consistent();
+}
+
 /// A node's state and an event decide what is sent, what is marked and the state after it.
 pub fn events_are_determined()
-    ensures event { (old a b : NodeState) (event : Event) (sends sends' : List Message) (marks marks' : List Mark)
+    ensures event { (old a b : NodeState) (event : Event)
+        (sends sends' : List Message) (marks marks' : List Mark)
         → NodeEvent old event sends marks a → NodeEvent old event sends' marks' b
         → (sends ≡ sends') × (marks ≡ marks') × (a ≡ b) }
     ensures events { (old a b : NodeState) (happened : List Happening)
-        → Events old happened a → Events old happened b → a ≡ b }
+        → NodeEvents old happened a → NodeEvents old happened b → a ≡ b }
 {}
 
 /// Which events there are at a consistent node: a client may ask where it neither waits, nor is queued, nor holds, and a
@@ -74,21 +99,23 @@ pub fn events_are_determined()
 /// matter, of which `IsForThisNode` speaks.
 pub fn events_exist_where_they_are_allowed()
     ensures ask { (old : NodeState) (client : ℕ) (name : List ℕ) (mode : Mode) → IsConsistentNode old
-        → Allows old (Event.Ask client name mode) ↔ MayAsk (resource_at old name) client }
+        → AllowsEvent old (Event.Ask client name mode) ↔ MayAsk (resource_at old name) client }
     ensures leave { (old : NodeState) (client : ℕ) (name : List ℕ) → IsConsistentNode old
-        → Allows old (Event.Leave client name) ↔ ((entry : Entry) × Holds (resource_at old name) client entry) }
+        → AllowsEvent old (Event.Leave client name)
+        ↔ ((entry : Entry) × Holds (resource_at old name) client entry) }
     ensures receive { (old : NodeState) (message : Message)
-        → IsConsistentNode old → Allows old (Event.Receive message) }
+        → IsConsistentNode old → AllowsEvent old (Event.Receive message) }
 {}
 
-/// Events go on one by one, and each part of a list of events is one.
+/// Events go on one by one, and each part of a list of events is a list of events.
 pub fn events_go_on()
     ensures step { (happened : List Happening) (event : Event) (sends : List Message) (marks : List Mark)
         (a b c : NodeState)
-        → Events a happened b → NodeEvent b event sends marks c
-        → Events a (happened ++ record { event = event; sends = sends; marks = marks } ∷ []) c }
-    ensures joins { (front back : List Happening) (a b c : NodeState) → Events a front b → Events b back c
-        → Events a (front ++ back) c }
-    ensures splits { (front back : List Happening) (a c : NodeState) → Events a (front ++ back) c
-        → (b : NodeState) × Events a front b × Events b back c }
+        → NodeEvents a happened b → NodeEvent b event sends marks c
+        → NodeEvents a (happened ++ record { event = event; sends = sends; marks = marks } ∷ []) c }
+    ensures joins { (front back : List Happening) (a b c : NodeState)
+        → NodeEvents a front b → NodeEvents b back c
+        → NodeEvents a (front ++ back) c }
+    ensures splits { (front back : List Happening) (a c : NodeState) → NodeEvents a (front ++ back) c
+        → (b : NodeState) × NodeEvents a front b × NodeEvents b back c }
 {}

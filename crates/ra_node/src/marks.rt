@@ -25,7 +25,11 @@ pub fn push_request(marks: &mut Marks, entry: &Entry, entered: bool)
     }
 }
 
-/// An empty list of marks with room for some.
+/// Makes an empty list of marks with room for this many.
+///
+/// # Errors
+///
+/// `Memory`.
 pub fn marks_for(alloc: Global, room: u64) -> Result<Marks, Memory>
     ensures { IfOk result (λ marks. (marks.items ≡ []) × (room ≤ marks.spare)) }
 {

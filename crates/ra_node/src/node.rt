@@ -1,16 +1,20 @@
-ghost use Rattle.std.specs.Prelude.{◌≡◌, ◌≢◌, ◌*◌, ◌<◌, ◌≤◌, ◌⊎◌, ◌↔◌, None, length, slice_index_or, All, IsErrOf, IsOk, IsOkUnless, IfOk, OnErr, IfErr, IsNone, IfSome};
+ghost use Rattle.std.specs.Prelude.{◌≡◌, ◌≢◌, ◌<◌, ◌≤◌, ◌⊎◌, ◌↔◌, None, length, vec_len, vec_capacity, slice_index_or, All, IsErrOf, IsOk, IsOkUnless, IfOk, OnOk, OnErr, IfErr, IsNone, IfSome};
 ghost use Rattle.ra_node.specs.Resource.{Resource};
 
 use crate::slot::Slot;
 use crate::{AskError, LeaveError, NewError, Outcome, ReceiveError};
-use ra_stamp::{Entry, Message, Mode, Name, NodeId};
+use ra_stamp::{Entry, Memory, Message, Mode, Name, NodeId};
 use std::alloc::Global;
 use std::marker::Model;
 
 /// A node: many resources by their names, and the node's clients. Contracts see the map from names to resources.
 ///
-/// Each call but `new` takes time linear in the number of names that the node has met, and beside that what it says. A
-/// client is any number, which means nothing to another node.
+/// A client is any number, which means nothing to another node. A name that a client asked for or a message was about is
+/// kept for ever, since the highest number that the node has met on it must never fall.
+///
+/// Each call but `new` takes time linear in the number of names that the node has met, and beside that what it says.
+/// [`events_keep_a_node_consistent`](crate::events_keep_a_node_consistent) says more of what `ask`, `leave` and `receive`
+/// send and mark: to whom, with which numbers, how much at most, and that a node has at most one request on a name.
 #[derive(Debug, Drop)]
 pub struct Node {
     me: NodeId,
@@ -35,7 +39,7 @@ impl Model for Node {
     ghost invariant = { IsKept };
 }
 
-/// Where the slot of a name stands.
+/// Returns the index of the slot of a name, or `None` where there is none.
 fn place_of(slots: &[Slot], name: &Name) -> Option<usize>
     ensures absent { IsNone result → All (λ r. r.state.name ≢ name.now) slots.now }
     ensures found { IfSome result (λ place. (place < length slots.now)
@@ -44,26 +48,45 @@ fn place_of(slots: &[Slot], name: &Name) -> Option<usize>
     slots.iter().position(|slot| slot.name() == *name)
 }
 
+/// Makes room for one more slot.
+///
+/// # Errors
+///
+/// `Memory`: the room is as before.
+fn make_room(slots: &mut Vec<Slot>) -> Result<(), Memory>
+    ensures same { slots.new.items ≡ slots.old.items }
+    ensures room { OnOk result (vec_len slots.new < vec_capacity slots.new) }
+{
+    slots.reserve(1)?;
+    Ok(())
+}
+
 impl Node {
     ghost use Rattle.ra_stamp.specs.NodeId.{IsNodeNumber};
     ghost use Rattle.ra_automaton.specs.State.{IsForNode};
-    ghost use Rattle.ra_automaton.specs.Steps.{last_number};
+    ghost use Rattle.ra_automaton.specs.Steps.{greatest_number};
     ghost use Rattle.std.specs.FinMap as map;
-    ghost use Rattle.ra_stamp.specs.Message.{from_of, to_of, name_of, seq_of};
-    ghost use Rattle.ra_node.specs.Resource.{unmet, IsBusy, Holds, holder_of, use_of};
+    ghost use Rattle.ra_stamp.specs.Message.{from_of, to_of, name_of};
+    ghost use Rattle.ra_node.specs.Resource.{unmet, IsBusy, Holds, holder_of};
     ghost use Rattle.ra_node.specs.Turns.{MayAsk};
     ghost use Rattle.ra_node.specs.Node.{opening_node, resource_at, waiting_count, queued_count, IsConsistentNode};
     ghost use Rattle.ra_node.specs.Events.{AskEvent, LeaveEvent, ReceiveEvent};
-    ghost use Rattle.ra_node.specs.Carried.{IsSend, IsMark, MarksLead};
 
-    /// Node `me` of `nodes`, which has met nothing yet. The highest number of each resource begins at `start`, 0 to
-    /// 2^64-1. Errors, the first that holds: `BadCount`, `nodes` is not 1 to 16; `BadNode`, `me` is above `nodes`;
-    /// `Memory`.
+    /// Makes node `me` of `nodes`, which has met nothing yet. The highest number of each resource begins at `start`, 0 to
+    /// 2^64-1, which is to be the same at all nodes. It does not allocate until the first name comes.
+    ///
+    /// # Errors
+    ///
+    /// The first that holds:
+    ///
+    /// 1. `BadCount`: `nodes` is not 1 to 16.
+    /// 2. `BadNode`: `me` is above `nodes`.
     pub fn new(alloc: Global, me: NodeId, nodes: u16, start: u64) -> Result<Node, NewError>
         ensures ok { IfOk result (λ node. node ≡ opening_node me nodes start) }
         ensures consistent { IfOk result IsConsistentNode }
         ensures bad_count { IsErrOf result NewError.BadCount ↔ ((nodes < 1) ⊎ (16 < nodes)) }
         ensures bad_node { IsErrOf result NewError.BadNode ↔ (IsNodeNumber nodes × (nodes < me)) }
+        ensures no_memory { IsErrOf result NewError.Memory → ⊥ }
     {
         if NodeId::new(nodes).is_none() {
             return Err(NewError::BadCount);
@@ -79,11 +102,18 @@ impl Node {
         })
     }
 
-    /// A client asks for a name. Where no client of this node uses the name the request is made: a REQUEST to each other
-    /// node, and the mark Requested, with the mark Entered behind it where there is no other node. Else the client queues,
-    /// and nothing is sent or marked. Errors, the first that holds: `Busy`, the client waits, is queued or holds on that name
-    /// here; `Exhausted`, the highest number of the name is 2^64-1; `Memory`. The node is as before then. The cost is linear
-    /// in the number of nodes and in the length of the name's queue, too.
+    /// Asks for a name for a client. Where no client of this node uses the name the request is made: a REQUEST to each
+    /// other node, and the mark Requested, with the mark Entered behind it where there is no other node. Else the client
+    /// queues, and nothing is sent or marked. The cost is linear in the number of nodes and in the length of the name's
+    /// queue, too.
+    ///
+    /// # Errors
+    ///
+    /// The first that holds, after which the node is as before:
+    ///
+    /// 1. `Busy`: the client waits, is queued or holds on that name here.
+    /// 2. `Exhausted`: the highest number of the name is 2^64-1.
+    /// 3. `Memory`: nothing has changed, and the call can be made again.
     pub fn ask(
         &mut self,
         alloc: Global,
@@ -93,51 +123,39 @@ impl Node {
     ) -> Result<Outcome, AskError>
         ensures ok { IfOk result (λ outcome.
             AskEvent self.old client name mode outcome.sends.items outcome.marks.items self.new) }
-        ensures sends { IfOk result (λ outcome.
-            All (λ message. IsSend self.old.me self.old.nodes name message
-            × (1 ≤ seq_of message)) outcome.sends.items) }
-        ensures marks { IfOk result (λ outcome. All (IsMark self.old.me name) outcome.marks.items) }
-        ensures room { IfOk result (λ outcome.
-            (length outcome.sends.items ≤ self.old.nodes) × (length outcome.marks.items ≤ 2)) }
-        ensures one_request { IfOk result (λ outcome.
-            MarksLead (use_of (resource_at self.old name)) outcome.marks.items
-            (use_of (resource_at self.new name))) }
         ensures consistent { IsConsistentNode self.new }
         ensures busy { IsErrOf result AskError.Busy ↔ IsBusy (resource_at self.old name) client }
         ensures exhausted { IsErrOf result AskError.Exhausted
             ↔ ((IsBusy (resource_at self.old name) client → ⊥)
-            × ((resource_at self.old name).state.highest ≡ last_number)) }
+            × ((resource_at self.old name).state.highest ≡ greatest_number)) }
         // Memory is the one other error.
         ensures allowed { IsOkUnless result AskError.Memory ↔ MayAsk (resource_at self.old name) client }
         ensures err { OnErr result (self.new ≡ self.old) }
     {
         self.may_ask(client, &name)?;
-        let me = self.me;
         match place_of(&self.slots, &name) {
             Some(place) => {
                 let slot = &mut self.slots[place];
-                slot.ask(alloc, me, client, mode)
+                slot.ask(alloc, client, mode)
             }
             None => self.ask_first(alloc, client, name, mode),
         }
     }
 
-    /// The client that holds a name leaves it, and the first client of the name's queue asks in the same event, unless the
-    /// highest number of the name is 2^64-1. The deferred REPLYs come before its REQUESTs. The marks are Left, then Requested
-    /// where a client asks, then Entered where there is no other node. Errors, the first that holds: `NotHeld`, the client
-    /// does not hold the name here; `Memory`. The node is as before then. The cost is linear in the number of nodes, too.
+    /// Leaves a name for the client that holds it, and asks for the first client of the name's queue in the same event,
+    /// unless the highest number of the name is 2^64-1. The deferred REPLYs come before its REQUESTs. The marks are Left,
+    /// then Requested where a client asks, then Entered where there is no other node. The cost is linear in the number of
+    /// nodes, too.
+    ///
+    /// # Errors
+    ///
+    /// The first that holds, after which the node is as before:
+    ///
+    /// 1. `NotHeld`: the client does not hold the name here.
+    /// 2. `Memory`: nothing has changed, and the call can be made again.
     pub fn leave(&mut self, alloc: Global, client: u32, name: Name) -> Result<Outcome, LeaveError>
         ensures ok { IfOk result (λ outcome.
             LeaveEvent self.old client name outcome.sends.items outcome.marks.items self.new) }
-        ensures sends { IfOk result (λ outcome.
-            All (λ message. IsSend self.old.me self.old.nodes name message
-            × (1 ≤ seq_of message)) outcome.sends.items) }
-        ensures marks { IfOk result (λ outcome. All (IsMark self.old.me name) outcome.marks.items) }
-        ensures room { IfOk result (λ outcome.
-            (length outcome.sends.items ≤ 2 * self.old.nodes) × (length outcome.marks.items ≤ 3)) }
-        ensures one_request { IfOk result (λ outcome.
-            MarksLead (use_of (resource_at self.old name)) outcome.marks.items
-            (use_of (resource_at self.new name))) }
         ensures consistent { IsConsistentNode self.new }
         ensures not_held { IsErrOf result LeaveError.NotHeld
             ↔ ((entry : Entry) → Holds (resource_at self.old name) client entry → ⊥) }
@@ -146,31 +164,27 @@ impl Node {
             ↔ ((entry : Entry) × Holds (resource_at self.old name) client entry) }
         ensures err { OnErr result (self.new ≡ self.old) }
     {
-        let me = self.me;
         let Some(place) = place_of(&self.slots, &name) else {
             return Err(LeaveError::NotHeld);
         };
         let slot = &mut self.slots[place];
-        slot.leave(alloc, me, client)
+        slot.leave(alloc, client)
     }
 
-    /// Takes a message from another node. By the last REPLY that it awaits the node's request enters, with the mark Entered.
-    /// A REPLY that is not awaited is a stray, which is taken and changes nothing but that its name counts as met. Errors,
-    /// the first that holds: `WrongNode`, the message is for another node; `Stranger`, its sender is this node or above the
-    /// number of nodes; `Memory`. The node is as before then. The cost is linear in the number of nodes, too.
+    /// Takes a message from another node. By the last REPLY that it awaits the node's request enters, with the mark
+    /// Entered. A REPLY that is not awaited is a stray, which is taken and changes nothing but that its name counts as met.
+    /// The cost is linear in the number of nodes, too.
+    ///
+    /// # Errors
+    ///
+    /// The first that holds, after which the node is as before:
+    ///
+    /// 1. `WrongNode`: the message is for another node.
+    /// 2. `Stranger`: its sender is this node or above the number of nodes.
+    /// 3. `Memory`: nothing has changed, and the call can be made again.
     pub fn receive(&mut self, alloc: Global, message: &Message) -> Result<Outcome, ReceiveError>
         ensures ok { IfOk result (λ outcome.
             ReceiveEvent self.old message.now outcome.sends.items outcome.marks.items self.new) }
-        ensures sends { IfOk result (λ outcome. All (λ sent.
-            IsSend self.old.me self.old.nodes (name_of message.now) sent
-            × (seq_of sent ≡ seq_of message.now)) outcome.sends.items) }
-        ensures marks { IfOk result (λ outcome.
-            All (IsMark self.old.me (name_of message.now)) outcome.marks.items) }
-        ensures room { IfOk result (λ outcome.
-            (length outcome.sends.items ≤ 1) × (length outcome.marks.items ≤ 1)) }
-        ensures one_request { IfOk result (λ outcome.
-            MarksLead (use_of (resource_at self.old (name_of message.now))) outcome.marks.items
-            (use_of (resource_at self.new (name_of message.now)))) }
         ensures consistent { IsConsistentNode self.new }
         ensures wrong_node { IsErrOf result ReceiveError.WrongNode ↔ (to_of message.now ≢ self.old.me) }
         ensures stranger { IsErrOf result ReceiveError.Stranger
@@ -181,32 +195,37 @@ impl Node {
             ↔ IsForNode self.old.me self.old.nodes message.now }
         ensures err { OnErr result (self.new ≡ self.old) }
     {
-        let me = self.me;
-        if message.to() != me {
+        if message.to() != self.me {
             return Err(ReceiveError::WrongNode);
         }
         let sender = message.from();
-        if sender == me || sender.get() > self.nodes {
+        if sender == self.me || sender.get() > self.nodes {
             return Err(ReceiveError::Stranger);
         }
         match place_of(&self.slots, &message.name()) {
             Some(place) => {
                 let slot = &mut self.slots[place];
-                slot.receive(alloc, me, message)
+                slot.receive(alloc, message)
             }
             None => self.receive_first(alloc, message),
         }
     }
 
-    /// Why a client may not ask for a name now, memory aside, as `ask` would answer. Errors, the first that holds:
-    /// `Busy`, the client waits, is queued or holds on that name here; `Exhausted`, the highest number of the name is
-    /// 2^64-1. It takes no memory. The cost is linear in the length of the name's queue, too.
+    /// Returns whether a client may ask for a name now, as `ask` would answer, memory aside. It does not allocate. The cost
+    /// is linear in the length of the name's queue, too.
+    ///
+    /// # Errors
+    ///
+    /// The first that holds:
+    ///
+    /// 1. `Busy`: the client waits, is queued or holds on that name here.
+    /// 2. `Exhausted`: the highest number of the name is 2^64-1.
     pub fn may_ask(&self, client: u32, name: &Name) -> Result<(), AskError>
         ensures allowed { IsOk result ↔ MayAsk (resource_at self.now name.now) client }
         ensures busy { IsErrOf result AskError.Busy ↔ IsBusy (resource_at self.now name.now) client }
         ensures exhausted { IsErrOf result AskError.Exhausted
             ↔ ((IsBusy (resource_at self.now name.now) client → ⊥)
-            × ((resource_at self.now name.now).state.highest ≡ last_number)) }
+            × ((resource_at self.now name.now).state.highest ≡ greatest_number)) }
         ensures no_memory { IsErrOf result AskError.Memory → ⊥ }
         ensures consistent { IsConsistentNode self.now }
     {
@@ -217,16 +236,16 @@ impl Node {
         }
     }
 
-    /// The request that is granted at this node on a name, or `None`. It takes no memory.
+    /// Returns the request that is granted at this node on a name, or `None`. It does not allocate.
     pub fn holder(&self, name: &Name) -> Option<Entry>
         ensures value { result ≡ holder_of (resource_at self.now name.now) }
         ensures consistent { IsConsistentNode self.now }
     {
         let slot = self.slot_of(name)?;
-        slot.holder(self.me)
+        slot.holder()
     }
 
-    /// The highest number that this node has met on a name, 0 to 2^64-1. It takes no memory.
+    /// Returns the highest number that this node has met on a name, 0 to 2^64-1. It does not allocate.
     pub fn highest(&self, name: &Name) -> u64
         ensures value { result ≡ (resource_at self.now name.now).state.highest }
         ensures consistent { IsConsistentNode self.now }
@@ -237,7 +256,10 @@ impl Node {
         }
     }
 
-    /// How many requests of this node wait for their replies, over all names. It takes no memory.
+    /// Returns how many requests of this node wait for their replies, over all names. It does not allocate.
+    ///
+    /// A `u64` has room for them, since a node has at most one waiting request on a name, and memory for fewer than 2^64
+    /// names.
     pub fn waiting(&self) -> u64
         ensures value { result ≡ waiting_count self.now }
         ensures consistent { IsConsistentNode self.now }
@@ -251,7 +273,10 @@ impl Node {
         waiting
     }
 
-    /// How many clients are queued, over all names. It takes no memory.
+    /// Returns how many clients are queued, over all names. It does not allocate.
+    ///
+    /// Each of fewer than 2^64 names can have a queue of nearly as many clients, so only a `u128` surely has room for their
+    /// sum.
     pub fn queued(&self) -> u128
         ensures value { result ≡ queued_count self.now }
         ensures consistent { IsConsistentNode self.now }
@@ -263,19 +288,22 @@ impl Node {
         queued
     }
 
-    /// The slot of a name.
+    /// Returns the slot of a name, or `None` where no client and no message was about it yet.
     fn slot_of(&self, name: &Name) -> Option<&Slot>
         ensures found { IfSome result (λ slot. slot.now ≡ resource_at self.now name.now) }
         ensures absent { IsNone result
             → resource_at self.now name.now ≡ unmet self.now.me self.now.nodes name.now self.now.start }
-        ensures me { (resource_at self.now name.now).state.me ≡ self.now.me }
         ensures consistent { IsConsistentNode self.now }
     {
         let place = place_of(&self.slots, name)?;
         Some(&self.slots[place])
     }
 
-    /// A client asks for a name that no client and no message was about yet, and it may.
+    /// Asks for a client, which may ask, for a name that no client and no message was about yet.
+    ///
+    /// # Errors
+    ///
+    /// `Memory`: the node is as before.
     fn ask_first(
         &mut self,
         alloc: Global,
@@ -291,16 +319,18 @@ impl Node {
         ensures err { OnErr result (self.new ≡ self.old) }
         ensures consistent { IsConsistentNode self.new }
     {
-        let mut slot = Slot::new(alloc, self.me, self.nodes, name, self.start).map_err(
-            |_| AskError::Memory,
-        )?;
-        self.slots.reserve(1).map_err(|_| AskError::Memory)?;
-        let outcome = slot.ask(alloc, self.me, client, mode)?;
+        let mut slot = Slot::new(alloc, self.me, self.nodes, name, self.start)?;
+        make_room(&mut self.slots)?;
+        let outcome = slot.ask(alloc, client, mode)?;
         self.slots.push_reserved(slot);
         Ok(outcome)
     }
 
-    /// Takes a message about a name that no client and no message was about yet.
+    /// Takes a message for this node about a name that no client and no message was about yet.
+    ///
+    /// # Errors
+    ///
+    /// `Memory`: the node is as before.
     fn receive_first(&mut self, alloc: Global, message: &Message) -> Result<Outcome, ReceiveError>
         requires first { map.get self.old.resources (name_of message.now) ≡ None }
         requires addressed { IsForNode self.old.me self.old.nodes message.now }
@@ -310,11 +340,9 @@ impl Node {
         ensures err { OnErr result (self.new ≡ self.old) }
         ensures consistent { IsConsistentNode self.new }
     {
-        let mut slot = Slot::new(alloc, self.me, self.nodes, message.name(), self.start).map_err(
-            |_| ReceiveError::Memory,
-        )?;
-        self.slots.reserve(1).map_err(|_| ReceiveError::Memory)?;
-        let outcome = slot.receive(alloc, self.me, message)?;
+        let mut slot = Slot::new(alloc, self.me, self.nodes, message.name(), self.start)?;
+        make_room(&mut self.slots)?;
+        let outcome = slot.receive(alloc, message)?;
         self.slots.push_reserved(slot);
         Ok(outcome)
     }

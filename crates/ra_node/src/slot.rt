@@ -5,8 +5,8 @@ ghost use Rattle.ra_node.specs.Resource.{entry_of};
 use crate::marks::{marks_for, push_request, push_reserved};
 use crate::queued::Queued;
 use crate::{AskError, LeaveError, Outcome};
-use ra_automaton::{Automaton, NewError, Phase, Reaction, ReceiveError};
-use ra_stamp::{Entry, Mark, Marks, Message, Messages, Mode, Name, NodeId, Stamp};
+use ra_automaton::{Automaton, Phase, Reaction, ReceiveError};
+use ra_stamp::{Entry, Mark, Marks, Memory, Message, Messages, Mode, Name, NodeId, Stamp};
 use std::alloc::Global;
 use std::collections::VecDeque;
 use std::marker::Model;
@@ -37,95 +37,100 @@ impl Slot {
     ghost use Rattle.ra_stamp.specs.Message.{name_of};
     ghost use Rattle.ra_stamp.specs.NodeId.{IsNodeNumber};
     ghost use Rattle.ra_automaton.specs.State.{IsAddressed, IsConsistent, IsInside};
-    ghost use Rattle.ra_automaton.specs.Steps.{last_number, LeaveAndRequestStep};
+    ghost use Rattle.ra_automaton.specs.Steps.{greatest_number, LeaveAndRequestStep};
     ghost use Rattle.ra_node.specs.Resource.{unmet, holder_of, Holds, IsBusy, waiting_at, ClientFits, clients_of};
     ghost use Rattle.ra_node.specs.Turns.{MayAsk, AskTurn, LeaveTurn, ReceiveTurn, next_entry};
 
-    /// The slot of a resource that no client and no message was about yet. Errors: `Memory`.
+    /// Makes the slot of a resource that no client and no message was about yet, in time linear in the number of nodes.
+    ///
+    /// # Errors
+    ///
+    /// `Memory`.
     pub fn new(
         alloc: Global,
         me: NodeId,
         nodes: u16,
         name: Name,
         start: u64,
-    ) -> Result<Slot, NewError>
+    ) -> Result<Slot, Memory>
         requires count { IsNodeNumber nodes }
         requires member { me ≤ nodes }
-        ensures memory { IfErr result (λ fault. fault ≡ NewError.Memory) }
-        ensures ok { IfOk result (λ slot. slot ≡ unmet me nodes name start) }
+        ensures { IfOk result (λ slot. slot ≡ unmet me nodes name start) }
     {
+        // Only memory can be wanting here.
+        let automaton = Automaton::new(alloc, me, nodes, name, start).map_err(|_| Memory)?;
         Ok(Slot {
-            automaton: Automaton::new(alloc, me, nodes, name, start)?,
+            automaton,
             client: None,
             queue: VecDeque::new(alloc),
         })
     }
 
-    /// The resource's name.
+    /// Returns the resource's name.
     pub fn name(&self) -> Name
         ensures { result ≡ self.now.state.name }
     {
         self.automaton.name()
     }
 
-    /// The highest number that this node has met for the resource.
+    /// Returns the highest number that this node has met for the resource.
     pub fn highest(&self) -> u64
         ensures { result ≡ self.now.state.highest }
     {
         self.automaton.highest()
     }
 
-    /// The request that is granted here.
-    pub fn holder(&self, me: NodeId) -> Option<Entry>
-        requires { me ≡ self.now.state.me }
+    /// Returns the request that is granted here, or `None`.
+    pub fn holder(&self) -> Option<Entry>
         ensures { result ≡ holder_of self.now }
     {
         match (self.automaton.phase(), self.client) {
-            (Phase::Inside { seq, mode }, Some(client)) => Some(entry(
-                me,
-                self.automaton.name(),
-                seq,
-                client,
-                mode,
-            )),
+            (Phase::Inside { seq, mode }, Some(client)) => Some(self.entry(seq, client, mode)),
             _ => None,
         }
     }
 
-    /// Whether a request of this node waits for its replies.
+    /// Returns whether a request of this node waits for its replies.
     pub fn is_waiting(&self) -> bool
         ensures { waiting_at self.now ≡ if result then 1 else 0 }
     {
         matches!(self.automaton.phase(), Phase::Waiting { .. })
     }
 
-    /// How many clients are queued.
+    /// Returns how many clients are queued.
     pub fn queued(&self) -> usize
         ensures { result ≡ length self.now.queue }
     {
         self.queue.len()
     }
 
-    /// Whether the client waits, is queued or holds here.
+    /// Returns whether the client waits, is queued or holds here.
     fn is_busy(&self, client: u32) -> bool
         ensures { IsTrue result ↔ IsBusy self.now client }
     {
         self.client == Some(client) || self.is_queued(client)
     }
 
-    /// Whether the client is queued here.
+    /// Returns whether the client is queued here.
     fn is_queued(&self, client: u32) -> bool
         ensures { IsTrue result ↔ Any (λ queued. queued.client ≡ client) self.now.queue }
     {
         self.queue.iter().any(|queued| queued.client == client)
     }
 
-    /// Why the client may not ask here: never for want of memory.
+    /// Returns whether the client may ask here, memory aside, in time linear in the length of the queue.
+    ///
+    /// # Errors
+    ///
+    /// The first that holds:
+    ///
+    /// 1. `Busy`: the client waits, is queued or holds here.
+    /// 2. `Exhausted`: no number is left.
     pub fn may_ask(&self, client: u32) -> Result<(), AskError>
         ensures allowed { IsOk result ↔ MayAsk self.now client }
         ensures busy { IsErrOf result AskError.Busy ↔ IsBusy self.now client }
         ensures exhausted { IsErrOf result AskError.Exhausted
-            ↔ ((IsBusy self.now client → ⊥) × (self.now.state.highest ≡ last_number)) }
+            ↔ ((IsBusy self.now client → ⊥) × (self.now.state.highest ≡ greatest_number)) }
         ensures no_memory { IsErrOf result AskError.Memory → ⊥ }
     {
         if self.is_busy(client) {
@@ -137,16 +142,13 @@ impl Slot {
         Ok(())
     }
 
-    /// A client asks, which it may do. Errors: `Memory`, and the resource is as before.
-    pub fn ask(
-        &mut self,
-        alloc: Global,
-        me: NodeId,
-        client: u32,
-        mode: Mode,
-    ) -> Result<Outcome, AskError>
-        requires me { me ≡ self.old.state.me }
-        requires allowed { MayAsk self.old client }
+    /// Asks for a client, which may ask: its request is made where nobody uses the resource, and else the client queues.
+    ///
+    /// # Errors
+    ///
+    /// `Memory`: the resource is as before.
+    pub fn ask(&mut self, alloc: Global, client: u32, mode: Mode) -> Result<Outcome, AskError>
+        requires { MayAsk self.old client }
         ensures ok { IfOk result (λ outcome.
             AskTurn self.old client mode outcome.sends.items outcome.marks.items self.new) }
         ensures memory { IfErr result (λ fault. fault ≡ AskError.Memory) }
@@ -154,20 +156,15 @@ impl Slot {
         ensures consistent { OnOk result (IsConsistent self.new.state) }
     {
         if self.automaton.phase() != Phase::Idle {
-            self.queue
-                .push_back(Queued { client, mode })
-                .map_err(|_| AskError::Memory)?;
+            self.queue.push_back(Queued { client, mode })?;
             return Ok(Outcome {
                 sends: Messages::new(alloc),
                 marks: Marks::new(alloc),
             });
         }
-        let mut marks = marks_for(alloc, 2).map_err(|_| AskError::Memory)?;
-        let requested = self.next_entry(me, client, mode);
-        let reaction = self
-            .automaton
-            .request(alloc, mode)
-            .map_err(|_| AskError::Memory)?;
+        let mut marks = marks_for(alloc, 2)?;
+        let requested = self.next_entry(client, mode);
+        let reaction = self.automaton.request(alloc, mode)?;
         self.client = Some(client);
         push_request(&mut marks, &requested, reaction.entered);
         Ok(Outcome {
@@ -176,11 +173,16 @@ impl Slot {
         })
     }
 
-    /// The client that holds leaves, and the next one asks in the same event. No client may stand here twice. Errors, the
-    /// first that holds: `NotHeld`, the client does not hold; `Memory`. The resource is as before then.
-    pub fn leave(&mut self, alloc: Global, me: NodeId, client: u32) -> Result<Outcome, LeaveError>
-        requires me { me ≡ self.old.state.me }
-        requires once { AllPairs (λ a b. a ≢ b) (clients_of self.old) }
+    /// Leaves for the client that holds, and the next one asks in the same event. No client may stand here twice.
+    ///
+    /// # Errors
+    ///
+    /// The first that holds, after which the resource is as before:
+    ///
+    /// 1. `NotHeld`: the client does not hold.
+    /// 2. `Memory`.
+    pub fn leave(&mut self, alloc: Global, client: u32) -> Result<Outcome, LeaveError>
+        requires { AllPairs (λ a b. a ≢ b) (clients_of self.old) }
         ensures ok { IfOk result (λ outcome.
             LeaveTurn self.old client outcome.sends.items outcome.marks.items self.new) }
         ensures not_held { IsErrOf result LeaveError.NotHeld
@@ -190,12 +192,12 @@ impl Slot {
         ensures err { OnErr result (self.new ≡ self.old) }
         ensures consistent { OnOk result (IsConsistent self.new.state) }
     {
-        let Some(held) = self.held_by(me, client) else {
+        let Some(held) = self.held_by(client) else {
             return Err(LeaveError::NotHeld);
         };
-        let mut marks = marks_for(alloc, 3).map_err(|_| LeaveError::Memory)?;
+        let mut marks = marks_for(alloc, 3)?;
         let Some(next) = self.next() else {
-            let reaction = self.automaton.leave(alloc).map_err(|_| LeaveError::Memory)?;
+            let reaction = self.automaton.leave(alloc)?;
             self.client = None;
             push_reserved(&mut marks, Mark::Left(held));
             return Ok(Outcome {
@@ -203,7 +205,7 @@ impl Slot {
                 marks,
             });
         };
-        let requested = self.next_entry(me, next.client, next.mode);
+        let requested = self.next_entry(next.client, next.mode);
         let reaction = self.hand_over(alloc, next)?;
         push_reserved(&mut marks, Mark::Left(held));
         push_request(&mut marks, &requested, reaction.entered);
@@ -213,38 +215,36 @@ impl Slot {
         })
     }
 
-    /// The client that holds leaves, and the first one of the queue, `next`, asks, in one reaction: the deferred REPLYs
-    /// come first. A number must be left. Errors: `Memory`, and the resource is as before.
+    /// Leaves for the client that holds and asks for `next`, the first of the queue, in one reaction: the deferred REPLYs
+    /// come first. A number must be left.
+    ///
+    /// # Errors
+    ///
+    /// `Memory`: the resource is as before.
     fn hand_over(&mut self, alloc: Global, next: Queued) -> Result<Reaction, LeaveError>
         requires inside { IsInside self.old.state.phase }
         requires first { take 1 self.old.queue ≡ next ∷ [] }
-        requires number_left { self.old.state.highest < last_number }
-        ensures ok { IfOk result (λ reaction.
-            LeaveAndRequestStep self.old.state next.mode reaction.sends.items reaction.entered self.new.state) }
+        requires number_left { self.old.state.highest < greatest_number }
+        ensures ok { IfOk result (λ reaction. LeaveAndRequestStep self.old.state next.mode
+            reaction.sends.items reaction.entered self.new.state) }
         ensures client { OnOk result (self.new.client ≡ Some next.client) }
         ensures queue { OnOk result (self.old.queue ≡ next ∷ self.new.queue) }
         ensures memory { IfErr result (λ fault. fault ≡ LeaveError.Memory) }
         ensures err { OnErr result (self.new ≡ self.old) }
         ensures consistent { OnOk result (IsConsistent self.new.state) }
     {
-        let handed = self
-            .automaton
-            .leave_and_request(alloc, next.mode)
-            .map_err(|_| LeaveError::Memory)?;
+        let handed = self.automaton.leave_and_request(alloc, next.mode)?;
         self.queue.pop_front();
         self.client = Some(next.client);
         Ok(handed)
     }
 
-    /// A message for this node about this resource comes from another node. Errors: `Memory`, and the resource is as
-    /// before.
-    pub fn receive(
-        &mut self,
-        alloc: Global,
-        me: NodeId,
-        message: &Message,
-    ) -> Result<Outcome, ReceiveError>
-        requires me { me ≡ self.old.state.me }
+    /// Takes a message for this node about this resource, which comes from another node.
+    ///
+    /// # Errors
+    ///
+    /// `Memory`: the resource is as before.
+    pub fn receive(&mut self, alloc: Global, message: &Message) -> Result<Outcome, ReceiveError>
         requires name { name_of message.now ≡ self.old.state.name }
         requires addressed { IsAddressed self.old.state message.now }
         requires client { ClientFits self.old.state.phase self.old.client }
@@ -254,10 +254,10 @@ impl Slot {
         ensures err { OnErr result (self.new ≡ self.old) }
         ensures consistent { OnOk result (IsConsistent self.new.state) }
     {
-        let mut marks = marks_for(alloc, 1).map_err(|_| ReceiveError::Memory)?;
+        let mut marks = marks_for(alloc, 1)?;
         let reaction = self.automaton.receive(alloc, message)?;
         if reaction.entered {
-            if let Some(entry) = self.holder(me) {
+            if let Some(entry) = self.holder() {
                 push_reserved(&mut marks, Mark::Entered(entry));
             }
         }
@@ -267,28 +267,33 @@ impl Slot {
         })
     }
 
-    /// The request that a client asks for next here.
-    fn next_entry(&self, me: NodeId, client: u32, mode: Mode) -> Entry
-        requires me { me ≡ self.now.state.me }
-        requires number_left { self.now.state.highest < last_number }
+    /// Returns the request that a client makes next here.
+    fn next_entry(&self, client: u32, mode: Mode) -> Entry
+        requires { self.now.state.highest < greatest_number }
         ensures { result ≡ next_entry self.now client mode }
     {
-        entry(
-            me,
-            self.automaton.name(),
-            self.automaton.highest() + 1,
-            client,
-            mode,
-        )
+        self.entry(self.automaton.highest() + 1, client, mode)
     }
 
-    /// The request by which a client holds the resource.
-    fn held_by(&self, me: NodeId, client: u32) -> Option<Entry>
-        requires { me ≡ self.now.state.me }
+    /// Returns a client's request here, with its number.
+    fn entry(&self, seq: u64, client: u32, mode: Mode) -> Entry
+        ensures { result ≡ entry_of self.now.state.me self.now.state.name seq client mode }
+    {
+        let node = self.automaton.me();
+        Entry {
+            name: self.automaton.name(),
+            stamp: Stamp { seq, node },
+            client,
+            mode,
+        }
+    }
+
+    /// Returns the request by which a client holds the resource, or `None`.
+    fn held_by(&self, client: u32) -> Option<Entry>
         ensures held { IfSome result (Holds self.now client) }
         ensures not_held { IsNone result ↔ ((entry : Entry) → Holds self.now client entry → ⊥) }
     {
-        let entry = self.holder(me)?;
+        let entry = self.holder()?;
         if entry.client == client {
             Some(entry)
         } else {
@@ -296,28 +301,15 @@ impl Slot {
         }
     }
 
-    /// The client that asks when the one that holds leaves.
+    /// Returns the client that asks when the one that holds leaves, or `None`.
     fn next(&self) -> Option<Queued>
         ensures some { IfSome result (λ next.
-            (take 1 self.now.queue ≡ next ∷ []) × (self.now.state.highest < last_number)) }
-        ensures none { IsNone result → (self.now.queue ≡ []) ⊎ (last_number ≤ self.now.state.highest) }
+            (take 1 self.now.queue ≡ next ∷ []) × (self.now.state.highest < greatest_number)) }
+        ensures none { IsNone result → (self.now.queue ≡ []) ⊎ (greatest_number ≤ self.now.state.highest) }
     {
         if self.automaton.highest() == u64::MAX {
             return None;
         }
         self.queue.front().copied()
-    }
-}
-
-/// A client's request at this node.
-fn entry(me: NodeId, name: Name, seq: u64, client: u32, mode: Mode) -> Entry
-    ensures { result ≡ entry_of me name seq client mode }
-{
-    let stamp = Stamp { seq, node: me };
-    Entry {
-        name,
-        stamp,
-        client,
-        mode,
     }
 }

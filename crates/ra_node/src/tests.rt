@@ -3,15 +3,17 @@ use ra_stamp::{Entry, Mark, Marks, Message, Messages, Mode, Name, NodeId, Stamp}
 use std::alloc::Global;
 use std::test::*;
 
+/// Returns the node with this number.
 fn id(number: u16) -> Result<NodeId, &'static str> {
     NodeId::new(number).ok_or("a node's number is 1 to 16")
 }
 
+/// Makes a node that has met nothing.
 fn node(alloc: Global, me: u16, nodes: u16, start: u64) -> Result<Node, Fail> {
     Ok(Node::new(alloc, id(me)?, nodes, start)?)
 }
 
-/// A request on the name `r`.
+/// Returns a request on the name `r`.
 fn entry(node: u16, client: u32, mode: Mode, seq: u64) -> Result<Entry, Fail> {
     Ok(Entry {
         name: Name::new(b"r")?,
@@ -24,18 +26,22 @@ fn entry(node: u16, client: u32, mode: Mode, seq: u64) -> Result<Entry, Fail> {
     })
 }
 
+/// Returns the mark of a request that is made.
 fn requested(entry: &Entry) -> Mark {
     Mark::Requested(*entry)
 }
 
+/// Returns the mark of one that is granted.
 fn entered(entry: &Entry) -> Mark {
     Mark::Entered(*entry)
 }
 
+/// Returns the mark of one that is given back.
 fn left(entry: &Entry) -> Mark {
     Mark::Left(*entry)
 }
 
+/// Returns a REQUEST on the name `r`.
 fn request(from: u16, to: u16, mode: Mode, seq: u64) -> Result<Message, Fail> {
     Ok(Message::Request {
         from: id(from)?,
@@ -46,6 +52,7 @@ fn request(from: u16, to: u16, mode: Mode, seq: u64) -> Result<Message, Fail> {
     })
 }
 
+/// Returns a REPLY on the name `r`.
 fn reply(from: u16, to: u16, seq: u64) -> Result<Message, Fail> {
     Ok(Message::Reply {
         from: id(from)?,
@@ -55,17 +62,17 @@ fn reply(from: u16, to: u16, seq: u64) -> Result<Message, Fail> {
     })
 }
 
+/// Returns whether the messages are these.
 fn are_messages(list: &Messages, expected: &[Message]) -> bool {
-    list.len() == expected.len() as u64
-        && (0..expected.len()).all(|place| list.at(place as u64) == Some(expected[place]))
+    list.as_slice() == expected
 }
 
+/// Returns whether the marks are these.
 fn are_marks(list: &Marks, expected: &[Mark]) -> bool {
-    list.len() == expected.len() as u64
-        && (0..expected.len()).all(|place| list.at(place as u64) == Some(expected[place]))
+    list.as_slice() == expected
 }
 
-/// Node 1 of 2, where client 1 waits with number 1 and client 2 is queued.
+/// Makes node 1 of 2, where client 1 waits with number 1 and client 2 is queued.
 fn queueing(alloc: Global) -> Result<Node, Fail> {
     let r = Name::new(b"r")?;
     let mut node = node(alloc, 1, 2, 0)?;
@@ -74,7 +81,7 @@ fn queueing(alloc: Global) -> Result<Node, Fail> {
     Ok(node)
 }
 
-/// The same, where client 1 has entered, and the REPLY to node 2 is deferred with number 1.
+/// Makes the same, where client 1 has entered, and the REPLY to node 2 is deferred with number 1.
 fn holding(alloc: Global) -> Result<Node, Fail> {
     let mut node = queueing(alloc)?;
     node.receive(alloc, &request(2, 1, Mode::Exclusive, 1)?)?;
@@ -216,8 +223,8 @@ fn readers_of_one_node_take_turns_first_in_first_out(rt: HostRuntime) -> Result<
     Ok(())
 }
 
-/// Node 1 of 2, where client 1 has entered with the last number but one, client 2 is queued, and a REQUEST with the last
-/// number is deferred.
+/// Makes node 1 of 2, where client 1 has entered with the last number but one, client 2 is queued, and a REQUEST with the
+/// last number is deferred.
 fn at_the_last_number(alloc: Global) -> Result<Node, Fail> {
     let r = Name::new(b"r")?;
     let mut node = node(alloc, 1, 2, 18446744073709551613)?;
@@ -376,13 +383,13 @@ fn an_idle_node_answers_and_takes_strays(rt: HostRuntime) -> Result<(), Fail> {
     Ok(())
 }
 
-/// A name of three digits.
+/// Returns a name of three digits.
 fn numbered(number: u16) -> Result<Name, Fail> {
     let digit = |value: u16| b'0' + (value % 10) as u8;
     Ok(Name::new(&[digit(number / 100), digit(number / 10), digit(number)])?)
 }
 
-/// The request that client `client` makes on a name of three digits, at node 1.
+/// Returns the request that client `client` makes on a name of three digits, at node 1.
 fn numbered_entry(number: u16, client: u32, mode: Mode, seq: u64) -> Result<Entry, Fail> {
     let name = numbered(number)?;
     let stamp = Stamp { seq, node: id(1)? };

@@ -1,4 +1,4 @@
-ghost use Rattle.std.specs.Prelude.{◌≡◌, ◌<◌, ◌≤◌, ◌↔◌, ◌==◌, List, ℕ, [], length, take, IsTrue, IsErrOf, IsOk, IfOk};
+ghost use Rattle.std.specs.Prelude.{◌≡◌, ◌<◌, ◌≤◌, ◌↔◌, ◌==◌, List, ℕ, [], Some, length, take, IsTrue, IsErrOf, IsOk, IfOk};
 ghost use Rattle.std.specs.List.{AllPass};
 ghost use Rattle.std.specs.Ordering.{nat_cmp, as_partial_cmp};
 ghost use Rattle.std.specs.Cmp.Lexicographic.{pointwise, slice_cmp};
@@ -8,6 +8,7 @@ ghost use Rattle.std.proofs.Common.{rules};
 ghost use Rattle.ra_stamp.specs.Name.{IsName, is_name_byte};
 
 use std::cmp::Ordering;
+use std::fmt;
 use std::marker::Model;
 use thiserror::Error;
 
@@ -26,8 +27,8 @@ pub enum NameError {
 }
 
 /// The name of a resource: 1 to 32 of the bytes `A` to `Z`, `a` to `z`, `0` to `9`, `_`, `-` and `.`. Contracts
-/// see the bytes, and names are ordered by them.
-#[derive(Clone, Copy, Debug)]
+/// see the bytes, and names are ordered by them. A name prints as its text.
+#[derive(Clone, Copy)]
 pub struct Name {
     bytes: [u8; 32],
     len: usize,
@@ -52,12 +53,14 @@ impl Model for Name {
     ghost inverse_ok = { λ name h. λ i. record { bytes = h.bytes_is i; len = h.len_is i } };
 }
 
+/// Returns whether a name may have the byte.
 fn is_name_byte(byte: u8) -> bool
     ensures { result ≡ is_name_byte byte }
 {
     byte.is_ascii_alphanumeric() || matches!(byte, b'_' | b'-' | b'.')
 }
 
+/// Returns whether a name may have each of the bytes.
 fn are_name_bytes(bytes: &[u8]) -> bool
     ensures { IsTrue result ↔ AllPass is_name_byte bytes.now }
 {
@@ -68,7 +71,15 @@ impl Name {
     /// The most bytes that a name may have.
     pub const MAX_LEN: usize = 32;
 
-    /// The name of these bytes. Errors, the first that holds: `Empty`, `TooLong`, `BadByte`.
+    /// Makes the name of these bytes. It does not allocate.
+    ///
+    /// # Errors
+    ///
+    /// The first that holds:
+    ///
+    /// 1. `Empty`: there is no byte.
+    /// 2. `TooLong`: there are more than 32.
+    /// 3. `BadByte`: one of them is none that a name may have.
     pub fn new(bytes: &[u8]) -> Result<Name, NameError>
         ensures valid { IsOk result ↔ IsName bytes.now }
         ensures value { IfOk result (λ name. name ≡ bytes.now) }
@@ -92,7 +103,7 @@ impl Name {
         Ok(Name { bytes: padded, len })
     }
 
-    /// The bytes.
+    /// Returns its bytes.
     pub fn bytes(&self) -> &[u8]
         ensures value { result.now ≡ self.now }
         ensures valid { IsName result.now }
@@ -136,5 +147,23 @@ impl PartialOrd for Name {
 
     fn partial_cmp(&self, other: &Name) -> Option<Ordering> {
         Some(self.cmp(other))
+    }
+}
+
+impl fmt::Display for Name {
+    ghost output = { λ name. Some name };
+
+    fn fmt<W: fmt::Write>(&self, f: &mut fmt::Formatter<W>) -> fmt::Result {
+        match str::from_utf8(self.bytes()) {
+            Ok(text) => f.pad(text),
+            // Each byte of a name is ASCII.
+            Err(_) => Err(fmt::Error),
+        }
+    }
+}
+
+impl fmt::Debug for Name {
+    fn fmt<W: fmt::Write>(&self, f: &mut fmt::Formatter<W>) -> fmt::Result {
+        fmt::Display::fmt(self, f)
     }
 }

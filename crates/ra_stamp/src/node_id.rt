@@ -1,9 +1,10 @@
 ghost use Rattle.std.specs.Prelude.{◌≡◌, ℕ, ◌↔◌, IsSome, IfSome};
 ghost use Rattle.ra_stamp.specs.NodeId.{IsNodeNumber};
 
+use std::fmt;
 use std::marker::Model;
 
-/// The number of a node, 1 to 16. Contracts see the number.
+/// The number of a node, 1 to 16. Contracts see the number, and it prints as that.
 #[derive(Clone, Copy, Debug, PartialEq, Eq, PartialOrd, Ord)]
 pub struct NodeId {
     number: u16,
@@ -23,7 +24,7 @@ impl NodeId {
     /// The greatest number that a node may have.
     pub const MAX: u16 = 16;
 
-    /// The node with this number, or `None` where it is not 1 to 16.
+    /// Returns the node with this number, or `None` where it is not 1 to 16. It does not allocate.
     pub fn new(number: u16) -> Option<NodeId>
         ensures valid { IsSome result ↔ IsNodeNumber number }
         ensures value { IfSome result (λ node. node ≡ number) }
@@ -35,11 +36,17 @@ impl NodeId {
         }
     }
 
-    /// The number, 1 to 16.
+    /// Returns the number, 1 to 16.
     pub fn get(self) -> u16
         ensures value { result ≡ self }
         ensures valid { IsNodeNumber result }
     {
         self.number
+    }
+}
+
+impl fmt::Display for NodeId {
+    fn fmt<W: fmt::Write>(&self, f: &mut fmt::Formatter<W>) -> fmt::Result {
+        fmt::Display::fmt(&self.number, f)
     }
 }

@@ -21,7 +21,7 @@ impl<T> Model for Sequence<T> {
 }
 
 impl<T: Copy> Sequence<T> {
-    /// The empty list. It takes no memory until the first item comes, and then from `alloc`.
+    /// Makes the empty list. It does not allocate until the first item comes, and then from `alloc`.
     pub fn new(alloc: Global) -> Self
         ensures { result.items ≡ [] }
     {
@@ -30,22 +30,32 @@ impl<T: Copy> Sequence<T> {
         }
     }
 
-    /// How many items there are.
+    /// Returns how many items there are.
     pub fn len(&self) -> u64
         ensures { result ≡ length self.now.items }
     {
         self.items.len() as u64
     }
 
-    /// The item at this place, counted from 0, or `None` past the end.
+    /// Returns the item at this place, counted from 0, or `None` past the end.
     pub fn at(&self, place: u64) -> Option<T>
         ensures { result ≡ slice_get self.now.items place }
     {
         self.items.get(place as usize).copied()
     }
 
-    /// Adds an item at the end, in amortized constant time. Where there is spare room it cannot fail. Errors: `Memory`,
-    /// and the list is as before, with its spare.
+    /// Returns the items in their order.
+    pub fn as_slice(&self) -> &[T]
+        ensures { result.now ≡ self.now.items }
+    {
+        self.items.as_slice()
+    }
+
+    /// Adds an item at the end, in amortized constant time. Where there is spare room it cannot fail.
+    ///
+    /// # Errors
+    ///
+    /// `Memory`: the list is as before, with its spare.
     pub fn push(&mut self, item: T) -> Result<(), Memory>
         ensures ok { OnOk result (self.new.items ≡ self.old.items ++ item ∷ []) }
         ensures err { OnErr result (self.new ≡ self.old) }
@@ -59,8 +69,11 @@ impl<T: Copy> Sequence<T> {
         Ok(())
     }
 
-    /// Makes room for this many more items, in time linear in the number of items. Errors: `Memory`, and the list is as
-    /// before, with its spare.
+    /// Makes room for this many more items, in time linear in the number of items.
+    ///
+    /// # Errors
+    ///
+    /// `Memory`: the list is as before, with its spare.
     pub fn reserve(&mut self, more: u64) -> Result<(), Memory>
         ensures same { self.new.items ≡ self.old.items }
         ensures ok { OnOk result (more ≤ self.new.spare) }

@@ -195,3 +195,34 @@ fn faults_print_their_names(rt: HostRuntime) -> Result<(), Fail> {
     }
     Ok(())
 }
+
+#[test]
+fn names_and_marks_print_as_text(rt: HostRuntime) -> Result<(), Fail> {
+    let alloc = rt.alloc();
+    let name = Name::new(b"disk-1")?;
+    let entry = Entry {
+        name,
+        stamp: Stamp {
+            seq: 3,
+            node: node(2)?,
+        },
+        client: 7,
+        mode: Mode::Exclusive,
+    };
+    let shared = Entry {
+        mode: Mode::Shared,
+        ..entry
+    };
+    assert_eq!(rt;
+        format!(in alloc; "{name} {name:?} {name:>8}")?.as_str(),
+        "disk-1 disk-1   disk-1"
+    );
+    for (mark, text) in [
+        (Mark::Requested(entry), "request 2 7 disk-1 X 3"),
+        (Mark::Entered(shared), "enter 2 7 disk-1 S 3"),
+        (Mark::Left(entry), "leave 2 7 disk-1 X 3"),
+    ] {
+        assert_eq!(rt; format!(in alloc; "{mark}")?.as_str(), text);
+    }
+    Ok(())
+}

@@ -5,7 +5,7 @@ use Rattle.std.proofs.lemmas.List.Elements.{All-contains}
 use Rattle.ra_stamp.specs.declared.entry.Entry.{Entry}
 use Rattle.ra_stamp.specs.Stamp.{IsEarlier}
 use Rattle.ra_table.specs.Table.{LockTable, Excludes, MayRequest, MayEnter}
-use Rattle.ra_table.specs.Refusals.{SharesNode, IsNodeBusy, IsNotAbove, IsHeld, HasEarlier}
+use Rattle.ra_table.specs.Refusals.{SharesNodeAndName, IsNodeBusy, IsNotAbove, IsHeld, HasEarlier}
 
 -- where P holds of no element, each element lacks it
 All-not_any : {X : Type 0} (P : X → Type 0) (xs : List X) → (Any P xs → ⊥) → All (λ x. P x → ⊥) xs
@@ -16,16 +16,16 @@ not_any-All P xs none some = All-contains (λ x. P x → ⊥) xs some.1 none (so
 
 pub MayRequest-not_refused : (table : LockTable) (e : Entry) → (IsNodeBusy table e → ⊥) → (IsNotAbove table e → ⊥) → MayRequest table e
 MayRequest-not_refused table e free above = record {
-  not_waiting = λ k d lt name node. All-not_any (λ x. SharesNode x e) table.waiting (λ h. free (inl h)) k d lt (name, node);
-  not_holding = λ k d lt name node. All-not_any (λ x. SharesNode x e) table.holding (λ h. free (inr h)) k d lt (name, node);
+  not_waiting = λ k d lt name node. All-not_any (λ x. SharesNodeAndName x e) table.waiting (λ h. free (inl h)) k d lt (name, node);
+  not_holding = λ k d lt name node. All-not_any (λ x. SharesNodeAndName x e) table.holding (λ h. free (inr h)) k d lt (name, node);
   above = λ k d lt name. let not_le : (e.stamp.seq ≤ (get_or table.granted k d).stamp.seq) → ⊥ = λ le. All-not_any (λ x. (x.name ≡ e.name) × (e.stamp.seq ≤ x.stamp.seq)) table.granted above k d lt (name, le) in omega arith;
 }
 
 pub MayRequest-not_busy : (table : LockTable) (e : Entry) → MayRequest table e → IsNodeBusy table e → ⊥
 MayRequest-not_busy table e may busy =
     elim busy [
-      | inl w ↦ not_any-All (λ x. SharesNode x e) table.waiting (λ k d lt s. may.not_waiting k d lt s.0 s.1) w
-      | inr h ↦ not_any-All (λ x. SharesNode x e) table.holding (λ k d lt s. may.not_holding k d lt s.0 s.1) h
+      | inl w ↦ not_any-All (λ x. SharesNodeAndName x e) table.waiting (λ k d lt s. may.not_waiting k d lt s.0 s.1) w
+      | inr h ↦ not_any-All (λ x. SharesNodeAndName x e) table.holding (λ k d lt s. may.not_holding k d lt s.0 s.1) h
     ]
 
 pub MayRequest-not_overtaken : (table : LockTable) (e : Entry) → MayRequest table e → IsNotAbove table e → ⊥

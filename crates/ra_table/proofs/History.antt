@@ -11,6 +11,7 @@ use Rattle.ra_table.specs.Laws.{IsAt, WaitsSince, HoldsSince, SameEntries}
 use Rattle.ra_table.proofs.Apart.{All-apart, Contains-there, Contains-put, Contains-cases}
 use Rattle.ra_table.proofs.Sound.{NotOfOneNode, NotOfOneNode-flip, IsSoundTable, empty_is_sound, step_sound}
 use Rattle.ra_table.proofs.Runs.{keeps_granted}
+use Rattle.ra_table.proofs.Counts.{steps_counts}
 
 -- P comes with the mark `on`, and stays until a mark that is Off
 record Lasts (P : LockTable → Type 0) (on : Mark) (Off : Mark → Type 0) : Type 0 where
@@ -209,8 +210,13 @@ run_granted marks table e run = (
 )
 
 pub same_entries : (marks : List Mark) (a b : LockTable) → TableRun marks a → TableRun marks b → SameEntries a b
-same_entries marks a b run run' = record {
-  waiting = λ e. (λ at. (run_waits marks b e run').1 ((run_waits marks a e run).0 at), λ at. (run_waits marks a e run).1 ((run_waits marks b e run').0 at));
-  holding = λ e. (λ at. (run_holds marks b e run').1 ((run_holds marks a e run).0 at), λ at. (run_holds marks a e run).1 ((run_holds marks b e run').0 at));
-  granted = λ e. (λ at. (run_granted marks b e run').1 ((run_granted marks a e run).0 at), λ at. (run_granted marks a e run).1 ((run_granted marks b e run').0 at));
-}
+same_entries marks a b run run' =
+    let counts = steps_counts marks empty_table empty_table a b run run' (record { waiting = refl; holding = refl; granted = refl }) in
+    record {
+      waiting = λ e. (λ at. (run_waits marks b e run').1 ((run_waits marks a e run).0 at), λ at. (run_waits marks a e run).1 ((run_waits marks b e run').0 at));
+      holding = λ e. (λ at. (run_holds marks b e run').1 ((run_holds marks a e run).0 at), λ at. (run_holds marks a e run).1 ((run_holds marks b e run').0 at));
+      granted = λ e. (λ at. (run_granted marks b e run').1 ((run_granted marks a e run).0 at), λ at. (run_granted marks a e run).1 ((run_granted marks b e run').0 at));
+      waiting_count = counts.waiting;
+      holding_count = counts.holding;
+      granted_count = counts.granted;
+    }

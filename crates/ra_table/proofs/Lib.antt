@@ -2,6 +2,8 @@ pub mod Allowed
 pub mod Moves
 pub mod Apart
 pub mod Sound
+pub mod Conflicts
 pub mod Runs
+pub mod Counts
 pub mod History
 pub mod Next

@@ -7,26 +7,26 @@ use Rattle.ra_stamp.specs.declared.entry.Mark.{Mark}
 use Rattle.ra_stamp.specs.declared.entry.Mark.TheVariants.{Requested, Entered, Left}
 use Rattle.ra_stamp.specs.Stamp.{IsEarlier}
 use Rattle.ra_table.specs.Table.{LockTable, empty_table, Excludes, MayRequest, MayEnter, TableRun}
-use Rattle.ra_table.specs.Laws.{Allows, SameEntries}
+use Rattle.ra_table.specs.Laws.{AllowsMark, SameEntries}
 use Rattle.ra_table.proofs.Apart.{All-from_contains}
 use Rattle.ra_table.proofs.Moves.{Gains-push, Loses-contained}
 use Rattle.ra_table.proofs.Runs.{steps_split, steps_grow}
 use Rattle.ra_table.proofs.History.{same_entries}
 
-pub allows_request : (table : LockTable) (e : Entry) → Allows table (Requested e) ↔ MayRequest table e
+pub allows_request : (table : LockTable) (e : Entry) → AllowsMark table (Requested e) ↔ MayRequest table e
 allows_request table e = (
   λ step. step.1.0,
   λ may. (record { waiting = table.waiting ++ e ∷ []; holding = table.holding; granted = table.granted }, (may, Gains-push table.waiting e, refl, refl)),
 )
 
-pub allows_enter : (table : LockTable) (e : Entry) → Allows table (Entered e) ↔ MayEnter table e
+pub allows_enter : (table : LockTable) (e : Entry) → AllowsMark table (Entered e) ↔ MayEnter table e
 allows_enter table e = (
   λ step. step.1.0,
   λ may. let rest = Loses-contained table.waiting e may.waits in
       (record { waiting = rest.0; holding = table.holding ++ e ∷ []; granted = table.granted ++ e ∷ [] }, (may, rest.1, Gains-push table.holding e, Gains-push table.granted e)),
 )
 
-pub allows_leave : (table : LockTable) (e : Entry) → Allows table (Left e) ↔ Contains table.holding e
+pub allows_leave : (table : LockTable) (e : Entry) → AllowsMark table (Left e) ↔ Contains table.holding e
 allows_leave table e = (
   λ step. step.1.0,
   λ at. let rest = Loses-contained table.holding e at in
@@ -37,7 +37,7 @@ allows_leave table e = (
 All-along : (P : Entry → Type 0) (xs ys : List Entry) → ((e : Entry) → Contains ys e → Contains xs e) → All P xs → All P ys
 All-along P xs ys within all = All-from_contains P ys (λ e at. All-contains P xs e all (within e at))
 
-along : (a b : LockTable) (m : Mark) → SameEntries a b → Allows a m → Allows b m
+along : (a b : LockTable) (m : Mark) → SameEntries a b → AllowsMark a m → AllowsMark b m
 along a b (Requested e) same allowed =
     let may = (allows_request a e).0 allowed in
     (allows_request b e).1 (record {
@@ -55,7 +55,7 @@ along a b (Entered e) same allowed =
 along a b (Left e) same allowed = (allows_leave b e).1 ((same.holding e).0 ((allows_leave a e).0 allowed))
 
 -- a run goes on with a mark exactly where the table at its end allows it
-pub next_mark : (marks : List Mark) (m : Mark) (table : LockTable) → TableRun marks table → Allows table m ↔ ((next : LockTable) × TableRun (marks ++ m ∷ []) next)
+pub next_mark : (marks : List Mark) (m : Mark) (table : LockTable) → TableRun marks table → AllowsMark table m ↔ ((next : LockTable) × TableRun (marks ++ m ∷ []) next)
 next_mark marks m table run = (
   λ allowed. (allowed.0, steps_grow marks m empty_table table allowed.0 run allowed.1),
   λ longer.

@@ -1,5 +1,5 @@
 -- What is true of every run of the lock table.
-use Rattle.std.specs.Prelude.{◌≡◌, ◌<◌, ◌↔◌, ℕ, List, Some, AllPairs, Contains, slice_get}
+use Rattle.std.specs.Prelude.{◌≡◌, ◌<◌, ◌↔◌, ℕ, List, Some, AllPairs, Contains, length, slice_get}
 use Rattle.ra_stamp.specs.declared.entry.Entry.{Entry}
 use Rattle.ra_stamp.specs.declared.entry.Mark.{Mark}
 use Rattle.ra_stamp.specs.declared.entry.Mark.TheVariants.{Requested, Entered, Left}
@@ -10,8 +10,8 @@ abbrev pub IsConflictFree : List Entry → Type 0
 IsConflictFree entries = AllPairs (λ a b. ¬ Excludes a b) entries
 
 -- some table step has this mark
-abbrev pub Allows : LockTable → Mark → Type 0
-Allows table mark = (next : LockTable) × TableStep table mark next
+abbrev pub AllowsMark : LockTable → Mark → Type 0
+AllowsMark table mark = (next : LockTable) × TableStep table mark next
 
 -- at this place, counted from 0, the marks have this one
 abbrev pub IsAt : List Mark → ℕ → Mark → Type 0
@@ -32,8 +32,11 @@ pub record HoldsSince (marks : List Mark) (e : Entry) : Type 0 where
   pub was_entered : IsAt marks entered (Entered e)
   pub not_left : (k : ℕ) → entered < k → IsAt marks k (Left e) → ⊥
 
--- the same entries wait, hold and were granted, in whatever order
+-- the same entries wait, hold and were granted, and as many of them, in whatever order
 pub record SameEntries (a b : LockTable) : Type 0 where
   pub waiting : (e : Entry) → Contains a.waiting e ↔ Contains b.waiting e
   pub holding : (e : Entry) → Contains a.holding e ↔ Contains b.holding e
   pub granted : (e : Entry) → Contains a.granted e ↔ Contains b.granted e
+  pub waiting_count : length a.waiting ≡ length b.waiting
+  pub holding_count : length a.holding ≡ length b.holding
+  pub granted_count : length a.granted ≡ length b.granted

@@ -5,12 +5,13 @@ use Rattle.ra_stamp.specs.Stamp.{IsEarlier}
 use Rattle.ra_table.specs.Table.{LockTable, Excludes}
 
 -- two entries are of one node, on one name
-abbrev pub SharesNode : Entry → Entry → Type 0
-SharesNode a b = (a.name ≡ b.name) × (a.stamp.node ≡ b.stamp.node)
+abbrev pub SharesNodeAndName : Entry → Entry → Type 0
+SharesNodeAndName a b = (a.name ≡ b.name) × (a.stamp.node ≡ b.stamp.node)
 
 -- the entry's node waits or holds on its name
 abbrev pub IsNodeBusy : LockTable → Entry → Type 0
-IsNodeBusy table e = Any (λ x. SharesNode x e) table.waiting ⊎ Any (λ x. SharesNode x e) table.holding
+IsNodeBusy table e =
+    Any (λ x. SharesNodeAndName x e) table.waiting ⊎ Any (λ x. SharesNodeAndName x e) table.holding
 
 -- an entry granted on its name has its number or a greater one
 abbrev pub IsNotAbove : LockTable → Entry → Type 0

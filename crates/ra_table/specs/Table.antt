@@ -21,7 +21,8 @@ Excludes a b = (a.name ≡ b.name) × Conflict a.mode b.mode
 
 -- the new list is the old one with one more entry put in somewhere
 abbrev pub Gains : List Entry → Entry → List Entry → Type 0
-Gains old e new = (front : List Entry) × (back : List Entry) × (old ≡ front ++ back) × (new ≡ front ++ e ∷ back)
+Gains old e new =
+    (front : List Entry) × (back : List Entry) × (old ≡ front ++ back) × (new ≡ front ++ e ∷ back)
 
 -- the new list is the old one with one entry taken out
 abbrev pub Loses : List Entry → Entry → List Entry → Type 0
@@ -31,8 +32,8 @@ Loses old e new = Gains new e old
 abbrev pub IsNodeFree : Entry → List Entry → Type 0
 IsNodeFree e = All (λ x. x.name ≡ e.name → x.stamp.node ≡ e.stamp.node → ⊥)
 
--- a request may be made: its node neither waits nor holds on its name, and its number is above each one granted
--- on the name so far. Any such number will do
+-- a request may be made: its node neither waits nor holds on its name, and its number is above each one
+-- granted on the name so far. Any such number will do
 pub record MayRequest (table : LockTable) (e : Entry) : Type 0 where
   pub not_waiting : IsNodeFree e table.waiting
   pub not_holding : IsNodeFree e table.holding
@@ -47,11 +48,14 @@ pub record MayEnter (table : LockTable) (e : Entry) : Type 0 where
 -- the table before, a mark, and the table after it
 abbrev pub TableStep : LockTable → Mark → LockTable → Type 0
 TableStep old (Requested e) new =
-    MayRequest old e × Gains old.waiting e new.waiting × (new.holding ≡ old.holding) × (new.granted ≡ old.granted)
+    MayRequest old e × Gains old.waiting e new.waiting
+    × (new.holding ≡ old.holding) × (new.granted ≡ old.granted)
 TableStep old (Entered e) new =
-    MayEnter old e × Loses old.waiting e new.waiting × Gains old.holding e new.holding × Gains old.granted e new.granted
+    MayEnter old e × Loses old.waiting e new.waiting
+    × Gains old.holding e new.holding × Gains old.granted e new.granted
 TableStep old (Left e) new =
-    Contains old.holding e × (new.waiting ≡ old.waiting) × Loses old.holding e new.holding × (new.granted ≡ old.granted)
+    Contains old.holding e × (new.waiting ≡ old.waiting)
+    × Loses old.holding e new.holding × (new.granted ≡ old.granted)
 
 -- from one table to another by these marks, each a table step
 abbrev pub TableSteps : LockTable → List Mark → LockTable → Type 0

@@ -1,24 +1,30 @@
-//! What is true of every run of the lock table, for the crates above: each function has no code, and its contract
-//! is the law.
+//! What is true of every run of the lock table, for the crates above: each function does nothing, and its
+//! contract is the law.
 ghost use Rattle.std.specs.Prelude.{◌≡◌, ◌<◌, ◌++◌, ◌∷◌, ◌↔◌, [], ℕ, List, Contains};
 ghost use Rattle.ra_stamp.specs.declared.entry.Entry.{Entry};
 ghost use Rattle.ra_stamp.specs.declared.entry.Mark.{Mark};
 ghost use Rattle.ra_stamp.specs.Stamp.{IsEarlier};
 ghost use Rattle.ra_table.specs.Table.{LockTable, empty_table, Excludes, MayRequest, MayEnter, TableStep, TableSteps, TableRun};
-ghost use Rattle.ra_table.specs.Laws.{IsConflictFree, Allows, IsAt, WaitsSince, HoldsSince, SameEntries};
+ghost use Rattle.ra_table.specs.Laws.{IsConflictFree, AllowsMark, IsAt, WaitsSince, HoldsSince, SameEntries};
 
-use ra_stamp::{Entry, Mark};
+use ra_stamp::{Entry, Mark, conflict_is_symmetric, stamps_are_totally_ordered};
 
 /// No two conflicting entries on one name hold at once.
 pub fn conflicting_entries_never_hold_at_once()
     ensures { (marks : List Mark) (table : LockTable) → TableRun marks table → IsConflictFree table.holding }
-{}
+{
+    conflict_is_symmetric();
+}
 
 /// Conflicting entries on one name are granted in the order of their stamps.
 pub fn grants_come_in_stamp_order()
     ensures { (marks : List Mark) (table : LockTable) (e f : Entry) (i j : ℕ) → TableRun marks table → i < j
-        → IsAt marks i (Mark.Entered e) → IsAt marks j (Mark.Entered f) → Excludes e f → IsEarlier e.stamp f.stamp }
-{}
+        → IsAt marks i (Mark.Entered e) → IsAt marks j (Mark.Entered f) → Excludes e f
+        → IsEarlier e.stamp f.stamp }
+{
+    conflict_is_symmetric();
+    stamps_are_totally_ordered();
+}
 
 /// An entry waits from its request until it enters.
 pub fn waiting_entries_were_requested_and_have_not_entered()
@@ -38,16 +44,19 @@ pub fn granted_entries_have_entered()
         → Contains table.granted e ↔ ((j : ℕ) × IsAt marks j (Mark.Entered e)) }
 {}
 
-/// The marks of a run decide its table, but for the order of its lists.
+/// The marks of a run decide who waits, holds and was granted, and how many, but for the order of the lists.
 pub fn tables_of_one_run_have_the_same_entries()
     ensures { (marks : List Mark) (a b : LockTable) → TableRun marks a → TableRun marks b → SameEntries a b }
 {}
 
-/// Which table steps there are.
+/// A table allows a mark exactly where the request may be made, where the entry may be granted, or where it holds.
 pub fn steps_exist_where_they_are_allowed()
-    ensures request { (table : LockTable) (e : Entry) → Allows table (Mark.Requested e) ↔ MayRequest table e }
-    ensures enter { (table : LockTable) (e : Entry) → Allows table (Mark.Entered e) ↔ MayEnter table e }
-    ensures leave { (table : LockTable) (e : Entry) → Allows table (Mark.Left e) ↔ Contains table.holding e }
+    ensures request { (table : LockTable) (e : Entry)
+        → AllowsMark table (Mark.Requested e) ↔ MayRequest table e }
+    ensures enter { (table : LockTable) (e : Entry)
+        → AllowsMark table (Mark.Entered e) ↔ MayEnter table e }
+    ensures leave { (table : LockTable) (e : Entry)
+        → AllowsMark table (Mark.Left e) ↔ Contains table.holding e }
 {}
 
 /// Runs start at the empty table and go on step by step, and each part of a run is one.
@@ -61,5 +70,5 @@ pub fn runs_go_on_by_steps()
         → (b : LockTable) × TableSteps a front b × TableSteps b back c }
     // A run goes on with a mark exactly where the table at its end allows it.
     ensures next { (marks : List Mark) (mark : Mark) (table : LockTable) → TableRun marks table
-        → Allows table mark ↔ ((next : LockTable) × TableRun (marks ++ mark ∷ []) next) }
+        → AllowsMark table mark ↔ ((next : LockTable) × TableRun (marks ++ mark ∷ []) next) }
 {}

@@ -1,13 +1,13 @@
-//! The lock table: what a user of the cluster believes in. Entries wait, hold and have been granted; it knows no
-//! messages, replies, deferrals or queues.
+//! The lock table: what a user of the cluster believes in. Entries wait, hold and have been granted; it knows
+//! no messages, replies, deferrals or queues.
 #![tactic(auto)]
 
-mod errors;
+mod error;
 mod laws;
 mod lists;
 mod table;
 
-pub use errors::{EnterError, LeaveError, RequestError};
+pub use error::{EnterError, LeaveError, RequestError};
 pub use laws::{
     conflicting_entries_never_hold_at_once, granted_entries_have_entered,
     grants_come_in_stamp_order, holders_were_requested_and_entered_and_have_not_left,

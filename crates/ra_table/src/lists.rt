@@ -2,25 +2,25 @@
 ghost use Rattle.std.specs.Prelude.{◌≡◌, ◌<◌, ◌≤◌, ◌↔◌, length, slice_index_or, Any, Contains, IsTrue, IsNone, IfSome};
 ghost use Rattle.ra_stamp.specs.Stamp.{IsEarlier};
 ghost use Rattle.ra_table.specs.Table.{Excludes};
-ghost use Rattle.ra_table.specs.Refusals.{SharesNode};
+ghost use Rattle.ra_table.specs.Refusals.{SharesNodeAndName};
 
 use ra_stamp::{Entry, conflicts};
 
-// Whether two entries are on one name, in modes that conflict.
+/// Returns whether two entries are on one name, in modes that conflict.
 fn excludes(a: &Entry, b: &Entry) -> bool
     ensures { IsTrue result ↔ Excludes a.now b.now }
 {
     a.name == b.name && conflicts(a.mode, b.mode)
 }
 
-// Whether an entry of the list is of this entry's node, on its name.
+/// Returns whether an entry of the list is of this entry's node, on its name.
 pub fn has_node_of(list: &[Entry], entry: &Entry) -> bool
-    ensures { IsTrue result ↔ Any (λ x. SharesNode x entry.now) list.now }
+    ensures { IsTrue result ↔ Any (λ x. SharesNodeAndName x entry.now) list.now }
 {
     list.iter().any(|other| other.name == entry.name && other.stamp.node == entry.stamp.node)
 }
 
-// Whether an entry of the list, on this entry's name, has its number or a greater one.
+/// Returns whether an entry of the list, on this entry's name, has its number or a greater one.
 pub fn reaches_number_of(list: &[Entry], entry: &Entry) -> bool
     ensures { IsTrue result
         ↔ Any (λ x. (x.name ≡ entry.now.name) × (entry.now.stamp.seq ≤ x.stamp.seq)) list.now }
@@ -28,21 +28,21 @@ pub fn reaches_number_of(list: &[Entry], entry: &Entry) -> bool
     list.iter().any(|other| other.name == entry.name && entry.stamp.seq <= other.stamp.seq)
 }
 
-// Whether an entry of the list excludes this entry.
+/// Returns whether an entry of the list excludes this entry.
 pub fn has_excluding(list: &[Entry], entry: &Entry) -> bool
     ensures { IsTrue result ↔ Any (λ x. Excludes x entry.now) list.now }
 {
     list.iter().any(|other| excludes(other, entry))
 }
 
-// Whether an entry of the list excludes this entry and is earlier.
+/// Returns whether an entry of the list excludes this entry and is earlier.
 pub fn has_earlier(list: &[Entry], entry: &Entry) -> bool
     ensures { IsTrue result ↔ Any (λ x. Excludes x entry.now × IsEarlier x.stamp entry.now.stamp) list.now }
 {
     list.iter().any(|other| excludes(other, entry) && other.stamp < entry.stamp)
 }
 
-// Where the entry stands in the list.
+/// Returns where the entry stands in the list.
 pub fn place_of(list: &[Entry], entry: &Entry) -> Option<usize>
     ensures absent { IsNone result ↔ ¬ (Contains list.now entry.now) }
     ensures found { IfSome result (λ place. (place < length list.now)

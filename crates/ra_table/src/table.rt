@@ -4,16 +4,14 @@ ghost use Rattle.ra_table.specs.Table.{empty_table, MayRequest, MayEnter, TableS
 ghost use Rattle.ra_table.specs.Refusals.{IsNodeBusy, IsNotAbove, IsHeld, HasEarlier};
 ghost use Rattle.ra_table.specs.Laws.{IsConflictFree};
 
-use crate::errors::{EnterError, LeaveError, RequestError};
+use crate::error::{EnterError, LeaveError, RequestError};
 use crate::lists::{has_earlier, has_excluding, has_node_of, place_of, reaches_number_of};
 use ra_stamp::{Entry, Memory};
 use std::alloc::Global;
 use std::marker::Model;
 
-/// The lock table: which entries wait, which hold, and which were granted so far. No two conflicting entries on one
-/// name hold.
-///
-/// Each call but `new` takes time in proportion to how many entries wait, hold and were granted.
+/// The lock table: which entries wait, which hold, and which were granted so far. No two conflicting entries on
+/// one name hold. An entry that was granted is kept for ever, so the table grows with each grant.
 #[derive(Debug, Drop)]
 pub struct Table {
     waiting: Vec<Entry>,
@@ -27,13 +25,19 @@ impl Model for Table {
 
     ghost Value = { LockTable };
 
-    ghost view = { λ t. record { waiting = t.waiting.items; holding = t.holding.items; granted = t.granted.items } };
+    ghost view = { λ t.
+        record { waiting = t.waiting.items; holding = t.holding.items; granted = t.granted.items } };
 
     ghost invariant = { λ t. IsConflictFree t.holding.items };
 }
 
 impl Table {
-    /// The table in which nothing waits or holds, and nothing was granted.
+    /// Makes the table in which nothing waits or holds, and nothing was granted. What it keeps grows by
+    /// `alloc`.
+    ///
+    /// # Errors
+    ///
+    /// `Memory`: there is no table.
     pub fn new(alloc: Global) -> Result<Table, Memory>
         ensures empty { IfOk result (λ table. table ≡ empty_table) }
     {
@@ -44,8 +48,17 @@ impl Table {
         })
     }
 
-    /// Lets the entry wait. Errors, the first that holds: `NodeBusy`, its node waits or holds on its name;
-    /// `NotAbove`, its number is not above that of each entry granted so far on its name; `Memory`.
+    /// Lets the entry wait, in time linear in the number of entries that wait, hold and were granted.
+    ///
+    /// # Errors
+    ///
+    /// The first that holds:
+    ///
+    /// 1. `NodeBusy`: its node waits or holds on its name.
+    /// 2. `NotAbove`: its number is not above the number of each entry granted so far on its name.
+    /// 3. `Memory`.
+    ///
+    /// Whichever comes, the table is as before.
     #[tactic(auto, using(crate::proofs::Moves::moves))]
     pub fn request(&mut self, entry: Entry) -> Result<(), RequestError>
         ensures ok { OnOk result (TableStep self.old (Mark.Requested entry) self.new) }
@@ -58,13 +71,23 @@ impl Table {
         ensures exclusive { IsConflictFree self.new.holding }
     {
         self.check_request(&entry)?;
-        self.waiting.push(entry).map_err(|_| RequestError::Memory)?;
+        self.waiting.push(entry)?;
         Ok(())
     }
 
-    /// Grants an entry that waits. Errors, the first that holds: `NotWaiting`, it does not wait; `Held`, a
-    /// conflicting entry on its name holds; `Earlier`, a conflicting entry on its name with an earlier stamp waits;
-    /// `Memory`.
+    /// Grants an entry that waits, so that it holds, in time linear in the number of entries that wait, hold and
+    /// were granted.
+    ///
+    /// # Errors
+    ///
+    /// The first that holds:
+    ///
+    /// 1. `NotWaiting`: it does not wait.
+    /// 2. `Held`: a conflicting entry on its name holds.
+    /// 3. `Earlier`: a conflicting entry on its name with an earlier stamp waits.
+    /// 4. `Memory`.
+    ///
+    /// Whichever comes, the table is as before.
     #[tactic(auto, using(crate::proofs::Moves::moves))]
     pub fn enter(&mut self, entry: &Entry) -> Result<(), EnterError>
         ensures ok { OnOk result (TableStep self.old (Mark.Entered entry.now) self.new) }
@@ -73,21 +96,26 @@ impl Table {
         ensures held { IsErrOf result EnterError.Held
             ↔ (Contains self.old.waiting entry.now × IsHeld self.old entry.now) }
         ensures earlier { IsErrOf result EnterError.Earlier
-            ↔ (Contains self.old.waiting entry.now × ¬ IsHeld self.old entry.now × HasEarlier self.old entry.now) }
+            ↔ (Contains self.old.waiting entry.now × ¬ IsHeld self.old entry.now
+            × HasEarlier self.old entry.now) }
         // Memory is the one other error.
         ensures allowed { IsOkUnless result EnterError.Memory ↔ MayEnter self.old entry.now }
         ensures exclusive { IsConflictFree self.new.holding }
     {
         let place = self.check_enter(entry)?;
-        self.holding.reserve(1).map_err(|_| EnterError::Memory)?;
-        self.granted.reserve(1).map_err(|_| EnterError::Memory)?;
+        self.holding.reserve(1)?;
+        self.granted.reserve(1)?;
         self.waiting.remove(place);
         self.holding.push_reserved(*entry);
         self.granted.push_reserved(*entry);
         Ok(())
     }
 
-    /// Ends the hold of an entry, or answers `NotHeld` where it does not hold. It takes no memory.
+    /// Ends the hold of an entry, in time linear in the number of entries that hold. It does not allocate.
+    ///
+    /// # Errors
+    ///
+    /// `NotHeld`: it does not hold. The table is as before.
     #[tactic(auto, using(crate::proofs::Moves::moves))]
     pub fn leave(&mut self, entry: &Entry) -> Result<(), LeaveError>
         ensures ok { OnOk result (TableStep self.old (Mark.Left entry.now) self.new) }
@@ -103,8 +131,9 @@ impl Table {
         Ok(())
     }
 
-    /// Whether the entry may be granted now, memory aside: it waits, no conflicting entry on its name holds, and none
-    /// with an earlier stamp waits. It takes no memory.
+    /// Returns whether the entry may be granted now, memory aside: it waits, no conflicting entry on its name
+    /// holds, and none with an earlier stamp waits. It takes time linear in the number of entries that wait and
+    /// hold, and does not allocate.
     pub fn can_enter(&self, entry: &Entry) -> bool
         ensures allowed { IsTrue result ↔ MayEnter self.now entry.now }
         ensures exclusive { IsConflictFree self.now.holding }
@@ -112,7 +141,7 @@ impl Table {
         self.check_enter(entry).is_ok()
     }
 
-    // Whether the entry's node waits or holds on its name.
+    /// Returns whether the entry's node waits or holds on its name.
     fn is_node_busy(&self, entry: &Entry) -> bool
         ensures busy { IsTrue result ↔ IsNodeBusy self.now entry.now }
         ensures exclusive { IsConflictFree self.now.holding }
@@ -120,7 +149,11 @@ impl Table {
         has_node_of(&self.waiting, entry) || has_node_of(&self.holding, entry)
     }
 
-    // Why the request may not be made.
+    /// Checks whether the request may be made.
+    ///
+    /// # Errors
+    ///
+    /// Those of `request`, but for `Memory`.
     #[tactic(auto, using(crate::proofs::Allowed::allowed))]
     fn check_request(&self, entry: &Entry) -> Result<(), RequestError>
         ensures allowed { IsOk result ↔ MayRequest self.now entry.now }
@@ -139,7 +172,11 @@ impl Table {
         Ok(())
     }
 
-    // Where the entry waits, or why it may not be granted.
+    /// Returns where the entry waits, if it may be granted.
+    ///
+    /// # Errors
+    ///
+    /// Those of `enter`, but for `Memory`.
     #[tactic(auto, using(crate::proofs::Allowed::allowed))]
     fn check_enter(&self, entry: &Entry) -> Result<usize, EnterError>
         ensures place { IfOk result (λ place. (place < length self.now.waiting)
@@ -149,7 +186,8 @@ impl Table {
         ensures held { IsErrOf result EnterError.Held
             ↔ (Contains self.now.waiting entry.now × IsHeld self.now entry.now) }
         ensures earlier { IsErrOf result EnterError.Earlier
-            ↔ (Contains self.now.waiting entry.now × ¬ IsHeld self.now entry.now × HasEarlier self.now entry.now) }
+            ↔ (Contains self.now.waiting entry.now × ¬ IsHeld self.now entry.now
+            × HasEarlier self.now entry.now) }
         ensures no_memory { ¬ IsErrOf result EnterError.Memory }
         ensures exclusive { IsConflictFree self.now.holding }
     {

@@ -18,9 +18,10 @@ use Rattle.ra_automaton.specs.State.{State}
 use Rattle.ra_automaton.specs.Steps.{others_of, later_of, RequestStep, LeaveStep}
 use Rattle.ra_bag.specs.Bag.{TakesFirst}
 use Rattle.ra_node.specs.Resource.{Resource}
+use Rattle.ra_node.specs.Handed.{handed_step, handed_marks}
 use Rattle.ra_node.specs.Turns.{request_marks, next_entry, EntersBy, AskTurn, LeaveTurn, ReceiveTurn}
 use Rattle.ra_world.specs.Quiet.{requests_in}
-use Rattle.ra_world.proofs.Tests.{cases_same}
+use Rattle.ra_world.proofs.Deciding.{cases_same}
 use Rattle.ra_world.proofs.Protocol.{IsNode}
 
 -- ---- REQUESTs
@@ -133,15 +134,15 @@ module _ (n each : ℕ) (each_is : each ≡ 2 * (n - 1)) (before after : Resourc
   pub leave_balanced : (client : ℕ) (bag : List Message) → LeaveTurn before client sends marks after → IsBalanced each (asking bag) (asking bag) sends before after marks
   leave_balanced client bag turn = elim turn [
     | inl leaves ↦
-        let sent = replies_sent before.state sends after.state leaves.step in
+        let sent = replies_sent before.state sends after.state leaves.leaves.step in
         omega (arith, sent.0, sent.1, sent.2, ap (λ (ms : List Mark). each * requests_in ms) leaves.marks_are)
     | inr hands ↦
-        let step = hands.step in
+        let step = handed_step before client sends marks after hands in
         let mid = step.between in
         let replied = replies_sent before.state step.replies mid step.leaves in
         let me_same : mid.me ≡ before.state.me = ap (λ (t : State). t.me) step.leaves.new_is in
-        let sent = requests_sent n mid hands.next.mode step.requests hands.entered after.state (subst (λ (k : ℕ). IsNode n k) (sym me_same) within) (ap (λ (t : State). t.nodes) step.leaves.new_is ∙ nodes_is) step.asks in
-        let one : requests_in marks ≡ 1 = ap requests_in hands.marks_are ∙ marks_request hands.entered (next_entry before hands.next.client hands.next.mode) in
+        let sent = requests_sent n mid hands.next.mode step.requests hands.asks.entered after.state (subst (λ (k : ℕ). IsNode n k) (sym me_same) within) (ap (λ (t : State). t.nodes) step.leaves.new_is ∙ nodes_is) step.asks in
+        let one : requests_in marks ≡ 1 = ap requests_in (handed_marks before client sends marks after hands) ∙ marks_request hands.asks.entered (next_entry before hands.next.client hands.next.mode) in
         let long = ap length step.sends_are ∙ length-append step.replies step.requests in
         let many = ap asking step.sends_are ∙ asking_both step.replies step.requests in
         omega (arith, replied.0, replied.1, replied.2, sent.0, sent.1, ap finmap.len sent.2, long, many, each_is, ap (λ k. each * k) one)

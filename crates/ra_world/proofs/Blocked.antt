@@ -5,8 +5,8 @@ use Rattle.std.specs.List.{list_any}
 use Rattle.std.specs.Ordering.{nat_cmp, eq_by_cmp}
 use Rattle.std.specs.Cmp.{nat_cmp_total}
 use Rattle.std.specs.FinSet as set
+use Rattle.std.proofs.lemmas.Bool.{false≢true}
 use Rattle.ra_stamp.specs.declared.mode.Mode.{Mode}
-use Rattle.ra_stamp.specs.declared.message.Message.{Message}
 use Rattle.ra_stamp.specs.declared.entry.Entry.{Entry}
 use Rattle.ra_stamp.specs.Stamp.{IsEarlier}
 use Rattle.ra_automaton.specs.declared.phase.Phase.{Phase}
@@ -14,11 +14,12 @@ use Rattle.ra_automaton.specs.declared.phase.Phase.TheVariants.{Idle, Waiting, I
 use Rattle.ra_automaton.specs.State.{State, IsWaiting}
 use Rattle.ra_automaton.specs.Steps.{OwnGoesFirst, GoesFirst}
 use Rattle.ra_node.specs.Resource.{Use, use_in, entry_of, ClientFits}
-use Rattle.ra_node.specs.Resource.Use.{Waits, IsGranted}
+use Rattle.ra_node.specs.Resource.Use.{WaitsBy, HoldsBy}
 use Rattle.ra_node.specs.Node.{NodeState, resource_at}
 use Rattle.ra_table.specs.Table.{LockTable}
 use Rattle.ra_world.specs.Quiet.{IsBlocked}
-use Rattle.ra_world.proofs.Tests.{false_is_not_true, tied}
+use Rattle.ra_world.proofs.Deciding.{tied}
+use Rattle.ra_world.proofs.Lists.{none_some}
 use Rattle.ra_world.proofs.Protocol.{seq_in, mode_in, IsNode, IsDeferred}
 use Rattle.ra_world.proofs.Tables.{contains_of, of_contains}
 use Rattle.ra_world.proofs.Marking.{waiting_of, granted_of, is_waiting}
@@ -38,16 +39,16 @@ has_member s some = go (set.items s) refl
 -- a request of a node that goes first, in the words of its use of the name
 pub record Precedes (s : State) (w : Use) (other seq : ℕ) (mode : Mode) : Type 0 where
   pub entry : Entry
-  pub stands : (w ≡ Waits entry) ⊎ (w ≡ IsGranted entry)
+  pub stands : (w ≡ WaitsBy entry) ⊎ (w ≡ HoldsBy entry)
   pub node_is : entry.stamp.node ≡ s.me
   pub name_is : entry.name ≡ s.name
   pub first : GoesFirst s.me entry.stamp.seq entry.mode other seq mode
 
 precedes_in : (s : State) (phase : Phase) (client : Option ℕ) (other seq : ℕ) (mode : Mode) → ClientFits phase client → OwnGoesFirst phase s.me other seq mode → Precedes s (use_in s phase client) other seq mode
 precedes_in s Idle client other seq mode fits first = absurd first
-precedes_in s (Waiting k m) None other seq mode fits first = absurd (false_is_not_true fits)
+precedes_in s (Waiting k m) None other seq mode fits first = absurd (false≢true fits)
 precedes_in s (Waiting k m) (Some c) other seq mode fits first = record { entry = entry_of s.me s.name k c m; stands = inl refl; node_is = refl; name_is = refl; first = first }
-precedes_in s (Inside k m) None other seq mode fits first = absurd (false_is_not_true fits)
+precedes_in s (Inside k m) None other seq mode fits first = absurd (false≢true fits)
 precedes_in s (Inside k m) (Some c) other seq mode fits first = record { entry = entry_of s.me s.name k c m; stands = inr refl; node_is = refl; name_is = refl; first = first }
 
 module _ (n : ℕ) (nodes : ℕ → NodeState) (table : LockTable) (holds : Invariant ⊥ n nodes [] table) (e : Entry) (waits : Contains table.waiting e) where
@@ -63,7 +64,7 @@ module _ (n : ℕ) (nodes : ℕ → NodeState) (table : LockTable) (holds : Inva
   within : IsNode n i
   within = holds.tabled.waiting_known e waits
 
-  waits_there : uses nodes i r ≡ Waits e
+  waits_there : uses nodes i r ≡ WaitsBy e
   waits_there = is_waiting (uses nodes i r) e (subst (λ (es : List Entry). Contains es e) (holds.tabled.waiting i r within) (contains_of table.waiting e waits))
 
   phase_is : (s i).phase ≡ Waiting e.stamp.seq e.mode
@@ -89,16 +90,13 @@ module _ (n : ℕ) (nodes : ℕ → NodeState) (table : LockTable) (holds : Inva
       let placed = (holds.protocol r).each i within in
       (placed.consistent.awaited_others j awaited.1).other (sym is ∙ sym placed.me_is)
 
-  some_none : {x : Message} {xs : List Message} → [] ≡ x ∷ xs → ⊥
-  some_none k = cc
-
   -- so its REPLY is deferred there
   deferred : IsDeferred i j (s i) (s j) []
   deferred = elim ((holds.protocol r).dialog i j within j_within apart) [
     | inl silent ↦ absurd (silent.unheard awaited.1)
     | inr x ↦ elim x [
-      | inl asking ↦ absurd (some_none asking.asks)
-      | inr y ↦ elim y [ inl held ↦ held | inr answered ↦ absurd (some_none answered.answers) ]
+      | inl asking ↦ absurd (none_some asking.asks)
+      | inr y ↦ elim y [ inl held ↦ held | inr answered ↦ absurd (none_some answered.answers) ]
     ]
   ]
 
@@ -115,15 +113,13 @@ module _ (n : ℕ) (nodes : ℕ → NodeState) (table : LockTable) (holds : Inva
   blocked =
       let x = precedes.entry in
       let placed = (holds.protocol r).each j j_within in
-      let named : x.name ≡ r = precedes.name_is ∙ placed.name_is in (
-        x,
-        (named, precedes.first.excludes),
-        elim precedes.stands [
-          | inl there ↦
-              inr (
-                of_contains j r table.waiting x (subst (λ (es : List Entry). Contains es x) (sym (holds.tabled.waiting j r j_within ∙ ap waiting_of there)) (0, omega arith, refl)),
-                subst (λ (k : ℕ). IsEarlier (record { seq = x.stamp.seq; node = k }) e.stamp) (sym precedes.node_is) precedes.first.earlier,
-              )
-          | inr there ↦ inl (of_contains j r table.holding x (subst (λ (es : List Entry). Contains es x) (sym (holds.tabled.holding j r j_within ∙ ap granted_of there)) (0, omega arith, refl)))
-        ],
-      )
+      let named : x.name ≡ r = precedes.name_is ∙ placed.name_is in
+      elim precedes.stands [
+        | inl there ↦
+            let at = of_contains j r table.waiting x (subst (λ (es : List Entry). Contains es x) (sym (holds.tabled.waiting j r j_within ∙ ap waiting_of there)) (0, omega arith, refl)) in
+            let earlier = subst (λ (k : ℕ). IsEarlier (record { seq = x.stamp.seq; node = k }) e.stamp) (sym precedes.node_is) precedes.first.earlier in
+            inr (at.0, x, at.1, at.2, ((named, precedes.first.excludes), earlier))
+        | inr there ↦
+            let at = of_contains j r table.holding x (subst (λ (es : List Entry). Contains es x) (sym (holds.tabled.holding j r j_within ∙ ap granted_of there)) (0, omega arith, refl)) in
+            inl (at.0, x, at.1, at.2, (named, precedes.first.excludes))
+      ]

@@ -7,23 +7,26 @@ use Rattle.std.specs.Cmp.Lexicographic.{slice_cmp, nat_list_cmp_total}
 use Rattle.std.specs.FinMap as finmap
 use Rattle.std.proofs.lemmas.List.{append-nil}
 use Rattle.std.proofs.lemmas.List.Elements.{All-append, All-weaker}
+use Rattle.std.proofs.lemmas.Bool.{eq-eqb, ne_eqb}
 use Rattle.ra_stamp.specs.declared.mode.Mode.{Mode}
 use Rattle.ra_stamp.specs.declared.message.Message.{Message}
 use Rattle.ra_stamp.specs.declared.message.Message.TheVariants.{Request, Reply}
 use Rattle.ra_stamp.specs.declared.entry.Entry.{Entry}
 use Rattle.ra_stamp.specs.declared.entry.Mark.{Mark}
 use Rattle.ra_stamp.specs.declared.entry.Mark.TheVariants.{Left}
-use Rattle.ra_stamp.specs.Message.{from_of, to_of, name_of}
+use Rattle.ra_stamp.specs.Message.{from_of, to_of, name_of, seq_of}
+use Rattle.ra_stamp.specs.Mode.{Conflict}
 use Rattle.ra_automaton.specs.State.{State, IsOtherNode, IsForNode, IsConsistent}
 use Rattle.ra_automaton.specs.Steps.{RequestStep, ReceiveStep, LeaveStep, LeaveAndRequestStep}
 use Rattle.ra_bag.specs.Bag.{TakesFirst}
 use Rattle.ra_node.specs.Resource.{Resource, unmet, Use, use_of}
-use Rattle.ra_node.specs.Resource.Use.{Nobody, IsGranted}
+use Rattle.ra_node.specs.Resource.Use.{Nobody, HoldsBy}
+use Rattle.ra_node.specs.Handed.{handed_step, handed_marks}
 use Rattle.ra_node.specs.Turns.{request_marks, next_entry, EntersBy, AskTurn, LeaveTurn, ReceiveTurn}
 use Rattle.ra_node.specs.Node.{NodeState, resource_at, with_resource, IsConsistentNode}
 use Rattle.ra_node.specs.Carried.{IsSend, MarksLead}
 use Rattle.ra_table.specs.Table.{LockTable, TableSteps}
-use Rattle.ra_world.proofs.Tests.{number_is, number_is_not, cases_same, same_or_apart}
+use Rattle.ra_world.proofs.Deciding.{cases_same, same_or_apart}
 use Rattle.ra_world.proofs.Lists.{filter_left, All-taken}
 use Rattle.ra_world.proofs.Dialogs.{belongs, between, IsOf, belongs_not, between_none}
 use Rattle.ra_world.proofs.Protocol.{IsNode, IsPlaced, Protocol, Changes}
@@ -47,9 +50,11 @@ pub record IsThere (n i : ℕ) (node : NodeState) : Type 0 where
   pub me_is : node.me ≡ i
   pub nodes_is : node.nodes ≡ n
 
--- a message under way is from a node, and for another one
-abbrev pub IsTraffic : ℕ → Message → Type 0
-IsTraffic n m = IsNode n (to_of m) × IsOtherNode (to_of m) n (from_of m)
+-- a message under way is from a node, for another one, and has a number
+pub record IsTraffic (n : ℕ) (m : Message) : Type 0 where
+  pub to : IsNode n (to_of m)
+  pub from : IsOtherNode (to_of m) n (from_of m)
+  pub numbered : 1 ≤ seq_of m
 
 pub record Invariant (Lossy : Type 0) (n : ℕ) (nodes : ℕ → NodeState) (bag : List Message) (table : LockTable) : Type 0 where
   pub each : (i : ℕ) → IsNode n i → IsThere n i (nodes i)
@@ -78,7 +83,7 @@ leads_request : (entered : Bool) (w w' : Use) (e : Entry) → MarksLead w (reque
 leads_request false w w' e leads = (leads.0, leads.1)
 leads_request true w w' e leads = (leads.0, leads.1.1)
 
-leads_handed : (entered : Bool) (w w' : Use) (e f : Entry) → MarksLead w (Left e ∷ request_marks entered f) w' → (w ≡ IsGranted e) × (w' ≡ use_after entered f)
+leads_handed : (entered : Bool) (w w' : Use) (e f : Entry) → MarksLead w (Left e ∷ request_marks entered f) w' → (w ≡ HoldsBy e) × (w' ≡ use_after entered f)
 leads_handed entered w w' e f leads = (leads.0, (leads_request entered Nobody w' f leads.1).1)
 
 handed_raises : {mode : Mode} {sends : List Message} {entered : Bool} (old mid new : State) (step : LeaveAndRequestStep old mode sends entered new) → old.highest ≤ new.highest
@@ -101,8 +106,9 @@ pub record Went (n : ℕ) (nodes nodes' : ℕ → NodeState) (p : ℕ) (r : List
   pub there : IsThere n p new
   pub others : (q : List ℕ) → q ≢ r → resource_at new q ≡ resource_at (nodes p) q
   pub sent : All (IsSend p n r) sends
+  pub numbered : All (λ m. 1 ≤ seq_of m) sends
 
-module _ {Lossy : Type 0} (n : ℕ) (nodes nodes' : ℕ → NodeState) (p : ℕ) (r : List ℕ) (new : NodeState) (sends : List Message) (bag rest : List Message) (table : LockTable) (old : Invariant Lossy n nodes bag table) (went : Went n nodes nodes' p r new sends) where
+module _ {Lossy : Type 0} (symmetric : (a b : Mode) → Conflict a b → Conflict b a) (n : ℕ) (nodes nodes' : ℕ → NodeState) (p : ℕ) (r : List ℕ) (new : NodeState) (sends : List Message) (bag rest : List Message) (table : LockTable) (old : Invariant Lossy n nodes bag table) (went : Went n nodes nodes' p r new sends) where
   abbrev before : Resource
   before = resource_at (nodes p) r
 
@@ -117,12 +123,13 @@ module _ {Lossy : Type 0} (n : ℕ) (nodes nodes' : ℕ → NodeState) (p : ℕ)
 
   traffic_still : All (IsTraffic n) rest → All (IsTraffic n) (rest ++ sends)
   traffic_still all =
-      All-append (IsTraffic n) rest sends all
-      (All-weaker (IsSend p n r) (IsTraffic n)
-      (λ m send. (
-        (send.to.first, send.to.last),
-        record { first = subst (λ (k : ℕ). 1 ≤ k) (sym send.from) went.within.0; last = subst (λ (k : ℕ). k ≤ n) (sym send.from) went.within.1; other = λ e. send.to.other (sym e ∙ send.from) },
-      )) sends went.sent)
+      All-append (IsTraffic n) rest sends all (λ k d lt.
+      let send = went.sent k d lt in
+      record {
+        to = (send.to.first, send.to.last);
+        from = record { first = subst (λ (k : ℕ). 1 ≤ k) (sym send.from) went.within.0; last = subst (λ (k : ℕ). k ≤ n) (sym send.from) went.within.1; other = λ e. send.to.other (sym e ∙ send.from) };
+        numbered = went.numbered k d lt;
+      })
 
   pub state_changes : Changes (states nodes r) (states nodes' r) p after.state
   state_changes = record { here = ap (λ (x : NodeState). (resource_at x r).state) went.turned.here; there = λ k apart. ap (λ (x : NodeState). (resource_at x r).state) (went.turned.there k apart) }
@@ -175,10 +182,10 @@ module _ {Lossy : Type 0} (n : ℕ) (nodes nodes' : ℕ → NodeState) (p : ℕ)
       }
 
   -- who is granted by this event may be
-  grant : Protocol Lossy n r (states nodes' r) (rest ++ sends) → (e : Entry) → use_of after ≡ IsGranted e → MayBeGranted n (uses nodes) (reaches nodes') p r e
+  grant : Protocol Lossy n r (states nodes' r) (rest ++ sends) → (e : Entry) → use_of after ≡ HoldsBy e → MayBeGranted n (uses nodes) (reaches nodes') p r e
   grant here e is =
       same_others n (uses nodes') (uses nodes) (reaches nodes') p r e (λ j apart. sym (ap use_of (resource_of j r (λ same _. apart same))))
-      (may_be_granted n r nodes' (rest ++ sends) here p went.within e (ap (λ (y : NodeState). use_of (resource_at y r)) went.turned.here ∙ is))
+      (may_be_granted symmetric n r nodes' (rest ++ sends) here p went.within e (ap (λ (y : NodeState). use_of (resource_at y r)) went.turned.here ∙ is))
 
   own_before : (e : Entry) → IsRequestOf before.state e → IsOwn p r e
   own_before e is =
@@ -243,7 +250,7 @@ module _ {Lossy : Type 0} (n : ℕ) (nodes nodes' : ℕ → NodeState) (p : ℕ)
   with_state s x i = cond (nat_eq i p) x (s i)
 
   put_state : (s : ℕ → State) (x : State) → Changes s (with_state s x) p x
-  put_state s x = record { here = ap (λ b. cond b x (s p)) (number_is p p refl); there = λ k apart. ap (λ b. cond b x (s k)) (number_is_not k p apart) }
+  put_state s x = record { here = ap (λ b. cond b x (s p)) (eq-eqb p p refl); there = λ k apart. ap (λ b. cond b x (s k)) (ne_eqb k p apart) }
 
   pub left : (client : ℕ) (marks : List Mark) → rest ≡ bag → LeaveTurn before client sends marks after → MarksLead (use_of before) marks (use_of after)
       → ((m : State) (replies : List Message) → LeaveStep before.state replies m → IsConsistent m)
@@ -254,17 +261,18 @@ module _ {Lossy : Type 0} (n : ℕ) (nodes nodes' : ℕ → NodeState) (p : ℕ)
       let placed = (old.protocol r).each p went.within in
       elim turn [
         | inl leaves ↦
-            let kept = leave_kept n r (states nodes r) (states nodes' r) bag p after.state (old.protocol r) went.within state_changes sends leaves.step placed_after in
+            let kept = leave_kept n r (states nodes r) (states nodes' r) bag p after.state (old.protocol r) went.within state_changes sends leaves.leaves.step placed_after in
             let here : Protocol Lossy n r (states nodes' r) (rest ++ sends) = subst (λ (ms : List Message). Protocol Lossy n r (states nodes' r) (ms ++ sends)) (sym same) kept in
             let e = leaves.entry in
             let both = subst (λ (ms : List Mark). MarksLead (use_of before) ms (use_of after)) leaves.marks_are leads in
             let own = own_before e (use_granted before e both.0).1 in
             let run = run_left n p r went.within e (uses nodes) (uses nodes') (reaches nodes) (reaches nodes') table old.tabled own both.0 (alters Nobody both.1)
-            (higher (omega (arith, ap (λ (x : State). x.highest) leaves.step.new_is)))
+            (higher (omega (arith, ap (λ (x : State). x.highest) leaves.leaves.step.new_is)))
             in
             (run.0, subst (λ (ms : List Mark). TableSteps table ms run.0) (sym leaves.marks_are) run.1, goes_on here untaken all run.0 run.2)
         | inr hands ↦
-            let step = hands.step in
+            let step = handed_step before client sends marks after hands in
+            let handed = handed_marks before client sends marks after hands in
             let mid = step.between in
             let s1 = with_state (states nodes r) mid in
             let put = put_state (states nodes r) mid in
@@ -275,21 +283,21 @@ module _ {Lossy : Type 0} (n : ℕ) (nodes nodes' : ℕ → NodeState) (p : ℕ)
               name_is = ap (λ (x : State). x.name) step.leaves.new_is ∙ placed.name_is;
             } in
             let first = leave_kept n r (states nodes r) s1 bag p mid (old.protocol r) went.within put step.replies step.leaves placed_mid in
-            let asks : RequestStep (s1 p) hands.next.mode step.requests hands.entered after.state = subst (λ (x : State). RequestStep x hands.next.mode step.requests hands.entered after.state) (sym put.here) step.asks in
+            let asks : RequestStep (s1 p) hands.next.mode step.requests hands.asks.entered after.state = subst (λ (x : State). RequestStep x hands.next.mode step.requests hands.asks.entered after.state) (sym put.here) step.asks in
             let second = request_kept n r s1 (states nodes' r) (bag ++ step.replies) p after.state first went.within
-            (record { here = state_changes.here; there = λ k apart. state_changes.there k apart ∙ sym (put.there k apart) }) hands.next.mode step.requests hands.entered asks placed_after
+            (record { here = state_changes.here; there = λ k apart. state_changes.there k apart ∙ sym (put.there k apart) }) hands.next.mode step.requests hands.asks.entered asks placed_after
             in
             let sent : (bag ++ step.replies) ++ step.requests ≡ rest ++ sends = append_assoc bag step.replies step.requests ∙ sym (λ k. same k ++ step.sends_are k) in
             let here : Protocol Lossy n r (states nodes' r) (rest ++ sends) = subst (Protocol Lossy n r (states nodes' r)) sent second in
             let e = hands.entry in
             let f = next_entry before hands.next.client hands.next.mode in
-            let both = leads_handed hands.entered (use_of before) (use_of after) e f (subst (λ (ms : List Mark). MarksLead (use_of before) ms (use_of after)) hands.marks_are leads) in
+            let both = leads_handed hands.asks.entered (use_of before) (use_of after) e f (subst (λ (ms : List Mark). MarksLead (use_of before) ms (use_of after)) handed leads) in
             let own = own_before e (use_granted before e both.0).1 in
             let raises : before.state.highest ≤ after.state.highest = handed_raises before.state mid after.state step in
-            let run = run_handed n p r went.within e hands.entered f (uses nodes) (uses nodes') (reaches nodes) (reaches nodes') table old.tabled own (own_before f (record { node_is = refl; name_is = refl })) both.0
-            (alters (use_after hands.entered f) both.1) (omega arith) (higher raises) (λ yes. grant here f (both.1 ∙ ap (λ b. use_after b f) yes))
+            let run = run_handed n p r went.within e hands.asks.entered f (uses nodes) (uses nodes') (reaches nodes) (reaches nodes') table old.tabled own (own_before f (record { node_is = refl; name_is = refl })) both.0
+            (alters (use_after hands.asks.entered f) both.1) (omega arith) (higher raises) (λ yes. grant here f (both.1 ∙ ap (λ b. use_after b f) yes))
             in
-            (run.0, subst (λ (ms : List Mark). TableSteps table ms run.0) (sym hands.marks_are) run.1, goes_on here untaken all run.0 run.2)
+            (run.0, subst (λ (ms : List Mark). TableSteps table ms run.0) (sym handed) run.1, goes_on here untaken all run.0 run.2)
       ]
 
   -- ---- A message comes
@@ -325,7 +333,7 @@ module _ {Lossy : Type 0} (n : ℕ) (nodes nodes' : ℕ → NodeState) (p : ℕ)
       let e = some.0 in
       let both = subst (λ (ms : List Mark). MarksLead (use_of before) ms (use_of after)) some.2 leads in
       let own = own_before e (use_waits before e both.0).1 in
-      let run = run_entered n p r went.within e (uses nodes) (uses nodes') (reaches nodes) (reaches nodes') table old.tabled own both.0 (alters (IsGranted e) both.1) (higher more) (grant here e both.1) in
+      let run = run_entered n p r went.within e (uses nodes) (uses nodes') (reaches nodes) (reaches nodes') table old.tabled own both.0 (alters (HoldsBy e) both.1) (higher more) (grant here e both.1) in
       (run.0, subst (λ (ms : List Mark). TableSteps table ms run.0) (sym some.2) run.1, run.2)
 
   pub received : (m : Message) (marks : List Mark) → TakesFirst bag m rest → IsForNode p n m → name_of m ≡ r → ReceiveTurn before m sends marks after → MarksLead (use_of before) marks (use_of after)

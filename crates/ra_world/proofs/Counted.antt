@@ -10,16 +10,17 @@ use Rattle.std.specs.Cmp.Lexicographic.{nat_list_cmp_total}
 use Rattle.std.specs.FinMap as finmap
 use Rattle.std.specs.FinMap.Entries.{find, is_sorted, below_all}
 use Rattle.std.proofs.lemmas.List.Sums.{sum_by-cons}
+use Rattle.std.proofs.lemmas.Bool.{false≢true}
 use Rattle.ra_stamp.specs.declared.message.Message.{Message}
 use Rattle.ra_stamp.specs.declared.entry.Entry.{Entry}
 use Rattle.ra_automaton.specs.declared.phase.Phase.{Phase}
 use Rattle.ra_automaton.specs.declared.phase.Phase.TheVariants.{Idle, Waiting, Inside}
 use Rattle.ra_automaton.specs.State.{State}
 use Rattle.ra_node.specs.Resource.{Resource, use_in, ClientFits, entry_of}
-use Rattle.ra_node.specs.Resource.Use.{Waits}
+use Rattle.ra_node.specs.Resource.Use.{WaitsBy}
 use Rattle.ra_node.specs.Node.{NodeState, resource_at}
 use Rattle.ra_table.specs.Table.{LockTable}
-use Rattle.ra_world.proofs.Tests.{false_is_not_true, true_of, tied}
+use Rattle.ra_world.proofs.Deciding.{true_of, tied}
 use Rattle.ra_world.proofs.Protocol.{IsNode}
 use Rattle.ra_world.proofs.Tables.{of_contains}
 use Rattle.ra_world.proofs.Marking.{waiting_of}
@@ -30,9 +31,9 @@ use Rattle.ra_world.proofs.Cluster.{uses, Invariant}
 -- ---- Sums of nothing
 
 equal_of : (o : Ordering) → is_eq o ≡ true → o ≡ Equal
-equal_of Less k = absurd (false_is_not_true k)
+equal_of Less k = absurd (false≢true k)
 equal_of Equal k = refl
-equal_of Greater k = absurd (false_is_not_true k)
+equal_of Greater k = absurd (false≢true k)
 
 sum_zero : (f : Resource → ℕ) (es : List (List ℕ × Resource)) → T (is_sorted cmp es) → ((k : List ℕ) → value_or f (find cmp k es) ≡ 0) → sum_by (λ e. f e.1) es ≡ 0
 sum_zero f [] t none = refl
@@ -63,12 +64,12 @@ over_zero f nodes first (suc n) h =
 
 -- ---- Nobody is deferred
 
-waits_as_use : (s : State) (phase : Phase) (client : Option ℕ) (seq : ℕ) (mode : _) → ClientFits phase client → phase ≡ Waiting seq mode → (x : Entry) × (use_in s phase client ≡ Waits x)
+waits_as_use : (s : State) (phase : Phase) (client : Option ℕ) (seq : ℕ) (mode : _) → ClientFits phase client → phase ≡ Waiting seq mode → (x : Entry) × (use_in s phase client ≡ WaitsBy x)
 waits_as_use s Idle client seq mode fits e = absurd (no e)
   where
     no : Idle ≡ Waiting seq mode → ⊥
     no k = cc
-waits_as_use s (Waiting k m) None seq mode fits e = absurd (false_is_not_true fits)
+waits_as_use s (Waiting k m) None seq mode fits e = absurd (false≢true fits)
 waits_as_use s (Waiting k m) (Some c) seq mode fits e = (entry_of s.me s.name k c m, refl)
 waits_as_use s (Inside k m) client seq mode fits e = absurd (no e)
   where
@@ -89,7 +90,7 @@ nothing_some : {x : Message} {xs : List Message} → [] ≡ x ∷ xs → ⊥
 nothing_some k = cc
 
 module _ (n : ℕ) (nodes : ℕ → NodeState) (table : LockTable) (holds : Invariant ⊥ n nodes [] table) (nobody : length table.waiting ≡ 0) where
-  not_waiting : (i : ℕ) (r : List ℕ) (x : Entry) → IsNode n i → uses nodes i r ≡ Waits x → ⊥
+  not_waiting : (i : ℕ) (r : List ℕ) (x : Entry) → IsNode n i → uses nodes i r ≡ WaitsBy x → ⊥
   not_waiting i r x at is =
       let there = of_contains i r table.waiting x (subst (λ (es : List Entry). Contains es x) (sym (holds.tabled.waiting i r at ∙ ap waiting_of is)) (0, omega arith, refl)) in
       omega (arith, nobody, there.1)

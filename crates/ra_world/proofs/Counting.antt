@@ -10,6 +10,7 @@ use Rattle.std.specs.FinMap as finmap
 use Rattle.std.specs.FinMap.Entries.{by_order, put, find, is_sorted, below_all}
 use Rattle.std.proofs.lemmas.List.{length-append}
 use Rattle.std.proofs.lemmas.List.Sums.{sum_by-cons}
+use Rattle.std.proofs.lemmas.Bool.{false≢true}
 use Rattle.ra_stamp.specs.declared.entry.Entry.{Entry}
 use Rattle.ra_stamp.specs.declared.entry.Mark.{Mark}
 use Rattle.ra_stamp.specs.declared.entry.Mark.TheVariants.{Requested, Entered, Left}
@@ -17,11 +18,11 @@ use Rattle.ra_automaton.specs.declared.phase.Phase.{Phase}
 use Rattle.ra_automaton.specs.declared.phase.Phase.TheVariants.{Idle, Waiting, Inside}
 use Rattle.ra_automaton.specs.State.{State}
 use Rattle.ra_node.specs.Resource.{Resource, Use, use_in, use_of, waiting_in, waiting_at, ClientFits, unmet}
-use Rattle.ra_node.specs.Resource.Use.{Nobody, Waits, IsGranted}
+use Rattle.ra_node.specs.Resource.Use.{Nobody, WaitsBy, HoldsBy}
 use Rattle.ra_node.specs.Node.{NodeState, resource_at, with_resource}
 use Rattle.ra_node.specs.Carried.{MarksLead}
 use Rattle.ra_table.specs.Table.{LockTable, Gains, TableSteps}
-use Rattle.ra_world.proofs.Tests.{false_is_not_true, true_of, cases_same}
+use Rattle.ra_world.proofs.Deciding.{true_of, cases_same}
 
 -- ---- One resource of a node changes
 
@@ -133,8 +134,8 @@ module _ (f : Resource → ℕ) (zero_at : (me nodes : ℕ) (name : List ℕ) (s
 
 abbrev pub waits_as : Use → ℕ
 waits_as Nobody = 0
-waits_as (Waits e) = 1
-waits_as (IsGranted e) = 0
+waits_as (WaitsBy e) = 1
+waits_as (HoldsBy e) = 0
 
 gains_one : (es new : List Entry) (e : Entry) → Gains es e new → length new ≡ length es + 1
 gains_one es new e gains =
@@ -145,10 +146,10 @@ gains_one es new e gains =
 pub marks_count : (marks : List Mark) (t t' : LockTable) (w w' : Use) → TableSteps t marks t' → MarksLead w marks w' → length t'.waiting + waits_as w ≡ length t.waiting + waits_as w'
 marks_count [] t t' w w' steps leads = omega (arith, ap (λ (x : LockTable). length x.waiting) steps, ap waits_as leads)
 marks_count (Requested e ∷ marks) t t' w w' steps leads =
-    let rest = marks_count marks steps.0 t' (Waits e) w' steps.2 leads.1 in
+    let rest = marks_count marks steps.0 t' (WaitsBy e) w' steps.2 leads.1 in
     omega (arith, rest, gains_one t.waiting steps.0.waiting e steps.1.1, ap waits_as leads.0)
 marks_count (Entered e ∷ marks) t t' w w' steps leads =
-    let rest = marks_count marks steps.0 t' (IsGranted e) w' steps.2 leads.1 in
+    let rest = marks_count marks steps.0 t' (HoldsBy e) w' steps.2 leads.1 in
     omega (arith, rest, gains_one steps.0.waiting t.waiting e steps.1.1, ap waits_as leads.0)
 marks_count (Left e ∷ marks) t t' w w' steps leads =
     let rest = marks_count marks steps.0 t' Nobody w' steps.2 leads.1 in
@@ -157,7 +158,7 @@ marks_count (Left e ∷ marks) t t' w w' steps leads =
 fits_count : (s : State) (phase : Phase) (client : Option ℕ) → ClientFits phase client → waiting_in phase ≡ waits_as (use_in s phase client)
 fits_count s Idle None fits = refl
 fits_count s Idle (Some c) fits = refl
-fits_count s (Waiting seq mode) None fits = absurd (false_is_not_true fits)
+fits_count s (Waiting seq mode) None fits = absurd (false≢true fits)
 fits_count s (Waiting seq mode) (Some c) fits = refl
 fits_count s (Inside seq mode) None fits = refl
 fits_count s (Inside seq mode) (Some c) fits = refl

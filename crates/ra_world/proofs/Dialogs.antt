@@ -8,12 +8,13 @@ use Rattle.std.specs.FinMap.Entries.{find, is_sorted, below_all}
 use Rattle.std.proofs.lemmas.List.Elements.{All-nil, All-cons, All-map, All-weaker}
 use Rattle.std.proofs.lemmas.Bool.Decides.{nat_tests}
 use Rattle.std.proofs.lemmas.Slice.Eq.{bytes_eq-Decides}
+use Rattle.std.proofs.lemmas.Bool.{and_parts, eq-eqb, eqb-true, false_from_ne_true}
 use Rattle.ra_stamp.specs.declared.mode.Mode.{Mode}
 use Rattle.ra_stamp.specs.declared.message.Message.{Message}
 use Rattle.ra_stamp.specs.declared.message.Message.TheVariants.{Request, Reply}
 use Rattle.ra_stamp.specs.Message.{name_of}
 use Rattle.ra_automaton.specs.Steps.{others_of}
-use Rattle.ra_world.proofs.Tests.{both_true, true_of, not_true, same_number, number_is, cases_same, tied, untied}
+use Rattle.ra_world.proofs.Deciding.{true_of, cases_same, tied, untied}
 use Rattle.ra_world.proofs.Lists.{filter_hit, filter_miss, filter_none}
 
 -- ---- Tests
@@ -39,12 +40,12 @@ pub record IsOf (r : List ℕ) (i j : ℕ) (m : Message) : Type 0 where
 
 pub belongs_is : (r : List ℕ) (i j : ℕ) (m : Message) → belongs r i j m ≡ true → IsOf r i j m
 belongs_is r i j m e =
-    let first = both_true (nat_eq (asker_of m) i) (nat_eq (answerer_of m) j && bytes_eq (name_of m) r) e in
-    let rest = both_true (nat_eq (answerer_of m) j) (bytes_eq (name_of m) r) first.1 in
-    record { asker = same_number (asker_of m) i first.0; answerer = same_number (answerer_of m) j rest.0; name_is = (bytes_eq-Decides (name_of m) r).0 rest.1 }
+    let first = and_parts (nat_eq (asker_of m) i) (nat_eq (answerer_of m) j && bytes_eq (name_of m) r) e in
+    let rest = and_parts (nat_eq (answerer_of m) j) (bytes_eq (name_of m) r) first.1 in
+    record { asker = eqb-true (asker_of m) i first.0; answerer = eqb-true (answerer_of m) j rest.0; name_is = (bytes_eq-Decides (name_of m) r).0 rest.1 }
 
 pub belongs_here : (m : Message) → belongs (name_of m) (asker_of m) (answerer_of m) m ≡ true
-belongs_here m = rw (number_is (asker_of m) (asker_of m) refl, number_is (answerer_of m) (answerer_of m) refl, (bytes_eq-Decides (name_of m) (name_of m)).1 refl) refl
+belongs_here m = rw (eq-eqb (asker_of m) (asker_of m) refl, eq-eqb (answerer_of m) (answerer_of m) refl, (bytes_eq-Decides (name_of m) (name_of m)).1 refl) refl
 
 pub belongs_at : (r : List ℕ) (i j : ℕ) (m : Message) → IsOf r i j m → belongs r i j m ≡ true
 belongs_at r i j m is =
@@ -52,7 +53,7 @@ belongs_at r i j m is =
     (subst (λ (x : ℕ). belongs (name_of m) x j m ≡ true) is.asker (subst (λ (x : ℕ). belongs (name_of m) (asker_of m) x m ≡ true) is.answerer (belongs_here m)))
 
 pub belongs_not : (r : List ℕ) (i j : ℕ) (m : Message) → (IsOf r i j m → ⊥) → belongs r i j m ≡ false
-belongs_not r i j m h = not_true (belongs r i j m) (λ e. h (belongs_is r i j m e))
+belongs_not r i j m h = false_from_ne_true (belongs r i j m) (λ e. h (belongs_is r i j m e))
 
 -- the messages under way of a dialog
 abbrev pub between : List ℕ → ℕ → ℕ → List Message → List Message

@@ -1,4 +1,4 @@
-mod Tests
+mod Deciding
 mod Lists
 mod Dialogs
 mod Members
@@ -14,5 +14,16 @@ mod Counting
 mod Blocked
 mod Balance
 mod Counted
+mod Moves
+mod Nodes
+mod Reached
+mod Steps
 mod Runs
+mod GoingOn
+mod Outcomes
 mod QuietRuns
+mod DifferentLists
+mod DifferentDialogs
+mod DifferentTurns
+mod DifferentEvents
+mod DifferentRuns

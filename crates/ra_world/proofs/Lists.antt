@@ -1,9 +1,20 @@
--- Lists of messages: what is taken from them, and what a test leaves of them.
-use Rattle.std.proofs.Common.{◌≡◌, ◌≢◌, Bool, true, false, cond, List, [], ◌∷◌, ◌++◌, All, filter, refl, sym, ap, ◌∙◌, subst, append_assoc}
+-- Lists, of messages above all: what is taken from them, and what a test leaves of them.
+use Rattle.std.proofs.Common.{◌≡◌, ◌≢◌, ◌⊎◌, Bool, true, false, cond, zero, suc, List, [], ◌∷◌, ◌++◌, All, Contains, filter, refl, sym, ap, ◌∙◌, subst, append_assoc, arith, inl, inr}
 use Rattle.std.proofs.lemmas.List.Elements.{All-nil, All-cons, All-head, All-tail, All-append, filter-append}
 use Rattle.ra_stamp.specs.declared.message.Message.{Message}
 use Rattle.ra_bag.specs.Bag.{TakesFirst}
-use Rattle.ra_world.specs.Traffic.{IsLess}
+use Rattle.ra_world.specs.Traffic.{TakesEach}
+
+-- ---- The parts of a list
+
+pub head_of : {X : Type 0} {x y : X} {xs ys : List X} → x ∷ xs ≡ y ∷ ys → x ≡ y
+head_of e = cc
+
+pub tail_of : {X : Type 0} {x y : X} {xs ys : List X} → x ∷ xs ≡ y ∷ ys → xs ≡ ys
+tail_of e = cc
+
+pub none_some : {X : Type 0} {x : X} {xs : List X} → [] ≡ x ∷ xs → ⊥
+none_some e = cc
 
 -- ---- Tests
 
@@ -67,6 +78,25 @@ takes_more xs m ys more takes =
       new_is = ap (λ (zs : List Message). zs ++ more) takes.new_is ∙ append_assoc takes.front takes.back more;
     }
 
+-- a message that is there can be taken
+pub takes_out : ((a b : Message) → (a ≡ b) ⊎ (a ≢ b)) → (xs : List Message) (m : Message) → Contains xs m → (ys : List Message) × TakesFirst xs m ys
+takes_out same_or_apart [] m at = absurd (omega (arith, at.1))
+takes_out same_or_apart (x ∷ xs) m (zero, lt, is) = (xs, record { front = []; back = xs; old_is = ap (λ (y : Message). y ∷ xs) is; first = All-nil (λ y. y ≢ m); new_is = refl })
+takes_out same_or_apart (x ∷ xs) m (suc k, lt, is) = elim (same_or_apart x m) [
+  | inl same ↦ (xs, record { front = []; back = xs; old_is = ap (λ (y : Message). y ∷ xs) same; first = All-nil (λ y. y ≢ m); new_is = refl })
+  | inr apart ↦
+      let rest = takes_out same_or_apart xs m (k, omega (arith, lt), is) in (
+        x ∷ rest.0,
+        record {
+          front = x ∷ rest.1.front;
+          back = rest.1.back;
+          old_is = ap (λ (ys : List Message). x ∷ ys) rest.1.old_is;
+          first = All-cons (λ y. y ≢ m) x rest.1.front apart rest.1.first;
+          new_is = ap (λ (ys : List Message). x ∷ ys) rest.1.new_is;
+        },
+      )
+]
+
 pub All-taken : (P : Message → Type 0) (xs : List Message) (m : Message) (ys : List Message) → TakesFirst xs m ys → All P xs → P m × All P ys
 All-taken P xs m ys takes all =
     let parts = split takes.front (m ∷ takes.back) (subst (All P) takes.old_is all) in
@@ -80,13 +110,13 @@ All-taken P xs m ys takes all =
 
 -- ---- What is under way
 
-pub less_more : (sent taken left more : List Message) → IsLess sent taken left → IsLess (sent ++ more) taken (left ++ more)
+pub less_more : (sent taken left more : List Message) → TakesEach sent taken left → TakesEach (sent ++ more) taken (left ++ more)
 less_more sent [] left more less = ap (λ (zs : List Message). zs ++ more) less
 less_more sent (m ∷ taken) left more less = (less.0 ++ more, takes_more sent m less.0 more less.1, less_more less.0 taken left more less.2)
 
-pub less_taken : (sent taken left : List Message) (m : Message) (rest : List Message) → IsLess sent taken left → TakesFirst left m rest → IsLess sent (taken ++ m ∷ []) rest
-less_taken sent [] left m rest less takes = (rest, subst (λ (zs : List Message). TakesFirst zs m rest) less takes, refl)
-less_taken sent (t ∷ taken) left m rest less takes = (less.0, less.1, less_taken less.0 taken left m rest less.2 takes)
+pub less_joined : (sent taken left more next : List Message) → TakesEach sent taken left → TakesEach left more next → TakesEach sent (taken ++ more) next
+less_joined sent [] left more next less then = subst (λ (zs : List Message). TakesEach zs more next) less then
+less_joined sent (m ∷ taken) left more next less then = (less.0, less.1, less_joined less.0 taken left more next less.2 then)
 
 -- what is left is determined
 pub takes_alike : (xs : List Message) (m : Message) (ys zs : List Message) → TakesFirst xs m ys → TakesFirst xs m zs → ys ≡ zs
@@ -94,12 +124,6 @@ takes_alike xs m ys zs a b =
     let same = fronts a.front a.back b.front b.back (sym a.old_is ∙ b.old_is) a.first b.first in
     a.new_is ∙ (λ i. same.0 i ++ same.1 i) ∙ sym b.new_is
   where
-    head_of : {x y : Message} {xs ys : List Message} → x ∷ xs ≡ y ∷ ys → x ≡ y
-    head_of e = cc
-
-    tail_of : {x y : Message} {xs ys : List Message} → x ∷ xs ≡ y ∷ ys → xs ≡ ys
-    tail_of e = cc
-
     fronts : (f g f' g' : List Message) → f ++ m ∷ g ≡ f' ++ m ∷ g' → All (λ x. x ≢ m) f → All (λ x. x ≢ m) f' → (f ≡ f') × (g ≡ g')
     fronts [] g [] g' e h h' = (refl, tail_of e)
     fronts [] g (y ∷ f') g' e h h' = absurd (All-head (λ x. x ≢ m) y f' h' (sym (head_of e)))
@@ -108,7 +132,7 @@ takes_alike xs m ys zs a b =
         let rest = fronts f g f' g' (tail_of e) (All-tail (λ x. x ≢ m) x f h) (All-tail (λ x. x ≢ m) y f' h') in
         (λ i. head_of e i ∷ rest.0 i, rest.1)
 
-pub less_alike : (sent taken left left' : List Message) → IsLess sent taken left → IsLess sent taken left' → left ≡ left'
+pub less_alike : (sent taken left left' : List Message) → TakesEach sent taken left → TakesEach sent taken left' → left ≡ left'
 less_alike sent [] left left' a b = a ∙ sym b
 less_alike sent (m ∷ taken) left left' a b =
-    less_alike a.0 taken left left' a.2 (subst (λ (xs : List Message). IsLess xs taken left') (takes_alike sent m b.0 a.0 b.1 a.1) b.2)
+    less_alike a.0 taken left left' a.2 (subst (λ (xs : List Message). TakesEach xs taken left') (takes_alike sent m b.0 a.0 b.1 a.1) b.2)

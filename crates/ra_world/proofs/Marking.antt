@@ -7,33 +7,33 @@ use Rattle.ra_stamp.specs.declared.entry.Mark.TheVariants.{Requested, Entered, L
 use Rattle.ra_stamp.specs.Mode.{Conflict}
 use Rattle.ra_stamp.specs.Stamp.{IsEarlier}
 use Rattle.ra_node.specs.Resource.{Use}
-use Rattle.ra_node.specs.Resource.Use.{Nobody, Waits, IsGranted}
+use Rattle.ra_node.specs.Resource.Use.{Nobody, WaitsBy, HoldsBy}
 use Rattle.ra_table.specs.Table.{LockTable, Loses, Excludes, TableStep}
-use Rattle.ra_world.proofs.Tests.{cases_same}
+use Rattle.ra_world.proofs.Deciding.{cases_same}
 use Rattle.ra_world.proofs.Protocol.{IsNode}
 use Rattle.ra_world.proofs.Tables.{is_of, is_of_both, is_of_here, of, contains_of, of_contains, gains_end, of_gained, of_kept, takes_out}
 
 abbrev pub waiting_of : Use → List Entry
 waiting_of Nobody = []
-waiting_of (Waits e) = e ∷ []
-waiting_of (IsGranted e) = []
+waiting_of (WaitsBy e) = e ∷ []
+waiting_of (HoldsBy e) = []
 
 abbrev pub granted_of : Use → List Entry
 granted_of Nobody = []
-granted_of (Waits e) = []
-granted_of (IsGranted e) = e ∷ []
+granted_of (WaitsBy e) = []
+granted_of (HoldsBy e) = e ∷ []
 
-pub is_waiting : (w : Use) (x : Entry) → Contains (waiting_of w) x → w ≡ Waits x
+pub is_waiting : (w : Use) (x : Entry) → Contains (waiting_of w) x → w ≡ WaitsBy x
 is_waiting Nobody x at = absurd (omega (arith, at.1))
-is_waiting (Waits e) x (zero, lt, is) = ap (λ (y : Entry). Waits y) is
-is_waiting (Waits e) x (suc k, lt, is) = absurd (omega (arith, lt))
-is_waiting (IsGranted e) x at = absurd (omega (arith, at.1))
+is_waiting (WaitsBy e) x (zero, lt, is) = ap (λ (y : Entry). WaitsBy y) is
+is_waiting (WaitsBy e) x (suc k, lt, is) = absurd (omega (arith, lt))
+is_waiting (HoldsBy e) x at = absurd (omega (arith, at.1))
 
-is_granted : (w : Use) (x : Entry) → Contains (granted_of w) x → w ≡ IsGranted x
+is_granted : (w : Use) (x : Entry) → Contains (granted_of w) x → w ≡ HoldsBy x
 is_granted Nobody x at = absurd (omega (arith, at.1))
-is_granted (Waits e) x at = absurd (omega (arith, at.1))
-is_granted (IsGranted e) x (zero, lt, is) = ap (λ (y : Entry). IsGranted y) is
-is_granted (IsGranted e) x (suc k, lt, is) = absurd (omega (arith, lt))
+is_granted (WaitsBy e) x at = absurd (omega (arith, at.1))
+is_granted (HoldsBy e) x (zero, lt, is) = ap (λ (y : Entry). HoldsBy y) is
+is_granted (HoldsBy e) x (suc k, lt, is) = absurd (omega (arith, lt))
 
 -- the table has what the nodes' uses of the names say, and each node has met the numbers that were granted
 pub record Tabled (n : ℕ) (u : ℕ → List ℕ → Use) (h : ℕ → List ℕ → ℕ) (t : LockTable) : Type 0 where
@@ -65,28 +65,28 @@ still es left {e} loses x at =
       | inr back ↦ Contains-append_right loses.0 (e ∷ loses.1) x (suc back.0, omega (arith, back.1), back.2)
     ])
 
-not_both : {e : Entry} (x : Entry) → Waits e ≡ IsGranted x → ⊥
+not_both : {e : Entry} (x : Entry) → WaitsBy e ≡ HoldsBy x → ⊥
 not_both x k = cc
 
 -- the request of a use that has one
 abbrev pub entry_in_use : Entry → Use → Entry
 entry_in_use d Nobody = d
-entry_in_use d (Waits e) = e
-entry_in_use d (IsGranted e) = e
+entry_in_use d (WaitsBy e) = e
+entry_in_use d (HoldsBy e) = e
 
 never_earlier : (e : Entry) → IsEarlier e.stamp e.stamp → ⊥
 never_earlier e earlier = elim earlier [ inl below ↦ omega (arith, below) | inr same ↦ omega (arith, same.1) ]
 
-not_itself : {e : Entry} (x : Entry) → Waits e ≡ Waits x → IsEarlier x.stamp e.stamp → ⊥
+not_itself : {e : Entry} (x : Entry) → WaitsBy e ≡ WaitsBy x → IsEarlier x.stamp e.stamp → ⊥
 not_itself {e} x k earlier = never_earlier e (subst (λ (y : Entry). IsEarlier y.stamp e.stamp) (sym (ap (entry_in_use e) k)) earlier)
 
 module _ (n : ℕ) (u u' : ℕ → List ℕ → Use) (h h' : ℕ → List ℕ → ℕ) (t : LockTable) (tabled : Tabled n u h t) (p : ℕ) (r : List ℕ) (within : IsNode n p) (higher : (i : ℕ) (q : List ℕ) → h i q ≤ h' i q) where
-  waits_at : (x : Entry) → Contains t.waiting x → u x.stamp.node x.name ≡ Waits x
+  waits_at : (x : Entry) → Contains t.waiting x → u x.stamp.node x.name ≡ WaitsBy x
   waits_at x at =
       is_waiting (u x.stamp.node x.name) x
       (subst (λ (es : List Entry). Contains es x) (tabled.waiting x.stamp.node x.name (tabled.waiting_known x at)) (contains_of t.waiting x at))
 
-  holds_at : (x : Entry) → Contains t.holding x → u x.stamp.node x.name ≡ IsGranted x
+  holds_at : (x : Entry) → Contains t.holding x → u x.stamp.node x.name ≡ HoldsBy x
   holds_at x at =
       is_granted (u x.stamp.node x.name) x
       (subst (λ (es : List Entry). Contains es x) (tabled.holding x.stamp.node x.name (tabled.holding_known x at)) (contains_of t.holding x at))
@@ -161,7 +161,7 @@ module _ (n : ℕ) (u u' : ℕ → List ℕ → Use) (h h' : ℕ → List ℕ �
     ]
 
     -- a request is made
-    pub requested : u p r ≡ Nobody → Alters u u' p r (Waits e) → h p r < e.stamp.seq → (new : LockTable) × TableStep t (Requested e) new × Tabled n u' h' new
+    pub requested : u p r ≡ Nobody → Alters u u' p r (WaitsBy e) → h p r < e.stamp.seq → (new : LockTable) × TableStep t (Requested e) new × Tabled n u' h' new
     requested nobody alters above = (
       record t { waiting = t.waiting ++ e ∷ [] },
       (
@@ -182,8 +182,8 @@ module _ (n : ℕ) (u u' : ℕ → List ℕ → Use) (h h' : ℕ → List ℕ �
         refl,
       ),
       record {
-        waiting = gained t.waiting waiting_of (Waits e) alters tabled.waiting (ap waiting_of nobody) refl;
-        holding = stays t.holding granted_of (Waits e) alters tabled.holding (ap granted_of nobody);
+        waiting = gained t.waiting waiting_of (WaitsBy e) alters tabled.waiting (ap waiting_of nobody) refl;
+        holding = stays t.holding granted_of (WaitsBy e) alters tabled.holding (ap granted_of nobody);
         waiting_known = known_more t.waiting tabled.waiting_known;
         holding_known = tabled.holding_known;
         reached = reached_more;
@@ -193,16 +193,16 @@ module _ (n : ℕ) (u u' : ℕ → List ℕ → Use) (h h' : ℕ → List ℕ �
         same_use : (x : Entry) → x.name ≡ e.name → x.stamp.node ≡ e.stamp.node → u x.stamp.node x.name ≡ Nobody
         same_use x name node = (λ k. u ((node ∙ node_is) k) ((name ∙ name_is) k)) ∙ nobody
 
-        nobody_waits : (x : Entry) → Nobody ≡ Waits x → ⊥
+        nobody_waits : (x : Entry) → Nobody ≡ WaitsBy x → ⊥
         nobody_waits x k = cc
 
-        nobody_holds : (x : Entry) → Nobody ≡ IsGranted x → ⊥
+        nobody_holds : (x : Entry) → Nobody ≡ HoldsBy x → ⊥
         nobody_holds x k = cc
 
     -- it is granted
-    pub granted : u p r ≡ Waits e → Alters u u' p r (IsGranted e) → ((j : ℕ) → IsNode n j → e.stamp.seq ≤ h' j r)
-        → ((j : ℕ) (x : Entry) → IsNode n j → j ≢ p → u j r ≡ IsGranted x → Conflict x.mode e.mode → ⊥)
-        → ((j : ℕ) (x : Entry) → IsNode n j → j ≢ p → u j r ≡ Waits x → Conflict x.mode e.mode → IsEarlier x.stamp e.stamp → ⊥)
+    pub granted : u p r ≡ WaitsBy e → Alters u u' p r (HoldsBy e) → ((j : ℕ) → IsNode n j → e.stamp.seq ≤ h' j r)
+        → ((j : ℕ) (x : Entry) → IsNode n j → j ≢ p → u j r ≡ HoldsBy x → Conflict x.mode e.mode → ⊥)
+        → ((j : ℕ) (x : Entry) → IsNode n j → j ≢ p → u j r ≡ WaitsBy x → Conflict x.mode e.mode → IsEarlier x.stamp e.stamp → ⊥)
         → (new : LockTable) × TableStep t (Entered e) new × Tabled n u' h' new
     granted waits alters met free first =
         let only : of e.stamp.node e.name t.waiting ≡ e ∷ [] = (λ k. of (node_is k) (name_is k) t.waiting) ∙ tabled.waiting p r within ∙ ap waiting_of waits in
@@ -221,8 +221,8 @@ module _ (n : ℕ) (u u' : ℕ → List ℕ → Use) (h h' : ℕ → List ℕ �
             gains_end t.granted e,
           ),
           record {
-            waiting = lost t.waiting out.left waiting_of (IsGranted e) alters tabled.waiting refl (out.only only) out.others;
-            holding = gained t.holding granted_of (IsGranted e) alters tabled.holding (ap granted_of waits) refl;
+            waiting = lost t.waiting out.left waiting_of (HoldsBy e) alters tabled.waiting refl (out.only only) out.others;
+            holding = gained t.holding granted_of (HoldsBy e) alters tabled.holding (ap granted_of waits) refl;
             waiting_known = λ x at. tabled.waiting_known x (still t.waiting out.left out.loses x at);
             holding_known = known_more t.holding tabled.holding_known;
             reached = λ x at j j_at. elim (Contains-append_cases t.granted (e ∷ []) x at) [
@@ -232,26 +232,26 @@ module _ (n : ℕ) (u u' : ℕ → List ℕ → Use) (h h' : ℕ → List ℕ �
           },
         )
       where
-        nobody_else : (x : Entry) → u x.stamp.node x.name ≡ IsGranted x → IsNode n x.stamp.node → Excludes x e → ⊥
+        nobody_else : (x : Entry) → u x.stamp.node x.name ≡ HoldsBy x → IsNode n x.stamp.node → Excludes x e → ⊥
         nobody_else x holds known excludes =
             let named : x.name ≡ r = excludes.0 ∙ name_is in
-            let holds' : u x.stamp.node r ≡ IsGranted x = ap (u x.stamp.node) (sym named) ∙ holds in
+            let holds' : u x.stamp.node r ≡ HoldsBy x = ap (u x.stamp.node) (sym named) ∙ holds in
             elim (cases_same x.stamp.node p) [
               | inl same ↦ not_both x (sym waits ∙ ap (λ (k : ℕ). u k r) (sym same) ∙ holds')
               | inr apart ↦ free x.stamp.node x known apart holds' excludes.1
             ]
 
-        nobody_before : (x : Entry) → u x.stamp.node x.name ≡ Waits x → IsNode n x.stamp.node → Excludes x e → IsEarlier x.stamp e.stamp → ⊥
+        nobody_before : (x : Entry) → u x.stamp.node x.name ≡ WaitsBy x → IsNode n x.stamp.node → Excludes x e → IsEarlier x.stamp e.stamp → ⊥
         nobody_before x there known excludes earlier =
             let named : x.name ≡ r = excludes.0 ∙ name_is in
-            let there' : u x.stamp.node r ≡ Waits x = ap (u x.stamp.node) (sym named) ∙ there in
+            let there' : u x.stamp.node r ≡ WaitsBy x = ap (u x.stamp.node) (sym named) ∙ there in
             elim (cases_same x.stamp.node p) [
               | inl same ↦ not_itself x (sym waits ∙ ap (λ (k : ℕ). u k r) (sym same) ∙ there') earlier
               | inr apart ↦ first x.stamp.node x known apart there' excludes.1 earlier
             ]
 
     -- it is given back
-    pub given_back : u p r ≡ IsGranted e → Alters u u' p r Nobody → (new : LockTable) × TableStep t (Left e) new × Tabled n u' h' new
+    pub given_back : u p r ≡ HoldsBy e → Alters u u' p r Nobody → (new : LockTable) × TableStep t (Left e) new × Tabled n u' h' new
     given_back holds alters =
         let only : of e.stamp.node e.name t.holding ≡ e ∷ [] = (λ k. of (node_is k) (name_is k) t.holding) ∙ tabled.holding p r within ∙ ap granted_of holds in
         let there : Contains t.holding e = of_contains e.stamp.node e.name t.holding e (subst (λ (es : List Entry). Contains es e) (sym only) (0, omega arith, refl)) in

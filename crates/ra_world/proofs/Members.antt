@@ -6,8 +6,9 @@ use Rattle.std.specs.Ordering.{nat_cmp}
 use Rattle.std.specs.Cmp.{nat_cmp_total}
 use Rattle.std.specs.FinSet as set
 use Rattle.std.proofs.lemmas.Bool.Decides.{nat_tests}
+use Rattle.std.proofs.lemmas.Bool.{eq-eqb, false≢true, ne_eqb}
 use Rattle.ra_automaton.specs.Steps.{others_of}
-use Rattle.ra_world.proofs.Tests.{false_is_not_true, number_is, number_is_not, cases_same, tied, untied}
+use Rattle.ra_world.proofs.Deciding.{cases_same, tied, untied}
 
 in_range_any : (p : ℕ → Bool) (first n q : ℕ) → first ≤ q → q < first + n → p q ≡ true → list_any (λ y. nat_eq y q) (filter p (range_with_len first n)) ≡ true
 in_range_any p first zero q low high pass = absurd (omega (arith, low, high))
@@ -15,11 +16,11 @@ in_range_any p first (suc n) q low high pass =
     elim (cases_same first q) [
       | inl same ↦
           let here : p first ≡ true = ap p same ∙ pass in
-          rw here (rw (number_is first q same) refl)
+          rw here (rw (eq-eqb first q same) refl)
       | inr apart ↦
           let rest = in_range_any p (first + 1) n q (omega (arith, low, apart)) (omega (arith, high)) pass in
           elim (p first) as (λ b. list_any (λ y. nat_eq y q) (cond b (first ∷ filter p (range_with_len (first + 1) n)) (filter p (range_with_len (first + 1) n))) ≡ true) [
-            | true ↦ rw (number_is_not first q apart) rest
+            | true ↦ rw (ne_eqb first q apart) rest
             | false ↦ rest
           ]
     ]
@@ -36,7 +37,7 @@ pub remains : (s : set.FinSet nat_cmp) (other node : ℕ) → node ≢ other →
 remains s other node apart = set.contains-remove nat_cmp_total s other node ∙ ap (λ b. not b && set.contains s node) (untied node other apart)
 
 pub removed : (s : set.FinSet nat_cmp) (other : ℕ) → IsTrue (set.contains (set.remove s other) other) → ⊥
-removed s other h = false_is_not_true (sym (set.contains-remove nat_cmp_total s other other ∙ ap (λ b. not b && set.contains s other) (tied other other refl)) ∙ h)
+removed s other h = false≢true (sym (set.contains-remove nat_cmp_total s other other ∙ ap (λ b. not b && set.contains s other) (tied other other refl)) ∙ h)
 
 pub nobody : (node : ℕ) → IsTrue (set.contains (set.empty {R = nat_cmp}) node) → ⊥
-nobody node h = false_is_not_true (sym (set.contains-empty nat_cmp node) ∙ h)
+nobody node h = false≢true (sym (set.contains-empty nat_cmp node) ∙ h)

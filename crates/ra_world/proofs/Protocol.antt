@@ -1,10 +1,11 @@
 -- What holds of the automata of one name, one at each node, and of the messages under way, at any moment. The dialog of
 -- two nodes, of which one asks and the other answers, is silent, or the REQUEST is under way, or it is deferred, or the
 -- REPLY is under way; and who has answered has met the number and has no request that goes first.
-use Rattle.std.proofs.Common.{◌≡◌, ◌≢◌, ◌⊎◌, ℕ, ◌≤◌, List, [], ◌∷◌, Some, None, sym, ap, ◌∙◌, subst, inl, inr}
+use Rattle.std.proofs.Common.{◌≡◌, ◌≢◌, ◌⊎◌, ℕ, ◌≤◌, List, [], ◌∷◌, Some, None, sym, ap, ◌∙◌, subst, arith, inl, inr}
 use Rattle.std.specs.Prelude.{IsTrue}
 use Rattle.std.specs.FinSet as set
 use Rattle.std.specs.FinMap as finmap
+use Rattle.std.proofs.lemmas.Bool.{cases_lt}
 use Rattle.ra_stamp.specs.declared.mode.Mode.{Mode}
 use Rattle.ra_stamp.specs.declared.message.Message.{Message}
 use Rattle.ra_stamp.specs.declared.message.Message.TheVariants.{Request, Reply}
@@ -13,11 +14,20 @@ use Rattle.ra_automaton.specs.declared.phase.Phase.TheVariants.{Idle, Waiting, I
 use Rattle.ra_automaton.specs.State.{State, IsConsistent}
 use Rattle.ra_automaton.specs.Steps.{Awaits, OwnGoesFirst}
 use Rattle.ra_world.proofs.Dialogs.{between}
-use Rattle.ra_world.proofs.Tests.{cases_same}
+use Rattle.ra_world.proofs.Deciding.{cases_same}
 
 -- one of n nodes
 abbrev pub IsNode : ℕ → ℕ → Type 0
 IsNode n i = (1 ≤ i) × (i ≤ n)
+
+pub cases_node : (n i : ℕ) → IsNode n i ⊎ (IsNode n i → ⊥)
+cases_node n i = elim (cases_lt i 1) [
+  | inl below ↦ inr (λ at. absurd (omega (arith, below, at.0)))
+  | inr low ↦ elim (cases_lt n i) [
+    | inl above ↦ inr (λ at. absurd (omega (arith, above, at.1)))
+    | inr high ↦ inl (low, high)
+  ]
+]
 
 -- the number and the mode of a phase that has them
 abbrev pub seq_in : ℕ → Phase → ℕ

@@ -1,44 +1,54 @@
 -- Quiet runs: who waits is blocked, and how many messages were sent.
-use Rattle.std.proofs.Common.{◌≡◌, ℕ, List, [], ◌∷◌, Contains, length, refl, sym, ap, subst, arith, inl, inr}
+use Rattle.std.proofs.Common.{◌≡◌, ℕ, List, [], Any, Contains, length, sym, ap, subst, arith, inl, inr}
 use Rattle.ra_stamp.specs.declared.message.Message.{Message}
 use Rattle.ra_stamp.specs.declared.entry.Entry.{Entry}
+use Rattle.ra_stamp.specs.NodeId.{IsNodeNumber}
 use Rattle.ra_stamp.specs.Stamp.{IsEarlier}
-use Rattle.ra_table.specs.Table.{LockTable, Excludes, MayEnter}
+use Rattle.ra_table.specs.Table.{LockTable, Excludes, MayEnter, TableRun}
 use Rattle.ra_table.specs.Laws.{SameEntries}
-use Rattle.ra_world.specs.Traffic.{Move, sent_by, taken_by}
-use Rattle.ra_world.specs.Quiet.{IsQuiet, IsBlocked, CountHolds}
-use Rattle.ra_world.proofs.Lists.{less_alike}
+use Rattle.ra_world.specs.Below.{LawsBelow}
+use Rattle.ra_world.specs.Traffic.{Move}
+use Rattle.ra_world.specs.Run.{IsRun, marks_of}
+use Rattle.ra_world.specs.Quiet.{IsQuiet, IsBlocked, MeetsMessageCount}
+use Rattle.ra_world.proofs.Moves.{none_lost}
 use Rattle.ra_world.proofs.Cluster.{Invariant}
 use Rattle.ra_world.proofs.Balance.{asking}
 use Rattle.ra_world.proofs.Blocked.{blocked}
 use Rattle.ra_world.proofs.Counted.{nothing_owed}
-use Rattle.ra_world.proofs.Runs.{Reached}
+use Rattle.ra_world.proofs.Reached.{Reached, one_list}
+use Rattle.ra_world.proofs.Runs.{every_run}
 
-module _ (n start : ℕ) (moves : List Move) (reached : Reached ⊥ n start moves) (quiet : IsQuiet moves) where
+module _ (laws : LawsBelow) (n start : ℕ) (moves : List Move) (count : IsNodeNumber n) (run : IsRun n start moves) (quiet : IsQuiet moves)
+    (same_tables : (a b : LockTable) → TableRun (marks_of moves) a → TableRun (marks_of moves) b → SameEntries a b) where
+  reached : Reached ⊥ n start moves
+  reached = every_run laws n start moves (none_lost moves quiet.none_lost) count run
+
   nothing_under_way : reached.bag ≡ []
-  nothing_under_way = less_alike (sent_by moves) (taken_by moves) reached.bag [] reached.under_way quiet.none_under_way
+  nothing_under_way = one_list moves reached.bag [] reached.under_way quiet.none_under_way
 
   holds : Invariant ⊥ n reached.nodes [] reached.table
   holds = subst (λ (bag : List Message). Invariant ⊥ n reached.nodes bag reached.table) nothing_under_way reached.invariant
 
-  pub is_blocked : (table : LockTable) (e : Entry) → SameEntries table reached.table → Contains table.waiting e → IsBlocked table e
-  is_blocked table e same waits =
-      let x = blocked n reached.nodes reached.table holds e ((same.waiting e).0 waits) in
-      (x.0, x.1, elim x.2 [ inl there ↦ inl ((same.holding x.0).1 there) | inr there ↦ inr ((same.waiting x.0).1 there.0, there.1) ])
+  pub is_blocked : (table : LockTable) (e : Entry) → TableRun (marks_of moves) table → Contains table.waiting e → IsBlocked table e
+  is_blocked table e table_run waits =
+      let same = same_tables table reached.table table_run reached.run in
+      elim (blocked n reached.nodes reached.table holds e ((same.waiting e).0 waits)) [
+        | inl held ↦ inl (still (λ x. Excludes x e) reached.table.holding table.holding (λ x. (same.holding x).1) held)
+        | inr first ↦ inr (still (λ x. Excludes x e × IsEarlier x.stamp e.stamp) reached.table.waiting table.waiting (λ x. (same.waiting x).1) first)
+      ]
+    where
+      still : (P : Entry → Type 0) (old new : List Entry) → ((x : Entry) → Contains old x → Contains new x) → Any P old → Any P new
+      still P old new more (k, x, lt, is, p) = let at = more x (k, lt, is) in (at.0, x, at.1, at.2, p)
 
-  pub count_holds : (table : LockTable) → SameEntries table reached.table → table.waiting ≡ [] → CountHolds n moves
-  count_holds table same nobody =
-      let none : length reached.table.waiting ≡ 0 = empty reached.table.waiting (λ e at. subst (λ (es : List Entry). Contains es e) nobody ((same.waiting e).1 at)) in
+  pub meets_count : (table : LockTable) → TableRun (marks_of moves) table → table.waiting ≡ [] → MeetsMessageCount n moves
+  meets_count table table_run nobody =
+      let same = same_tables table reached.table table_run reached.run in
+      let none : length reached.table.waiting ≡ 0 = omega (arith, same.waiting_count, ap length nobody) in
       let owes = nothing_owed n reached.nodes reached.table holds none in
       omega (arith, reached.balance (λ x. x), owes, ap asking nothing_under_way)
-    where
-      empty : (es : List Entry) → ((e : Entry) → Contains es e → Contains [] e) → length es ≡ 0
-      empty [] h = refl
-      empty (e ∷ es) h = let at = h e (0, omega arith, refl) in absurd (omega (arith, at.1))
 
 pub blocked_may_not_enter : (table : LockTable) (e : Entry) → IsBlocked table e → MayEnter table e → ⊥
-blocked_may_not_enter table e x may = elim x.2 [
-  | inl there ↦ may.not_held there.0 x.0 there.1 (subst (λ (y : Entry). Excludes y e) (sym there.2) x.1)
-  | inr there ↦
-      may.no_earlier there.0.0 x.0 there.0.1 (subst (λ (y : Entry). Excludes y e) (sym there.0.2) x.1) (subst (λ (y : Entry). IsEarlier y.stamp e.stamp) (sym there.0.2) there.1)
+blocked_may_not_enter table e x may = elim x [
+  | inl (k, y, lt, is, excludes) ↦ may.not_held k y lt (subst (λ (z : Entry). Excludes z e) (sym is) excludes)
+  | inr (k, y, lt, is, both) ↦ may.no_earlier k y lt (subst (λ (z : Entry). Excludes z e) (sym is) both.0) (subst (λ (z : Entry). IsEarlier z.stamp e.stamp) (sym is) both.1)
 ]

@@ -4,10 +4,10 @@ use Rattle.std.specs.Prelude.{bytes_eq}
 use Rattle.std.proofs.lemmas.List.{append-nil}
 use Rattle.std.proofs.lemmas.List.Elements.{filter-append}
 use Rattle.std.proofs.lemmas.Slice.Eq.{bytes_eq-Decides}
+use Rattle.std.proofs.lemmas.Bool.{and_parts, eq-eqb, eqb-true, false_from_ne_true}
 use Rattle.ra_stamp.specs.declared.entry.Entry.{Entry}
 use Rattle.ra_table.specs.Table.{Gains, Loses}
-use Rattle.ra_world.proofs.Tests.{both_true, not_true, same_number, number_is}
-use Rattle.ra_world.proofs.Lists.{filter_hit, filter_miss}
+use Rattle.ra_world.proofs.Lists.{tail_of, filter_hit, filter_miss}
 
 -- ---- The entries of one node on one name
 
@@ -16,14 +16,14 @@ is_of i r e = nat_eq e.stamp.node i && bytes_eq e.name r
 
 pub is_of_both : (i : ℕ) (r : List ℕ) (e : Entry) → is_of i r e ≡ true → (e.stamp.node ≡ i) × (e.name ≡ r)
 is_of_both i r e h =
-    let both = both_true (nat_eq e.stamp.node i) (bytes_eq e.name r) h in
-    (same_number e.stamp.node i both.0, (bytes_eq-Decides e.name r).0 both.1)
+    let both = and_parts (nat_eq e.stamp.node i) (bytes_eq e.name r) h in
+    (eqb-true e.stamp.node i both.0, (bytes_eq-Decides e.name r).0 both.1)
 
 pub is_of_here : (i : ℕ) (r : List ℕ) (e : Entry) → e.stamp.node ≡ i → e.name ≡ r → is_of i r e ≡ true
-is_of_here i r e node name = rw (number_is e.stamp.node i node, (bytes_eq-Decides e.name r).1 name) refl
+is_of_here i r e node name = rw (eq-eqb e.stamp.node i node, (bytes_eq-Decides e.name r).1 name) refl
 
 pub is_of_not : (i : ℕ) (r : List ℕ) (e : Entry) → (e.stamp.node ≡ i → e.name ≡ r → ⊥) → is_of i r e ≡ false
-is_of_not i r e h = not_true (is_of i r e) (λ t. let both = is_of_both i r e t in h both.0 both.1)
+is_of_not i r e h = false_from_ne_true (is_of i r e) (λ t. let both = is_of_both i r e t in h both.0 both.1)
 
 abbrev pub of : ℕ → List ℕ → List Entry → List Entry
 of i r es = filter (is_of i r) es
@@ -84,9 +84,6 @@ takes_out (x ∷ es) e (zero, lt, is) =
       only = λ one. tail_of (sym (filter_hit (is_of e.stamp.node e.name) x es (ap (is_of e.stamp.node e.name) is ∙ is_of_here e.stamp.node e.name e refl refl)) ∙ one);
       others = λ i r no. sym (filter_miss (is_of i r) x es (ap (is_of i r) is ∙ no));
     }
-  where
-    tail_of : {y z : Entry} {ys : List Entry} → y ∷ ys ≡ z ∷ [] → ys ≡ []
-    tail_of e = cc
 takes_out (x ∷ es) e (suc k, lt, is) =
     let rest = takes_out es e (k, omega (arith, lt), is) in
     record {

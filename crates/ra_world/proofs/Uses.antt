@@ -5,7 +5,6 @@ use Rattle.std.specs.Ordering.{nat_cmp}
 use Rattle.std.specs.FinSet as set
 use Rattle.std.proofs.lemmas.Bool.{cases_lt}
 use Rattle.ra_stamp.specs.declared.mode.Mode.{Mode}
-use Rattle.ra_stamp.specs.declared.mode.Mode.TheVariants.{Shared, Exclusive}
 use Rattle.ra_stamp.specs.declared.message.Message.{Message}
 use Rattle.ra_stamp.specs.declared.entry.Entry.{Entry}
 use Rattle.ra_stamp.specs.Mode.{Conflict}
@@ -15,9 +14,9 @@ use Rattle.ra_automaton.specs.declared.phase.Phase.TheVariants.{Idle, Waiting, I
 use Rattle.ra_automaton.specs.State.{State, IsWaiting, HasNumber, IsConsistent}
 use Rattle.ra_automaton.specs.Steps.{OwnGoesFirst}
 use Rattle.ra_node.specs.Resource.{Resource, use_in, use_of}
-use Rattle.ra_node.specs.Resource.Use.{Nobody, Waits, IsGranted}
+use Rattle.ra_node.specs.Resource.Use.{Nobody, WaitsBy, HoldsBy}
 use Rattle.ra_node.specs.Node.{NodeState, resource_at}
-use Rattle.ra_world.proofs.Tests.{cases_same}
+use Rattle.ra_world.proofs.Deciding.{cases_same}
 use Rattle.ra_world.proofs.Members.{nobody}
 use Rattle.ra_world.proofs.Protocol.{IsNode, HasOwn, LetsPass, Protocol}
 use Rattle.ra_world.proofs.Marking.{entry_in_use}
@@ -28,53 +27,47 @@ pub record IsRequestOf (s : State) (x : Entry) : Type 0 where
   pub node_is : x.stamp.node ≡ s.me
   pub name_is : x.name ≡ s.name
 
-granted_in : (s : State) (phase : Phase) (client : Option ℕ) (x : Entry) → use_in s phase client ≡ IsGranted x → (phase ≡ Inside x.stamp.seq x.mode) × IsRequestOf s x
+granted_in : (s : State) (phase : Phase) (client : Option ℕ) (x : Entry) → use_in s phase client ≡ HoldsBy x → (phase ≡ Inside x.stamp.seq x.mode) × IsRequestOf s x
 granted_in s phase None x e = absurd (no e)
   where
-    no : Nobody ≡ IsGranted x → ⊥
+    no : Nobody ≡ HoldsBy x → ⊥
     no k = cc
 granted_in s Idle (Some client) x e = absurd (no e)
   where
-    no : Nobody ≡ IsGranted x → ⊥
+    no : Nobody ≡ HoldsBy x → ⊥
     no k = cc
 granted_in s (Waiting seq mode) (Some client) x e = absurd (no e)
   where
-    no : {y : Entry} → Waits y ≡ IsGranted x → ⊥
+    no : {y : Entry} → WaitsBy y ≡ HoldsBy x → ⊥
     no k = cc
 granted_in s (Inside seq mode) (Some client) x e =
     let is = ap (entry_in_use x) e in
     (λ i. Inside (is i).stamp.seq (is i).mode, record { node_is = sym (ap (λ (y : Entry). y.stamp.node) is); name_is = sym (ap (λ (y : Entry). y.name) is) })
 
-waits_in : (s : State) (phase : Phase) (client : Option ℕ) (x : Entry) → use_in s phase client ≡ Waits x → (phase ≡ Waiting x.stamp.seq x.mode) × IsRequestOf s x
+waits_in : (s : State) (phase : Phase) (client : Option ℕ) (x : Entry) → use_in s phase client ≡ WaitsBy x → (phase ≡ Waiting x.stamp.seq x.mode) × IsRequestOf s x
 waits_in s phase None x e = absurd (no e)
   where
-    no : Nobody ≡ Waits x → ⊥
+    no : Nobody ≡ WaitsBy x → ⊥
     no k = cc
 waits_in s Idle (Some client) x e = absurd (no e)
   where
-    no : Nobody ≡ Waits x → ⊥
+    no : Nobody ≡ WaitsBy x → ⊥
     no k = cc
 waits_in s (Inside seq mode) (Some client) x e = absurd (no e)
   where
-    no : {y : Entry} → IsGranted y ≡ Waits x → ⊥
+    no : {y : Entry} → HoldsBy y ≡ WaitsBy x → ⊥
     no k = cc
 waits_in s (Waiting seq mode) (Some client) x e =
     let is = ap (entry_in_use x) e in
     (λ i. Waiting (is i).stamp.seq (is i).mode, record { node_is = sym (ap (λ (y : Entry). y.stamp.node) is); name_is = sym (ap (λ (y : Entry). y.name) is) })
 
-pub use_granted : (r : Resource) (x : Entry) → use_of r ≡ IsGranted x → (r.state.phase ≡ Inside x.stamp.seq x.mode) × IsRequestOf r.state x
+pub use_granted : (r : Resource) (x : Entry) → use_of r ≡ HoldsBy x → (r.state.phase ≡ Inside x.stamp.seq x.mode) × IsRequestOf r.state x
 use_granted r x e = granted_in r.state r.state.phase r.client x e
 
-pub use_waits : (r : Resource) (x : Entry) → use_of r ≡ Waits x → (r.state.phase ≡ Waiting x.stamp.seq x.mode) × IsRequestOf r.state x
+pub use_waits : (r : Resource) (x : Entry) → use_of r ≡ WaitsBy x → (r.state.phase ≡ Waiting x.stamp.seq x.mode) × IsRequestOf r.state x
 use_waits r x e = waits_in r.state r.state.phase r.client x e
 
 -- ---- What a request finds that enters
-
-symmetric : (a b : Mode) → Conflict a b → Conflict b a
-symmetric Shared Shared h = h
-symmetric Shared Exclusive h = h
-symmetric Exclusive Shared h = h
-symmetric Exclusive Exclusive h = h
 
 own_inside : (phase : Phase) (k : ℕ) (m : Mode) → phase ≡ Inside k m → HasOwn phase k m
 own_inside phase k m e = subst (λ (q : Phase). HasOwn q k m) (sym e) (refl, refl)
@@ -95,8 +88,8 @@ one_is_earlier s i t j apart = elim (cases_lt s t) [
   ]
 ]
 
-module _ {Lossy : Type 0} (n : ℕ) (r : List ℕ) (nodes : ℕ → NodeState) (bag : List Message) (holds : Protocol Lossy n r (λ i. (resource_at (nodes i) r).state) bag) (p : ℕ) (within : IsNode n p) (e : Entry)
-    (granted : use_of (resource_at (nodes p) r) ≡ IsGranted e) where
+module _ {Lossy : Type 0} (symmetric : (a b : Mode) → Conflict a b → Conflict b a) (n : ℕ) (r : List ℕ) (nodes : ℕ → NodeState) (bag : List Message) (holds : Protocol Lossy n r (λ i. (resource_at (nodes i) r).state) bag) (p : ℕ) (within : IsNode n p) (e : Entry)
+    (granted : use_of (resource_at (nodes p) r) ≡ HoldsBy e) where
   abbrev s : ℕ → State
   s i = (resource_at (nodes i) r).state
 

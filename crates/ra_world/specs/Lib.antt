@@ -1,3 +1,4 @@
 pub mod Traffic
 pub mod Run
 pub mod Quiet
+pub mod Below

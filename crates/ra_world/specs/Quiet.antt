@@ -1,20 +1,20 @@
 -- Quiet moments: nothing was lost and nothing is under way.
-use Rattle.std.specs.Prelude.{◌≡◌, ◌⊎◌, ℕ, ◌+◌, ◌-◌, ◌*◌, List, [], ◌∷◌, Contains, length}
+use Rattle.std.specs.Prelude.{◌≡◌, ◌⊎◌, ℕ, ◌+◌, ◌-◌, ◌*◌, List, [], ◌∷◌, length}
 use Rattle.ra_stamp.specs.declared.entry.Entry.{Entry}
 use Rattle.ra_stamp.specs.declared.entry.Mark.{Mark}
 use Rattle.ra_stamp.specs.declared.entry.Mark.TheVariants.{Requested, Entered, Left}
-use Rattle.ra_stamp.specs.Stamp.{IsEarlier}
-use Rattle.ra_table.specs.Table.{LockTable, Excludes}
-use Rattle.ra_world.specs.Traffic.{Move, sent_by, lost_by, IsUnderWay}
+use Rattle.ra_table.specs.Table.{LockTable}
+use Rattle.ra_table.specs.Refusals.{IsHeld, HasEarlier}
+use Rattle.ra_world.specs.Traffic.{Move, sent_by, lost_by, LeavesUnderWay}
 use Rattle.ra_world.specs.Run.{marks_of}
 
 pub record IsQuiet (moves : List Move) : Type 0 where
   pub none_lost : lost_by moves ≡ []
-  pub none_under_way : IsUnderWay moves []
+  pub none_under_way : LeavesUnderWay moves []
 
 -- something keeps an entry from being granted: an entry that excludes it holds, or waits with an earlier stamp
 abbrev pub IsBlocked : LockTable → Entry → Type 0
-IsBlocked table e = (x : Entry) × Excludes x e × (Contains table.holding x ⊎ (Contains table.waiting x × IsEarlier x.stamp e.stamp))
+IsBlocked table e = IsHeld table e ⊎ HasEarlier table e
 
 -- how many requests were made
 abbrev pub requests_in : List Mark → ℕ
@@ -24,5 +24,5 @@ requests_in (Entered e ∷ marks) = requests_in marks
 requests_in (Left e ∷ marks) = requests_in marks
 
 -- two messages to or from each other node were sent for each request
-abbrev pub CountHolds : ℕ → List Move → Type 0
-CountHolds n moves = length (sent_by moves) ≡ 2 * (n - 1) * requests_in (marks_of moves)
+abbrev pub MeetsMessageCount : ℕ → List Move → Type 0
+MeetsMessageCount n moves = length (sent_by moves) ≡ 2 * (n - 1) * requests_in (marks_of moves)

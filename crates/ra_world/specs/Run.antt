@@ -4,9 +4,8 @@ use Rattle.std.specs.List.{range_with_len}
 use Rattle.ra_stamp.specs.declared.message.Message.{Message}
 use Rattle.ra_stamp.specs.declared.entry.Mark.{Mark}
 use Rattle.ra_stamp.specs.Message.{to_of}
-use Rattle.ra_bag.specs.Bag.{TakesFirst}
 use Rattle.ra_node.specs.Node.{NodeState, opening_node, waiting_count, queued_count}
-use Rattle.ra_node.specs.Events.{Event, Happening, Events}
+use Rattle.ra_node.specs.Events.{Event, Happening, NodeEvents}
 use Rattle.ra_node.specs.Events.Event.{Ask as AskedFor, Leave as GivenBack, Receive as Received}
 use Rattle.ra_world.specs.declared.step.Step.{Step}
 use Rattle.ra_world.specs.declared.step.Step.TheVariants.{Ask, Leave, Deliver, Lose}
@@ -30,38 +29,27 @@ abbrev pub marks_of : List Move → List Mark
 marks_of [] = []
 marks_of (move ∷ moves) = move.marks ++ marks_of moves
 
--- after these steps the message is among those under way, and can be taken from them
-abbrev pub WasUnderWay : List Move → Message → Type 0
-WasUnderWay moves message = (left : List Message) × (rest : List Message) × IsUnderWay moves left × TakesFirst left message rest
-
--- a client's step names a node that there is, a message that is taken is under way, and a message that is lost touches
--- no node
+-- a client's step names a node that there is, a message that is taken is under way, and the loss of one sends and marks
+-- nothing
 abbrev pub IsFit : ℕ → List Move → Step → List Message → List Mark → Type 0
 IsFit n before (Ask node client name mode) sends marks = (1 ≤ node) × (node ≤ n)
 IsFit n before (Leave node client name) sends marks = (1 ≤ node) × (node ≤ n)
-IsFit n before (Deliver message) sends marks = WasUnderWay before message
-IsFit n before (Lose message) sends marks = WasUnderWay before message × (sends ≡ []) × (marks ≡ [])
+IsFit n before (Deliver message) sends marks = IsUnderWay before message
+IsFit n before (Lose message) sends marks = IsUnderWay before message × (sends ≡ []) × (marks ≡ [])
 
 -- each of these moves fits, one after the other, behind those that were before
 abbrev pub AreFit : ℕ → List Move → List Move → Type 0
 AreFit n before [] = Unit {0}
 AreFit n before (move ∷ moves) = IsFit n before move.step move.sends move.marks × AreFit n (before ++ move ∷ []) moves
 
+-- after these moves, each the node's own events, the nodes 1 to n are these
+abbrev pub EndsWith : ℕ → ℕ → List Move → (ℕ → NodeState) → Type 0
+EndsWith n start moves nodes = (i : ℕ) → 1 ≤ i → i ≤ n → NodeEvents (opening_node i n start) (happened_at i moves) (nodes i)
+
 -- these steps are a run of n nodes from the start value, with these messages and marks
 pub record IsRun (n start : ℕ) (moves : List Move) : Type 0 where
   pub each_fits : AreFit n [] moves
-  pub each_node : (i : ℕ) → 1 ≤ i → i ≤ n → (last : NodeState) × Events (opening_node i n start) (happened_at i moves) last
-
--- the nodes at the end of a run
-abbrev pub EndsWith : ℕ → ℕ → List Move → (ℕ → NodeState) → Type 0
-EndsWith n start moves nodes = (i : ℕ) → 1 ≤ i → i ≤ n → Events (opening_node i n start) (happened_at i moves) (nodes i)
-
--- how many requests wait at the nodes, and how many clients are queued
-abbrev pub waiting_at_all : ℕ → (ℕ → NodeState) → ℕ
-waiting_at_all n nodes = sum_by (λ i. waiting_count (nodes i)) (range_with_len 1 n)
-
-abbrev pub queued_at_all : ℕ → (ℕ → NodeState) → ℕ
-queued_at_all n nodes = sum_by (λ i. queued_count (nodes i)) (range_with_len 1 n)
+  pub ends : (nodes : ℕ → NodeState) × EndsWith n start moves nodes
 
 -- a list of steps is a run, whatever is sent and marked
 abbrev pub WorldRun : ℕ → ℕ → List Step → Type 0
@@ -71,3 +59,14 @@ WorldRun n start steps = (moves : List Move) × (map (λ move. move.step) moves 
 abbrev pub GoesOn : ℕ → ℕ → List Move → Step → Type 0
 GoesOn n start moves step =
     (sends : List Message) × (marks : List Mark) × IsRun n start (moves ++ record { step = step; sends = sends; marks = marks } ∷ [])
+
+-- how many requests wait at the nodes, and how many clients are queued
+abbrev pub waiting_at_all : ℕ → (ℕ → NodeState) → ℕ
+waiting_at_all n nodes = sum_by (λ i. waiting_count (nodes i)) (range_with_len 1 n)
+
+abbrev pub queued_at_all : ℕ → (ℕ → NodeState) → ℕ
+queued_at_all n nodes = sum_by (λ i. queued_count (nodes i)) (range_with_len 1 n)
+
+-- the nodes, one of them in another state
+abbrev pub with_node : (ℕ → NodeState) → ℕ → NodeState → ℕ → NodeState
+with_node nodes i new j = if i == j then new else nodes j

@@ -1,5 +1,5 @@
 -- What steps send, and which messages are under way after them.
-use Rattle.std.specs.Prelude.{◌≡◌, List, [], ◌∷◌, ◌++◌}
+use Rattle.std.specs.Prelude.{List, [], ◌∷◌, ◌++◌, ◌≡◌, Contains}
 use Rattle.ra_stamp.specs.declared.message.Message.{Message}
 use Rattle.ra_stamp.specs.declared.entry.Mark.{Mark}
 use Rattle.ra_bag.specs.Bag.{TakesFirst}
@@ -39,11 +39,15 @@ abbrev pub lost_by : List Move → List Message
 lost_by [] = []
 lost_by (move ∷ moves) = lost_in move.step ++ lost_by moves
 
--- what is left of a list, less the first equal message for each of these, in order
-abbrev pub IsLess : List Message → List Message → List Message → Type 0
-IsLess sent [] left = left ≡ sent
-IsLess sent (message ∷ taken) left = (next : List Message) × TakesFirst sent message next × IsLess next taken left
+-- the new list is the old one less the first equal message for each of these, in order
+abbrev pub TakesEach : List Message → List Message → List Message → Type 0
+TakesEach old [] new = new ≡ old
+TakesEach old (message ∷ messages) new = (next : List Message) × TakesFirst old message next × TakesEach next messages new
 
--- the messages under way: what was sent, less what was delivered or lost
-abbrev pub IsUnderWay : List Move → List Message → Type 0
-IsUnderWay moves left = IsLess (sent_by moves) (taken_by moves) left
+-- these steps leave these messages under way, in order of sending: what was sent, less what was delivered or lost
+abbrev pub LeavesUnderWay : List Move → List Message → Type 0
+LeavesUnderWay moves left = TakesEach (sent_by moves) (taken_by moves) left
+
+-- after these steps the message is under way
+abbrev pub IsUnderWay : List Move → Message → Type 0
+IsUnderWay moves message = (left : List Message) × LeavesUnderWay moves left × Contains left message

@@ -1,18 +1,24 @@
 //! What is true of every run of a world, for the crates above: each function does nothing, and its contract is the law.
-ghost use Rattle.std.specs.Prelude.{◌≡◌, ◌≤◌, ◌++◌, ◌∷◌, ◌↔◌, [], ℕ, List, Contains, length, map};
+ghost use Rattle.std.specs.Prelude.{◌≡◌, ◌≢◌, ◌≤◌, ◌++◌, ◌∷◌, ◌↔◌, [], ℕ, List, Some, AllPairs, Contains, length, map};
 ghost use Rattle.ra_stamp.specs.declared.message.Message.{Message};
 ghost use Rattle.ra_stamp.specs.declared.mode.Mode.{Mode};
+ghost use Rattle.ra_stamp.specs.declared.entry.Entry.{Entry};
+ghost use Rattle.ra_stamp.specs.declared.entry.Mark.{Mark};
+ghost use Rattle.ra_stamp.specs.Message.{from_of, to_of, seq_of};
+ghost use Rattle.ra_stamp.specs.Mode.{Conflict};
 ghost use Rattle.ra_stamp.specs.NodeId.{IsNodeNumber};
+ghost use Rattle.ra_automaton.specs.State.{IsOtherNode};
 ghost use Rattle.ra_automaton.specs.Steps.{Awaits};
-ghost use Rattle.ra_node.specs.Resource.{Holds};
+ghost use Rattle.ra_node.specs.Resource.{Holds, holder_of};
 ghost use Rattle.ra_node.specs.Turns.{MayAsk};
 ghost use Rattle.ra_node.specs.Node.{NodeState, opening_node, resource_at};
-ghost use Rattle.ra_node.specs.Events.{Events};
-ghost use Rattle.ra_stamp.specs.declared.entry.Entry.{Entry};
+ghost use Rattle.ra_node.specs.Events.{Event, NodeEvent, NodeEvents};
 ghost use Rattle.ra_table.specs.Table.{LockTable, TableRun, MayEnter};
-ghost use Rattle.ra_world.specs.Traffic.{Move};
-ghost use Rattle.ra_world.specs.Quiet.{IsQuiet, IsBlocked, CountHolds};
-ghost use Rattle.ra_world.specs.Run.{IsRun, GoesOn, EndsWith, WasUnderWay, marks_of, happened_at, waiting_at_all};
+ghost use Rattle.ra_world.specs.declared.step.Step.{Step};
+ghost use Rattle.ra_world.specs.Traffic.{Move, TakesEach, LeavesUnderWay, IsUnderWay, sent_by, taken_in};
+ghost use Rattle.ra_world.specs.Quiet.{IsQuiet, IsBlocked, MeetsMessageCount};
+ghost use Rattle.ra_world.specs.Below.{LawsBelow};
+ghost use Rattle.ra_world.specs.Run.{IsRun, IsFit, GoesOn, WorldRun, EndsWith, events_at, marks_of, happened_at, waiting_at_all, with_node};
 
 use crate::Step;
 use ra_automaton::steps_keep_a_state_consistent;
@@ -20,8 +26,35 @@ use ra_node::{
     events_are_determined, events_exist_where_they_are_allowed, events_go_on,
     events_keep_a_node_consistent, events_leave_other_names,
 };
-use ra_stamp::{Entry, Message};
+use ra_stamp::{Entry, Message, conflict_is_symmetric, equal_is_same};
 use ra_table::{runs_go_on_by_steps, tables_of_one_run_have_the_same_entries};
+
+/// What the laws of runs rest on: the laws of the crates below, in one place.
+fn laws_below()
+    ensures { LawsBelow }
+{
+    conflict_is_symmetric();
+    equal_is_same();
+    steps_keep_a_state_consistent();
+    events_keep_a_node_consistent();
+    events_leave_other_names();
+    events_are_determined();
+    events_exist_where_they_are_allowed();
+    events_go_on();
+    runs_go_on_by_steps();
+}
+
+/// Mutual exclusion. At the end of a run no two different nodes hold a name in modes that conflict, whatever was lost
+/// and in whatever order the messages came.
+pub fn two_nodes_never_hold_in_conflict()
+    ensures { (n start : ℕ) (moves : List Move) (nodes : ℕ → NodeState) (i j : ℕ) (name : List ℕ) (a b : Entry)
+        → IsNodeNumber n → IsRun n start moves → EndsWith n start moves nodes
+        → IsNodeNumber i → i ≤ n → IsNodeNumber j → j ≤ n → i ≢ j
+        → holder_of (resource_at (nodes i) name) ≡ Some a → holder_of (resource_at (nodes j) name) ≡ Some b
+        → ¬ Conflict a.mode b.mode }
+{
+    laws_below();
+}
 
 /// Which steps a run goes on with: an ask or a leave at a node that there is, where its client may ask or holds at the end
 /// of the run, and the delivery or the loss of a message that is under way.
@@ -37,36 +70,81 @@ pub fn runs_go_on_where_steps_are_allowed()
         → (node client : ℕ) (name : List ℕ)
         → GoesOn n start moves (Step.Leave node client name)
         ↔ (((1 ≤ node) × (node ≤ n)) × ((entry : Entry) × Holds (resource_at (nodes node) name) client entry)) }
-    ensures deliver { (n start : ℕ) (moves : List Move) (nodes : ℕ → NodeState)
-        → IsNodeNumber n → IsRun n start moves → EndsWith n start moves nodes
-        → (message : Message) → GoesOn n start moves (Step.Deliver message) ↔ WasUnderWay moves message }
-    ensures lose { (n start : ℕ) (moves : List Move) (nodes : ℕ → NodeState)
-        → IsNodeNumber n → IsRun n start moves → EndsWith n start moves nodes
-        → (message : Message) → GoesOn n start moves (Step.Lose message) ↔ WasUnderWay moves message }
+    ensures deliver { (n start : ℕ) (moves : List Move) → IsNodeNumber n → IsRun n start moves
+        → (message : Message) → GoesOn n start moves (Step.Deliver message) ↔ IsUnderWay moves message }
+    ensures lose { (n start : ℕ) (moves : List Move) → IsNodeNumber n → IsRun n start moves
+        → (message : Message) → GoesOn n start moves (Step.Lose message) ↔ IsUnderWay moves message }
 {
-    steps_keep_a_state_consistent();
-    events_keep_a_node_consistent();
-    events_leave_other_names();
-    events_are_determined();
-    events_exist_where_they_are_allowed();
-    events_go_on();
-    runs_go_on_by_steps();
+    laws_below();
 }
 
 /// The marks of a run are a run of the lock table. So no two conflicting entries on one name hold at once, and
 /// conflicting entries on one name are granted in the order of their stamps. As many requests wait in the table as at
 /// the nodes.
 pub fn marks_of_runs_are_table_runs()
-    ensures { (n start : ℕ) (moves : List Move) (nodes : ℕ → NodeState)
-        → IsNodeNumber n → IsRun n start moves → EndsWith n start moves nodes
-        → (table : LockTable) × TableRun (marks_of moves) table × (length table.waiting ≡ waiting_at_all n nodes) }
+    ensures table { (n start : ℕ) (moves : List Move) → IsNodeNumber n → IsRun n start moves
+        → (table : LockTable) × TableRun (marks_of moves) table }
+    ensures waiting { (n start : ℕ) (moves : List Move) (nodes : ℕ → NodeState) (table : LockTable)
+        → IsNodeNumber n → IsRun n start moves → EndsWith n start moves nodes → TableRun (marks_of moves) table
+        → length table.waiting ≡ waiting_at_all n nodes }
 {
-    steps_keep_a_state_consistent();
-    events_keep_a_node_consistent();
-    events_leave_other_names();
-    events_are_determined();
+    laws_below();
+    tables_of_one_run_have_the_same_entries();
+}
+
+/// After each run the messages under way are one list, and each of them has a number and is from a node to another one of
+/// those there are. The list goes on step by step: a message that is taken is out of it, and what is sent comes behind it.
+pub fn messages_under_way_are_between_nodes()
+    ensures exist { (n start : ℕ) (moves : List Move) → IsNodeNumber n → IsRun n start moves
+        → (left : List Message) × LeavesUnderWay moves left }
+    ensures are_one { (moves : List Move) (a b : List Message)
+        → LeavesUnderWay moves a → LeavesUnderWay moves b → a ≡ b }
+    ensures among_them { (moves : List Move) (left : List Message) (message : Message) → LeavesUnderWay moves left
+        → IsUnderWay moves message ↔ Contains left message }
+    ensures go_on { (moves : List Move) (move : Move) (left next : List Message) → LeavesUnderWay moves left
+        → TakesEach left (taken_in move.step) next → LeavesUnderWay (moves ++ move ∷ []) (next ++ move.sends) }
+    ensures between_nodes { (n start : ℕ) (moves : List Move) (message : Message)
+        → IsNodeNumber n → IsRun n start moves → IsUnderWay moves message
+        → ((1 ≤ to_of message) × (to_of message ≤ n)) × IsOtherNode (to_of message) n (from_of message) }
+    ensures numbered { (n start : ℕ) (moves : List Move) (message : Message)
+        → IsNodeNumber n → IsRun n start moves → IsUnderWay moves message → 1 ≤ seq_of message }
+{
+    laws_below();
+}
+
+/// A run goes on by the event that a node really makes of a step, and the other nodes stay; and by the loss of a message
+/// under way, at which all nodes stay.
+pub fn runs_go_on_by_events()
+    ensures event { (n start : ℕ) (moves : List Move) (nodes : ℕ → NodeState) (i : ℕ) (event : Event) (move : Move)
+        (new : NodeState) → IsNodeNumber n → IsRun n start moves → EndsWith n start moves nodes
+        → 1 ≤ i → i ≤ n → IsFit n moves move.step move.sends move.marks → events_at i move.step ≡ event ∷ []
+        → NodeEvent (nodes i) event move.sends move.marks new
+        → IsRun n start (moves ++ move ∷ []) × EndsWith n start (moves ++ move ∷ []) (with_node nodes i new) }
+    ensures loss { (n start : ℕ) (moves : List Move) (nodes : ℕ → NodeState) (message : Message)
+        → IsRun n start moves → EndsWith n start moves nodes → IsUnderWay moves message
+        → IsRun n start (moves ++ record { step = Step.Lose message; sends = []; marks = [] } ∷ [])
+        × EndsWith n start (moves ++ record { step = Step.Lose message; sends = []; marks = [] } ∷ []) nodes }
+{
     events_go_on();
-    runs_go_on_by_steps();
+}
+
+/// Each front of a run is a run, also of a list of steps; and a list of steps that is a run goes on with a step exactly
+/// where the run does.
+pub fn fronts_of_runs_are_runs()
+    ensures moves { (n start : ℕ) (front back : List Move) → IsRun n start (front ++ back) → IsRun n start front }
+    ensures steps { (n start : ℕ) (front back : List Step) → WorldRun n start (front ++ back) → WorldRun n start front }
+    ensures step { (n start : ℕ) (moves : List Move) (step : Step) → IsNodeNumber n → IsRun n start moves
+        → WorldRun n start (map (λ move. move.step) moves ++ step ∷ []) ↔ GoesOn n start moves step }
+{
+    laws_below();
+}
+
+/// All messages that a run sends are different.
+pub fn messages_of_runs_are_different()
+    ensures { (n start : ℕ) (moves : List Move) → IsNodeNumber n → IsRun n start moves
+        → AllPairs (λ a b. a ≢ b) (sent_by moves) }
+{
+    laws_below();
 }
 
 /// No REPLY that is delivered in a run is a stray: the node that it is for waits with its number and awaits it.
@@ -74,15 +152,10 @@ pub fn no_delivered_reply_is_a_stray()
     ensures { (n start : ℕ) (front back : List Move) (move : Move) (from to : ℕ) (name : List ℕ) (seq : ℕ) (node : NodeState)
         → IsNodeNumber n → IsRun n start (front ++ move ∷ back)
         → move.step ≡ Step.Deliver (Message.Reply from to name seq)
-        → Events (opening_node to n start) (happened_at to front) node
+        → NodeEvents (opening_node to n start) (happened_at to front) node
         → (mode : Mode) × Awaits (resource_at node name).state from seq mode }
 {
-    steps_keep_a_state_consistent();
-    events_keep_a_node_consistent();
-    events_leave_other_names();
-    events_are_determined();
-    events_go_on();
-    runs_go_on_by_steps();
+    laws_below();
 }
 
 /// The steps of a run decide what is sent and marked.
@@ -90,12 +163,7 @@ pub fn runs_are_determined()
     ensures { (n start : ℕ) (a b : List Move) → IsNodeNumber n → IsRun n start a → IsRun n start b
         → map (λ move. move.step) a ≡ map (λ move. move.step) b → a ≡ b }
 {
-    steps_keep_a_state_consistent();
-    events_keep_a_node_consistent();
-    events_leave_other_names();
-    events_are_determined();
-    events_go_on();
-    runs_go_on_by_steps();
+    laws_below();
 }
 
 /// Where nothing was lost and nothing is under way, each request that waits is blocked: an entry that excludes it holds, or
@@ -108,12 +176,7 @@ pub fn waiting_requests_are_blocked_in_quiet_runs()
         → IsNodeNumber n → IsRun n start moves → IsQuiet moves → TableRun (marks_of moves) table
         → ¬ MayEnter table e }
 {
-    steps_keep_a_state_consistent();
-    events_keep_a_node_consistent();
-    events_leave_other_names();
-    events_are_determined();
-    events_go_on();
-    runs_go_on_by_steps();
+    laws_below();
     tables_of_one_run_have_the_same_entries();
 }
 
@@ -122,13 +185,8 @@ pub fn waiting_requests_are_blocked_in_quiet_runs()
 pub fn quiet_runs_sent_two_messages_for_each_request_and_other_node()
     ensures { (n start : ℕ) (moves : List Move) (table : LockTable)
         → IsNodeNumber n → IsRun n start moves → IsQuiet moves → TableRun (marks_of moves) table
-        → table.waiting ≡ [] → CountHolds n moves }
+        → table.waiting ≡ [] → MeetsMessageCount n moves }
 {
-    steps_keep_a_state_consistent();
-    events_keep_a_node_consistent();
-    events_leave_other_names();
-    events_are_determined();
-    events_go_on();
-    runs_go_on_by_steps();
+    laws_below();
     tables_of_one_run_have_the_same_entries();
 }

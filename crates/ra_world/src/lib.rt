@@ -1,12 +1,14 @@
-//! A cluster of nodes and the messages under way between them, step by step.
+//! What a run of the cluster is, and what holds of every run.
 #![tactic(auto)]
 
 mod laws;
 mod step;
 
 pub use laws::{
-    marks_of_runs_are_table_runs, no_delivered_reply_is_a_stray,
+    fronts_of_runs_are_runs, marks_of_runs_are_table_runs, messages_of_runs_are_different,
+    messages_under_way_are_between_nodes, no_delivered_reply_is_a_stray,
     quiet_runs_sent_two_messages_for_each_request_and_other_node, runs_are_determined,
-    runs_go_on_where_steps_are_allowed, waiting_requests_are_blocked_in_quiet_runs,
+    runs_go_on_by_events, runs_go_on_where_steps_are_allowed, two_nodes_never_hold_in_conflict,
+    waiting_requests_are_blocked_in_quiet_runs,
 };
 pub use step::{Step, Steps};

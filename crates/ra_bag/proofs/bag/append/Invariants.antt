@@ -3,9 +3,9 @@ use Rattle.std.specs.Prelude.{vec_capacity}
 use Rattle.ra_bag.proofs.bag.append.Given as goal
 
 -- the messages so far stand at the end
-abbrev pub invariant-loop-place : goal.invariant-loop-place
-invariant-loop-place l =
+abbrev pub invariant-loop-message : goal.invariant-loop-message
+invariant-loop-message l =
     record {
-      sent : l.list.items ≡ l.initial.list.items ++ take l.place l.messages.items;
+      sent : l.list.items ≡ l.initial.list.items ++ take l.message-index l.messages;
       capacity : vec_capacity l.list ≡ vec_capacity l.initial.list;
     }

@@ -1,8 +1,7 @@
-use Rattle.std.proofs.Common.{rules, ℕ, List, []}
+use Rattle.std.proofs.Common.{[]}
 use Rattle.std.proofs.lemmas.Result.{err_from_is_err_and}
-use Rattle.ra_cli.specs.declared.fault.AnswerError.TheVariants as fault
-use Rattle.ra_cli.specs.Answer.{Refuses}
 use Rattle.ra_cli.proofs.Refusals.{for_each, refuses_input}
+use Rattle.ra_cli.proofs.Known.{not_nil}
 use Rattle.ra_cli.proofs.answering.answer.Goals as goal
 
 pub returns-in_err-me-clause-refused : goal.returns-in_err-me-clause-refused
@@ -27,8 +26,9 @@ returns-in_err-output-clause-cause g c =
     let p = err_from_is_err_and c.from_residual-in_err-output.result c.from_residual-in_err-output.ensures.1 in
     rw (p.1, p.2) (c.in_ok-input.input.items, (rw (c.deref.ensures.value, c.in_ok-me.ensures.ok.0) at c.in_err-output.ensures.err))
 
-pub returns-clause-cause : goal.returns-clause-cause
-returns-clause-cause g c =
+pub returns-in_err-write_out-clause-cause : goal.returns-in_err-write_out-clause-cause
+returns-in_err-write_out-clause-cause g c =
+    let p = err_from_is_err_and c.from_residual-in_err-write_out.result c.from_residual-in_err-write_out.ensures.1 in
+    let left = c.in_err-write_out.ensures.err in
     let answered = rw (c.deref.ensures.value, c.in_ok-me.ensures.ok.0) at c.in_ok-output.ensures.ok in
-    let cause : (input : List ℕ) × Refuses c.args.node c.args.nodes input fault.Write = (c.in_ok-input.input.items, (c.in_ok-output.output.items, answered)) in
-    search (rules, cause)
+    rw (p.1, p.2) (c.in_ok-input.input.items, (c.in_ok-output.output.items, answered, not_nil _ left.0 left.1 (rw c.deref-2.ensures.value at left.2) left.3))

@@ -1,14 +1,11 @@
-use Rattle.std.proofs.Common.{sym, ◌∙◌, arith, add-one}
-use Rattle.ra_cli.proofs.Replies.{AreLines-push, get_none, take_one}
+use Rattle.std.proofs.Common.{◌<◌, length, arith, sym}
+use Rattle.std.proofs.lemmas.List.{take_more}
+use Rattle.ra_cli.proofs.Replies.{AreLines-push}
 use Rattle.ra_cli.proofs.answering.lines_of.Goals as goal
-use Rattle.ra_cli.proofs.answering.lines_of.Goals.{in-Some+in_ok-push_line, in_default}
 
-pub loop-place-preserved : goal.loop-place-preserved
-loop-place-preserved c =
-    elim c.match-at.branch [
-      | in-Some+in_ok-push_line w ↦
-          let line = w.in_ok-push_line.ensures.ok in
-          rw (add-one, take_one c.args.sends.now.items c.loop-place.place w.in-Some.message (sym c.at.ensures ∙ w.in-Some.is), w.text-is, line.2)
-          (AreLines-push c.args.clock _ w.in-Some.message line.0 _ c.loop-place.invariant line.1)
-      | in_default w ↦ absurd (get_none c.args.sends.now.items c.loop-place.place (omega arith) (sym c.at.ensures ∙ w.in_default.is))
-    ]
+pub loop-message-preserved : goal.loop-message-preserved
+loop-message-preserved c =
+    let line = c.in_ok-push_line.ensures.ok in
+    let more : c.loop-message.message-index < length c.as_slice-message-items.result.now = omega arith in
+    rw (take_more c.as_slice-message-items.result.now c.loop-message.message-index c.message-item.result, sym c.message-item.is, line.2)
+    (AreLines-push c.args.clock _ c.message-item.result line.0 _ c.loop-message.invariant line.1)

@@ -2,5 +2,5 @@ use Rattle.std.proofs.Common.{take}
 use Rattle.ra_cli.specs.Answer.{AreLines}
 use Rattle.ra_cli.proofs.answering.lines_of.Given as goal
 
-abbrev pub invariant-loop-place : goal.invariant-loop-place
-invariant-loop-place l = AreLines l.clock (take l.place l.sends.items) l.text.items
+abbrev pub invariant-loop-message : goal.invariant-loop-message
+invariant-loop-message l = AreLines l.clock (take l.message-index l.message-items) l.text.items

@@ -1,16 +1,18 @@
-use Rattle.ra_node.proofs.EventsKept.{opening_is_consistent, event_kept, event_sends, event_numbers, event_marks, event_room, event_leads}
+use Rattle.ra_node.proofs.EventsKept.{opening_is_consistent, event_kept, event_sends, event_numbers, event_answers, event_marks, event_room, event_room_of_all, event_leads}
 use Rattle.ra_node.proofs.laws.events_keep_a_node_consistent.Goals as goal
 
 pub returns : goal.returns
 returns c =
     let steps = c.steps_keep_a_state_consistent.ensures in
-    let kept = event_kept steps.request steps.receive steps.leave steps.leave_and_request in
+    let kept = event_kept steps.request steps.receive steps.leave in
     record {
       opening = opening_is_consistent;
       consistent = kept;
       sends = event_sends;
       numbered = event_numbers;
-      room = event_room;
+      answers = event_answers;
+      room = event_room_of_all;
+      room_by_event = event_room;
       marks = λ old new event sends marks h for happens. event_marks old new event sends marks h (kept old new event sends marks h for happens) happens;
       one_request = event_leads;
     }

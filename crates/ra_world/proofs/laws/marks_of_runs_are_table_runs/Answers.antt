@@ -1,10 +1,11 @@
-use Rattle.ra_world.proofs.Runs.{may_lose_all, waiting_in_table}
+use Rattle.ra_world.specs.Run.{marks_of}
+use Rattle.ra_world.proofs.Outcomes.{has_table, as_many_wait}
 use Rattle.ra_world.proofs.laws.marks_of_runs_are_table_runs.Goals as goal
 
 pub returns : goal.returns
 returns c =
-    let keep = c.events_keep_a_node_consistent.ensures in
-    let leave = c.events_leave_other_names.ensures in
-    let go = c.events_go_on.ensures in
-    waiting_in_table (Unit {0}) keep.opening keep.consistent keep.sends keep.one_request leave.resource leave.node c.events_are_determined.ensures.events go.splits go.joins
-    c.steps_keep_a_state_consistent.ensures.leave c.runs_go_on_by_steps.ensures.joins may_lose_all
+    let laws = c.laws_below.ensures in
+    record {
+      table = has_table laws;
+      waiting = λ n start moves nodes table count run ends. as_many_wait laws n start moves count run nodes table ends (c.tables_of_one_run_have_the_same_entries.ensures (marks_of moves));
+    }

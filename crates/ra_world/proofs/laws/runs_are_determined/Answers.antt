@@ -1,10 +1,5 @@
-use Rattle.ra_world.proofs.Runs.{may_lose_all, one_run}
+use Rattle.ra_world.proofs.Runs.{one_run}
 use Rattle.ra_world.proofs.laws.runs_are_determined.Goals as goal
 
 pub returns : goal.returns
-returns c =
-    let keep = c.events_keep_a_node_consistent.ensures in
-    let leave = c.events_leave_other_names.ensures in
-    let go = c.events_go_on.ensures in
-    one_run (Unit {0}) keep.opening keep.consistent keep.sends keep.one_request leave.resource leave.node c.events_are_determined.ensures.events go.splits go.joins
-    c.steps_keep_a_state_consistent.ensures.leave c.runs_go_on_by_steps.ensures.joins c.events_are_determined.ensures.event may_lose_all
+returns c = one_run c.laws_below.ensures

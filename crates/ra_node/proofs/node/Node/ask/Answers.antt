@@ -1,16 +1,13 @@
-use Rattle.std.proofs.Common.{rules, ◌≡◌, ℕ, ◌≤◌, List, All, length, set, IfOk, ap, ◌∙◌, sym, subst}
+use Rattle.std.proofs.Common.{rules, set, sym, subst}
 use Rattle.std.proofs.lemmas.Result.{IfOk-weaker}
-use Rattle.ra_stamp.specs.Message.{seq_of}
 use Rattle.ra_automaton.specs.State.{IsConsistent}
 use Rattle.ra_node.specs.declared.outcome.Outcome.{Outcome}
-use Rattle.ra_node.specs.Resource.{Resource, use_of, IsConsistentResource}
+use Rattle.ra_node.specs.Resource.{Resource, IsConsistentResource}
 use Rattle.ra_node.specs.Turns.{MayAsk, AskTurn}
-use Rattle.ra_node.specs.Node.{resource_at, NodeState, IsConsistentNode}
+use Rattle.ra_node.specs.Node.{IsConsistentNode}
 use Rattle.ra_node.specs.Events.{AskEvent}
-use Rattle.ra_node.specs.Carried.{IsSend, IsMark, MarksLead}
-use Rattle.ra_node.specs.View.{node_with, AreKept}
+use Rattle.ra_node.specs.View.{node_with}
 use Rattle.ra_node.proofs.After.{asked_again}
-use Rattle.ra_node.proofs.EventLemmas.{ask_event_sends, ask_event_marks, ask_event_leads, ask_event_room}
 use Rattle.ra_node.proofs.Kept.{ask_kept}
 use Rattle.ra_node.proofs.NodeLemmas.{after_turn, ok_both, kept_is_consistent, found, missing, after_change}
 use Rattle.ra_node.proofs.node.Node.ask.Goals as goal
@@ -20,8 +17,8 @@ returns-in_err-may_ask-clause-consistent c =
     let n = c.self.inside in
     subst IsConsistentNode c.self.view_is (kept_is_consistent n.me n.nodes n.start n.slots.items c.self.invariant)
 
-pub ask-requires-clause-allowed : goal.ask-requires-clause-allowed
-ask-requires-clause-allowed c =
+pub ask-requires : goal.ask-requires
+ask-requires c =
     let n = c.self.inside in
     let at = found n.me n.nodes n.start n.slots.items c.args.self.now c.args.name c.in-Some.place c.index_mut-slot.result.now c.deref.result.now c.self.view_is c.self.invariant c.deref.ensures.value (search rules) c.index_mut-slot.ensures.value in
     subst (λ (r : Resource). MayAsk r c.args.client) (sym at.here) (search rules)
@@ -56,85 +53,7 @@ returns-in-Some-clause-ok c =
     (λ o turn. (asked_again n.me n.nodes n.start n.slots.items c.args.self.now c.self.view_is c.self.invariant c.in-Some.place slot new turn.1 c.args.client c.args.name c.args.mode o.sends.items o.marks.items at turn.0).1)
     (ok_both c.ask.result Turn (IsConsistent new.state) c.ask.ensures.ok c.ask.ensures.consistent)
 
-pub returns-in-Some-clause-sends : goal.returns-in-Some-clause-sends
-returns-in-Some-clause-sends c =
-    let n = c.self.inside in
-    let now = c.args.self.now in
-    let name = c.args.name in
-    let old = subst IsConsistentNode c.self.view_is (kept_is_consistent n.me n.nodes n.start n.slots.items c.self.invariant) in
-    let next = node_with n.me n.nodes n.start (set n.slots.items c.in-Some.place c.ask.new.self) in
-    IfOk-weaker c.ask.result (λ o. AskEvent now c.args.client name c.args.mode o.sends.items o.marks.items next) (λ o. All (λ m. IsSend now.me now.nodes name m × (1 ≤ seq_of m)) o.sends.items)
-    (λ o event. ask_event_sends now c.args.client name c.args.mode o.sends.items o.marks.items next old event)
-    (returns-in-Some-clause-ok c)
-
-pub returns-in-Some-clause-marks : goal.returns-in-Some-clause-marks
-returns-in-Some-clause-marks c =
-    let n = c.self.inside in
-    let now = c.args.self.now in
-    let name = c.args.name in
-    let old = subst IsConsistentNode c.self.view_is (kept_is_consistent n.me n.nodes n.start n.slots.items c.self.invariant) in
-    let next = node_with n.me n.nodes n.start (set n.slots.items c.in-Some.place c.ask.new.self) in
-    IfOk-weaker c.ask.result (λ o. AskEvent now c.args.client name c.args.mode o.sends.items o.marks.items next) (λ o. All (IsMark now.me name) o.marks.items)
-    (λ o event. ask_event_marks now c.args.client name c.args.mode o.sends.items o.marks.items next old event)
-    (returns-in-Some-clause-ok c)
-
 pub returns-in-Some-clause-consistent : goal.returns-in-Some-clause-consistent
 returns-in-Some-clause-consistent c =
     let n = c.self.inside in
     kept_is_consistent n.me n.nodes n.start (set n.slots.items c.in-Some.place c.ask.new.self) (invariant_of-self c)
-
-pub returns-in-None-clause-sends : goal.returns-in-None-clause-sends
-returns-in-None-clause-sends c =
-    let n = c.self.inside in
-    let now = c.args.self.now in
-    let name = c.args.name in
-    let old = subst IsConsistentNode c.self.view_is (kept_is_consistent n.me n.nodes n.start n.slots.items c.self.invariant) in
-    IfOk-weaker c.ask_first.result (λ o. AskEvent now c.args.client name c.args.mode o.sends.items o.marks.items c.ask_first.new.self) (λ o. All (λ m. IsSend now.me now.nodes name m × (1 ≤ seq_of m)) o.sends.items)
-    (λ o event. ask_event_sends now c.args.client name c.args.mode o.sends.items o.marks.items c.ask_first.new.self old event)
-    c.ask_first.ensures.ok
-
-pub returns-in-None-clause-marks : goal.returns-in-None-clause-marks
-returns-in-None-clause-marks c =
-    let n = c.self.inside in
-    let now = c.args.self.now in
-    let name = c.args.name in
-    let old = subst IsConsistentNode c.self.view_is (kept_is_consistent n.me n.nodes n.start n.slots.items c.self.invariant) in
-    IfOk-weaker c.ask_first.result (λ o. AskEvent now c.args.client name c.args.mode o.sends.items o.marks.items c.ask_first.new.self) (λ o. All (IsMark now.me name) o.marks.items)
-    (λ o event. ask_event_marks now c.args.client name c.args.mode o.sends.items o.marks.items c.ask_first.new.self old event)
-    c.ask_first.ensures.ok
-
-pub returns-in-Some-clause-one_request : goal.returns-in-Some-clause-one_request
-returns-in-Some-clause-one_request c =
-    let now = c.args.self.now in
-    let next = node_with c.self.inside.me c.self.inside.nodes c.self.inside.start (set c.self.inside.slots.items c.in-Some.place c.ask.new.self) in
-    IfOk-weaker c.ask.result (λ o. AskEvent now c.args.client c.args.name c.args.mode o.sends.items o.marks.items next) (λ o. MarksLead (use_of (resource_at now c.args.name)) o.marks.items (use_of (resource_at next c.args.name)))
-    (λ o event. ask_event_leads now c.args.client c.args.name c.args.mode o.sends.items o.marks.items next event)
-    (returns-in-Some-clause-ok c)
-
-pub returns-in-None-clause-one_request : goal.returns-in-None-clause-one_request
-returns-in-None-clause-one_request c =
-    let now = c.args.self.now in
-    let next = c.ask_first.new.self in
-    IfOk-weaker c.ask_first.result (λ o. AskEvent now c.args.client c.args.name c.args.mode o.sends.items o.marks.items next) (λ o. MarksLead (use_of (resource_at now c.args.name)) o.marks.items (use_of (resource_at next c.args.name)))
-    (λ o event. ask_event_leads now c.args.client c.args.name c.args.mode o.sends.items o.marks.items next event)
-    c.ask_first.ensures.ok
-
-pub returns-in-Some-clause-room : goal.returns-in-Some-clause-room
-returns-in-Some-clause-room c =
-    let n = c.self.inside in
-    let now = c.args.self.now in
-    let old = subst IsConsistentNode c.self.view_is (kept_is_consistent n.me n.nodes n.start n.slots.items c.self.invariant) in
-    let next = node_with n.me n.nodes n.start (set n.slots.items c.in-Some.place c.ask.new.self) in
-    IfOk-weaker c.ask.result (λ o. AskEvent now c.args.client c.args.name c.args.mode o.sends.items o.marks.items next) (λ o. (length o.sends.items ≤ now.nodes) × (length o.marks.items ≤ 2))
-    (λ o event. ask_event_room now c.args.client c.args.name c.args.mode o.sends.items o.marks.items next old event)
-    (returns-in-Some-clause-ok c)
-
-pub returns-in-None-clause-room : goal.returns-in-None-clause-room
-returns-in-None-clause-room c =
-    let n = c.self.inside in
-    let now = c.args.self.now in
-    let old = subst IsConsistentNode c.self.view_is (kept_is_consistent n.me n.nodes n.start n.slots.items c.self.invariant) in
-    let next = c.ask_first.new.self in
-    IfOk-weaker c.ask_first.result (λ o. AskEvent now c.args.client c.args.name c.args.mode o.sends.items o.marks.items next) (λ o. (length o.sends.items ≤ now.nodes) × (length o.marks.items ≤ 2))
-    (λ o event. ask_event_room now c.args.client c.args.name c.args.mode o.sends.items o.marks.items next old event)
-    c.ask_first.ensures.ok

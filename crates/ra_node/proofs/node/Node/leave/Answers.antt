@@ -1,19 +1,16 @@
-use Rattle.std.proofs.Common.{rules, ◌≡◌, ℕ, ◌*◌, ◌≤◌, List, All, length, set, IfOk, IsErrOf, refl, ap, ◌∙◌, sym, subst}
+use Rattle.std.proofs.Common.{rules, ◌≡◌, set, IsErrOf, refl, sym, subst}
 use Rattle.std.specs.Prelude.{IsOkUnless}
 use Rattle.std.proofs.lemmas.Result.{IfOk-weaker}
 use Rattle.ra_stamp.specs.declared.entry.Entry.{Entry}
-use Rattle.ra_stamp.specs.Message.{seq_of}
 use Rattle.ra_automaton.specs.State.{IsConsistent}
 use Rattle.ra_node.specs.declared.error.LeaveError.TheVariants.{NotHeld, Memory}
 use Rattle.ra_node.specs.declared.outcome.Outcome.{Outcome}
-use Rattle.ra_node.specs.Resource.{Resource, use_of, Holds, unmet, IsConsistentResource}
+use Rattle.ra_node.specs.Resource.{Resource, Holds, IsConsistentResource}
 use Rattle.ra_node.specs.Turns.{LeaveTurn}
-use Rattle.ra_node.specs.Node.{resource_at, IsConsistentNode}
+use Rattle.ra_node.specs.Node.{IsConsistentNode}
 use Rattle.ra_node.specs.Events.{LeaveEvent}
-use Rattle.ra_node.specs.Carried.{IsSend, IsMark, MarksLead}
 use Rattle.ra_node.specs.View.{node_with}
 use Rattle.ra_node.proofs.After.{left_again, nobody_holds}
-use Rattle.ra_node.proofs.EventLemmas.{leave_event_sends, leave_event_marks, leave_event_leads, leave_event_room}
 use Rattle.ra_node.proofs.Kept.{leave_kept}
 use Rattle.ra_node.proofs.NodeLemmas.{after_turn, ok_both, kept_is_consistent, found, missing, after_change}
 use Rattle.ra_node.proofs.node.Node.leave.Goals as goal
@@ -63,17 +60,6 @@ returns-clause-ok c =
     (λ o turn. (left_again n.me n.nodes n.start n.slots.items c.args.self.now c.self.view_is c.self.invariant c.in-Some.place slot new turn.1 c.args.client c.args.name o.sends.items o.marks.items at turn.0).1)
     (ok_both c.leave.result Turn (IsConsistent new.state) c.leave.ensures.ok c.leave.ensures.consistent)
 
-pub returns-clause-sends : goal.returns-clause-sends
-returns-clause-sends c =
-    let n = c.self.inside in
-    let now = c.args.self.now in
-    let name = c.args.name in
-    let old = subst IsConsistentNode c.self.view_is (kept_is_consistent n.me n.nodes n.start n.slots.items c.self.invariant) in
-    let next = node_with n.me n.nodes n.start (set n.slots.items c.in-Some.place c.leave.new.self) in
-    IfOk-weaker c.leave.result (λ o. LeaveEvent now c.args.client name o.sends.items o.marks.items next) (λ o. All (λ m. IsSend now.me now.nodes name m × (1 ≤ seq_of m)) o.sends.items)
-    (λ o event. leave_event_sends now c.args.client name o.sends.items o.marks.items next old event)
-    (returns-clause-ok c)
-
 pub returns-clause-consistent : goal.returns-clause-consistent
 returns-clause-consistent c =
     let n = c.self.inside in
@@ -93,36 +79,7 @@ returns-clause-allowed c =
     let IsHeld = λ (r : Resource). (entry : Entry) × Holds r c.args.client entry in
     subst (λ (r : Resource). (IsOkUnless c.leave.result Memory → IsHeld r) × (IsHeld r → IsOkUnless c.leave.result Memory)) at.here c.leave.ensures.allowed
 
-pub returns-clause-marks : goal.returns-clause-marks
-returns-clause-marks c =
-    let n = c.self.inside in
-    let now = c.args.self.now in
-    let name = c.args.name in
-    let old = subst IsConsistentNode c.self.view_is (kept_is_consistent n.me n.nodes n.start n.slots.items c.self.invariant) in
-    let next = node_with n.me n.nodes n.start (set n.slots.items c.in-Some.place c.leave.new.self) in
-    IfOk-weaker c.leave.result (λ o. LeaveEvent now c.args.client name o.sends.items o.marks.items next) (λ o. All (IsMark now.me name) o.marks.items)
-    (λ o event. leave_event_marks now c.args.client name o.sends.items o.marks.items next old event)
-    (returns-clause-ok c)
-
-pub returns-clause-one_request : goal.returns-clause-one_request
-returns-clause-one_request c =
-    let now = c.args.self.now in
-    let next = node_with c.self.inside.me c.self.inside.nodes c.self.inside.start (set c.self.inside.slots.items c.in-Some.place c.leave.new.self) in
-    IfOk-weaker c.leave.result (λ o. LeaveEvent now c.args.client c.args.name o.sends.items o.marks.items next) (λ o. MarksLead (use_of (resource_at now c.args.name)) o.marks.items (use_of (resource_at next c.args.name)))
-    (λ o event. leave_event_leads now c.args.client c.args.name o.sends.items o.marks.items next event)
-    (returns-clause-ok c)
-
-pub returns-clause-room : goal.returns-clause-room
-returns-clause-room c =
-    let n = c.self.inside in
-    let now = c.args.self.now in
-    let old = subst IsConsistentNode c.self.view_is (kept_is_consistent n.me n.nodes n.start n.slots.items c.self.invariant) in
-    let next = node_with n.me n.nodes n.start (set n.slots.items c.in-Some.place c.leave.new.self) in
-    IfOk-weaker c.leave.result (λ o. LeaveEvent now c.args.client c.args.name o.sends.items o.marks.items next) (λ o. (length o.sends.items ≤ 2 * now.nodes) × (length o.marks.items ≤ 3))
-    (λ o event. leave_event_room now c.args.client c.args.name o.sends.items o.marks.items next old event)
-    (returns-clause-ok c)
-
-pub leave-requires-clause-once : goal.leave-requires-clause-once
-leave-requires-clause-once c =
+pub leave-requires : goal.leave-requires
+leave-requires c =
     let n = c.self.inside in
     (found n.me n.nodes n.start n.slots.items c.args.self.now c.args.name c.in-Some.place c.index_mut-slot.result.now c.deref.result.now c.self.view_is c.self.invariant c.deref.ensures.value (search rules) c.index_mut-slot.ensures.value).consistent.once

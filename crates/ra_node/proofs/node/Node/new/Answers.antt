@@ -1,4 +1,4 @@
-use Rattle.std.proofs.Common.{rules, [], List, sym, subst}
+use Rattle.std.proofs.Common.{rules, List, sym, subst}
 use Rattle.std.proofs.lemmas.List.Elements.{All-nil}
 use Rattle.ra_node.specs.Resource.{Resource, IsConsistentResource}
 use Rattle.ra_node.specs.View.{AreKept}

@@ -1,16 +1,14 @@
-use Rattle.std.proofs.Common.{rules, ◌≡◌, ℕ, ◌≤◌, List, All, length, set, IfOk, ap, ◌∙◌, sym, subst}
+use Rattle.std.proofs.Common.{rules, set, ◌∙◌, sym, subst}
 use Rattle.std.proofs.lemmas.Result.{IfOk-weaker}
-use Rattle.ra_stamp.specs.Message.{name_of, seq_of}
-use Rattle.ra_automaton.specs.State.{IsForNode, IsConsistent}
+use Rattle.ra_stamp.specs.Message.{name_of}
+use Rattle.ra_automaton.specs.State.{IsConsistent}
 use Rattle.ra_node.specs.declared.outcome.Outcome.{Outcome}
-use Rattle.ra_node.specs.Resource.{Resource, use_of, IsConsistentResource}
+use Rattle.ra_node.specs.Resource.{Resource, IsConsistentResource}
 use Rattle.ra_node.specs.Turns.{ReceiveTurn}
-use Rattle.ra_node.specs.Node.{resource_at, IsConsistentNode}
+use Rattle.ra_node.specs.Node.{IsConsistentNode}
 use Rattle.ra_node.specs.Events.{ReceiveEvent}
-use Rattle.ra_node.specs.Carried.{IsSend, IsMark, MarksLead}
 use Rattle.ra_node.specs.View.{node_with}
 use Rattle.ra_node.proofs.After.{received_again}
-use Rattle.ra_node.proofs.EventLemmas.{receive_event_sends, receive_event_marks, receive_event_leads, receive_event_room}
 use Rattle.ra_node.proofs.Kept.{receive_kept}
 use Rattle.ra_node.proofs.NodeLemmas.{after_turn, ok_both, kept_is_consistent, found, missing, after_change}
 use Rattle.ra_node.proofs.node.Node.receive.Goals as goal
@@ -55,85 +53,7 @@ returns-in-Some-clause-ok c =
     (λ o turn. (received_again n.me n.nodes n.start n.slots.items c.args.self.now c.self.view_is c.self.invariant c.in-Some.place slot new turn.1 c.args.message.now o.sends.items o.marks.items at turn.0).1)
     (ok_both c.receive.result Turn (IsConsistent new.state) c.receive.ensures.ok c.receive.ensures.consistent)
 
-pub returns-in-Some-clause-sends : goal.returns-in-Some-clause-sends
-returns-in-Some-clause-sends c =
-    let n = c.self.inside in
-    let now = c.args.self.now in
-    let name = (name_of c.args.message.now) in
-    let old = subst IsConsistentNode c.self.view_is (kept_is_consistent n.me n.nodes n.start n.slots.items c.self.invariant) in
-    let for : IsForNode now.me now.nodes c.args.message.now = search rules in
-    let next = node_with n.me n.nodes n.start (set n.slots.items c.in-Some.place c.receive.new.self) in
-    IfOk-weaker c.receive.result (λ o. ReceiveEvent now c.args.message.now o.sends.items o.marks.items next) (λ o. All (λ m. IsSend now.me now.nodes name m × (seq_of m ≡ seq_of c.args.message.now)) o.sends.items)
-    (λ o event. receive_event_sends now c.args.message.now o.sends.items o.marks.items next old for event)
-    (returns-in-Some-clause-ok c)
-
 pub returns-in-Some-clause-consistent : goal.returns-in-Some-clause-consistent
 returns-in-Some-clause-consistent c =
     let n = c.self.inside in
     kept_is_consistent n.me n.nodes n.start (set n.slots.items c.in-Some.place c.receive.new.self) (invariant_of-self c)
-
-pub returns-in-None-clause-sends : goal.returns-in-None-clause-sends
-returns-in-None-clause-sends c =
-    let n = c.self.inside in
-    let now = c.args.self.now in
-    let name = (name_of c.args.message.now) in
-    let old = subst IsConsistentNode c.self.view_is (kept_is_consistent n.me n.nodes n.start n.slots.items c.self.invariant) in
-    let for : IsForNode now.me now.nodes c.args.message.now = search rules in
-    IfOk-weaker c.receive_first.result (λ o. ReceiveEvent now c.args.message.now o.sends.items o.marks.items c.receive_first.new.self) (λ o. All (λ m. IsSend now.me now.nodes name m × (seq_of m ≡ seq_of c.args.message.now)) o.sends.items)
-    (λ o event. receive_event_sends now c.args.message.now o.sends.items o.marks.items c.receive_first.new.self old for event)
-    c.receive_first.ensures.ok
-
-pub returns-in-Some-clause-marks : goal.returns-in-Some-clause-marks
-returns-in-Some-clause-marks c =
-    let n = c.self.inside in
-    let now = c.args.self.now in
-    let message = c.args.message.now in
-    let old = subst IsConsistentNode c.self.view_is (kept_is_consistent n.me n.nodes n.start n.slots.items c.self.invariant) in
-    let next = node_with n.me n.nodes n.start (set n.slots.items c.in-Some.place c.receive.new.self) in
-    IfOk-weaker c.receive.result (λ o. ReceiveEvent now message o.sends.items o.marks.items next) (λ o. All (IsMark now.me (name_of message)) o.marks.items)
-    (λ o event. receive_event_marks now message o.sends.items o.marks.items next old (returns-in-Some-clause-consistent c) event)
-    (returns-in-Some-clause-ok c)
-
-pub returns-in-None-clause-marks : goal.returns-in-None-clause-marks
-returns-in-None-clause-marks c =
-    let n = c.self.inside in
-    let now = c.args.self.now in
-    let message = c.args.message.now in
-    let old = subst IsConsistentNode c.self.view_is (kept_is_consistent n.me n.nodes n.start n.slots.items c.self.invariant) in
-    IfOk-weaker c.receive_first.result (λ o. ReceiveEvent now message o.sends.items o.marks.items c.receive_first.new.self) (λ o. All (IsMark now.me (name_of message)) o.marks.items)
-    (λ o event. receive_event_marks now message o.sends.items o.marks.items c.receive_first.new.self old c.receive_first.ensures.consistent event)
-    c.receive_first.ensures.ok
-
-pub returns-in-Some-clause-one_request : goal.returns-in-Some-clause-one_request
-returns-in-Some-clause-one_request c =
-    let now = c.args.self.now in
-    let next = node_with c.self.inside.me c.self.inside.nodes c.self.inside.start (set c.self.inside.slots.items c.in-Some.place c.receive.new.self) in
-    IfOk-weaker c.receive.result (λ o. ReceiveEvent now c.args.message.now o.sends.items o.marks.items next) (λ o. MarksLead (use_of (resource_at now (name_of c.args.message.now))) o.marks.items (use_of (resource_at next (name_of c.args.message.now))))
-    (λ o event. receive_event_leads now c.args.message.now o.sends.items o.marks.items next event)
-    (returns-in-Some-clause-ok c)
-
-pub returns-in-None-clause-one_request : goal.returns-in-None-clause-one_request
-returns-in-None-clause-one_request c =
-    let now = c.args.self.now in
-    let next = c.receive_first.new.self in
-    IfOk-weaker c.receive_first.result (λ o. ReceiveEvent now c.args.message.now o.sends.items o.marks.items next) (λ o. MarksLead (use_of (resource_at now (name_of c.args.message.now))) o.marks.items (use_of (resource_at next (name_of c.args.message.now))))
-    (λ o event. receive_event_leads now c.args.message.now o.sends.items o.marks.items next event)
-    c.receive_first.ensures.ok
-
-pub returns-in-Some-clause-room : goal.returns-in-Some-clause-room
-returns-in-Some-clause-room c =
-    let n = c.self.inside in
-    let now = c.args.self.now in
-    let next = node_with n.me n.nodes n.start (set n.slots.items c.in-Some.place c.receive.new.self) in
-    IfOk-weaker c.receive.result (λ o. ReceiveEvent now c.args.message.now o.sends.items o.marks.items next) (λ o. (length o.sends.items ≤ 1) × (length o.marks.items ≤ 1))
-    (λ o event. receive_event_room now c.args.message.now o.sends.items o.marks.items next event)
-    (returns-in-Some-clause-ok c)
-
-pub returns-in-None-clause-room : goal.returns-in-None-clause-room
-returns-in-None-clause-room c =
-    let n = c.self.inside in
-    let now = c.args.self.now in
-    let next = c.receive_first.new.self in
-    IfOk-weaker c.receive_first.result (λ o. ReceiveEvent now c.args.message.now o.sends.items o.marks.items next) (λ o. (length o.sends.items ≤ 1) × (length o.marks.items ≤ 1))
-    (λ o event. receive_event_room now c.args.message.now o.sends.items o.marks.items next event)
-    c.receive_first.ensures.ok

@@ -12,20 +12,20 @@ returns-in_err-slot-clause-consistent c =
     let n = c.self.inside in
     subst IsConsistentNode c.self.view_is (kept_is_consistent n.me n.nodes n.start n.slots.items c.self.invariant)
 
-pub returns-in_err-map_err-clause-consistent : goal.returns-in_err-map_err-clause-consistent
-returns-in_err-map_err-clause-consistent c =
+pub returns-in_err-make_room-clause-consistent : goal.returns-in_err-make_room-clause-consistent
+returns-in_err-make_room-clause-consistent c =
     let n = c.self.inside in
-    kept_is_consistent n.me n.nodes n.start c.reserve.new.self.items (subst (λ (xs : List Resource). AreKept n.me n.nodes n.start xs) (sym c.reserve.ensures.items) c.self.invariant)
+    kept_is_consistent n.me n.nodes n.start c.make_room.new.slots.items (subst (λ (xs : List Resource). AreKept n.me n.nodes n.start xs) (sym c.make_room.ensures.same) c.self.invariant)
 
 pub returns-in_err-outcome-clause-consistent : goal.returns-in_err-outcome-clause-consistent
 returns-in_err-outcome-clause-consistent c =
     let n = c.self.inside in
-    kept_is_consistent n.me n.nodes n.start c.reserve.new.self.items (subst (λ (xs : List Resource). AreKept n.me n.nodes n.start xs) (sym c.reserve.ensures.items) c.self.invariant)
+    kept_is_consistent n.me n.nodes n.start c.make_room.new.slots.items (subst (λ (xs : List Resource). AreKept n.me n.nodes n.start xs) (sym c.make_room.ensures.same) c.self.invariant)
 
 pub invariant_of-self-2 : goal.invariant_of-self-2
 invariant_of-self-2 c =
     let n = c.self.inside in
-    let more : c.push_reserved.new.self.items ≡ n.slots.items ++ c.receive.new.self ∷ [] = c.push_reserved.ensures.items ∙ ap (λ (xs : List Resource). xs ++ c.receive.new.self ∷ []) c.reserve.ensures.items in
+    let more : c.push_reserved.new.self.items ≡ n.slots.items ++ c.receive.new.self ∷ [] = c.push_reserved.ensures.items ∙ ap (λ (xs : List Resource). xs ++ c.receive.new.self ∷ []) c.make_room.ensures.same in
     let fresh : c.in_ok-slot.slot ≡ unmet n.me n.nodes (name_of c.args.message.now) n.start = search rules in
     (received_first n.me n.nodes n.start n.slots.items c.args.self.now c.self.view_is c.self.invariant c.in_ok-slot.slot c.receive.new.self c.push_reserved.new.self.items more (search rules) c.args.message.now _ _ c.requires.first
     fresh (fresh ∙ unmet_here n.me n.nodes n.start n.slots.items c.args.self.now (name_of c.args.message.now) c.self.view_is c.requires.first) c.in_ok-outcome.ensures.ok).0.kept
@@ -33,7 +33,7 @@ invariant_of-self-2 c =
 pub returns-clause-ok : goal.returns-clause-ok
 returns-clause-ok c =
     let n = c.self.inside in
-    let more : c.push_reserved.new.self.items ≡ n.slots.items ++ c.receive.new.self ∷ [] = c.push_reserved.ensures.items ∙ ap (λ (xs : List Resource). xs ++ c.receive.new.self ∷ []) c.reserve.ensures.items in
+    let more : c.push_reserved.new.self.items ≡ n.slots.items ++ c.receive.new.self ∷ [] = c.push_reserved.ensures.items ∙ ap (λ (xs : List Resource). xs ++ c.receive.new.self ∷ []) c.make_room.ensures.same in
     let fresh : c.in_ok-slot.slot ≡ unmet n.me n.nodes (name_of c.args.message.now) n.start = search rules in
     (received_first n.me n.nodes n.start n.slots.items c.args.self.now c.self.view_is c.self.invariant c.in_ok-slot.slot c.receive.new.self c.push_reserved.new.self.items more (search rules) c.args.message.now _ _ c.requires.first
     fresh (fresh ∙ unmet_here n.me n.nodes n.start n.slots.items c.args.self.now (name_of c.args.message.now) c.self.view_is c.requires.first) c.in_ok-outcome.ensures.ok).1

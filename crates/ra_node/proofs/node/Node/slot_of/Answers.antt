@@ -1,5 +1,5 @@
-use Rattle.std.proofs.Common.{rules, ◌≡◌, sym, ap, ◌∙◌, subst}
-use Rattle.ra_node.specs.Resource.{Resource, unmet}
+use Rattle.std.proofs.Common.{rules, ap, ◌∙◌, subst}
+use Rattle.ra_node.specs.Resource.{unmet}
 use Rattle.ra_node.specs.Node.{NodeState, IsConsistentNode}
 use Rattle.ra_node.proofs.NodeLemmas.{found, missing, kept_is_consistent}
 use Rattle.ra_node.proofs.node.Node.slot_of.Goals as goal
@@ -9,21 +9,10 @@ returns-in_err-place-clause-absent c _ =
     let none = missing c.self.inside.me c.self.inside.nodes c.self.inside.start c.self.inside.slots.items c.args.self.now c.args.name.now c.deref.result.now c.self.view_is c.deref.ensures.value (search rules) in
     none.0 ∙ ap (λ (m : NodeState). unmet m.me m.nodes c.args.name.now m.start) c.self.view_is
 
-pub returns-in_err-place-clause-me : goal.returns-in_err-place-clause-me
-returns-in_err-place-clause-me c =
-    let none = missing c.self.inside.me c.self.inside.nodes c.self.inside.start c.self.inside.slots.items c.args.self.now c.args.name.now c.deref.result.now c.self.view_is c.deref.ensures.value (search rules) in
-    ap (λ (r : Resource). r.state.me) none.0 ∙ ap (λ (m : NodeState). m.me) c.self.view_is
-
 pub returns-clause-found : goal.returns-clause-found
 returns-clause-found c =
     let n = c.self.inside in
     (found n.me n.nodes n.start n.slots.items c.args.self.now c.args.name.now c.in_ok-place.place c.index.result.now c.deref.result.now c.self.view_is c.self.invariant c.deref.ensures.value (search rules) c.index.ensures).here
-
-pub returns-clause-me : goal.returns-clause-me
-returns-clause-me c =
-    let n = c.self.inside in
-    let slot = found n.me n.nodes n.start n.slots.items c.args.self.now c.args.name.now c.in_ok-place.place c.index.result.now c.deref.result.now c.self.view_is c.self.invariant c.deref.ensures.value (search rules) c.index.ensures in
-    sym (ap (λ (r : Resource). r.state.me) slot.here) ∙ slot.consistent.me_is ∙ ap (λ (m : NodeState). m.me) c.self.view_is
 
 pub returns-in_err-place-clause-consistent : goal.returns-in_err-place-clause-consistent
 returns-in_err-place-clause-consistent c =

@@ -1,6 +1,5 @@
 use Rattle.std.proofs.Common.{rules, ◌≡◌, ◌⊎◌, ◌↔◌, Any, Some}
 use Rattle.std.specs.Prelude.{IsTrue}
-use Rattle.ra_node.specs.Resource.{Resource}
 use Rattle.ra_node.proofs.Distinct.{busy_is}
 use Rattle.ra_node.proofs.slot.Slot.is_busy.Goals as goal
 

@@ -3,7 +3,7 @@ use Rattle.ra_stamp.specs.declared.entry.Mark.TheVariants.{Left}
 use Rattle.ra_automaton.specs.Steps.{LeaveAndRequestStep}
 use Rattle.ra_node.specs.Resource.{Holds}
 use Rattle.ra_node.specs.Turns.{request_marks, next_entry}
-use Rattle.ra_node.proofs.Distinct.{next_may_ask}
+use Rattle.ra_node.proofs.Handing.{hands_over}
 use Rattle.ra_node.proofs.slot.Slot.leave.Goals as goal
 
 pub returns-clause-ok : goal.returns-clause-ok
@@ -16,14 +16,4 @@ returns-clause-ok c =
     let holds : Holds old c.args.client c.in-Some.held = search rules in
     let step : LeaveAndRequestStep old.state next.mode reaction.sends.items reaction.entered new.state = search rules in
     let marks : c.push_request.new.marks.items ≡ Left c.in-Some.held ∷ request_marks reaction.entered (next_entry old next.client next.mode) = search rules in
-    inr (record {
-      entry = c.in-Some.held;
-      holds = holds;
-      next = next;
-      queue_was = queue-was;
-      may = next_may_ask old next new.queue queue-was (search rules) c.requires.once;
-      entered = reaction.entered;
-      step = step;
-      marks_are = marks;
-      client_is = search rules;
-    })
+    inr (hands_over old c.args.client c.in-Some.held next reaction.sends.items c.push_request.new.marks.items reaction.entered new c.requires holds queue-was step (search rules) marks)

@@ -1,3 +1,4 @@
+use std::alloc::{AllocError, AllocFailed};
 use thiserror::Error;
 
 /// Why a request was refused.
@@ -6,12 +7,23 @@ pub enum RequestError {
     /// The entry's node waits or holds on its name.
     #[error("NodeBusy")]
     NodeBusy,
-    /// The entry's number is not above that of each entry granted so far on its name.
+    /// The entry's number is not above the number of each entry granted so far on its name.
     #[error("NotAbove")]
     NotAbove,
     /// Memory ran out.
     #[error("Memory")]
     Memory,
+}
+
+impl<T: Drop> From<AllocFailed<T>> for RequestError {
+    ghost use Rattle.std.specs.Prelude.{◌≡◌};
+    ghost use Rattle.ra_table.specs.declared.error.RequestError.TheVariants.{Memory};
+
+    ghost from_gives = { λ _ error. error ≡ Memory };
+
+    fn from(_refused: AllocFailed<T>) -> RequestError {
+        RequestError::Memory
+    }
 }
 
 /// Why an entry was not granted.
@@ -29,6 +41,17 @@ pub enum EnterError {
     /// Memory ran out.
     #[error("Memory")]
     Memory,
+}
+
+impl From<AllocError> for EnterError {
+    ghost use Rattle.std.specs.Prelude.{◌≡◌};
+    ghost use Rattle.ra_table.specs.declared.error.EnterError.TheVariants.{Memory};
+
+    ghost from_gives = { λ _ error. error ≡ Memory };
+
+    fn from(_refused: AllocError) -> EnterError {
+        EnterError::Memory
+    }
 }
 
 /// Why an entry was not given back.

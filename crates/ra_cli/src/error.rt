@@ -1,0 +1,91 @@
+ghost use Rattle.std.specs.Prelude.{◌≡◌};
+ghost use Rattle.ra_cli.specs.declared.error.AnswerError.TheVariants.{Frame, Memory, Write};
+
+use crate::output::WriteFault;
+use ra_frame::FrameError;
+use ra_stamp::Memory;
+use std::alloc::{AllocError, AllocFailed};
+use thiserror::Error;
+
+/// Why `answer` gave no answer, in the order in which the causes are looked for.
+#[derive(Clone, Copy, Debug, PartialEq, Eq, Error)]
+pub enum AnswerError {
+    /// The number of nodes is not 1 to 16.
+    #[error("BadCount")]
+    BadCount,
+    /// The node is not 1 to the number of nodes.
+    #[error("BadNode")]
+    BadNode,
+    /// The reader failed.
+    #[error("Read")]
+    Read,
+    /// There are more than 256 bytes before a line feed, or bytes behind it.
+    #[error("Line")]
+    Line,
+    /// The line is no even number of hexadecimal digits.
+    #[error("Hex")]
+    Hex,
+    /// The bytes are no frame.
+    #[error(transparent)]
+    Frame(FrameError),
+    /// The message is for another node.
+    #[error("WrongNode")]
+    WrongNode,
+    /// The sender is the node itself, or there is no such node.
+    #[error("Stranger")]
+    Stranger,
+    /// The node's clock would pass 2^62.
+    #[error("ClockFull")]
+    ClockFull,
+    /// Memory ran out.
+    #[error("Memory")]
+    Memory,
+    /// The writer failed.
+    #[error("Write")]
+    Write,
+}
+
+impl From<FrameError> for AnswerError {
+    ghost from_gives = { λ fault e. e ≡ Frame fault };
+
+    /// Names why the bytes are no frame.
+    fn from(fault: FrameError) -> AnswerError {
+        AnswerError::Frame(fault)
+    }
+}
+
+impl From<Memory> for AnswerError {
+    ghost from_gives = { λ _ e. e ≡ Memory };
+
+    /// Says that memory ran out.
+    fn from(_refused: Memory) -> AnswerError {
+        AnswerError::Memory
+    }
+}
+
+impl From<AllocError> for AnswerError {
+    ghost from_gives = { λ _ e. e ≡ Memory };
+
+    /// Says that memory ran out.
+    fn from(_refused: AllocError) -> AnswerError {
+        AnswerError::Memory
+    }
+}
+
+impl<T: Drop> From<AllocFailed<T>> for AnswerError {
+    ghost from_gives = { λ _ e. e ≡ Memory };
+
+    /// Says that memory ran out.
+    fn from(_refused: AllocFailed<T>) -> AnswerError {
+        AnswerError::Memory
+    }
+}
+
+impl From<WriteFault> for AnswerError {
+    ghost from_gives = { λ _ e. e ≡ Write };
+
+    /// Says that the writer failed.
+    fn from(_fault: WriteFault) -> AnswerError {
+        AnswerError::Write
+    }
+}

@@ -1,0 +1,36 @@
+-- A leave and a request in one step of the automaton are a leave that hands over to the next client.
+use Rattle.std.proofs.Common.{◌≡◌, ℕ, Bool, List, ◌∷◌, Some, None, ◌+◌, refl, sym, ap, ◌∙◌}
+use Rattle.ra_stamp.specs.declared.entry.Entry.{Entry}
+use Rattle.ra_stamp.specs.declared.entry.Mark.{Mark}
+use Rattle.ra_stamp.specs.declared.entry.Mark.TheVariants.{Left}
+use Rattle.ra_stamp.specs.declared.message.Message.{Message}
+use Rattle.ra_automaton.specs.State.{State}
+use Rattle.ra_automaton.specs.Steps.{LeaveAndRequestStep}
+use Rattle.ra_node.specs.declared.queued.Queued.{Queued}
+use Rattle.ra_node.specs.Resource.{Resource, Holds, entry_of, clients_of}
+use Rattle.ra_node.specs.Turns.{request_marks, next_entry, LeavesToNext}
+use Rattle.ra_node.proofs.Distinct.{Once, next_may_ask}
+
+pub hands_over : (old : Resource) (client : ℕ) (entry : Entry) (next : Queued) (sends : List Message) (marks : List Mark) (entered : Bool) (new : Resource) → Once (clients_of old) → Holds old client entry → old.queue ≡ next ∷ new.queue
+    → LeaveAndRequestStep old.state next.mode sends entered new.state → new.client ≡ Some next.client → marks ≡ Left entry ∷ request_marks entered (next_entry old next.client next.mode) → LeavesToNext old client sends marks new
+hands_over old client entry next sends marks entered new once holds queue-was step client-is marks-are =
+    let between : Resource = record { state = step.between; client = None; queue = old.queue } in
+    let asked = request_marks entered (next_entry between next.client next.mode) in
+    let same : next_entry old next.client next.mode ≡ next_entry between next.client next.mode =
+    sym (ap (λ (s : State). entry_of s.me s.name (s.highest + 1) next.client next.mode) step.leaves.new_is)
+    in
+    record {
+      entry = entry;
+      between = between;
+      replies = step.replies;
+      leaves = record { holds = holds; step = step.leaves; client_is = refl; queue_is = refl };
+      next = next;
+      rest = new.queue;
+      queue_was = queue-was;
+      requests = step.requests;
+      asked = asked;
+      may = next_may_ask old between next new.queue queue-was refl step.asks.number_left once;
+      asks = record { entered = entered; step = step.asks; marks_are = refl; client_is = client-is; queue_is = refl };
+      sends_are = step.sends_are;
+      marks_are = marks-are ∙ ap (λ (e : Entry). Left entry ∷ request_marks entered e) same;
+    }

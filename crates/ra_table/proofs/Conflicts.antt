@@ -1,0 +1,102 @@
+-- What each table step keeps of entries that conflict, by laws of modes and stamps.
+use Rattle.std.proofs.Common.{◌≡◌, ◌<◌, List, [], ◌∷◌, ◌++◌, get_or, All, sym, ap, subst, inl, inr}
+use Rattle.std.specs.Prelude.{◌⊎◌}
+use Rattle.std.proofs.lemmas.List.Elements.{All-nil, All-weaker}
+use Rattle.ra_stamp.specs.declared.entry.Entry.{Entry}
+use Rattle.ra_stamp.specs.declared.entry.Mark.{Mark}
+use Rattle.ra_stamp.specs.declared.entry.Mark.TheVariants.{Requested, Entered, Left}
+use Rattle.ra_stamp.specs.declared.mode.Mode.{Mode}
+use Rattle.ra_stamp.specs.declared.stamp.Stamp.{Stamp}
+use Rattle.ra_stamp.specs.Mode.{Conflict}
+use Rattle.ra_stamp.specs.Stamp.{IsEarlier}
+use Rattle.ra_table.specs.Table.{LockTable, empty_table, Excludes, TableStep}
+use Rattle.ra_table.proofs.Apart.{Apart, All-put, All-taken, Apart-put, Apart-taken, All-apart}
+use Rattle.ra_table.proofs.Sound.{NotOfOneNode, NotOfOneNode-flip, IsSoundTable, empty_is_sound, step_sound}
+
+-- the law that conflict does not depend on the order of the modes
+abbrev pub ConflictIsSymmetric : Type 0
+ConflictIsSymmetric = (a b : Mode) → Conflict a b → Conflict b a
+
+-- the law that of two different stamps one is earlier
+abbrev pub StampsAreTotal : Type 0
+StampsAreTotal = (a b : Stamp) → IsEarlier a b ⊎ ((a ≡ b) ⊎ IsEarlier b a)
+
+Excludes-flip : ConflictIsSymmetric → (a b : Entry) → Excludes a b → Excludes b a
+Excludes-flip symmetric a b e = (sym e.0, symmetric a.mode b.mode e.1)
+
+-- ---- no two that hold exclude each other
+
+abbrev pub DoesNotExclude : Entry → Entry → Type 0
+DoesNotExclude a b = Excludes a b → ⊥
+
+DoesNotExclude-flip : ConflictIsSymmetric → (a b : Entry) → DoesNotExclude a b → DoesNotExclude b a
+DoesNotExclude-flip symmetric a b n s = n (Excludes-flip symmetric b a s)
+
+pub step_conflict_free : ConflictIsSymmetric → (old new : LockTable) (mark : Mark) → TableStep old mark new
+    → Apart DoesNotExclude old.holding → Apart DoesNotExclude new.holding
+step_conflict_free symmetric old new (Requested e) step free = rw step.2 free
+step_conflict_free symmetric old new (Entered e) step free =
+    let flip = DoesNotExclude-flip symmetric in
+    let before : Apart DoesNotExclude (step.2.0 ++ step.2.1) = subst (Apart DoesNotExclude) step.2.2 free in
+    let not_held : All (λ x. DoesNotExclude x e) (step.2.0 ++ step.2.1) = subst (All (λ x. DoesNotExclude x e)) step.2.2 step.0.not_held in
+    rw step.2.3 (Apart-put DoesNotExclude flip step.2.0 step.2.1 e before (All-weaker (λ x. DoesNotExclude x e) (DoesNotExclude e) (λ x. flip x e) (step.2.0 ++ step.2.1) not_held))
+step_conflict_free symmetric old new (Left e) step free =
+    let before : Apart DoesNotExclude (step.2.0 ++ e ∷ step.2.1) = subst (Apart DoesNotExclude) step.2.3 free in
+    rw step.2.2 (Apart-taken DoesNotExclude step.2.0 step.2.1 e before)
+
+-- ---- those that wait are behind the grants
+
+-- of two stamps one is earlier, or they are of one node
+earlier_cases : StampsAreTotal → (a b : Stamp) → (IsEarlier b a → ⊥) → (a.node ≡ b.node → ⊥) → IsEarlier a b
+earlier_cases total a b not_earlier other_node =
+    elim (total a b) [
+      | inl earlier ↦ earlier
+      | inr rest ↦ elim rest [
+        | inl same ↦ absurd (other_node (ap (λ (s : Stamp). s.node) same))
+        | inr later ↦ absurd (not_earlier later)
+      ]
+    ]
+
+-- an entry that waits behind a conflicting grant is later than it
+abbrev pub IsBehind : Entry → Entry → Type 0
+IsBehind g w = Excludes g w → IsEarlier g.stamp w.stamp
+
+-- a sound table, in which each entry that waits is behind each grant
+pub record IsOrdered (table : LockTable) : Type 0 where
+  pub sound : IsSoundTable table
+  pub behind : All (λ g. All (IsBehind g) table.waiting) table.granted
+
+pub empty_is_ordered : IsOrdered empty_table
+empty_is_ordered = record { sound = empty_is_sound; behind = All-nil (λ g. All (IsBehind g) []) }
+
+behind_requested : (front back granted : List Entry) (e : Entry) → All (λ g. All (IsBehind g) (front ++ back)) granted
+    → All (λ x. x.name ≡ e.name → x.stamp.seq < e.stamp.seq) granted → All (λ g. All (IsBehind g) (front ++ e ∷ back)) granted
+behind_requested front back granted e behind above k d lt =
+    All-put (IsBehind (get_or granted k d)) front back e (behind k d lt) (λ ex. inl (above k d lt ex.0))
+
+behind_entered : ConflictIsSymmetric → StampsAreTotal → (front back front' back' : List Entry) (e : Entry) → Apart NotOfOneNode (front ++ e ∷ back)
+    → All (λ x. Excludes x e → IsEarlier x.stamp e.stamp → ⊥) (front ++ e ∷ back)
+    → All (λ g. All (IsBehind g) (front ++ e ∷ back)) (front' ++ back') → All (λ g. All (IsBehind g) (front ++ back)) (front' ++ e ∷ back')
+behind_entered symmetric total front back front' back' e apart no_earlier behind =
+    let others : All (NotOfOneNode e) (front ++ back) = All-apart NotOfOneNode NotOfOneNode-flip front back e apart in
+    let earlier : All (λ x. Excludes x e → IsEarlier x.stamp e.stamp → ⊥) (front ++ back) = All-taken (λ x. Excludes x e → IsEarlier x.stamp e.stamp → ⊥) front back e no_earlier in
+    let later : All (IsBehind e) (front ++ back) = λ k d lt ex.
+    let w = get_or (front ++ back) k d in
+    earlier_cases total e.stamp w.stamp (earlier k d lt (Excludes-flip symmetric e w ex)) (λ node. others k d lt (ex.0, node)) in
+    All-put (λ g. All (IsBehind g) (front ++ back)) front' back' e (λ k d lt. All-taken (IsBehind (get_or (front' ++ back') k d)) front back e (behind k d lt)) later
+
+step_behind : ConflictIsSymmetric → StampsAreTotal → (old new : LockTable) (mark : Mark) → TableStep old mark new → IsOrdered old
+    → All (λ g. All (IsBehind g) new.waiting) new.granted
+step_behind symmetric total old new (Requested e) step ordered =
+    let before : All (λ g. All (IsBehind g) (step.1.0 ++ step.1.1)) old.granted = subst (λ (w : List Entry). All (λ g. All (IsBehind g) w) old.granted) step.1.2 ordered.behind in
+    rw (step.1.3, step.3) (behind_requested step.1.0 step.1.1 old.granted e before step.0.above)
+step_behind symmetric total old new (Entered e) step ordered =
+    let apart : Apart NotOfOneNode (step.1.0 ++ e ∷ step.1.1) = subst (Apart NotOfOneNode) step.1.3 ordered.sound.apart_waiting in
+    let no_earlier : All (λ x. Excludes x e → IsEarlier x.stamp e.stamp → ⊥) (step.1.0 ++ e ∷ step.1.1) = subst (All (λ x. Excludes x e → IsEarlier x.stamp e.stamp → ⊥)) step.1.3 step.0.no_earlier in
+    let before : All (λ g. All (IsBehind g) (step.1.0 ++ e ∷ step.1.1)) (step.3.0 ++ step.3.1) = rw (← step.1.3, ← step.3.2) ordered.behind in
+    rw (step.1.2, step.3.3) (behind_entered symmetric total step.1.0 step.1.1 step.3.0 step.3.1 e apart no_earlier before)
+step_behind symmetric total old new (Left e) step ordered = rw (step.1, step.3) ordered.behind
+
+pub step_ordered : ConflictIsSymmetric → StampsAreTotal → (old new : LockTable) (mark : Mark) → TableStep old mark new → IsOrdered old → IsOrdered new
+step_ordered symmetric total old new mark step ordered =
+    record { sound = step_sound old new mark step ordered.sound; behind = step_behind symmetric total old new mark step ordered }

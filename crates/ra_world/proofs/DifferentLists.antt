@@ -1,0 +1,85 @@
+-- Lists whose messages are all different.
+use Rattle.std.proofs.Common.{◌≡◌, ◌≢◌, suc, Bool, true, false, cond, List, [], ◌∷◌, ◌++◌, All, filter, refl, sym, ap, ◌∙◌, subst, arith}
+use Rattle.std.specs.Prelude.{AllPairs}
+use Rattle.std.proofs.lemmas.Bool.{false≢true}
+use Rattle.std.proofs.lemmas.List.Elements.{All-nil, All-cons, All-head, All-tail, All-weaker}
+use Rattle.std.proofs.lemmas.List.Kept.{AllPairs-cons}
+use Rattle.std.proofs.lemmas.List.Quantifiers.{all_pairs_push}
+use Rattle.ra_stamp.specs.declared.message.Message.{Message}
+use Rattle.ra_bag.specs.Bag.{TakesFirst}
+use Rattle.ra_world.proofs.Lists.{filter_hit, filter_miss}
+
+-- all are different
+abbrev pub AreDifferent : List Message → Type 0
+AreDifferent ms = AllPairs (λ a b. a ≢ b) ms
+
+pub none_different : AreDifferent []
+none_different i j d below within = absurd (omega (arith, within))
+
+pub one_more_different : (ms : List Message) (m : Message) → AreDifferent ms → All (λ x. x ≢ m) ms → AreDifferent (ms ++ m ∷ [])
+one_more_different ms m different other = all_pairs_push (λ a b. a ≢ b) ms m different other
+
+-- the first one is not there again, and the others are different
+first_once : (m : Message) (ms : List Message) → AreDifferent (m ∷ ms) → All (λ x. m ≢ x) ms
+first_once m ms different k d within = different 0 (suc k) d (omega arith) (omega (arith, within))
+
+rest_different : (m : Message) (ms : List Message) → AreDifferent (m ∷ ms) → AreDifferent ms
+rest_different m ms different i j d below within = different (suc i) (suc j) d (omega (arith, below)) (omega (arith, within))
+
+-- a test for each message, which it passes itself: where those that pass the test of each are different, all are
+module _ (p : Message → Message → Bool) (itself : (m : Message) → p m m ≡ true) where
+  abbrev EachApart : List Message → List Message → Type 0
+  EachApart of ms = All (λ m. AreDifferent (filter (p m) ms)) of
+
+  later : (m x : Message) (ms : List Message) → AreDifferent (filter (p m) (x ∷ ms)) → AreDifferent (filter (p m) ms)
+  later m x ms =
+      elim (p m x) as (λ b. AreDifferent (cond b (x ∷ filter (p m) ms) (filter (p m) ms)) → AreDifferent (filter (p m) ms)) [
+        | true ↦ λ different. rest_different x (filter (p m) ms) different
+        | false ↦ λ different. different
+      ]
+
+  -- what is not among those that pass the test of a message is not that message
+  passed_over : (m : Message) (ms : List Message) → All (λ x. m ≢ x) (filter (p m) ms) → All (λ x. m ≢ x) ms
+  passed_over m [] all = All-nil (λ x. m ≢ x)
+  passed_over m (x ∷ ms) all =
+      elim (p m x) as (λ b. p m x ≡ b → All (λ y. m ≢ y) (x ∷ ms)) [
+        | true ↦ λ e.
+            let here = subst (All (λ y. m ≢ y)) (filter_hit (p m) x ms e) all in
+            All-cons (λ y. m ≢ y) x ms (All-head (λ y. m ≢ y) x (filter (p m) ms) here) (passed_over m ms (All-tail (λ y. m ≢ y) x (filter (p m) ms) here))
+        | false ↦ λ e.
+            All-cons (λ y. m ≢ y) x ms (λ same. false≢true (sym e ∙ (ap (p m) (sym same) ∙ itself m))) (passed_over m ms (subst (All (λ y. m ≢ y)) (filter_miss (p m) x ms e) all))
+      ] refl
+
+  pub different_by : (ms : List Message) → EachApart ms ms → AreDifferent ms
+  different_by [] each = none_different
+  different_by (m ∷ ms) each =
+      let here = subst AreDifferent (filter_hit (p m) m ms (itself m)) (All-head (λ x. AreDifferent (filter (p x) (m ∷ ms))) m ms each) in
+      AllPairs-cons (λ a b. a ≢ b) m ms (passed_over m ms (first_once m (filter (p m) ms) here))
+      (different_by ms
+      (All-weaker (λ x. AreDifferent (filter (p x) (m ∷ ms))) (λ x. AreDifferent (filter (p x) ms)) (λ x different. later x m ms different) ms
+      (All-tail (λ x. AreDifferent (filter (p x) (m ∷ ms))) m ms each)))
+
+-- ---- Lists of one message
+
+-- the last one of a list of one is that one
+pub last_is : (ms : List Message) (x y : Message) → ms ++ x ∷ [] ≡ y ∷ [] → x ≡ y
+last_is [] x y e = cc
+last_is (m ∷ []) x y e = absurd cc
+last_is (m ∷ k ∷ ms) x y e = absurd cc
+
+-- what is taken without anything left was the only one
+pub took_all : (ms : List Message) (m : Message) (rest : List Message) → TakesFirst ms m rest → rest ≡ [] → ms ≡ m ∷ []
+took_all ms m rest takes none = go takes.front takes.back takes.old_is (sym takes.new_is ∙ none)
+  where
+    go : (front back : List Message) → ms ≡ front ++ m ∷ back → front ++ back ≡ [] → ms ≡ m ∷ []
+    go [] back e nothing = e ∙ ap (λ (ys : List Message). m ∷ ys) nothing
+    go (x ∷ front) back e nothing = absurd cc
+
+-- what is taken from one leaves nothing
+pub nothing_left : (ms : List Message) (m : Message) (rest : List Message) (x : Message) → TakesFirst ms m rest → ms ≡ x ∷ [] → rest ≡ []
+nothing_left ms m rest x takes one = go takes.front takes.back (sym takes.old_is ∙ one) takes.new_is
+  where
+    go : (front back : List Message) → front ++ m ∷ back ≡ x ∷ [] → rest ≡ front ++ back → rest ≡ []
+    go [] back e is = cc
+    go (y ∷ []) back e is = absurd cc
+    go (y ∷ z ∷ front) back e is = absurd cc

@@ -1,0 +1,207 @@
+-- All messages that a run sends are different.
+use Rattle.std.proofs.Common.{◌≡◌, ℕ, ◌≤◌, List, [], ◌∷◌, ◌++◌, All, map, refl, sym, ap, ◌∙◌, subst, append_assoc}
+use Rattle.std.proofs.lemmas.List.{append-nil}
+use Rattle.std.proofs.lemmas.List.Elements.{All-nil, All-append, All-weaker}
+use Rattle.ra_stamp.specs.declared.message.Message.{Message}
+use Rattle.ra_stamp.specs.declared.message.Message.TheVariants.{Request, Reply}
+use Rattle.ra_stamp.specs.declared.mode.Mode.{Mode}
+use Rattle.ra_stamp.specs.declared.entry.Mark.{Mark}
+use Rattle.ra_stamp.specs.Message.{from_of, to_of, name_of}
+use Rattle.ra_stamp.specs.NodeId.{IsNodeNumber}
+use Rattle.ra_automaton.specs.State.{IsOtherNode, IsForNode}
+use Rattle.ra_node.specs.Resource.{Resource}
+use Rattle.ra_node.specs.Turns.{AskTurn, LeaveTurn, ReceiveTurn}
+use Rattle.ra_node.specs.Node.{NodeState, opening_node, resource_at}
+use Rattle.ra_node.specs.Events.{Event, Happening, name_of_event, NodeEvent, NodeEvents, IsForThisNode}
+use Rattle.ra_node.specs.Events.Event.{Ask as AskedFor, Leave as GivenBack, Receive as Received}
+use Rattle.ra_node.specs.Carried.{IsSend}
+use Rattle.ra_world.specs.Below.{LawsBelow}
+use Rattle.ra_world.specs.declared.step.Step.{Step}
+use Rattle.ra_world.specs.declared.step.Step.TheVariants.{Ask, Leave, Deliver, Lose}
+use Rattle.ra_world.specs.Traffic.{Move, sent_by, taken_in, TakesEach, IsUnderWay}
+use Rattle.ra_world.specs.Run.{events_at, happened_at, IsFit, IsRun}
+use Rattle.ra_world.proofs.Dialogs.{belongs, between, asker_of, answerer_of, belongs_here}
+use Rattle.ra_world.proofs.Protocol.{IsNode}
+use Rattle.ra_world.proofs.Cluster.{resource_changed}
+use Rattle.ra_world.proofs.Moves.{may_lose_all, sent_more, happens, happened_more, fits_split, at_node, only_at}
+use Rattle.ra_world.proofs.Reached.{Reached, under_way_more, one_list, was_under_way}
+use Rattle.ra_world.proofs.Runs.{fronts, every_run}
+use Rattle.ra_world.proofs.DifferentLists.{AreDifferent, none_different, different_by}
+use Rattle.ra_world.proofs.DifferentEvents.{EverySaid, Happens, said_by_same, said_after_loss, said_by_ask, said_by_leave, said_by_receive}
+
+-- a message is from one of n nodes, and for another one
+abbrev IsBetween : ℕ → Message → Type 0
+IsBetween n m = IsNode n (to_of m) × IsOtherNode (to_of m) n (from_of m)
+
+-- what is known of a run: its messages go between nodes, and those of each dialog are different
+pub record Known (n start : ℕ) (moves : List Move) (at : Reached (Unit {0}) n start moves) : Type 0 where
+  pub traffic : All (IsBetween n) (sent_by moves)
+  pub said : EverySaid n at.nodes at.bag (sent_by moves)
+
+-- before anything was sent
+nothing_known : (n start : ℕ) (at : Reached (Unit {0}) n start []) → Known n start [] at
+nothing_known n start at =
+    record {
+      traffic = All-nil (IsBetween n);
+      said = λ r i j at_i at_j apart. record { different = none_different; met = All-nil _; asked = λ seq mode one. All-nil _; deferred = λ seq here. All-nil _ };
+    }
+
+-- then all messages are different, since equal ones are of one dialog
+all_different : (n start : ℕ) (moves : List Move) (at : Reached (Unit {0}) n start moves) → Known n start moves at → AreDifferent (sent_by moves)
+all_different n start moves at known =
+    different_by (λ m x. belongs (name_of m) (asker_of m) (answerer_of m) x) belongs_here (sent_by moves)
+    (All-weaker (IsBetween n) (λ m. AreDifferent (between (name_of m) (asker_of m) (answerer_of m) (sent_by moves))) apart (sent_by moves) known.traffic)
+  where
+    apart : (m : Message) → IsBetween n m → AreDifferent (between (name_of m) (asker_of m) (answerer_of m) (sent_by moves))
+    apart (Request from to name mode seq) goes = (known.said name from to (goes.1.first, goes.1.last) goes.0 goes.1.other).different
+    apart (Reply from to name seq) goes = (known.said name to from goes.0 (goes.1.first, goes.1.last) (λ e. goes.1.other (sym e))).different
+
+module _ (laws : LawsBelow) (n start : ℕ) where
+  -- ---- One more move
+
+  module _ (ms : List Move) (m : Move) (before : Reached (Unit {0}) n start ms) (after : Reached (Unit {0}) n start (ms ++ m ∷ [])) (known : Known n start ms before) where
+    abbrev happening : Event → Happening
+    happening event = record { event = event; sends = m.sends; marks = m.marks }
+
+    -- what happened at a node by the move leads from its state before to the one after
+    happens_from : (i : ℕ) → IsNode n i → NodeEvents (before.nodes i) (happens i m) (after.nodes i)
+    happens_from i at =
+        let parts = laws.splits (happened_at i ms) (happens i m) (opening_node i n start) (after.nodes i)
+        (subst (λ (hs : List Happening). NodeEvents (opening_node i n start) hs (after.nodes i)) (happened_more i ms m) (after.ends i at.0 at.1)) in
+        let same = laws.one_end (opening_node i n start) parts.0 (before.nodes i) (happened_at i ms) parts.1 (before.ends i at.0 at.1) in
+        subst (λ (x : NodeState). NodeEvents x (happens i m) (after.nodes i)) same parts.2
+
+    by_events : (i : ℕ) (events : List Event) → IsNode n i → events_at i m.step ≡ events → NodeEvents (before.nodes i) (map happening events) (after.nodes i)
+    by_events i events at are = subst (λ (es : List Event). NodeEvents (before.nodes i) (map happening es) (after.nodes i)) are (happens_from i at)
+
+    known_after : All (IsBetween n) m.sends → (next : List Message) → TakesEach before.bag (taken_in m.step) next → EverySaid n after.nodes (next ++ m.sends) (sent_by ms ++ m.sends) → Known n start (ms ++ m ∷ []) after
+    known_after traffic next takes said =
+        let left = one_list (ms ++ m ∷ []) (next ++ m.sends) after.bag (under_way_more ms m before.bag next before.under_way takes) after.under_way in
+        record {
+          traffic = subst (All (IsBetween n)) (sym (sent_more ms m)) (All-append (IsBetween n) (sent_by ms) m.sends known.traffic traffic);
+          said = subst (EverySaid n after.nodes after.bag) (sym (sent_more ms m)) (subst (λ (xs : List Message). EverySaid n after.nodes xs (sent_by ms ++ m.sends)) left said);
+        }
+
+    -- an event at a node
+    module _ (p : ℕ) (within : IsNode n p) (event : Event) (here : events_at p m.step ≡ event ∷ []) (for : IsForThisNode (before.nodes p) event) where
+      happened : NodeEvent (before.nodes p) event m.sends m.marks (after.nodes p)
+      happened = let one = by_events p (event ∷ []) within here in subst (λ (x : NodeState). NodeEvent (before.nodes p) event m.sends m.marks x) (sym one.2) one.1
+
+      own : All (IsSend p n (name_of_event event)) m.sends
+      own =
+          let there = before.invariant.each p within in
+          let sends = laws.own_sends (before.nodes p) (after.nodes p) event m.sends m.marks there.consistent for happened in
+          subst (λ (k : ℕ). All (IsSend p k (name_of_event event)) m.sends) there.nodes_is (subst (λ (k : ℕ). All (IsSend k (before.nodes p).nodes (name_of_event event)) m.sends) there.me_is sends)
+
+      sent_between : All (IsBetween n) m.sends
+      sent_between =
+          All-weaker (IsSend p n (name_of_event event)) (IsBetween n)
+          (λ x send. (
+            (send.to.first, send.to.last),
+            record { first = subst (λ (k : ℕ). 1 ≤ k) (sym send.from) within.0; last = subst (λ (k : ℕ). k ≤ n) (sym send.from) within.1; other = λ e. send.to.other (sym e ∙ send.from) },
+          )) m.sends own
+
+      event_happens : Happens n before.nodes after.nodes p (name_of_event event) m.sends
+      event_happens =
+          record {
+            within = within;
+            there = λ k at apart. by_events k [] at (only_at p k m.step event here apart);
+            others = λ q apart. laws.other_names (before.nodes p) (after.nodes p) event m.sends m.marks q happened apart;
+            sent = own;
+          }
+
+  -- ---- Each step
+
+  module _ (ms : List Move) (sends : List Message) (marks : List Mark) (before : Reached (Unit {0}) n start ms) (known : Known n start ms before) where
+    abbrev by : Step → Move
+    by step = record { step = step; sends = sends; marks = marks }
+
+    abbrev After : Step → Type 0
+    After step = Reached (Unit {0}) n start (ms ++ by step ∷ [])
+
+    known_by_ask : (p client : ℕ) (name : List ℕ) (mode : Mode) → IsNode n p → (after : After (Ask p client name mode)) → Known n start (ms ++ by (Ask p client name mode) ∷ []) after
+    known_by_ask p client name mode within after =
+        let m = by (Ask p client name mode) in
+        let event = AskedFor client name mode in
+        let here = at_node p event in
+        let did = happened ms m before after known p within event here tt in
+        let turn : AskTurn (resource_at (before.nodes p) name) client mode sends marks (resource_at (after.nodes p) name) =
+        subst (λ (x : Resource). AskTurn (resource_at (before.nodes p) name) client mode sends marks x)
+        (sym (ap (λ (x : NodeState). resource_at x name) did.new_is ∙ resource_changed (before.nodes p) name did.resource)) did.turn
+        in
+        known_after ms m before after known (sent_between ms m before after known p within event here tt) before.bag refl
+        (said_by_ask n before.nodes after.nodes p name sends before.bag (sent_by ms) before.invariant.protocol known.said (event_happens ms m before after known p within event here tt) client mode marks turn)
+
+    known_by_leave : (p client : ℕ) (name : List ℕ) → IsNode n p → (after : After (Leave p client name)) → Known n start (ms ++ by (Leave p client name) ∷ []) after
+    known_by_leave p client name within after =
+        let m = by (Leave p client name) in
+        let event = GivenBack client name in
+        let here = at_node p event in
+        let did = happened ms m before after known p within event here tt in
+        let turn : LeaveTurn (resource_at (before.nodes p) name) client sends marks (resource_at (after.nodes p) name) =
+        subst (λ (x : Resource). LeaveTurn (resource_at (before.nodes p) name) client sends marks x)
+        (sym (ap (λ (x : NodeState). resource_at x name) did.new_is ∙ resource_changed (before.nodes p) name did.resource)) did.turn
+        in
+        known_after ms m before after known (sent_between ms m before after known p within event here tt) before.bag refl
+        (said_by_leave n before.nodes after.nodes p name sends before.bag (sent_by ms) before.invariant.protocol known.said (event_happens ms m before after known p within event here tt) client marks turn)
+
+    known_by_deliver : (message : Message) → IsUnderWay ms message → (after : After (Deliver message)) → Known n start (ms ++ by (Deliver message) ∷ []) after
+    known_by_deliver message was after =
+        let m = by (Deliver message) in
+        let taken = was_under_way laws n start ms before message was in
+        let p = to_of message in
+        let within = taken.traffic.to in
+        let event = Received message in
+        let name = name_of message in
+        let here = at_node p event in
+        let there = before.invariant.each p within in
+        let for' : IsForNode p n message = record { to = refl; from = taken.traffic.from } in
+        let for : IsForThisNode (before.nodes p) event = subst (λ (k : ℕ). IsForNode k (before.nodes p).nodes message) (sym there.me_is) (subst (λ (k : ℕ). IsForNode p k message) (sym there.nodes_is) for') in
+        let did = happened ms m before after known p within event here for in
+        let turn : ReceiveTurn (resource_at (before.nodes p) name) message sends marks (resource_at (after.nodes p) name) =
+        subst (λ (x : Resource). ReceiveTurn (resource_at (before.nodes p) name) message sends marks x)
+        (sym (ap (λ (x : NodeState). resource_at x name) did.new_is ∙ resource_changed (before.nodes p) name did.resource)) did.turn
+        in
+        known_after ms m before after known (sent_between ms m before after known p within event here for) taken.rest (taken.rest, taken.takes, refl)
+        (said_by_receive n before.nodes after.nodes p name sends before.bag (sent_by ms) before.invariant.protocol known.said (event_happens ms m before after known p within event here for)
+        message taken.rest marks taken.takes for' refl turn)
+
+    known_by_lose : (message : Message) → IsUnderWay ms message → sends ≡ [] → (after : After (Lose message)) → Known n start (ms ++ by (Lose message) ∷ []) after
+    known_by_lose message was nothing after =
+        let m = by (Lose message) in
+        let taken = was_under_way laws n start ms before message was in
+        let no_more : (xs : List Message) → xs ≡ xs ++ sends = λ xs. sym (ap (λ (ys : List Message). xs ++ ys) nothing ∙ append-nil xs) in
+        let said : EverySaid n after.nodes taken.rest (sent_by ms) =
+        said_by_same n before.nodes after.nodes taken.rest (sent_by ms) (λ i at. by_events ms m before after known i [] at refl)
+        (said_after_loss n before.nodes before.bag taken.rest (sent_by ms) message before.invariant.protocol taken.takes known.said)
+        in
+        known_after ms m before after known (subst (All (IsBetween n)) (sym nothing) (All-nil (IsBetween n))) taken.rest (taken.rest, taken.takes, refl)
+        (subst (λ (xs : List Message). EverySaid n after.nodes xs (sent_by ms ++ sends)) (no_more taken.rest) (subst (EverySaid n after.nodes taken.rest) (no_more (sent_by ms)) said))
+
+    known_by : (step : Step) → IsFit n ms step sends marks → (after : After step) → Known n start (ms ++ by step ∷ []) after
+    known_by (Ask node client name mode) fit after = known_by_ask node client name mode fit after
+    known_by (Leave node client name) fit after = known_by_leave node client name fit after
+    known_by (Deliver message) fit after = known_by_deliver message fit after
+    known_by (Lose message) fit after = known_by_lose message fit.0 fit.1 after
+
+  -- ---- Every run
+
+  module _ (count : IsNodeNumber n) where
+    reached : (moves : List Move) → IsRun n start moves → Reached (Unit {0}) n start moves
+    reached moves run = every_run laws n start moves (may_lose_all moves) count run
+
+    -- one move after the other
+    move_by_move : (back ms : List Move) (run : IsRun n start ms) → Known n start ms (reached ms run) → IsRun n start (ms ++ back) → AreDifferent (sent_by (ms ++ back))
+    move_by_move [] ms run known all = subst (λ (moves : List Move). AreDifferent (sent_by moves)) (sym (append-nil ms)) (all_different n start ms (reached ms run) known)
+    move_by_move (m ∷ back) ms run known all =
+        let again : ms ++ m ∷ back ≡ (ms ++ m ∷ []) ++ back = sym (append_assoc ms (m ∷ []) back) in
+        let all' = subst (IsRun n start) again all in
+        let run' = fronts laws.splits n start back (ms ++ m ∷ []) all' in
+        let fit = (fits_split n [] ms (m ∷ back) all.each_fits).1.0 in
+        let next = known_by ms m.sends m.marks (reached ms run) known m.step fit (reached (ms ++ m ∷ []) run') in
+        subst (λ (moves : List Move). AreDifferent (sent_by moves)) (sym again) (move_by_move back (ms ++ m ∷ []) run' next all')
+
+    pub messages_differ : (moves : List Move) → IsRun n start moves → AreDifferent (sent_by moves)
+    messages_differ moves run =
+        let none = fronts laws.splits n start moves [] run in
+        move_by_move moves [] none (nothing_known n start (reached [] none)) run

@@ -1,0 +1,193 @@
+-- What is reached at the end of a run: its nodes, what is under way, and its lock table, and all that holds of them. An
+-- event of a node leads on.
+use Rattle.std.proofs.Common.{◌≡◌, ℕ, ◌≤◌, List, [], ◌∷◌, ◌++◌, All, Contains, length, Option, refl, sym, ap, ◌∙◌, subst, arith, inl, ◌+◌, ◌-◌, ◌*◌, mul-add}
+use Rattle.std.specs.Prelude.{unwrap_or, IsTrue}
+use Rattle.std.specs.Ordering.{nat_cmp}
+use Rattle.std.specs.Cmp.Lexicographic.{slice_cmp}
+use Rattle.std.specs.FinSet as set
+use Rattle.std.specs.FinMap as finmap
+use Rattle.std.proofs.lemmas.List.{length-append}
+use Rattle.std.proofs.lemmas.List.Elements.{All-nil}
+use Rattle.ra_stamp.specs.declared.message.Message.{Message}
+use Rattle.ra_stamp.specs.declared.entry.Mark.{Mark}
+use Rattle.ra_stamp.specs.Message.{seq_of}
+use Rattle.ra_stamp.specs.NodeId.{IsNodeNumber}
+use Rattle.ra_bag.specs.Bag.{TakesFirst}
+use Rattle.ra_node.specs.Resource.{Resource, unmet, use_of, waiting_at}
+use Rattle.ra_node.specs.Node.{NodeState, opening_node, resource_at, with_resource, waiting_count}
+use Rattle.ra_node.specs.Events.{Event, Happening, name_of_event, NodeEvent, NodeEvents, IsForThisNode}
+use Rattle.ra_node.specs.Events.Event.{Ask as AskedFor, Leave as GivenBack, Receive as Received}
+use Rattle.ra_node.specs.Carried.{IsSend, MarksLead}
+use Rattle.ra_table.specs.Table.{LockTable, empty_table, TableSteps, TableRun}
+use Rattle.ra_world.specs.Below.{LawsBelow}
+use Rattle.ra_world.specs.Traffic.{Move, sent_by, taken_in, taken_by, TakesEach, LeavesUnderWay, IsUnderWay}
+use Rattle.ra_world.specs.Run.{events_at, happened_at, marks_of, EndsWith, with_node}
+use Rattle.ra_world.specs.Quiet.{requests_in}
+use Rattle.ra_world.proofs.Lists.{All-taken, takes_out, less_more, less_joined, less_alike}
+use Rattle.ra_world.proofs.Moves.{sent_more, taken_more, marks_more, happens, happened_more, requests_both}
+use Rattle.ra_world.proofs.Members.{nobody}
+use Rattle.ra_world.proofs.Protocol.{IsNode, HasOwn}
+use Rattle.ra_world.proofs.Marking.{waiting_of, granted_of}
+use Rattle.ra_world.proofs.Balance.{asking, owed}
+use Rattle.ra_world.proofs.Counting.{total, over, one_resource, one_node, marks_count, use_count, none_counted}
+use Rattle.ra_world.proofs.Cluster.{IsThere, IsTraffic, Invariant, resource_changed, Went, placed_at}
+use Rattle.ra_world.proofs.Nodes.{put_node, EndsAt, happens_here, ends_after}
+
+-- messages are lost only where Lossy is so
+pub record Reached (Lossy : Type 0) (n start : ℕ) (moves : List Move) : Type 0 where
+  pub nodes : ℕ → NodeState
+  pub bag : List Message
+  pub table : LockTable
+  pub ends : EndsWith n start moves nodes
+  pub under_way : LeavesUnderWay moves bag
+  pub run : TableRun (marks_of moves) table
+  pub invariant : Invariant Lossy n nodes bag table
+  pub count : length table.waiting ≡ over waiting_at nodes 1 n
+  pub balance : (Lossy → ⊥) → length (sent_by moves) + asking bag + over owed nodes 1 n ≡ 2 * (n - 1) * requests_in (marks_of moves)
+
+-- ---- At the start
+
+owes_nowhere : (me nodes : ℕ) (name : List ℕ) (start : ℕ) → owed (unmet me nodes name start) ≡ 0
+owes_nowhere me nodes name start = finmap.len-empty nat_cmp ℕ
+
+pub waits_nowhere : (me nodes : ℕ) (name : List ℕ) (start : ℕ) → waiting_at (unmet me nodes name start) ≡ 0
+waits_nowhere me nodes name start = refl
+
+nothing_met : (i n start : ℕ) (r : List ℕ) → resource_at (opening_node i n start) r ≡ unmet i n r start
+nothing_met i n start r = ap (λ (o : Option Resource). unwrap_or o (unmet i n r start)) (finmap.get-empty (slice_cmp nat_cmp) r)
+
+pub opening : LawsBelow → (Lossy : Type 0) (n start : ℕ) → IsNodeNumber n → Reached Lossy n start []
+opening laws Lossy n start count =
+    let nodes = λ (i : ℕ). opening_node i n start in
+    let there : (i : ℕ) → IsNode n i → IsThere n i (opening_node i n start) = λ i at. record { consistent = laws.opens i n start count at; me_is = refl; nodes_is = refl } in
+    record {
+      nodes = nodes;
+      bag = [];
+      table = empty_table;
+      ends = λ i low high. refl;
+      under_way = refl;
+      run = refl;
+      invariant = record {
+        each = there;
+        protocol = λ r. record {
+          each = λ i at. placed_at n i (opening_node i n start) r (there i at);
+          dialog = λ i j at_i at_j apart. inl (record { none = refl; not_deferred = ap (λ (x : Resource). finmap.get x.state.deferred i) (nothing_met j n start r) ∙ finmap.get-empty nat_cmp i; unheard = λ awaited. absurd (nobody j (subst (λ (x : Resource). IsTrue (set.contains x.state.awaited j)) (nothing_met i n start r) awaited)) });
+          passed = λ i j seq mode at_i at_j apart own free. absurd (subst (λ (x : Resource). HasOwn x.state.phase seq mode) (nothing_met i n start r) own);
+        };
+        traffic = All-nil (IsTraffic n);
+        tabled = record {
+          waiting = λ i r at. sym (ap (λ (x : Resource). waiting_of (use_of x)) (nothing_met i n start r));
+          holding = λ i r at. sym (ap (λ (x : Resource). granted_of (use_of x)) (nothing_met i n start r));
+          waiting_known = λ e at. absurd (omega (arith, at.1));
+          holding_known = λ e at. absurd (omega (arith, at.1));
+          reached = λ e at j j_at. absurd (omega (arith, at.1));
+        };
+      };
+      count = sym (none_counted waiting_at waits_nowhere nodes 1 n (λ i. refl));
+      balance = λ _. omega (arith, none_counted owed owes_nowhere nodes 1 n (λ i. refl));
+    }
+
+-- ---- What is under way
+
+-- one more move: what it takes is gone, and what it sends comes behind the rest
+pub under_way_more : (ms : List Move) (m : Move) (left next : List Message) → LeavesUnderWay ms left → TakesEach left (taken_in m.step) next → LeavesUnderWay (ms ++ m ∷ []) (next ++ m.sends)
+under_way_more ms m left next less takes =
+    subst (λ (sent : List Message). TakesEach sent (taken_by (ms ++ m ∷ [])) (next ++ m.sends)) (sym (sent_more ms m))
+    (subst (λ (taken : List Message). TakesEach (sent_by ms ++ m.sends) taken (next ++ m.sends)) (sym (taken_more ms m))
+    (less_more (sent_by ms) (taken_by ms ++ taken_in m.step) next m.sends (less_joined (sent_by ms) (taken_by ms) left (taken_in m.step) next less takes)))
+
+-- what is under way is one list
+pub one_list : (ms : List Move) (a b : List Message) → LeavesUnderWay ms a → LeavesUnderWay ms b → a ≡ b
+one_list ms a b less less' = less_alike (sent_by ms) (taken_by ms) a b less less'
+
+pub record WasUnderWay (n : ℕ) (bag : List Message) (message : Message) : Type 0 where
+  pub rest : List Message
+  pub takes : TakesFirst bag message rest
+  pub traffic : IsTraffic n message
+
+pub was_under_way : LawsBelow → {Lossy : Type 0} (n start : ℕ) (ms : List Move) (reached : Reached Lossy n start ms) (message : Message) → IsUnderWay ms message → WasUnderWay n reached.bag message
+was_under_way laws n start ms reached message was =
+    let same = one_list ms was.0 reached.bag was.1 reached.under_way in
+    let out = takes_out laws.same_or_apart reached.bag message (subst (λ (xs : List Message). Contains xs message) same was.2) in
+    record { rest = out.0; takes = out.1; traffic = (All-taken (IsTraffic n) reached.bag message out.0 out.1 reached.invariant.traffic).0 }
+
+-- ---- An event of a node
+
+-- what an event makes of the resource of its name
+event_resource : (old new : NodeState) (event : Event) (sends : List Message) (marks : List Mark) → NodeEvent old event sends marks new → (x : Resource) × (new ≡ with_resource old (name_of_event event) x)
+event_resource old new (AskedFor client name mode) sends marks happened = (happened.resource, happened.new_is)
+event_resource old new (GivenBack client name) sends marks happened = (happened.resource, happened.new_is)
+event_resource old new (Received message) sends marks happened = (happened.resource, happened.new_is)
+
+module _ (laws : LawsBelow) {Lossy : Type 0} (n start : ℕ) (ms : List Move) (m : Move) (before : Reached Lossy n start ms) (p : ℕ) (within : IsNode n p) (event : Event) (here : events_at p m.step ≡ event ∷ []) where
+  pub event_happened : EndsAt n start (ms ++ m ∷ []) p → (new : NodeState) × NodeEvent (before.nodes p) event m.sends m.marks new
+  event_happened end =
+      let parts = laws.splits (happened_at p ms) (happens p m) (opening_node p n start) end.0 (subst (λ (hs : List Happening). NodeEvents (opening_node p n start) hs end.0) (happened_more p ms m) end.1) in
+      let same : parts.0 ≡ before.nodes p = laws.one_end (opening_node p n start) parts.0 (before.nodes p) (happened_at p ms) parts.1 (before.ends p within.0 within.1) in
+      let one = subst (λ (hs : List Happening). NodeEvents parts.0 hs end.0) (happens_here p m event here) parts.2 in
+      (one.0, subst (λ (x : NodeState). NodeEvent x event m.sends m.marks one.0) same one.1)
+
+  module _ (new : NodeState) (happened : NodeEvent (before.nodes p) event m.sends m.marks new) (for : IsForThisNode (before.nodes p) event) (numbered : (message : Message) → event ≡ Received message → 1 ≤ seq_of message) where
+    abbrev pub name : List ℕ
+    name = name_of_event event
+
+    pub went : Went n before.nodes (with_node before.nodes p new) p name new m.sends
+    went =
+        let there = before.invariant.each p within in
+        let same = laws.same_node (before.nodes p) new event m.sends m.marks happened in
+        record {
+          within = within;
+          turned = put_node before.nodes p new;
+          there = record { consistent = laws.consistent (before.nodes p) new event m.sends m.marks there.consistent for happened; me_is = same.0 ∙ there.me_is; nodes_is = same.1 ∙ there.nodes_is };
+          others = λ q apart. laws.other_names (before.nodes p) new event m.sends m.marks q happened apart;
+          sent = subst (λ (k : ℕ). All (IsSend p k name) m.sends) there.nodes_is
+              (subst (λ (k : ℕ). All (IsSend k (before.nodes p).nodes name) m.sends) there.me_is (laws.own_sends (before.nodes p) new event m.sends m.marks there.consistent for happened));
+          numbered = laws.numbered (before.nodes p) new event m.sends m.marks there.consistent for happened numbered;
+        }
+
+    pub leads : MarksLead (use_of (resource_at (before.nodes p) name)) m.marks (use_of (resource_at new name))
+    leads = laws.one_request (before.nodes p) new event m.sends m.marks happened
+
+    changed : (x : Resource) × (new ≡ with_resource (before.nodes p) name x)
+    changed = event_resource (before.nodes p) new event m.sends m.marks happened
+
+    resource_is : resource_at new name ≡ changed.0
+    resource_is = ap (λ (x : NodeState). resource_at x name) changed.1 ∙ resource_changed (before.nodes p) name changed.0
+
+    counted : (t : LockTable) → TableSteps before.table m.marks t → length t.waiting ≡ over waiting_at (with_node before.nodes p new) 1 n
+    counted t steps =
+        let marked = marks_count m.marks before.table t (use_of (resource_at (before.nodes p) name)) (use_of (resource_at new name)) steps leads in
+        let was = use_count (resource_at (before.nodes p) name) ((before.invariant.each p within).consistent.each name).client_fits in
+        let is = use_count (resource_at new name) (went.there.consistent.each name).client_fits in
+        let resource = one_resource waiting_at waits_nowhere (before.nodes p) name changed.0 in
+        let node = one_node waiting_at waits_nowhere before.nodes (with_node before.nodes p new) p 1 n within.0 (omega (arith, within.1)) went.turned.there in
+        omega (arith, marked, was, is, resource, node, before.count, ap waiting_count went.turned.here, ap waiting_count changed.1, ap waiting_at resource_is)
+
+    balanced_after : (bag : List Message) → length m.sends + asking bag + owed (resource_at new name) ≡ asking before.bag + owed (resource_at (before.nodes p) name) + 2 * (n - 1) * requests_in m.marks
+        → (Lossy → ⊥) → length (sent_by (ms ++ m ∷ [])) + asking bag + over owed (with_node before.nodes p new) 1 n ≡ 2 * (n - 1) * requests_in (marks_of (ms ++ m ∷ []))
+    balanced_after bag balanced none =
+        let resource = one_resource owed owes_nowhere (before.nodes p) name changed.0 in
+        let node = one_node owed owes_nowhere before.nodes (with_node before.nodes p new) p 1 n within.0 (omega (arith, within.1)) went.turned.there in
+        let sent = ap length (sent_more ms m) ∙ length-append (sent_by ms) m.sends in
+        let marked = ap requests_in (marks_more ms m) ∙ requests_both (marks_of ms) m.marks in
+        let product : 2 * (n - 1) * requests_in (marks_of (ms ++ m ∷ [])) ≡ 2 * (n - 1) * requests_in (marks_of ms) + 2 * (n - 1) * requests_in m.marks =
+        ap (λ k. 2 * (n - 1) * k) marked ∙ mul-add (2 * (n - 1)) (requests_in (marks_of ms)) (requests_in m.marks)
+        in
+        omega (arith, before.balance none, balanced, resource, node, sent, product, ap (total owed) went.turned.here, ap (total owed) changed.1, ap owed resource_is)
+
+    -- all of it together
+    pub reached : (bag : List Message) → LeavesUnderWay (ms ++ m ∷ []) bag → (t : LockTable) × TableSteps before.table m.marks t × Invariant Lossy n (with_node before.nodes p new) bag t
+        → length m.sends + asking bag + owed (resource_at new name) ≡ asking before.bag + owed (resource_at (before.nodes p) name) + 2 * (n - 1) * requests_in m.marks
+        → Reached Lossy n start (ms ++ m ∷ [])
+    reached bag under_way result balanced =
+        record {
+          nodes = with_node before.nodes p new;
+          bag = bag;
+          table = result.0;
+          ends = ends_after laws.joins n start ms m before.nodes p event new before.ends here happened;
+          under_way = under_way;
+          run = subst (λ (marks : List Mark). TableRun marks result.0) (sym (marks_more ms m)) (laws.table_joins (marks_of ms) m.marks empty_table before.table result.0 before.run result.1);
+          invariant = result.2;
+          count = counted result.0 result.1;
+          balance = balanced_after bag balanced;
+        }

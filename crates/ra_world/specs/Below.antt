@@ -1,0 +1,63 @@
+-- What the crates below say of messages, nodes and lock tables, as far as the laws of runs rest on it.
+use Rattle.std.specs.Prelude.{◌≡◌, ◌≢◌, ◌⊎◌, ◌↔◌, ℕ, ◌≤◌, List, ◌++◌, All}
+use Rattle.ra_stamp.specs.declared.message.Message.{Message}
+use Rattle.ra_stamp.specs.declared.mode.Mode.{Mode}
+use Rattle.ra_stamp.specs.declared.entry.Entry.{Entry}
+use Rattle.ra_stamp.specs.declared.entry.Mark.{Mark}
+use Rattle.ra_stamp.specs.Message.{seq_of}
+use Rattle.ra_stamp.specs.Mode.{Conflict}
+use Rattle.ra_stamp.specs.NodeId.{IsNodeNumber}
+use Rattle.ra_automaton.specs.State.{State, IsConsistent}
+use Rattle.ra_automaton.specs.Steps.{LeaveStep}
+use Rattle.ra_node.specs.Resource.{Holds, use_of}
+use Rattle.ra_node.specs.Turns.{MayAsk}
+use Rattle.ra_node.specs.Node.{NodeState, opening_node, resource_at, IsConsistentNode}
+use Rattle.ra_node.specs.Events.{Event, Happening, name_of_event, NodeEvent, NodeEvents, AllowsEvent, IsForThisNode}
+use Rattle.ra_node.specs.Events.Event.{Ask, Leave, Receive}
+use Rattle.ra_node.specs.Carried.{IsSend, MarksLead}
+use Rattle.ra_table.specs.Table.{LockTable, TableSteps}
+
+pub record LawsBelow : Type 0 where
+  -- of modes and messages
+  pub symmetric : (a b : Mode) → Conflict a b → Conflict b a
+  pub same_or_apart : (a b : Message) → (a ≡ b) ⊎ (a ≢ b)
+  -- of the steps of an automaton
+  pub leave_consistent : (old new : State) (sends : List Message)
+      → IsConsistent old → LeaveStep old sends new → IsConsistent new
+  -- of the events of a node
+  pub opens : (me nodes start : ℕ) → IsNodeNumber nodes → (1 ≤ me) × (me ≤ nodes)
+      → IsConsistentNode (opening_node me nodes start)
+  pub consistent : (old new : NodeState) (event : Event) (sends : List Message) (marks : List Mark)
+      → IsConsistentNode old → IsForThisNode old event → NodeEvent old event sends marks new → IsConsistentNode new
+  pub own_sends : (old new : NodeState) (event : Event) (sends : List Message) (marks : List Mark)
+      → IsConsistentNode old → IsForThisNode old event → NodeEvent old event sends marks new
+      → All (IsSend old.me old.nodes (name_of_event event)) sends
+  pub numbered : (old new : NodeState) (event : Event) (sends : List Message) (marks : List Mark)
+      → IsConsistentNode old → IsForThisNode old event → NodeEvent old event sends marks new
+      → ((message : Message) → event ≡ Receive message → 1 ≤ seq_of message) → All (λ message. 1 ≤ seq_of message) sends
+  pub one_request : (old new : NodeState) (event : Event) (sends : List Message) (marks : List Mark)
+      → NodeEvent old event sends marks new
+      → MarksLead (use_of (resource_at old (name_of_event event))) marks
+      (use_of (resource_at new (name_of_event event)))
+  pub other_names : (old new : NodeState) (event : Event) (sends : List Message) (marks : List Mark) (other : List ℕ)
+      → NodeEvent old event sends marks new → other ≢ name_of_event event
+      → resource_at new other ≡ resource_at old other
+  pub same_node : (old new : NodeState) (event : Event) (sends : List Message) (marks : List Mark)
+      → NodeEvent old event sends marks new → (new.me ≡ old.me) × (new.nodes ≡ old.nodes) × (new.start ≡ old.start)
+  pub one_event : (old a b : NodeState) (event : Event) (sends sends' : List Message) (marks marks' : List Mark)
+      → NodeEvent old event sends marks a → NodeEvent old event sends' marks' b
+      → (sends ≡ sends') × (marks ≡ marks') × (a ≡ b)
+  pub one_end : (old a b : NodeState) (happened : List Happening)
+      → NodeEvents old happened a → NodeEvents old happened b → a ≡ b
+  pub may_ask : (old : NodeState) (client : ℕ) (name : List ℕ) (mode : Mode) → IsConsistentNode old
+      → AllowsEvent old (Ask client name mode) ↔ MayAsk (resource_at old name) client
+  pub may_leave : (old : NodeState) (client : ℕ) (name : List ℕ) → IsConsistentNode old
+      → AllowsEvent old (Leave client name) ↔ ((entry : Entry) × Holds (resource_at old name) client entry)
+  pub may_receive : (old : NodeState) (message : Message) → IsConsistentNode old → AllowsEvent old (Receive message)
+  pub splits : (front back : List Happening) (a c : NodeState) → NodeEvents a (front ++ back) c
+      → (b : NodeState) × NodeEvents a front b × NodeEvents b back c
+  pub joins : (front back : List Happening) (a b c : NodeState)
+      → NodeEvents a front b → NodeEvents b back c → NodeEvents a (front ++ back) c
+  -- of the lock table
+  pub table_joins : (front back : List Mark) (a b c : LockTable)
+      → TableSteps a front b → TableSteps b back c → TableSteps a (front ++ back) c
