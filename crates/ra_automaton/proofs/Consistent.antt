@@ -54,7 +54,7 @@ in_range_any p first (suc n) q low high pass =
           ]
     ]
 
-not_me : (q me : ℕ) → not (q == me) ≡ true → q ≢ me
+pub not_me : (q me : ℕ) → not (q == me) ≡ true → q ≢ me
 not_me q me h e = grind (arith, nat_tests)
 
 is_not : (q me : ℕ) → q ≢ me → not (q == me) ≡ true
@@ -66,7 +66,7 @@ asked_is_other s node h =
     let found = any_in_range (λ k. not (k == s.me)) 1 s.nodes node (sym (set.contains-from_list_nat (others_of s.me s.nodes) node) ∙ h) in
     record { first = found.0; last = omega (arith, found.1); other = not_me node s.me found.2 }
 
-other_is_asked : (me nodes node : ℕ) → 1 ≤ node → node ≤ nodes → node ≢ me → set.contains (set.from_list {R = nat_cmp} (others_of me nodes)) node ≡ true
+pub other_is_asked : (me nodes node : ℕ) → 1 ≤ node → node ≤ nodes → node ≢ me → set.contains (set.from_list {R = nat_cmp} (others_of me nodes)) node ≡ true
 other_is_asked me nodes node low high apart =
     set.contains-from_list_nat (others_of me nodes) node ∙ in_range_any (λ k. not (k == me)) 1 nodes node low (omega (arith, high)) (is_not node me apart)
 

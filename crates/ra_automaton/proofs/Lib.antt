@@ -1,5 +1,5 @@
 mod Opening
-mod SlotLemmas
+pub mod SlotLemmas
 mod Sent
 mod Marks
-mod Consistent
+pub mod Consistent

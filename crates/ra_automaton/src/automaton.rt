@@ -377,7 +377,8 @@ impl Automaton {
         requires numbered { 1 ≤ seq }
         ensures { self.new ≡ record self.old {
           highest = max self.old.highest seq;
-          deferred = finmap.insert self.old.deferred other (later_of (finmap.get self.old.deferred other) seq);
+          deferred = finmap.insert self.old.deferred other (later_of
+              (finmap.get self.old.deferred other) seq);
         } }
     {
         let later = match number_of(&self.deferred, other) {

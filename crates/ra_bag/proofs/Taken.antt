@@ -1,13 +1,10 @@
 -- Lists of messages, by places.
 use Rattle.std.proofs.Common.{◌≡◌, ◌≢◌, ◌<◌, ℕ, suc, List, ◌∷◌, ◌++◌, length, get_or, take, drop, Option, Some, None, IfSome, refl, sym, ap, ◌∙◌, arith, add-one}
 use Rattle.std.specs.List.{remove}
+use Rattle.ra_stamp.proofs.Places.{split_at}
 use Rattle.ra_stamp.specs.declared.message.Message.{Message}
 use Rattle.ra_bag.specs.Bag.{TakesFirst}
 use Rattle.std.proofs.lemmas.List.{take-append-drop, drop_more, length-take-le, get_or-take, get_or_default}
-
--- a list is what stands before a place, what stands there, and what stands after it
-split_at : (xs : List Message) (i : ℕ) (m : Message) → i < length xs → get_or xs i m ≡ m → xs ≡ take i xs ++ m ∷ drop (suc i) xs
-split_at xs i m lt is = sym (take-append-drop i xs) ∙ ap (λ (s : List Message). take i xs ++ s) (drop_more xs i m lt ∙ rw (add-one, is) refl)
 
 -- the first message that is equal to this one stands at a place, and none before it is
 pub takes_at : (messages : List Message) (place : ℕ) (message : Message) → place < length messages → get_or messages place message ≡ message

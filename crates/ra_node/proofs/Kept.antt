@@ -12,7 +12,7 @@ use Rattle.ra_automaton.specs.declared.phase.Phase.{Phase}
 use Rattle.ra_automaton.specs.declared.phase.Phase.TheVariants.{Idle, Waiting, Inside}
 use Rattle.ra_automaton.specs.State.{State, HasNumber, IsOtherNode, IsConsistent}
 use Rattle.ra_automaton.specs.Steps.{greatest_number, RequestStep, LeaveStep, ReceiveStep}
-use Rattle.ra_node.specs.Resource.{Resource, use_in, granted_in, ClientFits, IsConsistentResource}
+use Rattle.ra_node.specs.Resource.{Resource, use_in, held_entry, ClientFits, IsConsistentResource}
 use Rattle.ra_node.specs.Turns.{request_marks, next_entry, EntersBy, AskTurn, Leaves, LeavesToNext, LeaveTurn, ReceiveTurn}
 use Rattle.ra_node.specs.Carried.{IsMark}
 use Rattle.ra_node.specs.declared.queued.Queued.{Queued}
@@ -259,7 +259,7 @@ pub record IsOwn (s : State) (e : Entry) : Type 0 where
   pub name_is : e.name ≡ s.name
   pub numbered : 1 ≤ e.stamp.seq
 
-pub holder_is_own : (s : State) (phase : Phase) (client : Option ℕ) (e : Entry) → HasNumber phase s.highest → granted_in (use_in s phase client) ≡ Some e → IsOwn s e
+pub holder_is_own : (s : State) (phase : Phase) (client : Option ℕ) (e : Entry) → HasNumber phase s.highest → held_entry (use_in s phase client) ≡ Some e → IsOwn s e
 holder_is_own s Idle None e numbered is = absurd (none-some e is)
 holder_is_own s Idle (Some client) e numbered is = absurd (none-some e is)
 holder_is_own s (Waiting seq mode) None e numbered is = absurd (none-some e is)

@@ -18,7 +18,7 @@ use Rattle.ra_automaton.specs.declared.phase.Phase.TheVariants.{Idle, Waiting, I
 use Rattle.ra_automaton.specs.State.{State}
 use Rattle.ra_automaton.specs.Steps.{greatest_number, others_of, GoesFirst, OwnGoesFirst, RequestStep, Awaits, TakesReply, ReceiveStep, LeaveStep}
 use Rattle.ra_node.specs.declared.queued.Queued.{Queued}
-use Rattle.ra_node.specs.Resource.{Resource, use_in, granted_in, holder_of, Holds, ClientFits, clients_of}
+use Rattle.ra_node.specs.Resource.{Resource, use_in, held_entry, holder_of, Holds, ClientFits, clients_of}
 use Rattle.ra_node.specs.Turns.{request_marks, next_entry, MayAsk, EntersBy, AsksAtOnce, AskTurn, Leaves, LeaveTurn}
 use Rattle.ra_node.specs.Node.{NodeState, resource_at, with_resource, IsConsistentNode}
 use Rattle.ra_node.specs.Events.{AllowsEvent}
@@ -245,7 +245,7 @@ possible_receive s (Reply from to name seq) =
 
 -- where a message lets a node enter, the node waited, and so it has a client
 entered_holds : (old : State) (message : Message) (sends : List Message) (new : State) (client : Option ℕ) → ReceiveStep old message sends true new → ClientFits old.phase client
-    → (e : Entry) × (granted_in (use_in new new.phase client) ≡ Some e)
+    → (e : Entry) × (held_entry (use_in new new.phase client) ≡ Some e)
 entered_holds old (Request from to name mode seq) sends new client step fits = absurd (false≢true (sym step.0))
 entered_holds old (Reply from to name seq) sends new client step fits =
     elim step.1 [
@@ -253,12 +253,12 @@ entered_holds old (Reply from to name seq) sends new client step fits =
       | inr awaited ↦ elim awaited.1 [
         | inl enters ↦
             let some : IsSome client = subst (λ (p : Phase). ClientFits p client) enters.awaits.waits fits in
-            subst (λ (s : State). (e : Entry) × (granted_in (use_in s s.phase client) ≡ Some e)) (sym enters.new_is) (granted (record old { phase = Inside seq awaited.0; awaited = set.empty }) seq awaited.0 client some)
+            subst (λ (s : State). (e : Entry) × (held_entry (use_in s s.phase client) ≡ Some e)) (sym enters.new_is) (granted (record old { phase = Inside seq awaited.0; awaited = set.empty }) seq awaited.0 client some)
         | inr waits ↦ absurd (false≢true (sym waits.entered_is))
       ]
     ]
   where
-    granted : (s : State) (seq : ℕ) (mode : Mode) (client : Option ℕ) → IsSome client → (e : Entry) × (granted_in (use_in s (Inside seq mode) client) ≡ Some e)
+    granted : (s : State) (seq : ℕ) (mode : Mode) (client : Option ℕ) → IsSome client → (e : Entry) × (held_entry (use_in s (Inside seq mode) client) ≡ Some e)
     granted s seq mode None some = absurd (false≢true some)
     granted s seq mode (Some c) some = (_, refl)
 

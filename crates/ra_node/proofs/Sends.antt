@@ -12,6 +12,7 @@ use Rattle.std.proofs.lemmas.Bool.Decides.{nat_tests}
 use Rattle.ra_stamp.specs.declared.message.Message.{Message}
 use Rattle.ra_stamp.specs.declared.message.Message.TheVariants.{Request, Reply}
 use Rattle.ra_stamp.specs.Message.{seq_of}
+use Rattle.ra_automaton.proofs.Consistent.{not_me}
 use Rattle.ra_automaton.specs.State.{State, IsOther, IsAddressed, IsConsistent}
 use Rattle.ra_automaton.specs.Steps.{others_of, ReceiveStep}
 use Rattle.ra_node.specs.Carried.{IsSend}
@@ -31,9 +32,6 @@ passing_in_range p first (suc n) =
       | true ↦ λ e. All-cons (λ k. (first ≤ k) × (k < first + suc n) × (p k ≡ true)) first (filter p (range_with_len (first + 1) n)) (omega arith, omega arith, e) later
       | false ↦ λ _. later
     ] refl
-
-not_me : (q me : ℕ) → not (q == me) ≡ true → q ≢ me
-not_me q me h e = grind (arith, nat_tests)
 
 all_others : (s : State) → All (IsOther s) (others_of s.me s.nodes)
 all_others s =

@@ -7,14 +7,14 @@ use Rattle.ra_stamp.specs.declared.mode.Mode.{Mode}
 use Rattle.ra_automaton.specs.declared.phase.Phase.{Phase}
 use Rattle.ra_automaton.specs.declared.phase.Phase.TheVariants.{Idle, Waiting, Inside}
 use Rattle.ra_automaton.specs.State.{State}
-use Rattle.ra_node.specs.Resource.{Resource, Use, use_in, use_of, granted_in, holder_of}
+use Rattle.ra_node.specs.Resource.{Resource, Use, use_in, use_of, held_entry, holder_of}
 use Rattle.ra_node.specs.Resource.Use.{Nobody, WaitsBy, HoldsBy}
 
 pub some_is : {X : Type 0} (x y : X) → Some x ≡ Some y → x ≡ y
 some_is x y e = ap (λ (o : Option _). unwrap_or o x) e
 
 -- what is granted holds
-pub granted_holds : (u : Use) (e : Entry) → granted_in u ≡ Some e → u ≡ HoldsBy e
+pub granted_holds : (u : Use) (e : Entry) → held_entry u ≡ Some e → u ≡ HoldsBy e
 granted_holds Nobody e is = absurd (none-some e is)
 granted_holds (WaitsBy f) e is = absurd (none-some e is)
 granted_holds (HoldsBy f) e is = ap (λ (x : Entry). HoldsBy x) (some_is f e is)
@@ -23,7 +23,7 @@ pub holder_holds : (r : Resource) (e : Entry) → holder_of r ≡ Some e → use
 holder_holds r e is = granted_holds (use_of r) e is
 
 -- where a request is granted the node is inside
-pub granted_inside : (s : State) (phase : Phase) (client : Option ℕ) (e : Entry) → granted_in (use_in s phase client) ≡ Some e → (seq : ℕ) × (mode : Mode) × (phase ≡ Inside seq mode)
+pub granted_inside : (s : State) (phase : Phase) (client : Option ℕ) (e : Entry) → held_entry (use_in s phase client) ≡ Some e → (seq : ℕ) × (mode : Mode) × (phase ≡ Inside seq mode)
 granted_inside s Idle None e is = absurd (none-some e is)
 granted_inside s Idle (Some client) e is = absurd (none-some e is)
 granted_inside s (Waiting seq mode) None e is = absurd (none-some e is)

@@ -10,19 +10,22 @@ use Rattle.ra_node.specs.Turns.{AskTurn, LeaveTurn, ReceiveTurn}
 use Rattle.ra_node.specs.Node.{NodeState, resource_at, with_resource}
 
 -- a client asks for the resource of this name
-pub record AskEvent (old : NodeState) (client : ℕ) (name : List ℕ) (mode : Mode) (sends : List Message) (marks : List Mark) (new : NodeState) : Type 0 where
+pub record AskEvent (old : NodeState) (client : ℕ) (name : List ℕ) (mode : Mode) (sends : List Message)
+    (marks : List Mark) (new : NodeState) : Type 0 where
   pub resource : Resource
   pub turn : AskTurn (resource_at old name) client mode sends marks resource
   pub new_is : new ≡ with_resource old name resource
 
 -- a client leaves it
-pub record LeaveEvent (old : NodeState) (client : ℕ) (name : List ℕ) (sends : List Message) (marks : List Mark) (new : NodeState) : Type 0 where
+pub record LeaveEvent (old : NodeState) (client : ℕ) (name : List ℕ) (sends : List Message)
+    (marks : List Mark) (new : NodeState) : Type 0 where
   pub resource : Resource
   pub turn : LeaveTurn (resource_at old name) client sends marks resource
   pub new_is : new ≡ with_resource old name resource
 
 -- a message about it comes
-pub record ReceiveEvent (old : NodeState) (message : Message) (sends : List Message) (marks : List Mark) (new : NodeState) : Type 0 where
+pub record ReceiveEvent (old : NodeState) (message : Message) (sends : List Message) (marks : List Mark)
+    (new : NodeState) : Type 0 where
   pub resource : Resource
   pub turn : ReceiveTurn (resource_at old (name_of message)) message sends marks resource
   pub new_is : new ≡ with_resource old (name_of message) resource
@@ -52,7 +55,8 @@ IsForThisNode n (Receive message) = IsForNode n.me n.nodes message
 
 -- some event of this kind is possible
 abbrev pub AllowsEvent : NodeState → Event → Type 0
-AllowsEvent old event = (sends : List Message) × (marks : List Mark) × (new : NodeState) × NodeEvent old event sends marks new
+AllowsEvent old event = (sends : List Message) × (marks : List Mark) × (new : NodeState)
+    × NodeEvent old event sends marks new
 
 -- an event, and what came of it: the messages that it sent and its marks
 pub record Happening : Type 0 where
@@ -67,4 +71,5 @@ AreForThisNode n happened = All (λ h. IsForThisNode n h.event) happened
 -- from one state of a node to another by these events, in order
 abbrev pub NodeEvents : NodeState → List Happening → NodeState → Type 0
 NodeEvents old [] new = new ≡ old
-NodeEvents old (h ∷ hs) new = (next : NodeState) × NodeEvent old h.event h.sends h.marks next × NodeEvents next hs new
+NodeEvents old (h ∷ hs) new = (next : NodeState) × NodeEvent old h.event h.sends h.marks next
+    × NodeEvents next hs new

@@ -40,14 +40,14 @@ use_in s (Inside seq mode) (Some client) = HoldsBy (entry_of s.me s.name seq cli
 abbrev pub use_of : Resource → Use
 use_of r = use_in r.state r.state.phase r.client
 
-abbrev pub granted_in : Use → Option Entry
-granted_in Nobody = None
-granted_in (WaitsBy e) = None
-granted_in (HoldsBy e) = Some e
+abbrev pub held_entry : Use → Option Entry
+held_entry Nobody = None
+held_entry (WaitsBy e) = None
+held_entry (HoldsBy e) = Some e
 
 -- the request that is granted here
 abbrev pub holder_of : Resource → Option Entry
-holder_of r = granted_in (use_of r)
+holder_of r = held_entry (use_of r)
 
 -- the client holds the resource, by this request
 pub record Holds (r : Resource) (client : ℕ) (entry : Entry) : Type 0 where

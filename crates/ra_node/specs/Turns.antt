@@ -30,7 +30,8 @@ pub record MayAsk (r : Resource) (client : ℕ) : Type 0 where
   pub number_left : r.state.highest < greatest_number
 
 -- where the node is idle its request is made at once
-pub record AsksAtOnce (old : Resource) (client : ℕ) (mode : Mode) (sends : List Message) (marks : List Mark) (new : Resource) : Type 0 where
+pub record AsksAtOnce (old : Resource) (client : ℕ) (mode : Mode) (sends : List Message) (marks : List Mark)
+    (new : Resource) : Type 0 where
   pub entered : Bool
   pub step : automaton.RequestStep old.state mode sends entered new.state
   pub marks_are : marks ≡ request_marks entered (next_entry old client mode)
@@ -38,7 +39,8 @@ pub record AsksAtOnce (old : Resource) (client : ℕ) (mode : Mode) (sends : Lis
   pub queue_is : new.queue ≡ old.queue
 
 -- otherwise the client queues behind all others
-pub record QueuesUp (old : Resource) (client : ℕ) (mode : Mode) (sends : List Message) (marks : List Mark) (new : Resource) : Type 0 where
+pub record QueuesUp (old : Resource) (client : ℕ) (mode : Mode) (sends : List Message) (marks : List Mark)
+    (new : Resource) : Type 0 where
   pub in_use : old.state.phase ≢ Idle
   pub sends_are : sends ≡ []
   pub marks_are : marks ≡ []
@@ -46,26 +48,30 @@ pub record QueuesUp (old : Resource) (client : ℕ) (mode : Mode) (sends : List 
 
 abbrev pub AskTurn : Resource → ℕ → Mode → List Message → List Mark → Resource → Type 0
 AskTurn old client mode sends marks new =
-    MayAsk old client × (AsksAtOnce old client mode sends marks new ⊎ QueuesUp old client mode sends marks new)
+    MayAsk old client × (AsksAtOnce old client mode sends marks new
+    ⊎ QueuesUp old client mode sends marks new)
 
 -- ---- The client that holds leaves.
 
 -- its request is given back, each deferred REPLY goes out, and nobody uses the resource
-pub record Leaves (old : Resource) (client : ℕ) (entry : Entry) (sends : List Message) (new : Resource) : Type 0 where
+pub record Leaves (old : Resource) (client : ℕ) (entry : Entry) (sends : List Message)
+    (new : Resource) : Type 0 where
   pub holds : Holds old client entry
   pub step : automaton.LeaveStep old.state sends new.state
   pub client_is : new.client ≡ None
   pub queue_is : new.queue ≡ old.queue
 
 -- no client queues, or no number is left for it: nobody is next
-pub record LeavesToNobody (old : Resource) (client : ℕ) (sends : List Message) (marks : List Mark) (new : Resource) : Type 0 where
+pub record LeavesToNobody (old : Resource) (client : ℕ) (sends : List Message) (marks : List Mark)
+    (new : Resource) : Type 0 where
   pub entry : Entry
   pub leaves : Leaves old client entry sends new
   pub nobody : (old.queue ≡ []) ⊎ (greatest_number ≤ old.state.highest)
   pub marks_are : marks ≡ Left entry ∷ []
 
 -- the first client of the queue, once it is out of it, asks in the same event: the REPLYs come before its REQUESTs
-pub record LeavesToNext (old : Resource) (client : ℕ) (sends : List Message) (marks : List Mark) (new : Resource) : Type 0 where
+pub record LeavesToNext (old : Resource) (client : ℕ) (sends : List Message) (marks : List Mark)
+    (new : Resource) : Type 0 where
   pub entry : Entry
   pub between : Resource
   pub replies : List Message
@@ -91,7 +97,8 @@ abbrev pub EntersBy : Bool → Resource → List Mark → Type 0
 EntersBy false new marks = marks ≡ []
 EntersBy true new marks = (entry : Entry) × (holder_of new ≡ Some entry) × (marks ≡ Entered entry ∷ [])
 
-pub record ReceiveTurn (old : Resource) (message : Message) (sends : List Message) (marks : List Mark) (new : Resource) : Type 0 where
+pub record ReceiveTurn (old : Resource) (message : Message) (sends : List Message) (marks : List Mark)
+    (new : Resource) : Type 0 where
   pub entered : Bool
   pub step : automaton.ReceiveStep old.state message sends entered new.state
   pub enters : EntersBy entered new marks

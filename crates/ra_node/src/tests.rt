@@ -223,9 +223,9 @@ fn readers_of_one_node_take_turns_first_in_first_out(rt: HostRuntime) -> Result<
     Ok(())
 }
 
-/// Makes node 1 of 2, where client 1 has entered with the last number but one, client 2 is queued, and a REQUEST with the
-/// last number is deferred.
-fn at_the_last_number(alloc: Global) -> Result<Node, Fail> {
+/// Makes node 1 of 2, where client 1 has entered with the greatest number but one, client 2 is queued, and a REQUEST with the
+/// greatest number is deferred.
+fn at_the_greatest_number(alloc: Global) -> Result<Node, Fail> {
     let r = Name::new(b"r")?;
     let mut node = node(alloc, 1, 2, 18446744073709551613)?;
     node.ask(alloc, 1, r, Mode::Exclusive)?;
@@ -239,7 +239,7 @@ fn at_the_last_number(alloc: Global) -> Result<Node, Fail> {
 }
 
 #[test]
-fn the_last_number_but_one_is_given_out(rt: HostRuntime) -> Result<(), Fail> {
+fn the_greatest_number_but_one_is_given_out(rt: HostRuntime) -> Result<(), Fail> {
     let alloc = rt.alloc();
     let r = Name::new(b"r")?;
     let number = 18446744073709551614;
@@ -264,7 +264,7 @@ fn the_last_number_but_one_is_given_out(rt: HostRuntime) -> Result<(), Fail> {
 }
 
 #[test]
-fn the_last_number_is_given_out(rt: HostRuntime) -> Result<(), Fail> {
+fn the_greatest_number_is_given_out(rt: HostRuntime) -> Result<(), Fail> {
     let alloc = rt.alloc();
     let r = Name::new(b"r")?;
     let number = 18446744073709551615;
@@ -286,10 +286,10 @@ fn the_last_number_is_given_out(rt: HostRuntime) -> Result<(), Fail> {
 }
 
 #[test]
-fn nobody_asks_at_the_last_number(rt: HostRuntime) -> Result<(), Fail> {
+fn nobody_asks_at_the_greatest_number(rt: HostRuntime) -> Result<(), Fail> {
     let alloc = rt.alloc();
     let r = Name::new(b"r")?;
-    let mut node = at_the_last_number(alloc)?;
+    let mut node = at_the_greatest_number(alloc)?;
     assert_eq!(rt; node.highest(&r), 18446744073709551615);
     assert_eq!(rt; node.may_ask(1, &r), Err(AskError::Busy));
     assert_eq!(rt; node.may_ask(3, &r), Err(AskError::Exhausted));
@@ -302,10 +302,10 @@ fn nobody_asks_at_the_last_number(rt: HostRuntime) -> Result<(), Fail> {
 }
 
 #[test]
-fn a_queue_stays_unstamped_at_the_last_number(rt: HostRuntime) -> Result<(), Fail> {
+fn a_queue_stays_unstamped_at_the_greatest_number(rt: HostRuntime) -> Result<(), Fail> {
     let alloc = rt.alloc();
     let r = Name::new(b"r")?;
-    let mut node = at_the_last_number(alloc)?;
+    let mut node = at_the_greatest_number(alloc)?;
     let given_back = node.leave(alloc, 1, r)?;
     assert!(rt; are_messages(&given_back.sends, &[reply(1, 2, 18446744073709551615)?]));
     let first = entry(1, 1, Mode::Exclusive, 18446744073709551614)?;
@@ -319,7 +319,7 @@ fn a_queue_stays_unstamped_at_the_last_number(rt: HostRuntime) -> Result<(), Fai
 }
 
 #[test]
-fn no_name_can_be_asked_for_from_the_last_number_on(rt: HostRuntime) -> Result<(), Fail> {
+fn no_name_can_be_asked_for_from_the_greatest_number_on(rt: HostRuntime) -> Result<(), Fail> {
     let alloc = rt.alloc();
     let r = Name::new(b"r")?;
     let mut node = node(alloc, 1, 2, 18446744073709551615)?;

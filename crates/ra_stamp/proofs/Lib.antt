@@ -1,1 +1,2 @@
 mod Names
+pub mod Places

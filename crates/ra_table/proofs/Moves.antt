@@ -3,6 +3,7 @@ use Rattle.std.proofs.Common.{◌≡◌, ℕ, ◌<◌, suc, List, [], ◌∷◌,
 use Rattle.std.specs.List.{remove}
 use Rattle.std.proofs.lemmas.List.{append-nil, take-append-drop, drop_more}
 use Rattle.std.proofs.lemmas.List.Quantifiers.{all_pairs_push}
+use Rattle.ra_stamp.proofs.Places.{split_at}
 use Rattle.ra_stamp.specs.declared.entry.Entry.{Entry}
 use Rattle.ra_stamp.specs.declared.entry.Mark.TheVariants.{Requested, Entered, Left}
 use Rattle.ra_table.specs.Table.{LockTable, Excludes, Gains, Loses, MayRequest, MayEnter, TableStep}
@@ -10,10 +11,6 @@ use Rattle.ra_table.specs.Laws.{IsConflictFree}
 
 pub Gains-push : (xs : List Entry) (e : Entry) → Gains xs e (xs ++ e ∷ [])
 Gains-push xs e = (xs, [], sym (append-nil xs), refl)
-
--- a list is what stands before a place, what stands there, and what stands after it
-split_at : (xs : List Entry) (i : ℕ) (e : Entry) → i < length xs → get_or xs i e ≡ e → xs ≡ take i xs ++ e ∷ drop (suc i) xs
-split_at xs i e lt is = sym (take-append-drop i xs) ∙ ap (λ (s : List Entry). take i xs ++ s) (drop_more xs i e lt ∙ rw (add-one, is) refl)
 
 Loses-remove : (xs : List Entry) (i : ℕ) (e : Entry) → i < length xs → get_or xs i e ≡ e → Loses xs e (remove xs i)
 Loses-remove xs i e lt is = (take i xs, drop (suc i) xs, refl, split_at xs i e lt is)

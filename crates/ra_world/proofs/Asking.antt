@@ -15,7 +15,7 @@ use Rattle.ra_automaton.specs.declared.phase.Phase.TheVariants.{Idle, Waiting, I
 use Rattle.ra_automaton.specs.State.{State}
 use Rattle.ra_automaton.specs.Steps.{others_of, Awaits, OwnGoesFirst, RequestStep, LeaveStep}
 use Rattle.ra_world.proofs.Dialogs.{belongs, between, reply_for, requests_to_one, requests_of_others, replies_to_one, replies_of_others}
-use Rattle.ra_world.proofs.Members.{other_is_asked}
+use Rattle.ra_automaton.proofs.Consistent.{other_is_asked}
 use Rattle.ra_world.proofs.Protocol.{IsNode, HasOwn, LetsPass, IsSilent, Dialog, IsPlaced, Protocol, Changes, changed}
 
 -- ---- Messages that are put under way

@@ -26,7 +26,8 @@ use Rattle.ra_node.specs.Turns.{request_marks, next_entry, EntersBy, AskTurn, Le
 use Rattle.ra_node.specs.Node.{NodeState, resource_at, with_resource, IsConsistentNode}
 use Rattle.ra_node.specs.Carried.{IsSend, MarksLead}
 use Rattle.ra_table.specs.Table.{LockTable, TableSteps}
-use Rattle.ra_world.proofs.Deciding.{cases_same, same_or_apart}
+use Rattle.ra_automaton.proofs.SlotLemmas.{cases_same}
+use Rattle.ra_node.specs.Lookups.{same_or_apart, resource_changed}
 use Rattle.ra_world.proofs.Lists.{filter_left, All-taken}
 use Rattle.ra_world.proofs.Dialogs.{belongs, between, IsOf, belongs_not, between_none}
 use Rattle.ra_world.proofs.Protocol.{IsNode, IsPlaced, Protocol, Changes}
@@ -66,16 +67,6 @@ pub placed_at : (n i : ℕ) (node : NodeState) (r : List ℕ) → IsThere n i no
 placed_at n i node r there =
     let here = there.consistent.each r in
     record { consistent = here.state; me_is = here.me_is ∙ there.me_is; nodes_is = here.nodes_is ∙ there.nodes_is; name_is = here.name_is }
-
--- ---- A node's resources after an event
-
-same_name : (r : List ℕ) → eq_by_cmp (slice_cmp nat_cmp) r r ≡ true
-same_name r = ap is_eq (tied_itself nat_list_cmp_total r)
-
-pub resource_changed : (node : NodeState) (r : List ℕ) (x : Resource) → resource_at (with_resource node r x) r ≡ x
-resource_changed node r x =
-    ap (λ (o : Option Resource). unwrap_or o (unmet node.me node.nodes r node.start))
-    (finmap.get-insert nat_list_cmp_total node.resources r x r ∙ ap (λ b. cond b (Some x) (finmap.get node.resources r)) (same_name r))
 
 -- ---- What marks say of the use of a name
 

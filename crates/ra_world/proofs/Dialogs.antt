@@ -14,7 +14,8 @@ use Rattle.ra_stamp.specs.declared.message.Message.{Message}
 use Rattle.ra_stamp.specs.declared.message.Message.TheVariants.{Request, Reply}
 use Rattle.ra_stamp.specs.Message.{name_of}
 use Rattle.ra_automaton.specs.Steps.{others_of}
-use Rattle.ra_world.proofs.Deciding.{true_of, cases_same, tied, untied}
+use Rattle.ra_node.specs.Lookups.{true_of}
+use Rattle.ra_automaton.proofs.SlotLemmas.{cases_same, tied, untied}
 use Rattle.ra_world.proofs.Lists.{filter_hit, filter_miss, filter_none}
 
 -- ---- Tests

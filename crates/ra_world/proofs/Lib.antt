@@ -27,3 +27,12 @@ mod DifferentDialogs
 mod DifferentTurns
 mod DifferentEvents
 mod DifferentRuns
+mod Cuts
+mod KeptRuns
+mod Queues
+mod Causes
+mod Reporting
+mod Trying
+mod Tried
+mod Worlds
+mod Refusing

@@ -11,7 +11,7 @@ use Rattle.ra_automaton.specs.declared.phase.Phase.{Phase}
 use Rattle.ra_automaton.specs.declared.phase.Phase.TheVariants.{Idle, Waiting, Inside}
 use Rattle.ra_automaton.specs.State.{State}
 use Rattle.ra_automaton.specs.Steps.{Awaits}
-use Rattle.ra_node.specs.Resource.{Resource, Use, use_of, granted_in, holder_of, waiting_at}
+use Rattle.ra_node.specs.Resource.{Resource, Use, use_of, held_entry, holder_of, waiting_at}
 use Rattle.ra_node.specs.Resource.Use.{Nobody, WaitsBy, HoldsBy}
 use Rattle.ra_node.specs.Node.{NodeState, opening_node, resource_at}
 use Rattle.ra_node.specs.Events.{NodeEvents}
@@ -34,7 +34,7 @@ use Rattle.ra_world.proofs.Reached.{Reached, waits_nowhere, one_list, was_under_
 use Rattle.ra_world.proofs.Runs.{every_run, same_ends, fronts}
 
 -- a request that is granted is the use of its resource
-held_in : (u : Use) (e : Entry) → granted_in u ≡ Some e → u ≡ HoldsBy e
+held_in : (u : Use) (e : Entry) → held_entry u ≡ Some e → u ≡ HoldsBy e
 held_in Nobody e is = absurd cc
 held_in (WaitsBy x) e is = absurd cc
 held_in (HoldsBy x) e is = cc

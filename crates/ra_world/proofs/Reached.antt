@@ -13,6 +13,7 @@ use Rattle.ra_stamp.specs.declared.entry.Mark.{Mark}
 use Rattle.ra_stamp.specs.Message.{seq_of}
 use Rattle.ra_stamp.specs.NodeId.{IsNodeNumber}
 use Rattle.ra_bag.specs.Bag.{TakesFirst}
+use Rattle.ra_node.specs.Lookups.{nothing_met, resource_changed}
 use Rattle.ra_node.specs.Resource.{Resource, unmet, use_of, waiting_at}
 use Rattle.ra_node.specs.Node.{NodeState, opening_node, resource_at, with_resource, waiting_count}
 use Rattle.ra_node.specs.Events.{Event, Happening, name_of_event, NodeEvent, NodeEvents, IsForThisNode}
@@ -30,7 +31,7 @@ use Rattle.ra_world.proofs.Protocol.{IsNode, HasOwn}
 use Rattle.ra_world.proofs.Marking.{waiting_of, granted_of}
 use Rattle.ra_world.proofs.Balance.{asking, owed}
 use Rattle.ra_world.proofs.Counting.{total, over, one_resource, one_node, marks_count, use_count, none_counted}
-use Rattle.ra_world.proofs.Cluster.{IsThere, IsTraffic, Invariant, resource_changed, Went, placed_at}
+use Rattle.ra_world.proofs.Cluster.{IsThere, IsTraffic, Invariant, Went, placed_at}
 use Rattle.ra_world.proofs.Nodes.{put_node, EndsAt, happens_here, ends_after}
 
 -- messages are lost only where Lossy is so
@@ -52,9 +53,6 @@ owes_nowhere me nodes name start = finmap.len-empty nat_cmp ℕ
 
 pub waits_nowhere : (me nodes : ℕ) (name : List ℕ) (start : ℕ) → waiting_at (unmet me nodes name start) ≡ 0
 waits_nowhere me nodes name start = refl
-
-nothing_met : (i n start : ℕ) (r : List ℕ) → resource_at (opening_node i n start) r ≡ unmet i n r start
-nothing_met i n start r = ap (λ (o : Option Resource). unwrap_or o (unmet i n r start)) (finmap.get-empty (slice_cmp nat_cmp) r)
 
 pub opening : LawsBelow → (Lossy : Type 0) (n start : ℕ) → IsNodeNumber n → Reached Lossy n start []
 opening laws Lossy n start count =
@@ -100,12 +98,12 @@ under_way_more ms m left next less takes =
 pub one_list : (ms : List Move) (a b : List Message) → LeavesUnderWay ms a → LeavesUnderWay ms b → a ≡ b
 one_list ms a b less less' = less_alike (sent_by ms) (taken_by ms) a b less less'
 
-pub record WasUnderWay (n : ℕ) (bag : List Message) (message : Message) : Type 0 where
+pub record IsTakenFrom (n : ℕ) (bag : List Message) (message : Message) : Type 0 where
   pub rest : List Message
   pub takes : TakesFirst bag message rest
   pub traffic : IsTraffic n message
 
-pub was_under_way : LawsBelow → {Lossy : Type 0} (n start : ℕ) (ms : List Move) (reached : Reached Lossy n start ms) (message : Message) → IsUnderWay ms message → WasUnderWay n reached.bag message
+pub was_under_way : LawsBelow → {Lossy : Type 0} (n start : ℕ) (ms : List Move) (reached : Reached Lossy n start ms) (message : Message) → IsUnderWay ms message → IsTakenFrom n reached.bag message
 was_under_way laws n start ms reached message was =
     let same = one_list ms was.0 reached.bag was.1 reached.under_way in
     let out = takes_out laws.same_or_apart reached.bag message (subst (λ (xs : List Message). Contains xs message) same was.2) in

@@ -16,7 +16,7 @@ use Rattle.ra_automaton.specs.Steps.{OwnGoesFirst}
 use Rattle.ra_node.specs.Resource.{Resource, use_in, use_of}
 use Rattle.ra_node.specs.Resource.Use.{Nobody, WaitsBy, HoldsBy}
 use Rattle.ra_node.specs.Node.{NodeState, resource_at}
-use Rattle.ra_world.proofs.Deciding.{cases_same}
+use Rattle.ra_automaton.proofs.SlotLemmas.{cases_same}
 use Rattle.ra_world.proofs.Members.{nobody}
 use Rattle.ra_world.proofs.Protocol.{IsNode, HasOwn, LetsPass, Protocol}
 use Rattle.ra_world.proofs.Marking.{entry_in_use}
@@ -27,20 +27,20 @@ pub record IsRequestOf (s : State) (x : Entry) : Type 0 where
   pub node_is : x.stamp.node ≡ s.me
   pub name_is : x.name ≡ s.name
 
-granted_in : (s : State) (phase : Phase) (client : Option ℕ) (x : Entry) → use_in s phase client ≡ HoldsBy x → (phase ≡ Inside x.stamp.seq x.mode) × IsRequestOf s x
-granted_in s phase None x e = absurd (no e)
+held_entry : (s : State) (phase : Phase) (client : Option ℕ) (x : Entry) → use_in s phase client ≡ HoldsBy x → (phase ≡ Inside x.stamp.seq x.mode) × IsRequestOf s x
+held_entry s phase None x e = absurd (no e)
   where
     no : Nobody ≡ HoldsBy x → ⊥
     no k = cc
-granted_in s Idle (Some client) x e = absurd (no e)
+held_entry s Idle (Some client) x e = absurd (no e)
   where
     no : Nobody ≡ HoldsBy x → ⊥
     no k = cc
-granted_in s (Waiting seq mode) (Some client) x e = absurd (no e)
+held_entry s (Waiting seq mode) (Some client) x e = absurd (no e)
   where
     no : {y : Entry} → WaitsBy y ≡ HoldsBy x → ⊥
     no k = cc
-granted_in s (Inside seq mode) (Some client) x e =
+held_entry s (Inside seq mode) (Some client) x e =
     let is = ap (entry_in_use x) e in
     (λ i. Inside (is i).stamp.seq (is i).mode, record { node_is = sym (ap (λ (y : Entry). y.stamp.node) is); name_is = sym (ap (λ (y : Entry). y.name) is) })
 
@@ -62,7 +62,7 @@ waits_in s (Waiting seq mode) (Some client) x e =
     (λ i. Waiting (is i).stamp.seq (is i).mode, record { node_is = sym (ap (λ (y : Entry). y.stamp.node) is); name_is = sym (ap (λ (y : Entry). y.name) is) })
 
 pub use_granted : (r : Resource) (x : Entry) → use_of r ≡ HoldsBy x → (r.state.phase ≡ Inside x.stamp.seq x.mode) × IsRequestOf r.state x
-use_granted r x e = granted_in r.state r.state.phase r.client x e
+use_granted r x e = held_entry r.state r.state.phase r.client x e
 
 pub use_waits : (r : Resource) (x : Entry) → use_of r ≡ WaitsBy x → (r.state.phase ≡ Waiting x.stamp.seq x.mode) × IsRequestOf r.state x
 use_waits r x e = waits_in r.state r.state.phase r.client x e

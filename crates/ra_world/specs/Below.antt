@@ -28,23 +28,28 @@ pub record LawsBelow : Type 0 where
   pub opens : (me nodes start : ℕ) → IsNodeNumber nodes → (1 ≤ me) × (me ≤ nodes)
       → IsConsistentNode (opening_node me nodes start)
   pub consistent : (old new : NodeState) (event : Event) (sends : List Message) (marks : List Mark)
-      → IsConsistentNode old → IsForThisNode old event → NodeEvent old event sends marks new → IsConsistentNode new
+      → IsConsistentNode old → IsForThisNode old event → NodeEvent old event sends marks new
+      → IsConsistentNode new
   pub own_sends : (old new : NodeState) (event : Event) (sends : List Message) (marks : List Mark)
       → IsConsistentNode old → IsForThisNode old event → NodeEvent old event sends marks new
       → All (IsSend old.me old.nodes (name_of_event event)) sends
   pub numbered : (old new : NodeState) (event : Event) (sends : List Message) (marks : List Mark)
       → IsConsistentNode old → IsForThisNode old event → NodeEvent old event sends marks new
-      → ((message : Message) → event ≡ Receive message → 1 ≤ seq_of message) → All (λ message. 1 ≤ seq_of message) sends
+      → ((message : Message) → event ≡ Receive message → 1 ≤ seq_of message)
+      → All (λ message. 1 ≤ seq_of message) sends
   pub one_request : (old new : NodeState) (event : Event) (sends : List Message) (marks : List Mark)
       → NodeEvent old event sends marks new
       → MarksLead (use_of (resource_at old (name_of_event event))) marks
       (use_of (resource_at new (name_of_event event)))
-  pub other_names : (old new : NodeState) (event : Event) (sends : List Message) (marks : List Mark) (other : List ℕ)
+  pub other_names : (old new : NodeState) (event : Event) (sends : List Message) (marks : List Mark)
+      (other : List ℕ)
       → NodeEvent old event sends marks new → other ≢ name_of_event event
       → resource_at new other ≡ resource_at old other
   pub same_node : (old new : NodeState) (event : Event) (sends : List Message) (marks : List Mark)
-      → NodeEvent old event sends marks new → (new.me ≡ old.me) × (new.nodes ≡ old.nodes) × (new.start ≡ old.start)
-  pub one_event : (old a b : NodeState) (event : Event) (sends sends' : List Message) (marks marks' : List Mark)
+      → NodeEvent old event sends marks new → (new.me ≡ old.me) × (new.nodes ≡ old.nodes)
+      × (new.start ≡ old.start)
+  pub one_event : (old a b : NodeState) (event : Event) (sends sends' : List Message)
+      (marks marks' : List Mark)
       → NodeEvent old event sends marks a → NodeEvent old event sends' marks' b
       → (sends ≡ sends') × (marks ≡ marks') × (a ≡ b)
   pub one_end : (old a b : NodeState) (happened : List Happening)
@@ -53,7 +58,8 @@ pub record LawsBelow : Type 0 where
       → AllowsEvent old (Ask client name mode) ↔ MayAsk (resource_at old name) client
   pub may_leave : (old : NodeState) (client : ℕ) (name : List ℕ) → IsConsistentNode old
       → AllowsEvent old (Leave client name) ↔ ((entry : Entry) × Holds (resource_at old name) client entry)
-  pub may_receive : (old : NodeState) (message : Message) → IsConsistentNode old → AllowsEvent old (Receive message)
+  pub may_receive : (old : NodeState) (message : Message) → IsConsistentNode old
+      → AllowsEvent old (Receive message)
   pub splits : (front back : List Happening) (a c : NodeState) → NodeEvents a (front ++ back) c
       → (b : NodeState) × NodeEvents a front b × NodeEvents b back c
   pub joins : (front back : List Happening) (a b c : NodeState)

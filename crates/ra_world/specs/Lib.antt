@@ -2,3 +2,8 @@ pub mod Traffic
 pub mod Run
 pub mod Quiet
 pub mod Below
+pub mod World
+pub mod MainTheorem
+pub mod Log
+pub mod Keeping
+pub mod Refused

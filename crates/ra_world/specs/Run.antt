@@ -22,7 +22,8 @@ events_at i (Lose message) = []
 abbrev pub happened_at : ℕ → List Move → List Happening
 happened_at i [] = []
 happened_at i (move ∷ moves) =
-    map (λ event. record { event = event; sends = move.sends; marks = move.marks }) (events_at i move.step) ++ happened_at i moves
+    map (λ event. record { event = event; sends = move.sends; marks = move.marks })
+    (events_at i move.step) ++ happened_at i moves
 
 -- the marks of these steps, in order
 abbrev pub marks_of : List Move → List Mark
@@ -40,11 +41,13 @@ IsFit n before (Lose message) sends marks = IsUnderWay before message × (sends 
 -- each of these moves fits, one after the other, behind those that were before
 abbrev pub AreFit : ℕ → List Move → List Move → Type 0
 AreFit n before [] = Unit {0}
-AreFit n before (move ∷ moves) = IsFit n before move.step move.sends move.marks × AreFit n (before ++ move ∷ []) moves
+AreFit n before (move ∷ moves) = IsFit n before move.step move.sends move.marks
+    × AreFit n (before ++ move ∷ []) moves
 
 -- after these moves, each the node's own events, the nodes 1 to n are these
 abbrev pub EndsWith : ℕ → ℕ → List Move → (ℕ → NodeState) → Type 0
-EndsWith n start moves nodes = (i : ℕ) → 1 ≤ i → i ≤ n → NodeEvents (opening_node i n start) (happened_at i moves) (nodes i)
+EndsWith n start moves nodes = (i : ℕ) → 1 ≤ i → i ≤ n
+    → NodeEvents (opening_node i n start) (happened_at i moves) (nodes i)
 
 -- these steps are a run of n nodes from the start value, with these messages and marks
 pub record IsRun (n start : ℕ) (moves : List Move) : Type 0 where
@@ -58,7 +61,8 @@ WorldRun n start steps = (moves : List Move) × (map (λ move. move.step) moves 
 -- a run goes on with a step, whatever is sent and marked
 abbrev pub GoesOn : ℕ → ℕ → List Move → Step → Type 0
 GoesOn n start moves step =
-    (sends : List Message) × (marks : List Mark) × IsRun n start (moves ++ record { step = step; sends = sends; marks = marks } ∷ [])
+    (sends : List Message) × (marks : List Mark)
+    × IsRun n start (moves ++ record { step = step; sends = sends; marks = marks } ∷ [])
 
 -- how many requests wait at the nodes, and how many clients are queued
 abbrev pub waiting_at_all : ℕ → (ℕ → NodeState) → ℕ

@@ -42,7 +42,8 @@ lost_by (move ∷ moves) = lost_in move.step ++ lost_by moves
 -- the new list is the old one less the first equal message for each of these, in order
 abbrev pub TakesEach : List Message → List Message → List Message → Type 0
 TakesEach old [] new = new ≡ old
-TakesEach old (message ∷ messages) new = (next : List Message) × TakesFirst old message next × TakesEach next messages new
+TakesEach old (message ∷ messages) new = (next : List Message) × TakesFirst old message next
+    × TakesEach next messages new
 
 -- these steps leave these messages under way, in order of sending: what was sent, less what was delivered or lost
 abbrev pub LeavesUnderWay : List Move → List Message → Type 0

@@ -47,7 +47,8 @@ fn laws_below()
 /// Mutual exclusion. At the end of a run no two different nodes hold a name in modes that conflict, whatever was lost
 /// and in whatever order the messages came.
 pub fn two_nodes_never_hold_in_conflict()
-    ensures { (n start : ℕ) (moves : List Move) (nodes : ℕ → NodeState) (i j : ℕ) (name : List ℕ) (a b : Entry)
+    ensures { (n start : ℕ) (moves : List Move) (nodes : ℕ
+        → NodeState) (i j : ℕ) (name : List ℕ) (a b : Entry)
         → IsNodeNumber n → IsRun n start moves → EndsWith n start moves nodes
         → IsNodeNumber i → i ≤ n → IsNodeNumber j → j ≤ n → i ≢ j
         → holder_of (resource_at (nodes i) name) ≡ Some a → holder_of (resource_at (nodes j) name) ≡ Some b
@@ -69,7 +70,8 @@ pub fn runs_go_on_where_steps_are_allowed()
         → IsNodeNumber n → IsRun n start moves → EndsWith n start moves nodes
         → (node client : ℕ) (name : List ℕ)
         → GoesOn n start moves (Step.Leave node client name)
-        ↔ (((1 ≤ node) × (node ≤ n)) × ((entry : Entry) × Holds (resource_at (nodes node) name) client entry)) }
+        ↔ (((1 ≤ node) × (node ≤ n)) × ((entry : Entry)
+        × Holds (resource_at (nodes node) name) client entry)) }
     ensures deliver { (n start : ℕ) (moves : List Move) → IsNodeNumber n → IsRun n start moves
         → (message : Message) → GoesOn n start moves (Step.Deliver message) ↔ IsUnderWay moves message }
     ensures lose { (n start : ℕ) (moves : List Move) → IsNodeNumber n → IsRun n start moves
@@ -85,7 +87,8 @@ pub fn marks_of_runs_are_table_runs()
     ensures table { (n start : ℕ) (moves : List Move) → IsNodeNumber n → IsRun n start moves
         → (table : LockTable) × TableRun (marks_of moves) table }
     ensures waiting { (n start : ℕ) (moves : List Move) (nodes : ℕ → NodeState) (table : LockTable)
-        → IsNodeNumber n → IsRun n start moves → EndsWith n start moves nodes → TableRun (marks_of moves) table
+        → IsNodeNumber n → IsRun n start moves → EndsWith n start moves nodes
+        → TableRun (marks_of moves) table
         → length table.waiting ≡ waiting_at_all n nodes }
 {
     laws_below();
@@ -99,10 +102,12 @@ pub fn messages_under_way_are_between_nodes()
         → (left : List Message) × LeavesUnderWay moves left }
     ensures are_one { (moves : List Move) (a b : List Message)
         → LeavesUnderWay moves a → LeavesUnderWay moves b → a ≡ b }
-    ensures among_them { (moves : List Move) (left : List Message) (message : Message) → LeavesUnderWay moves left
+    ensures among_them { (moves : List Move) (left : List Message) (message : Message)
+        → LeavesUnderWay moves left
         → IsUnderWay moves message ↔ Contains left message }
     ensures go_on { (moves : List Move) (move : Move) (left next : List Message) → LeavesUnderWay moves left
-        → TakesEach left (taken_in move.step) next → LeavesUnderWay (moves ++ move ∷ []) (next ++ move.sends) }
+        → TakesEach left (taken_in move.step) next
+        → LeavesUnderWay (moves ++ move ∷ []) (next ++ move.sends) }
     ensures between_nodes { (n start : ℕ) (moves : List Move) (message : Message)
         → IsNodeNumber n → IsRun n start moves → IsUnderWay moves message
         → ((1 ≤ to_of message) × (to_of message ≤ n)) × IsOtherNode (to_of message) n (from_of message) }
@@ -115,7 +120,8 @@ pub fn messages_under_way_are_between_nodes()
 /// A run goes on by the event that a node really makes of a step, and the other nodes stay; and by the loss of a message
 /// under way, at which all nodes stay.
 pub fn runs_go_on_by_events()
-    ensures event { (n start : ℕ) (moves : List Move) (nodes : ℕ → NodeState) (i : ℕ) (event : Event) (move : Move)
+    ensures event { (n start : ℕ) (moves : List Move) (nodes : ℕ
+        → NodeState) (i : ℕ) (event : Event) (move : Move)
         (new : NodeState) → IsNodeNumber n → IsRun n start moves → EndsWith n start moves nodes
         → 1 ≤ i → i ≤ n → IsFit n moves move.step move.sends move.marks → events_at i move.step ≡ event ∷ []
         → NodeEvent (nodes i) event move.sends move.marks new
@@ -131,8 +137,10 @@ pub fn runs_go_on_by_events()
 /// Each front of a run is a run, also of a list of steps; and a list of steps that is a run goes on with a step exactly
 /// where the run does.
 pub fn fronts_of_runs_are_runs()
-    ensures moves { (n start : ℕ) (front back : List Move) → IsRun n start (front ++ back) → IsRun n start front }
-    ensures steps { (n start : ℕ) (front back : List Step) → WorldRun n start (front ++ back) → WorldRun n start front }
+    ensures moves { (n start : ℕ) (front back : List Move) → IsRun n start (front ++ back)
+        → IsRun n start front }
+    ensures steps { (n start : ℕ) (front back : List Step) → WorldRun n start (front ++ back)
+        → WorldRun n start front }
     ensures step { (n start : ℕ) (moves : List Move) (step : Step) → IsNodeNumber n → IsRun n start moves
         → WorldRun n start (map (λ move. move.step) moves ++ step ∷ []) ↔ GoesOn n start moves step }
 {
@@ -149,7 +157,8 @@ pub fn messages_of_runs_are_different()
 
 /// No REPLY that is delivered in a run is a stray: the node that it is for waits with its number and awaits it.
 pub fn no_delivered_reply_is_a_stray()
-    ensures { (n start : ℕ) (front back : List Move) (move : Move) (from to : ℕ) (name : List ℕ) (seq : ℕ) (node : NodeState)
+    ensures { (n start : ℕ) (front back : List Move) (move : Move) (from to : ℕ) (name : List ℕ) (seq : ℕ)
+        (node : NodeState)
         → IsNodeNumber n → IsRun n start (front ++ move ∷ back)
         → move.step ≡ Step.Deliver (Message.Reply from to name seq)
         → NodeEvents (opening_node to n start) (happened_at to front) node

@@ -1,9 +1,17 @@
-//! What a run of the cluster is, and what holds of every run.
+//! What a run of the cluster is, what holds of every run, and a cluster in one thread that makes such runs.
 #![tactic(auto)]
 
+mod error;
+mod keeping;
 mod laws;
+mod log;
+mod numbering;
+mod report;
+mod running;
 mod step;
+mod world;
 
+pub use error::{NewError, NodeRefusal, RunError, StepError};
 pub use laws::{
     fronts_of_runs_are_runs, marks_of_runs_are_table_runs, messages_of_runs_are_different,
     messages_under_way_are_between_nodes, no_delivered_reply_is_a_stray,
@@ -11,4 +19,10 @@ pub use laws::{
     runs_go_on_by_events, runs_go_on_where_steps_are_allowed, two_nodes_never_hold_in_conflict,
     waiting_requests_are_blocked_in_quiet_runs,
 };
+pub use report::Report;
+pub use running::run;
 pub use step::{Step, Steps};
+pub use world::World;
+
+#[cfg(test)]
+mod tests;

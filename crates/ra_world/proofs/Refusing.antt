@@ -1,0 +1,68 @@
+-- A list of steps that a world refuses at a place is no run.
+use Rattle.std.proofs.Common.{◌≡◌, ◌≢◌, ◌⊎◌, ◌↔◌, ℕ, ◌+◌, ◌-◌, ◌<◌, ◌≤◌, List, [], ◌∷◌, ◌++◌, map, length, take, drop, get_or, Some, refl, sym, ap, ◌∙◌, subst, arith, inl, inr}
+use Rattle.std.specs.Prelude.{slice_get}
+use Rattle.std.proofs.lemmas.List.{take_more, take-append-drop}
+use Rattle.std.proofs.lemmas.Option.{slice_get_read}
+use Rattle.ra_stamp.specs.NodeId.{IsNodeNumber}
+use Rattle.ra_world.specs.declared.step.Step.{Step}
+use Rattle.ra_world.specs.declared.error.StepError.{StepError}
+use Rattle.ra_world.specs.declared.error.StepError.TheVariants.{NoNode, NotUnderWay, Node, Memory}
+use Rattle.ra_world.specs.Traffic.{Move}
+use Rattle.ra_world.specs.Run.{IsRun, WorldRun, GoesOn}
+use Rattle.ra_world.specs.World.{WorldState, HasCause}
+use Rattle.ra_world.specs.Refused.{IsRefusedAt}
+
+-- the world of these nodes has made these steps and no others
+pub record HasMade (n start : ℕ) (steps : List Step) (world : WorldState) : Type 0 where
+  pub number : IsNodeNumber n
+  pub count : world.count ≡ n
+  pub start_is : world.start ≡ start
+  pub made : map (λ (move : Move). move.step) world.moves ≡ steps
+  pub run : IsRun n start world.moves
+
+pub memory_or_not : (cause : StepError) → (cause ≡ Memory) ⊎ (cause ≢ Memory)
+memory_or_not NoNode = inr (λ e. cc)
+memory_or_not NotUnderWay = inr (λ e. cc)
+memory_or_not (Node why) = inr (λ e. cc)
+memory_or_not Memory = inl refl
+
+of_world : (n start : ℕ) (world : WorldState) (P : ℕ → ℕ → Type 0) → world.count ≡ n → world.start ≡ start → P world.count world.start → P n start
+of_world n start world P count start_is holds = subst (λ (s : ℕ). P n s) start_is (subst (λ (k : ℕ). P k world.start) count holds)
+
+to_world : (n start : ℕ) (world : WorldState) (P : ℕ → ℕ → Type 0) → world.count ≡ n → world.start ≡ start → P n start → P world.count world.start
+to_world n start world P count start_is holds =
+    subst (λ (s : ℕ). P world.count s) (sym start_is) (subst (λ (k : ℕ). P k start) (sym count) holds)
+
+module _
+    (fronts : (n start : ℕ) (front back : List Step) → WorldRun n start (front ++ back) → WorldRun n start front)
+    (goes_on : (n start : ℕ) (moves : List Move) (step : Step) → IsNodeNumber n → IsRun n start moves
+    → WorldRun n start (map (λ (move : Move). move.step) moves ++ step ∷ []) ↔ GoesOn n start moves step)
+    (n start place : ℕ) (steps : List Step) (step : Step) (world : WorldState)
+    (made : HasMade n start (take place steps) world)
+    (inside : place < length steps)
+    (is : step ≡ get_or steps place step)
+    (stuck : GoesOn world.count world.start world.moves step → ⊥)
+  where
+    no_front : WorldRun n start (take (place + 1) steps) → ⊥
+    no_front run =
+        let more = take_more steps place step inside ∙ ap (λ (s : Step). take place steps ++ s ∷ []) (sym is)
+        ∙ ap (λ (front : List Step). front ++ step ∷ []) (sym made.made) in
+        let on = (goes_on n start world.moves step made.number made.run).0 (subst (WorldRun n start) more run) in
+        stuck (to_world n start world (λ k s. GoesOn k s world.moves step) made.count made.start_is on)
+
+    pub no_run : WorldRun n start steps → ⊥
+    no_run run = no_front (fronts n start (take (place + 1) steps) (drop (place + 1) steps) (subst (WorldRun n start) (sym (take-append-drop (place + 1) steps)) run))
+
+    pub refused_there : (cause : StepError) → HasCause world.count world.start world.moves step cause → IsRefusedAt n start steps (place + 1) cause
+    refused_there cause why =
+        let before : place + 1 - 1 ≡ place = omega arith in
+        record {
+          from_one = omega arith;
+          moves = world.moves;
+          front = made.made ∙ ap (λ (k : ℕ). take k steps) (sym before);
+          run = made.run;
+          step = step;
+          step_is = ap (slice_get steps) before ∙ slice_get_read steps (length steps) place step refl inside is;
+          because = of_world n start world (λ k s. HasCause k s world.moves step cause) made.count made.start_is why;
+          no_run = no_front;
+        }

@@ -1,0 +1,75 @@
+-- What comes of a step that is tried, said exactly.
+use Rattle.std.proofs.Common.{◌≡◌, ◌≢◌, ◌⊎◌, ◌↔◌, ℕ, List, Result, Ok, Err, refl, sym, ap, ◌∙◌, subst, inl, inr}
+use Rattle.std.specs.Prelude.{IsErrOf, IsOkUnless}
+use Rattle.ra_stamp.specs.declared.message.Message.{Message}
+use Rattle.ra_stamp.specs.NodeId.{IsNodeNumber}
+use Rattle.ra_node.specs.declared.outcome.Outcome.{Outcome}
+use Rattle.ra_node.specs.Node.{NodeState}
+use Rattle.ra_world.specs.declared.step.Step.{Step}
+use Rattle.ra_world.specs.declared.step.Step.TheVariants.{Ask, Leave, Deliver, Lose}
+use Rattle.ra_world.specs.declared.error.StepError.{StepError}
+use Rattle.ra_world.specs.declared.error.StepError.TheVariants.{Memory}
+use Rattle.ra_world.specs.Traffic.{Move}
+use Rattle.ra_world.specs.Run.{IsRun, GoesOn}
+use Rattle.ra_world.specs.World.{WorldState, with_move, HasCause}
+use Rattle.ra_world.specs.Keeping.{Keeps, Tries}
+use Rattle.ra_world.proofs.Trying.{shown}
+
+-- what is kept is a run of the world that is shown
+pub kept_run : (start : ℕ) (nodes : List NodeState) (left : List Message) (moves : List Move) (w : WorldState)
+    → Keeps start nodes left moves → shown start nodes moves ≡ w → IsNodeNumber w.count × IsRun w.count w.start w.moves
+kept_run start nodes left moves w keeps is = subst (λ (v : WorldState). IsNodeNumber v.count × IsRun v.count v.start v.moves) is (keeps.count, keeps.run)
+
+module _
+    (no_step : (n start : ℕ) (moves : List Move) (step : Step) (cause : StepError) → IsNodeNumber n → IsRun n start moves
+    → HasCause n start moves step cause → GoesOn n start moves step → ⊥)
+    (one : (n start : ℕ) (moves : List Move) (step : Step) (a b : StepError)
+    → HasCause n start moves step a → HasCause n start moves step b → a ≡ b)
+    (w new : WorldState) (step : Step) (was : IsNodeNumber w.count × IsRun w.count w.start w.moves)
+    (run : IsRun new.count new.start new.moves)
+  where
+    made : (outcome : Outcome) → Tries w step (Ok outcome) new → GoesOn w.count w.start w.moves step
+    made outcome tried = (outcome.sends.items, outcome.marks.items, subst (λ (v : WorldState). IsRun v.count v.start v.moves) tried run)
+
+    pub refused : (r : Result Outcome StepError) → Tries w step r new → (cause : StepError) → cause ≢ Memory
+        → IsErrOf r cause ↔ HasCause w.count w.start w.moves step cause
+    refused (Ok outcome) tried cause known =
+        (λ is. absurd (not_ok is), λ why. absurd (no_step w.count w.start w.moves step cause was.0 was.1 why (made outcome tried)))
+      where
+        not_ok : IsErrOf {T = Outcome} (Ok outcome) cause → ⊥
+        not_ok is = cc
+    refused (Err e) tried cause known = (
+      λ is. elim tried.1 [
+        | inl why ↦ subst (λ (x : StepError). HasCause w.count w.start w.moves step x) (same is) why
+        | inr memory ↦ absurd (known (sym (same is) ∙ memory.0))
+      ],
+      λ why. elim tried.1 [
+        | inl why' ↦ ap Err (one w.count w.start w.moves step e cause why' why)
+        | inr memory ↦ absurd (no_step w.count w.start w.moves step cause was.0 was.1 why memory.1)
+      ],
+    )
+      where
+        same : IsErrOf {T = Outcome} (Err e) cause → e ≡ cause
+        same is = cc
+
+    pub allowed : (r : Result Outcome StepError) → Tries w step r new → IsOkUnless r Memory ↔ GoesOn w.count w.start w.moves step
+    allowed (Ok outcome) tried = (λ _. made outcome tried, λ _. tt)
+    allowed (Err e) tried = (
+      λ is. elim tried.1 [
+        | inl why ↦ absurd (no_cause (subst (λ (x : StepError). HasCause w.count w.start w.moves step x) is why))
+        | inr memory ↦ memory.1
+      ],
+      λ on. elim tried.1 [
+        | inl why ↦ absurd (no_step w.count w.start w.moves step e was.0 was.1 why on)
+        | inr memory ↦ memory.0
+      ],
+    )
+      where
+        never : (s : Step) → HasCause w.count w.start w.moves s Memory → ⊥
+        never (Ask node client name mode) why = why
+        never (Leave node client name) why = why
+        never (Deliver message) why = why
+        never (Lose message) why = why
+
+        no_cause : HasCause w.count w.start w.moves step Memory → ⊥
+        no_cause why = never step why

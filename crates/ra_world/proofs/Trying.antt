@@ -1,0 +1,203 @@
+-- What is said of a step that is tried, from what a world keeps.
+use Rattle.std.proofs.Common.{eq-eqb, ◌≡◌, ◌⊎◌, ◌↔◌, ℕ, ◌+◌, ◌*◌, ◌<◌, ◌≤◌, Bool, true, false, List, ◌++◌, ◌∷◌, [], length, set, get_or, Contains, Option, Some, None, rules, Result, Ok, Err, refl, sym, ap, ◌∙◌, subst, inl, inr, arith}
+use Rattle.std.specs.Prelude.{IsErrAnd, IfSome, IsNone, ◌==◌, if◌then◌else◌}
+use Rattle.std.proofs.lemmas.List.{set-get_or, length-set, get_or_default}
+use Rattle.ra_stamp.specs.declared.message.Message.{Message}
+use Rattle.ra_stamp.specs.declared.entry.Mark.{Mark}
+use Rattle.ra_bag.specs.Bag.{TakesFirst}
+use Rattle.ra_node.specs.declared.outcome.Outcome.{Outcome}
+use Rattle.ra_stamp.specs.declared.mode.Mode.{Mode}
+use Rattle.ra_stamp.specs.declared.entry.Entry.{Entry}
+use Rattle.ra_stamp.specs.NodeId.{IsNodeNumber}
+use Rattle.ra_automaton.specs.Steps.{greatest_number}
+use Rattle.ra_node.specs.declared.error.AskError.{AskError}
+use Rattle.ra_node.specs.declared.error.AskError.TheVariants as ask
+use Rattle.ra_node.specs.declared.error.LeaveError.{LeaveError}
+use Rattle.ra_node.specs.declared.error.LeaveError.TheVariants as leave
+use Rattle.ra_node.specs.Resource.{IsBusy, Holds}
+use Rattle.ra_node.specs.Turns.{MayAsk}
+use Rattle.ra_node.specs.Events.{Event, NodeEvent}
+use Rattle.ra_node.specs.Node.{NodeState, opening_node, resource_at, IsConsistentNode}
+use Rattle.ra_world.specs.declared.step.Step.{Step}
+use Rattle.ra_world.specs.declared.step.Step.TheVariants.{Ask, Leave}
+use Rattle.ra_world.specs.declared.error.StepError.{StepError}
+use Rattle.ra_world.specs.declared.error.StepError.TheVariants.{Memory}
+use Rattle.ra_world.specs.Traffic.{Move, TakesEach, taken_in}
+use Rattle.ra_world.specs.Run.{IsRun, IsFit, GoesOn, EndsWith, events_at}
+use Rattle.ra_world.specs.World.{WorldState, HasCause, AtNode}
+use Rattle.ra_world.specs.Keeping.{nodes_of, Keeps, Tries}
+use Rattle.ra_world.specs.Log.{LogState, HasRoom}
+use Rattle.ra_world.specs.Refused.{refusal_of_ask, refusal_of_leave}
+
+-- the world of these fields
+abbrev pub shown : ℕ → List NodeState → List Move → WorldState
+shown start nodes moves = record { count = length nodes; start = start; moves = moves }
+
+-- an error that is known
+pub at_err : {T E : Type 0} (r : Result T E) (P : E → Type 0) (Q : Result T E → Type 0) → IsErrAnd r P → ((e : E) → P e → Q (Err e)) → Q r
+at_err (Ok v) P Q h f = absurd h
+at_err (Err e) P Q h f = f e h
+
+-- a refusal with its cause, at which nothing changed
+pub with_cause : (start : ℕ) (nodes : List NodeState) (moves : List Move) (w : WorldState) (step : Step) (cause : StepError)
+    → shown start nodes moves ≡ w → HasCause (length nodes) start moves step cause
+    → HasCause w.count w.start w.moves step cause ⊎ ((cause ≡ Memory) × GoesOn w.count w.start w.moves step)
+with_cause start nodes moves w step cause is why = inl (subst (λ (v : WorldState). HasCause v.count v.start v.moves step cause) is why)
+
+-- want of memory for a step that could be made, at which nothing changed
+pub short : (start : ℕ) (nodes : List NodeState) (moves : List Move) (w now : WorldState) (step : Step) (r : Result Outcome StepError)
+    → shown start nodes moves ≡ w → now ≡ shown start nodes moves → GoesOn (length nodes) start moves step
+    → IsErrAnd r (λ e. e ≡ Memory) → Tries w step r now
+short start nodes moves w now step r is same on fails =
+    at_err r (λ e. e ≡ Memory) (λ q. Tries w step q now) fails
+    (λ e memory. (same ∙ is, inr (memory, subst (λ (v : WorldState). GoesOn v.count v.start v.moves step) is on)))
+
+-- the nodes with one of them put where it is
+pub same_nodes : (start : ℕ) (nodes : List NodeState) (moves moves' : List Move) (place : ℕ) (old new : NodeState)
+    → old ≡ get_or nodes place old → new ≡ old → moves' ≡ moves → shown start (set nodes place new) moves' ≡ shown start nodes moves
+same_nodes start nodes moves moves' place old new at same is =
+    let nodes_are : set nodes place new ≡ nodes = ap (set nodes place) (same ∙ at) ∙ set-get_or nodes place old in
+    λ i. shown start (nodes_are i) (is i)
+
+-- a message that is there is taken
+pub taken_there : (o : Option Message) (before left new : List Message) (message : Message) → before ≡ left
+    → IfSome o (λ t. (t ≡ message) × TakesFirst before message new) → (IsNone o → Contains before message → ⊥) → Contains left message
+    → TakesFirst left message new
+taken_there None before left new message same some none there = absurd (none (search rules) (subst (λ (ms : List Message). Contains ms message) (sym same) there))
+taken_there (Some t) before left new message same some none there = subst (λ (ms : List Message). TakesFirst ms message new) same some.1
+
+-- one more move, of lists that are equal to these
+pub one_more : (moves before after : List Move) (step : Step) (sends sends' : List Message) (marks marks' : List Mark)
+    → after ≡ before ++ record { step = step; sends = sends; marks = marks } ∷ [] → before ≡ moves → sends ≡ sends' → marks ≡ marks'
+    → after ≡ moves ++ record { step = step; sends = sends'; marks = marks' } ∷ []
+one_more moves before after step sends sends' marks marks' is same es em =
+    is ∙ (λ i. same i ++ record { step = step; sends = es i; marks = em i } ∷ [])
+
+-- ---- At a node
+
+-- the node at a place is the one with the number after it
+pub node_here : (nodes : List NodeState) (place i : ℕ) (old : NodeState) → place + 1 ≡ i → place < length nodes → old ≡ get_or nodes place old
+    → nodes_of nodes i ≡ old
+node_here nodes place i old number within at =
+    ap (λ (k : ℕ). get_or nodes k (opening_node 0 0 0)) (omega (arith, number)) ∙ get_or_default nodes place (opening_node 0 0 0) old within ∙ sym at
+
+-- a fact about it
+pub at_node : (start : ℕ) (nodes : List NodeState) (left : List Message) (moves : List Move) (place i : ℕ) (old : NodeState) (P : NodeState → Type 0)
+    → Keeps start nodes left moves → place + 1 ≡ i → place < length nodes → old ≡ get_or nodes place old → P old
+    → AtNode (length nodes) start moves i P
+at_node start nodes left moves place i old P keeps number within at holds =
+    record {
+      first = omega (arith, number);
+      last = omega (arith, number, within);
+      nodes = nodes_of nodes;
+      ends = keeps.ends;
+      holds = subst P (sym (node_here nodes place i old number within at)) holds;
+    }
+
+-- why an ask is refused
+pub ask_refused : (start : ℕ) (nodes : List NodeState) (left : List Message) (moves : List Move) (place i client : ℕ) (name : List ℕ) (mode : Mode)
+    (old : NodeState) (e : AskError)
+    → Keeps start nodes left moves → place + 1 ≡ i → place < length nodes → old ≡ get_or nodes place old
+    → (e ≡ ask.Busy → IsBusy (resource_at old name) client)
+    → (e ≡ ask.Exhausted → (IsBusy (resource_at old name) client → ⊥) × ((resource_at old name).state.highest ≡ greatest_number))
+    → (e ≡ ask.Memory → ⊥)
+    → HasCause (length nodes) start moves (Ask i client name mode) (refusal_of_ask e)
+ask_refused start nodes left moves place i client name mode old ask.Busy keeps number within at busy exhausted memory =
+    at_node start nodes left moves place i old (λ s. IsBusy (resource_at s name) client) keeps number within at (busy refl)
+ask_refused start nodes left moves place i client name mode old ask.Exhausted keeps number within at busy exhausted memory =
+    at_node start nodes left moves place i old (λ s. (IsBusy (resource_at s name) client → ⊥) × ((resource_at s name).state.highest ≡ greatest_number)) keeps number within at (exhausted refl)
+ask_refused start nodes left moves place i client name mode old ask.Memory keeps number within at busy exhausted memory = absurd (memory refl)
+
+-- an ask that its node allows
+pub ask_on :
+    ((n start : ℕ) (moves : List Move) (nodes : ℕ → NodeState)
+    → IsNodeNumber n → IsRun n start moves → EndsWith n start moves nodes
+    → (node client : ℕ) (name : List ℕ) (mode : Mode)
+    → GoesOn n start moves (Ask node client name mode)
+    ↔ (((1 ≤ node) × (node ≤ n)) × MayAsk (resource_at (nodes node) name) client))
+    → (start : ℕ) (nodes : List NodeState) (left : List Message) (moves : List Move) (place i client : ℕ) (name : List ℕ) (mode : Mode) (old : NodeState)
+    → Keeps start nodes left moves → place + 1 ≡ i → place < length nodes → old ≡ get_or nodes place old
+    → MayAsk (resource_at old name) client → GoesOn (length nodes) start moves (Ask i client name mode)
+ask_on law start nodes left moves place i client name mode old keeps number within at may =
+    (law (length nodes) start moves (nodes_of nodes) keeps.count keeps.run keeps.ends i client name mode).1 (
+      (omega (arith, number), omega (arith, number, within)),
+      subst (λ (s : NodeState). MayAsk (resource_at s name) client) (sym (node_here nodes place i old number within at)) may,
+    )
+
+-- a leave that its node allows
+pub leave_on :
+    ((n start : ℕ) (moves : List Move) (nodes : ℕ → NodeState)
+    → IsNodeNumber n → IsRun n start moves → EndsWith n start moves nodes
+    → (node client : ℕ) (name : List ℕ)
+    → GoesOn n start moves (Leave node client name)
+    ↔ (((1 ≤ node) × (node ≤ n)) × ((entry : Entry) × Holds (resource_at (nodes node) name) client entry)))
+    → (start : ℕ) (nodes : List NodeState) (left : List Message) (moves : List Move) (place i client : ℕ) (name : List ℕ) (old : NodeState)
+    → Keeps start nodes left moves → place + 1 ≡ i → place < length nodes → old ≡ get_or nodes place old
+    → (entry : Entry) × Holds (resource_at old name) client entry → GoesOn (length nodes) start moves (Leave i client name)
+leave_on law start nodes left moves place i client name old keeps number within at may =
+    (law (length nodes) start moves (nodes_of nodes) keeps.count keeps.run keeps.ends i client name).1 (
+      (omega (arith, number), omega (arith, number, within)),
+      subst (λ (s : NodeState). (entry : Entry) × Holds (resource_at s name) client entry) (sym (node_here nodes place i old number within at)) may,
+    )
+
+-- an event of the node at a place, in an own form
+pub kept_by :
+    ((start : ℕ) (nodes : List NodeState) (left next : List Message) (moves : List Move) (move : Move)
+    (place : ℕ) (event : Event) (new : NodeState) → Keeps start nodes left moves → place < length nodes
+    → IsFit (length nodes) moves move.step move.sends move.marks → events_at (place + 1) move.step ≡ event ∷ []
+    → NodeEvent (nodes_of nodes (place + 1)) event move.sends move.marks new → TakesEach left (taken_in move.step) next
+    → Keeps start (set nodes place new) (next ++ move.sends) (moves ++ move ∷ []))
+    → (start : ℕ) (nodes : List NodeState) (left next after : List Message) (moves before logged : List Move) (move : Move)
+    → (place i : ℕ) (event : Event) (old new : NodeState)
+    → Keeps start nodes left moves → place + 1 ≡ i → place < length nodes → old ≡ get_or nodes place old
+    → IsFit (length nodes) moves move.step move.sends move.marks → events_at i move.step ≡ event ∷ []
+    → NodeEvent old event move.sends move.marks new → TakesEach left (taken_in move.step) next
+    → after ≡ next ++ move.sends → before ≡ moves → logged ≡ before ++ move ∷ []
+    → Keeps start (set nodes place new) after logged
+kept_by law start nodes left next after moves before logged move place i event old new keeps number within at fit here happened takes after_is before_is logged_is =
+    subst (λ (ms : List Message). Keeps start (set nodes place new) ms logged) (sym after_is)
+    (subst (λ (ms : List Move). Keeps start (set nodes place new) (next ++ move.sends) ms) (sym (logged_is ∙ ap (λ ms. ms ++ move ∷ []) before_is))
+    (law start nodes left next moves move place event new keeps within fit
+    (subst (λ (k : ℕ). events_at k move.step ≡ event ∷ []) (sym number) here)
+    (subst (λ (s : NodeState). NodeEvent s event move.sends move.marks new) (sym (node_here nodes place (place + 1) old refl within at)) happened)
+    takes))
+
+-- what happens where a step is about
+pub here : (i : ℕ) (event : Event) → (if i == i then event ∷ [] else []) ≡ event ∷ []
+here i event = ap (λ b. if b then event ∷ [] else []) (eq-eqb i i refl)
+
+-- the run of what is kept, of nodes of which one was put where it is
+pub run_of : (start : ℕ) (nodes : List NodeState) (left : List Message) (moves moves' : List Move) (place : ℕ) (new : NodeState)
+    → Keeps start nodes left moves → moves' ≡ moves → IsRun (length (set nodes place new)) start moves'
+run_of start nodes left moves moves' place new keeps is =
+    subst (λ (k : ℕ). IsRun k start moves') (sym (length-set nodes place new)) (subst (λ (ms : List Move). IsRun (length nodes) start ms) (sym is) keeps.run)
+
+-- two reads of one place
+pub reads_same : (nodes : List NodeState) (place : ℕ) (old next : NodeState) → place < length nodes → old ≡ get_or nodes place old
+    → next ≡ get_or nodes place next → next ≡ old
+reads_same nodes place old next within at at' = at' ∙ get_or_default nodes place next old within ∙ sym at
+
+pub memory_of_ask : (r : Result Outcome StepError) (a : AskError) → IsErrAnd r (λ e. e ≡ refusal_of_ask a) → a ≡ ask.Memory → IsErrAnd r (λ e. e ≡ Memory)
+memory_of_ask (Ok v) a h is = absurd h
+memory_of_ask (Err e) a h is = h ∙ ap refusal_of_ask is
+
+pub memory_of_leave : (r : Result Outcome StepError) (a : LeaveError) → IsErrAnd r (λ e. e ≡ refusal_of_leave a) → a ≡ leave.Memory → IsErrAnd r (λ e. e ≡ Memory)
+memory_of_leave (Ok v) a h is = absurd h
+memory_of_leave (Err e) a h is = h ∙ ap refusal_of_leave is
+
+-- what an event sends and marks at most, at the node that was read before too
+pub few_carried :
+    ((old new : NodeState) (event : Event) (sends : List Message) (marks : List Mark)
+    → IsConsistentNode old → NodeEvent old event sends marks new → (length sends ≤ 2 * old.nodes) × (length marks ≤ 3))
+    → (nodes : List NodeState) (place : ℕ) (first old new : NodeState) (event : Event) (sends : List Message) (marks : List Mark)
+    → place < length nodes → first ≡ get_or nodes place first → old ≡ get_or nodes place old → IsConsistentNode first
+    → NodeEvent old event sends marks new → (length sends ≤ 32) × (length marks ≤ 3)
+few_carried law nodes place first old new event sends marks within at_first at consistent happened =
+    let same = subst IsConsistentNode (sym (reads_same nodes place first old within at_first at)) consistent in
+    let few = law old new event sends marks same happened in
+    (omega (arith, few.0, same.count.1), few.1)
+
+-- room for the most is room for fewer
+pub room_for : (log : LogState) (sends marks : ℕ) → HasRoom log 32 3 → sends ≤ 32 → marks ≤ 3 → HasRoom log sends marks
+room_for log sends marks has few_sends few_marks =
+    record { for_step = has.for_step; for_sends = omega (arith, few_sends, has.for_sends); for_marks = omega (arith, few_marks, has.for_marks) }

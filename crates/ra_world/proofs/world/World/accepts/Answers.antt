@@ -1,0 +1,29 @@
+use Rattle.std.proofs.Common.{◌≡◌, ◌↔◌, ◌⊎◌, Contains, length, sym, subst, rules}
+use Rattle.std.specs.Prelude.{IsTrue}
+use Rattle.ra_stamp.specs.declared.message.Message.{Message}
+use Rattle.ra_world.specs.declared.step.Step.{Step}
+use Rattle.ra_world.specs.declared.step.Step.TheVariants.{Deliver, Lose}
+use Rattle.ra_world.specs.Run.{GoesOn}
+use Rattle.ra_world.specs.World.{WorldState}
+use Rattle.ra_world.proofs.Worlds.{accepted_message}
+use Rattle.ra_world.proofs.world.World.accepts.Goals as goal
+
+pub returns-in-Ask-clause-value : goal.returns-in-Ask-clause-value
+returns-in-Ask-clause-value c =
+    let w = c.args.self.now in
+    subst (λ (step : Step). IsTrue c.may_ask.result ↔ GoesOn w.count w.start w.moves step) (sym c.in-Ask.is) (c.may_ask.ensures.value c.in-Ask.mode)
+
+pub returns-in-Deliver-clause-value : goal.returns-in-Deliver-clause-value
+returns-in-Deliver-clause-value c =
+    let w = c.self.inside in
+    let k = c.self.invariant in
+    let laws = c.runs_go_on_where_steps_are_allowed.ensures in
+    let some : (m : Message) × ((c.args.step.now ≡ Deliver m) ⊎ (c.args.step.now ≡ Lose m)) × (IsTrue c.contains.result ↔ Contains w.under_way.items m) =
+    search rules in
+    let m = some.0 in
+    subst (λ (s : WorldState). IsTrue c.contains.result ↔ GoesOn s.count s.start s.moves c.args.step.now) c.self.view_is
+    (accepted_message (length w.nodes.items) w.start w.log.moves w.under_way.items c.args.step.now m c.contains.result
+    (laws.deliver (length w.nodes.items) w.start w.log.moves k.count k.run m)
+    (laws.lose (length w.nodes.items) w.start w.log.moves k.count k.run m)
+    (c.kept_runs_go_on.ensures.under_way w.start w.nodes.items w.under_way.items w.log.moves m k)
+    some.2 some.1)

@@ -1,0 +1,119 @@
+use Rattle.std.proofs.Common.{rules, ◌≡◌, ◌≢◌, ◌+◌, ◌<◌, ◌≤◌, ◌++◌, List, length, get_or, Err, refl, sym, ap, ◌∙◌, subst, arith}
+use Rattle.ra_stamp.specs.declared.message.Message.{Message}
+use Rattle.ra_node.specs.Events.Event.{Ask as AskedFor}
+use Rattle.ra_node.specs.Turns.{MayAsk}
+use Rattle.ra_node.specs.Node.{NodeState, resource_at}
+use Rattle.ra_node.specs.declared.error.AskError.TheVariants as refused
+use Rattle.ra_world.specs.declared.step.Step.TheVariants.{Ask}
+use Rattle.ra_world.specs.declared.error.StepError.{StepError}
+use Rattle.ra_world.specs.World.{HasCause}
+use Rattle.ra_world.specs.Keeping.{Tries}
+use Rattle.ra_world.specs.Refused.{refusal_of_ask}
+use Rattle.ra_world.proofs.Trying.{shown, with_cause, at_err, short, same_nodes, ask_refused, ask_on, reads_same, memory_of_ask, few_carried, room_for, kept_by, here, run_of}
+use Rattle.ra_world.proofs.world.World.ask.Goals as goal
+
+pub returns-in_err-may_ask-clause-tried : goal.returns-in_err-may_ask-clause-tried
+returns-in_err-may_ask-clause-tried c =
+    let w = c.self.inside in
+    let old = c.index-asked.result.now in
+    let e = c.in_err-may_ask.field-0.0 in
+    let place = c.in-Some.place in
+    let number : place + 1 ≡ c.args.node = c.in-Some.ensures.some.0 in
+    let within : place < length w.nodes.items = search rules in
+    let at : old ≡ get_or w.nodes.items place old = search rules in
+    let why = ask_refused w.start w.nodes.items w.under_way.items w.log.moves place c.args.node c.args.client c.args.name c.args.mode old e
+    c.self.invariant number within at
+    (λ is. c.in_err-may_ask.ensures.busy.0 (ap Err is)) (λ is. c.in_err-may_ask.ensures.exhausted.0 (ap Err is)) (λ is. c.in_err-may_ask.ensures.no_memory (ap Err is)) in
+    at_err c.from_residual.result (λ x. x ≡ refusal_of_ask e) (λ r. Tries c.args.self.now (Ask c.args.node c.args.client c.args.name c.args.mode) r c.args.self.now) c.from_residual.ensures.1
+    (λ x is. (
+      refl,
+      with_cause w.start w.nodes.items w.log.moves c.args.self.now (Ask c.args.node c.args.client c.args.name c.args.mode) x c.self.view_is
+          (subst (λ (y : StepError). HasCause (length w.nodes.items) w.start w.log.moves (Ask c.args.node c.args.client c.args.name c.args.mode) y) (sym is) why),
+    ))
+
+pub returns-in_err-make_room-clause-tried : goal.returns-in_err-make_room-clause-tried
+returns-in_err-make_room-clause-tried c =
+    let w = c.self.inside in
+    let old = c.index-asked.result.now in
+    let place = c.in-Some.place in
+    let number : place + 1 ≡ c.args.node = c.in-Some.ensures.some.0 in
+    let within : place < length w.nodes.items = search rules in
+    let at : old ≡ get_or w.nodes.items place old = search rules in
+    let may : MayAsk (resource_at old c.args.name) c.args.client = search rules in
+    short w.start w.nodes.items w.log.moves c.args.self.now _ (Ask c.args.node c.args.client c.args.name c.args.mode) c.from_residual-in_err-make_room.result c.self.view_is
+    (ap (shown w.start w.nodes.items) c.make_room.ensures.moves)
+    (ask_on c.runs_go_on_where_steps_are_allowed.ensures.ask w.start w.nodes.items w.under_way.items w.log.moves place c.args.node c.args.client c.args.name c.args.mode old
+    c.self.invariant number within at may)
+    c.from_residual-in_err-make_room.ensures.1
+
+pub returns-in_err-outcome-clause-tried : goal.returns-in_err-outcome-clause-tried
+returns-in_err-outcome-clause-tried c =
+    let w = c.self.inside in
+    let first = c.index-asked.result.now in
+    let old = c.index_mut-asked.result.now in
+    let place = c.in-Some.place in
+    let number : place + 1 ≡ c.args.node = c.in-Some.ensures.some.0 in
+    let within : place < length w.nodes.items = search rules in
+    let at_first : first ≡ get_or w.nodes.items place first = search rules in
+    let at : old ≡ get_or w.nodes.items place old = search rules in
+    let may_first : MayAsk (resource_at first c.args.name) c.args.client = search rules in
+    let may = subst (λ (s : NodeState). MayAsk (resource_at s c.args.name) c.args.client) (sym (reads_same w.nodes.items place first old within at_first at)) may_first in
+    let memory : c.in_err-outcome.field-0.0 ≡ refused.Memory = c.in_err-outcome.ensures.allowed.1 may in
+    short w.start w.nodes.items w.log.moves c.args.self.now _ (Ask c.args.node c.args.client c.args.name c.args.mode) c.from_residual-in_err-outcome.result c.self.view_is
+    (same_nodes w.start w.nodes.items w.log.moves c.make_room.new.log.moves place old c.ask.new.self at c.in_err-outcome.ensures.err c.make_room.ensures.moves)
+    (ask_on c.runs_go_on_where_steps_are_allowed.ensures.ask w.start w.nodes.items w.under_way.items w.log.moves place c.args.node c.args.client c.args.name c.args.mode old
+    c.self.invariant number within at may)
+    (memory_of_ask c.from_residual-in_err-outcome.result c.in_err-outcome.field-0.0 c.from_residual-in_err-outcome.ensures.1 memory)
+
+pub returns-in_err-outcome-clause-run : goal.returns-in_err-outcome-clause-run
+returns-in_err-outcome-clause-run c =
+    let w = c.self.inside in
+    run_of w.start w.nodes.items w.under_way.items w.log.moves c.make_room.new.log.moves c.in-Some.place c.ask.new.self c.self.invariant c.make_room.ensures.moves
+
+pub invariant_of-self-2 : goal.invariant_of-self-2
+invariant_of-self-2 c =
+    let w = c.self.inside in
+    let old = c.index_mut-asked.result.now in
+    let place = c.in-Some.place in
+    let outcome = c.in_ok-outcome.outcome in
+    let number : place + 1 ≡ c.args.node = c.in-Some.ensures.some.0 in
+    let within : place < length w.nodes.items = search rules in
+    let at : old ≡ get_or w.nodes.items place old = search rules in
+    kept_by c.kept_runs_go_on.ensures.event w.start w.nodes.items w.under_way.items w.under_way.items c.keep.new.under_way.items w.log.moves c.make_room.new.log.moves c.keep.new.log.moves
+    (record { step = Ask c.args.node c.args.client c.args.name c.args.mode; sends = outcome.sends.items; marks = outcome.marks.items })
+    place c.args.node (AskedFor c.args.client c.args.name c.args.mode) old c.ask.new.self c.self.invariant number within at
+    (omega (arith, number), omega (arith, number, within)) (here c.args.node (AskedFor c.args.client c.args.name c.args.mode))
+    c.in_ok-outcome.ensures.ok refl
+    (c.keep.ensures.messages ∙ ap (λ (ms : List Message). ms ++ outcome.sends.items) c.make_room.ensures.messages)
+    c.make_room.ensures.moves c.keep.ensures.moves
+
+pub returns-clause-run : goal.returns-clause-run
+returns-clause-run c = (invariant_of-self-2 c).run
+
+pub keep-requires-clause-bag_room : goal.keep-requires-clause-bag_room
+keep-requires-clause-bag_room c =
+    let w = c.self.inside in
+    let first = c.index-asked.result.now in
+    let old = c.index_mut-asked.result.now in
+    let place = c.in-Some.place in
+    let outcome = c.in_ok-outcome.outcome in
+    let within : place < length w.nodes.items = search rules in
+    let at_first : first ≡ get_or w.nodes.items place first = search rules in
+    let at : old ≡ get_or w.nodes.items place old = search rules in
+    let few = few_carried c.events_keep_a_node_consistent.ensures.room w.nodes.items place first old c.ask.new.self (AskedFor c.args.client c.args.name c.args.mode)
+    outcome.sends.items outcome.marks.items within at_first at c.may_ask.ensures.consistent c.in_ok-outcome.ensures.ok in
+    omega (arith, few.0, c.in_ok-make_room.ensures.bag_room)
+
+pub keep-requires-clause-log_room : goal.keep-requires-clause-log_room
+keep-requires-clause-log_room c =
+    let w = c.self.inside in
+    let first = c.index-asked.result.now in
+    let old = c.index_mut-asked.result.now in
+    let place = c.in-Some.place in
+    let outcome = c.in_ok-outcome.outcome in
+    let within : place < length w.nodes.items = search rules in
+    let at_first : first ≡ get_or w.nodes.items place first = search rules in
+    let at : old ≡ get_or w.nodes.items place old = search rules in
+    let few = few_carried c.events_keep_a_node_consistent.ensures.room w.nodes.items place first old c.ask.new.self (AskedFor c.args.client c.args.name c.args.mode)
+    outcome.sends.items outcome.marks.items within at_first at c.may_ask.ensures.consistent c.in_ok-outcome.ensures.ok in
+    room_for c.make_room.new.log (length outcome.sends.items) (length outcome.marks.items) c.in_ok-make_room.ensures.log_room few.0 few.1

@@ -1,0 +1,35 @@
+use Rattle.std.proofs.Common.{◌↔◌, ◌<◌, Bool, false, length, ap, sym, subst, arith, refl}
+use Rattle.std.specs.Prelude.{IsTrue}
+use Rattle.ra_node.specs.Node.{NodeState, resource_at}
+use Rattle.ra_node.specs.Turns.{MayAsk}
+use Rattle.ra_world.specs.declared.step.Step.TheVariants.{Ask}
+use Rattle.ra_world.specs.Run.{GoesOn}
+use Rattle.ra_world.specs.World.{WorldState}
+use Rattle.ra_world.specs.Keeping.{nodes_of}
+use Rattle.ra_world.proofs.Worlds.{accepted_at, refused_above}
+use Rattle.ra_world.proofs.world.World.may_ask.Goals as goal
+
+pub returns-in-Some-clause-value : goal.returns-in-Some-clause-value
+returns-in-Some-clause-value c = λ mode.
+    let w = c.self.inside in
+    let k = c.self.invariant in
+    let step = Ask c.args.node c.args.client c.args.name.now mode in
+    let law = c.runs_go_on_where_steps_are_allowed.ensures.ask (length w.nodes.items) w.start w.log.moves (nodes_of w.nodes.items) k.count k.run k.ends
+    c.args.node c.args.client c.args.name.now mode in
+    let within : c.in-Some.place < length w.nodes.items = omega (arith, c.in-Some.ensures.some.1, ap length c.deref.ensures.value) in
+    subst (λ (s : WorldState). IsTrue c.is_ok.result ↔ GoesOn s.count s.start s.moves step) c.self.view_is
+    (accepted_at w.start w.nodes.items w.log.moves step c.in-Some.place c.args.node c.index.result.now
+    (λ (n : NodeState). MayAsk (resource_at n c.args.name.now) c.args.client) c.is_ok.result
+    law c.in-Some.ensures.some.0 within c.index.ensures
+    (subst (λ (b : Bool). IsTrue b ↔ MayAsk (resource_at c.index.result.now c.args.name.now) c.args.client) (sym c.is_ok.ensures.value) c.may_ask.ensures.allowed))
+
+pub returns-in-None-clause-value : goal.returns-in-None-clause-value
+returns-in-None-clause-value c = λ mode.
+    let w = c.self.inside in
+    let k = c.self.invariant in
+    let step = Ask c.args.node c.args.client c.args.name.now mode in
+    let law = c.runs_go_on_where_steps_are_allowed.ensures.ask (length w.nodes.items) w.start w.log.moves (nodes_of w.nodes.items) k.count k.run k.ends
+    c.args.node c.args.client c.args.name.now mode in
+    let above : length w.nodes.items < c.args.node = omega (arith, c.in-None.ensures.none.0 refl, ap length c.deref.ensures.value) in
+    subst (λ (s : WorldState). IsTrue false ↔ GoesOn s.count s.start s.moves step) c.self.view_is
+    (refused_above (length w.nodes.items) w.start w.log.moves step c.args.node _ law above)

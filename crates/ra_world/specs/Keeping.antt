@@ -1,0 +1,38 @@
+-- How a world keeps its run: the nodes at its end and the messages that it leaves under way. No public contract speaks of it.
+use Rattle.std.specs.Prelude.{◌≡◌, ◌⊎◌, ℕ, ◌-◌, List, length, slice_index_or, Result, Ok, Err}
+use Rattle.ra_stamp.specs.declared.message.Message.{Message}
+use Rattle.ra_stamp.specs.NodeId.{IsNodeNumber}
+use Rattle.ra_node.specs.Node.{NodeState, opening_node}
+use Rattle.ra_world.specs.Traffic.{Move, LeavesUnderWay}
+use Rattle.ra_world.specs.Run.{IsRun, EndsWith, GoesOn}
+use Rattle.ra_world.specs.World.{WorldState, with_move, HasCause}
+use Rattle.ra_node.specs.declared.outcome.Outcome.{Outcome}
+use Rattle.ra_world.specs.declared.step.Step.{Step}
+use Rattle.ra_world.specs.declared.error.StepError.{StepError}
+use Rattle.ra_world.specs.declared.error.StepError.TheVariants.{Memory}
+use Rattle.ra_world.specs.declared.world.World.TheInside.{Inside}
+
+-- the nodes by their numbers, from 1; of another number nothing is said
+abbrev pub nodes_of : List NodeState → ℕ → NodeState
+nodes_of nodes i = slice_index_or nodes (i - 1) (opening_node 0 0 0)
+
+-- the moves are a run, these are the nodes at its end, and these messages are under way after it
+pub record Keeps (start : ℕ) (nodes : List NodeState) (left : List Message) (moves : List Move) : Type 0 where
+  pub count : IsNodeNumber (length nodes)
+  pub run : IsRun (length nodes) start moves
+  pub ends : EndsWith (length nodes) start moves (nodes_of nodes)
+  pub under_way : LeavesUnderWay moves left
+
+abbrev pub world_of : Inside → WorldState
+world_of w = record { count = length w.nodes.items; start = w.start; moves = w.log.moves }
+
+abbrev pub IsKept : Inside → Type 0
+IsKept w = Keeps w.start w.nodes.items w.under_way.items w.log.moves
+
+-- what comes of a step that is tried: it is made, or it has a cause and nothing changes, or it could be made but for want
+-- of memory, and nothing changes
+abbrev pub Tries : WorldState → Step → Result Outcome StepError → WorldState → Type 0
+Tries old step (Ok outcome) new = new ≡ with_move old step outcome.sends.items outcome.marks.items
+Tries old step (Err cause) new =
+    (new ≡ old) × (HasCause old.count old.start old.moves step cause ⊎ ((cause ≡ Memory)
+    × GoesOn old.count old.start old.moves step))

@@ -1,0 +1,33 @@
+-- Which refusal of a step a refusal of its node is, and where a list of steps is refused.
+use Rattle.std.specs.Prelude.{◌≡◌, ℕ, ◌-◌, ◌≤◌, List, Some, map, take, slice_get}
+use Rattle.ra_node.specs.declared.error.AskError.{AskError}
+use Rattle.ra_node.specs.declared.error.AskError.TheVariants as ask
+use Rattle.ra_node.specs.declared.error.LeaveError.{LeaveError}
+use Rattle.ra_node.specs.declared.error.LeaveError.TheVariants as leave
+use Rattle.ra_world.specs.declared.step.Step.{Step}
+use Rattle.ra_world.specs.declared.error.NodeRefusal.TheVariants.{Busy, Exhausted, NotHeld}
+use Rattle.ra_world.specs.declared.error.StepError.{StepError}
+use Rattle.ra_world.specs.declared.error.StepError.TheVariants.{Node, Memory}
+use Rattle.ra_world.specs.Traffic.{Move}
+use Rattle.ra_world.specs.Run.{IsRun, WorldRun}
+use Rattle.ra_world.specs.World.{HasCause}
+
+abbrev pub refusal_of_ask : AskError → StepError
+refusal_of_ask ask.Busy = Node Busy
+refusal_of_ask ask.Exhausted = Node Exhausted
+refusal_of_ask ask.Memory = Memory
+
+abbrev pub refusal_of_leave : LeaveError → StepError
+refusal_of_leave leave.NotHeld = Node NotHeld
+refusal_of_leave leave.Memory = Memory
+
+-- the first place, counted from 1, at which a list of steps is no run any more, and why
+pub record IsRefusedAt (n start : ℕ) (steps : List Step) (place : ℕ) (cause : StepError) : Type 0 where
+  pub from_one : 1 ≤ place
+  pub moves : List Move
+  pub front : map (λ move. move.step) moves ≡ take (place - 1) steps
+  pub run : IsRun n start moves
+  pub step : Step
+  pub step_is : slice_get steps (place - 1) ≡ Some step
+  pub because : HasCause n start moves step cause
+  pub no_run : WorldRun n start (take place steps) → ⊥

@@ -1,0 +1,73 @@
+-- A world as contracts see it, why it refuses a step, and what it reports.
+use Rattle.std.specs.Prelude.{◌≡◌, ℕ, ◌<◌, ◌≤◌, List, [], ◌∷◌, ◌++◌, length}
+use Rattle.ra_stamp.specs.declared.entry.Entry.{Entry}
+use Rattle.ra_stamp.specs.declared.entry.Mark.{Mark}
+use Rattle.ra_stamp.specs.declared.message.Message.{Message}
+use Rattle.ra_automaton.specs.Steps.{greatest_number}
+use Rattle.ra_node.specs.Resource.{Holds, IsBusy}
+use Rattle.ra_node.specs.Node.{NodeState, resource_at}
+use Rattle.ra_world.specs.declared.step.Step.{Step}
+use Rattle.ra_world.specs.declared.step.Step.TheVariants.{Ask, Leave, Deliver, Lose}
+use Rattle.ra_world.specs.declared.error.NodeRefusal.TheVariants.{Busy, Exhausted, NotHeld}
+use Rattle.ra_world.specs.declared.error.StepError.{StepError}
+use Rattle.ra_world.specs.declared.error.StepError.TheVariants.{NoNode, NotUnderWay, Node, Memory}
+use Rattle.ra_world.specs.declared.report.Report.{Report}
+use Rattle.ra_world.specs.Traffic.{Move, LeavesUnderWay, IsUnderWay, sent_by, lost_by}
+use Rattle.ra_world.specs.Run.{EndsWith, marks_of, waiting_at_all, queued_at_all}
+use Rattle.ra_world.specs.Quiet.{requests_in}
+
+-- how many nodes there are, the highest number that each resource begins with, and the steps so far with what came of
+-- them
+pub record WorldState : Type 0 where
+  pub count : ℕ
+  pub start : ℕ
+  pub moves : List Move
+
+-- the world after one more step
+abbrev pub with_move : WorldState → Step → List Message → List Mark → WorldState
+with_move w step sends marks = record w { moves = w.moves ++ record { step = step; sends = sends; marks = marks } ∷ [] }
+
+-- a fact about a node that there is, at the end of a run
+pub record AtNode (n start : ℕ) (moves : List Move) (i : ℕ) (P : NodeState → Type 0) : Type 0 where
+  pub first : 1 ≤ i
+  pub last : i ≤ n
+  pub nodes : ℕ → NodeState
+  pub ends : EndsWith n start moves nodes
+  pub holds : P (nodes i)
+
+-- why a run does not go on with a step: the first cause that stands
+abbrev pub HasCause : ℕ → ℕ → List Move → Step → StepError → Type 0
+HasCause n start moves (Ask node client name mode) NoNode = n < node
+HasCause n start moves (Ask node client name mode) (Node Busy) =
+    AtNode n start moves node (λ s. IsBusy (resource_at s name) client)
+HasCause n start moves (Ask node client name mode) (Node Exhausted) =
+    AtNode n start moves node (λ s. (IsBusy (resource_at s name) client → ⊥)
+    × ((resource_at s name).state.highest ≡ greatest_number))
+HasCause n start moves (Ask node client name mode) (Node NotHeld) = ⊥
+HasCause n start moves (Ask node client name mode) NotUnderWay = ⊥
+HasCause n start moves (Ask node client name mode) Memory = ⊥
+HasCause n start moves (Leave node client name) NoNode = n < node
+HasCause n start moves (Leave node client name) (Node Busy) = ⊥
+HasCause n start moves (Leave node client name) (Node Exhausted) = ⊥
+HasCause n start moves (Leave node client name) (Node NotHeld) =
+    AtNode n start moves node (λ s. (entry : Entry) → Holds (resource_at s name) client entry → ⊥)
+HasCause n start moves (Leave node client name) NotUnderWay = ⊥
+HasCause n start moves (Leave node client name) Memory = ⊥
+HasCause n start moves (Deliver message) NoNode = ⊥
+HasCause n start moves (Deliver message) (Node why) = ⊥
+HasCause n start moves (Deliver message) NotUnderWay = IsUnderWay moves message → ⊥
+HasCause n start moves (Deliver message) Memory = ⊥
+HasCause n start moves (Lose message) NoNode = ⊥
+HasCause n start moves (Lose message) (Node why) = ⊥
+HasCause n start moves (Lose message) NotUnderWay = IsUnderWay moves message → ⊥
+HasCause n start moves (Lose message) Memory = ⊥
+
+-- the report of a run
+pub record Reports (n start : ℕ) (moves : List Move) (report : Report) : Type 0 where
+  pub marks : report.marks.items ≡ marks_of moves
+  pub sent : report.sent ≡ length (sent_by moves)
+  pub requests : report.requests ≡ requests_in (marks_of moves)
+  pub under_way : (left : List Message) × LeavesUnderWay moves left × (report.under_way ≡ length left)
+  pub lost : report.lost ≡ length (lost_by moves)
+  pub at_nodes : (nodes : ℕ → NodeState) × EndsWith n start moves nodes
+      × (report.waiting ≡ waiting_at_all n nodes) × (report.queued ≡ queued_at_all n nodes)

@@ -1,0 +1,120 @@
+ghost use Rattle.std.specs.Prelude.{◌≡◌};
+ghost use Rattle.ra_world.specs.declared.error.NewError.TheVariants as new;
+ghost use Rattle.ra_world.specs.declared.error.StepError.TheVariants as step;
+ghost use Rattle.ra_world.specs.declared.error.RunError.TheVariants as run;
+
+use ra_node::{AskError, LeaveError};
+use ra_stamp::Memory;
+use thiserror::Error;
+
+/// Why there is no world.
+#[derive(Clone, Copy, Debug, PartialEq, Eq, Error)]
+pub enum NewError {
+    /// The number of nodes is not 1 to 16.
+    #[error("BadCount")]
+    BadCount,
+    /// Memory ran out.
+    #[error("Memory")]
+    Memory,
+}
+
+/// Why a node refuses what its client wants.
+#[derive(Clone, Copy, Debug, PartialEq, Eq, Error)]
+pub enum NodeRefusal {
+    /// The client that asks waits, is queued or holds on that name at this node.
+    #[error("Busy")]
+    Busy,
+    /// No number is left for the name.
+    #[error("Exhausted")]
+    Exhausted,
+    /// The client that leaves does not hold the name at this node.
+    #[error("NotHeld")]
+    NotHeld,
+}
+
+/// Why a step was not made, in the order in which the causes are looked for.
+#[derive(Clone, Copy, Debug, PartialEq, Eq, Error)]
+pub enum StepError {
+    /// An ask or a leave is at a node above the number of nodes.
+    #[error("NoNode")]
+    NoNode,
+    /// A message that is to be delivered or lost is not under way.
+    #[error("NotUnderWay")]
+    NotUnderWay,
+    /// The node refuses it.
+    #[error(transparent)]
+    Node(NodeRefusal),
+    /// Memory ran out.
+    #[error("Memory")]
+    Memory,
+}
+
+/// Why a list of steps gave no report.
+#[derive(Clone, Copy, Debug, PartialEq, Eq, Error)]
+pub enum RunError {
+    /// The number of nodes is not 1 to 16.
+    #[error("BadCount")]
+    BadCount,
+    /// A step was refused, the first one that is: its place in the list, counted from 1, and the cause.
+    #[error("{cause}")]
+    Refused {
+        /// The place, 1 or more.
+        place: u64,
+        /// Why, never want of memory.
+        cause: StepError,
+    },
+    /// Memory ran out.
+    #[error("Memory")]
+    Memory,
+}
+
+impl From<Memory> for NewError {
+    ghost from_gives = { λ _ e. e ≡ new.Memory };
+
+    fn from(_refused: Memory) -> NewError {
+        NewError::Memory
+    }
+}
+
+impl From<Memory> for RunError {
+    ghost from_gives = { λ _ e. e ≡ run.Memory };
+
+    fn from(_refused: Memory) -> RunError {
+        RunError::Memory
+    }
+}
+
+impl From<Memory> for StepError {
+    ghost from_gives = { λ _ e. e ≡ step.Memory };
+
+    fn from(_refused: Memory) -> StepError {
+        StepError::Memory
+    }
+}
+
+impl From<AskError> for StepError {
+    ghost use Rattle.ra_world.specs.Refused.{refusal_of_ask};
+
+    ghost from_gives = { λ a e. e ≡ refusal_of_ask a };
+
+    fn from(refused: AskError) -> StepError {
+        match refused {
+            AskError::Busy => StepError::Node(NodeRefusal::Busy),
+            AskError::Exhausted => StepError::Node(NodeRefusal::Exhausted),
+            AskError::Memory => StepError::Memory,
+        }
+    }
+}
+
+impl From<LeaveError> for StepError {
+    ghost use Rattle.ra_world.specs.Refused.{refusal_of_leave};
+
+    ghost from_gives = { λ a e. e ≡ refusal_of_leave a };
+
+    fn from(refused: LeaveError) -> StepError {
+        match refused {
+            LeaveError::NotHeld => StepError::Node(NodeRefusal::NotHeld),
+            LeaveError::Memory => StepError::Memory,
+        }
+    }
+}

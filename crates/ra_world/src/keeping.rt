@@ -1,0 +1,143 @@
+//! What a world keeps of its run at each step.
+ghost use Rattle.std.specs.Prelude.{◌≡◌, ◌+◌, ◌≤◌, ◌<◌, ◌↔◌, ◌∷◌, ◌++◌, [], ℕ, List, Contains, length, map, slice_set, sum_by, IfOk, OnOk};
+ghost use Rattle.std.specs.List.{range_with_len};
+ghost use Rattle.ra_stamp.specs.declared.message.Message.{Message};
+ghost use Rattle.ra_stamp.specs.Message.{to_of};
+ghost use Rattle.ra_stamp.specs.NodeId.{IsNodeNumber};
+ghost use Rattle.ra_bag.specs.Bag.{TakesFirst};
+ghost use Rattle.ra_automaton.specs.State.{IsForNode};
+ghost use Rattle.ra_node.specs.Node.{NodeState, opening_node, queued_count};
+ghost use Rattle.ra_node.specs.Events.{Event, NodeEvent};
+ghost use Rattle.ra_world.specs.declared.step.Step.{Step};
+ghost use Rattle.ra_world.specs.declared.error.StepError.{StepError};
+ghost use Rattle.ra_world.specs.declared.report.Report.{Report};
+ghost use Rattle.ra_world.specs.Traffic.{Move, TakesEach, IsUnderWay, taken_in};
+ghost use Rattle.ra_world.specs.Run.{IsRun, IsFit, GoesOn, events_at};
+ghost use Rattle.ra_world.specs.World.{HasCause, Reports};
+ghost use Rattle.ra_world.specs.MainTheorem.{MainTheorem};
+ghost use Rattle.ra_world.specs.Log.{HasRoom};
+ghost use Rattle.ra_world.specs.Keeping.{nodes_of, Keeps};
+
+use crate::log::Log;
+use crate::{
+    Report, Step, StepError, marks_of_runs_are_table_runs, messages_under_way_are_between_nodes,
+    quiet_runs_sent_two_messages_for_each_request_and_other_node, runs_go_on_by_events,
+    runs_go_on_where_steps_are_allowed, waiting_requests_are_blocked_in_quiet_runs,
+};
+use ra_bag::Bag;
+use ra_node::{Outcome, events_are_determined, events_leave_other_names};
+use ra_stamp::{Marks, Memory, Message, Messages};
+use ra_table::{conflicting_entries_never_hold_at_once, grants_come_in_stamp_order};
+use std::alloc::Global;
+
+/// No step sends more messages: at most two for each of 16 nodes.
+pub const MAX_SENDS: u64 = 32;
+
+/// No step makes more marks: Left, Requested and Entered.
+pub const MAX_MARKS: u64 = 3;
+
+/// Makes room for a step with at most this many messages and marks.
+pub fn make_room(under_way: &mut Bag, log: &mut Log, sends: u64, marks: u64) -> Result<(), Memory>
+    ensures messages { under_way.new.items ≡ under_way.old.items }
+    ensures moves { log.new.moves ≡ log.old.moves }
+    ensures bag_room { OnOk result (sends ≤ under_way.new.spare) }
+    ensures log_room { OnOk result (HasRoom log.new sends marks) }
+{
+    under_way.reserve(sends)?;
+    log.reserve(sends, marks)?;
+    Ok(())
+}
+
+/// Puts what a step sent under way and logs the step, where there is room for it.
+pub fn keep(under_way: &mut Bag, log: &mut Log, step: Step, outcome: &Outcome)
+    requires bag_room { length outcome.now.sends.items ≤ under_way.old.spare }
+    requires log_room { HasRoom log.old (length outcome.now.sends.items) (length outcome.now.marks.items) }
+    ensures messages { under_way.new.items ≡ under_way.old.items ++ outcome.now.sends.items }
+    ensures moves { log.new.moves ≡ log.old.moves
+        ++ record { step = step; sends = outcome.now.sends.items; marks = outcome.now.marks.items } ∷ [] }
+{
+    under_way.put_all(&outcome.sends).unwrap();
+    log.push(step, outcome);
+}
+
+/// Makes the outcome of a step that touches no node.
+pub fn nothing(alloc: Global) -> Outcome
+    ensures { (result.sends.items ≡ []) × (result.marks.items ≡ []) }
+{
+    Outcome {
+        sends: Messages::new(alloc),
+        marks: Marks::new(alloc),
+    }
+}
+
+/// Copies marks.
+pub fn copy_of(alloc: Global, marks: &Marks) -> Result<Marks, Memory>
+    ensures { IfOk result (λ copy. copy.items ≡ marks.now.items) }
+{
+    let mut copy = Marks::new(alloc);
+    copy.reserve(marks.len())?;
+    for mark in marks.as_slice() {
+        copy.push(*mark)?;
+    }
+    Ok(copy)
+}
+
+/// A world that keeps a run goes on keeping it: at an event of a node, and at the loss of a message.
+pub fn kept_runs_go_on()
+    ensures opened { (n start : ℕ) → IsNodeNumber n
+        → Keeps start (map (λ i. opening_node i n start) (range_with_len 1 n)) [] [] }
+    ensures event { (start : ℕ) (nodes : List NodeState) (left next : List Message) (moves : List Move)
+        (move : Move)
+        (place : ℕ) (event : Event) (new : NodeState) → Keeps start nodes left moves → place < length nodes
+        → IsFit (length nodes) moves move.step move.sends move.marks
+        → events_at (place + 1) move.step ≡ event ∷ []
+        → NodeEvent (nodes_of nodes (place + 1)) event move.sends move.marks new
+        → TakesEach left (taken_in move.step) next
+        → Keeps start (slice_set nodes place new) (next ++ move.sends) (moves ++ move ∷ []) }
+    ensures loss { (start : ℕ) (nodes : List NodeState) (left next : List Message) (moves : List Move)
+        (message : Message)
+        → Keeps start nodes left moves → TakesFirst left message next
+        → Keeps start nodes next (moves ++ record { step = Step.Lose message; sends = []; marks = [] } ∷ []) }
+    // A message is under way where it is kept, and then it is for a node that there is, which takes it.
+    ensures under_way { (start : ℕ) (nodes : List NodeState) (left : List Message) (moves : List Move)
+        (message : Message)
+        → Keeps start nodes left moves → IsUnderWay moves message ↔ Contains left message }
+    ensures is_taken { (start : ℕ) (nodes : List NodeState) (left : List Message) (moves : List Move)
+        (message : Message)
+        → Keeps start nodes left moves → Contains left message → (to_of message ≤ length nodes)
+        × IsForNode (nodes_of nodes (to_of message)).me (nodes_of nodes (to_of message)).nodes message }
+    // At most one client more is queued after each step.
+    ensures queued { (start : ℕ) (nodes : List NodeState) (left : List Message) (moves : List Move)
+        → Keeps start nodes left moves → sum_by queued_count nodes ≤ length moves }
+    ensures at_all { (nodes : List NodeState) (f : NodeState → ℕ)
+        → sum_by (λ i. f (nodes_of nodes i)) (range_with_len 1 (length nodes)) ≡ sum_by f nodes }
+{
+    runs_go_on_by_events();
+    messages_under_way_are_between_nodes();
+    events_leave_other_names();
+}
+
+/// A step that has a cause is none that the run goes on with, and it has one cause.
+pub fn steps_have_one_cause()
+    ensures no_step { (n start : ℕ) (moves : List Move) (step : Step) (cause : StepError) → IsNodeNumber n
+        → IsRun n start moves
+        → HasCause n start moves step cause → GoesOn n start moves step → ⊥ }
+    ensures one { (n start : ℕ) (moves : List Move) (step : Step) (a b : StepError)
+        → HasCause n start moves step a → HasCause n start moves step b → a ≡ b }
+{
+    runs_go_on_where_steps_are_allowed();
+    events_are_determined();
+}
+
+/// The report of a run meets the main theorem.
+pub fn reports_meet_the_main_theorem()
+    ensures { (n start : ℕ) (moves : List Move) (report : Report) → IsNodeNumber n → IsRun n start moves
+        → Reports n start moves report → MainTheorem n report }
+{
+    marks_of_runs_are_table_runs();
+    messages_under_way_are_between_nodes();
+    waiting_requests_are_blocked_in_quiet_runs();
+    quiet_runs_sent_two_messages_for_each_request_and_other_node();
+    conflicting_entries_never_hold_at_once();
+    grants_come_in_stamp_order();
+}

@@ -1,0 +1,76 @@
+//! The nodes of a world, by their numbers from 1.
+ghost use Rattle.std.specs.Prelude.{◌≡◌, ℕ, ◌+◌, ◌*◌, ◌^◌, ◌<◌, ◌≤◌, ◌↔◌, length, map, sum_by, IsTrue, IfOk, IfSome, IsNone};
+ghost use Rattle.std.specs.List.{range_with_len};
+ghost use Rattle.ra_stamp.specs.declared.entry.Entry.{Entry};
+ghost use Rattle.ra_stamp.specs.NodeId.{IsNodeNumber};
+ghost use Rattle.ra_node.specs.Resource.{Holds};
+ghost use Rattle.ra_node.specs.Node.{opening_node, resource_at, IsConsistentNode, waiting_count, queued_count};
+
+use ra_node::Node;
+use ra_stamp::{Memory, Name, NodeId};
+use std::alloc::Global;
+
+/// Makes nodes that have met nothing yet.
+pub fn opening_nodes(alloc: Global, count: u16, start: u64) -> Result<Vec<Node>, Memory>
+    requires { IsNodeNumber count }
+    ensures { IfOk result (λ nodes. nodes.items ≡ map (λ i. opening_node i count start)
+        (range_with_len 1 count)) }
+{
+    let mut nodes = Vec::with_capacity(alloc, usize::from(count))?;
+    for place in 0..count {
+        let me = NodeId::new(place + 1).unwrap();
+        let Ok(node) = Node::new(alloc, me, count, start) else {
+            return Err(Memory);
+        };
+        nodes.push(node)?;
+    }
+    Ok(nodes)
+}
+
+/// Returns the place of a node, or `None` where there is no such node.
+pub fn place_of(nodes: &[Node], node: NodeId) -> Option<usize>
+    ensures some { IfSome result (λ place. (place + 1 ≡ node) × (place < length nodes.now)) }
+    ensures none { IsNone result ↔ (length nodes.now < node) }
+{
+    let place = usize::from(node.get()) - 1;
+    if place < nodes.len() {
+        Some(place)
+    } else {
+        None
+    }
+}
+
+/// Returns whether a client holds a name at a node.
+pub fn is_held_by(node: &Node, client: u32, name: &Name) -> bool
+    ensures held { IsTrue result ↔ ((entry : Entry) × Holds (resource_at node.now name.now) client entry) }
+    ensures consistent { IsConsistentNode node.now }
+{
+    match node.holder(name) {
+        Some(entry) => entry.client == client,
+        None => false,
+    }
+}
+
+/// Returns how many requests wait at the nodes.
+pub fn waiting_at(nodes: &[Node]) -> u128
+    requires { length nodes.now ≤ 16 }
+    ensures { result ≡ sum_by waiting_count nodes.now }
+{
+    let mut waiting = 0;
+    for node in nodes {
+        waiting += u128::from(node.waiting());
+    }
+    waiting
+}
+
+/// Returns how many clients are queued at the nodes.
+pub fn queued_at(nodes: &[Node]) -> u128
+    requires { sum_by queued_count nodes.now < 2 ^ 128 }
+    ensures { result ≡ sum_by queued_count nodes.now }
+{
+    let mut queued = 0;
+    for node in nodes {
+        queued += node.queued();
+    }
+    queued
+}

@@ -1,0 +1,20 @@
+use ra_stamp::Marks;
+
+/// What came of a run.
+#[derive(Debug, Drop)]
+pub struct Report {
+    /// The requests, grants and releases, in order.
+    pub marks: Marks,
+    /// How many messages were sent.
+    pub sent: u128,
+    /// How many requests were made: the marks Requested.
+    pub requests: u128,
+    /// How many messages are under way.
+    pub under_way: u128,
+    /// How many messages were lost.
+    pub lost: u128,
+    /// How many requests wait for their replies.
+    pub waiting: u128,
+    /// How many clients are queued at their nodes.
+    pub queued: u128,
+}

@@ -1,0 +1,336 @@
+ghost use Rattle.std.specs.Prelude.{◌≡◌, ◌≢◌, ℕ, ◌<◌, ◌≤◌, ◌⊎◌, ◌↔◌, ◌*◌, [], ◌++◌, List, length, slice_get, IsTrue, IsErrOf, IsOk, IsOkUnless, IfOk, OnErr, IfErr, OnOk};
+ghost use Rattle.ra_stamp.specs.declared.message.Message.{Message};
+
+use crate::keeping::{
+    MAX_MARKS, MAX_SENDS, copy_of, keep, kept_runs_go_on, make_room, nothing,
+    reports_meet_the_main_theorem, steps_have_one_cause,
+};
+use crate::log::Log;
+use crate::numbering::{is_held_by, opening_nodes, place_of, queued_at, waiting_at};
+use crate::{NewError, NodeRefusal, Report, Step, StepError, runs_go_on_where_steps_are_allowed};
+use ra_bag::Bag;
+use ra_node::{Node, Outcome, events_keep_a_node_consistent};
+use ra_stamp::{Memory, Message, Mode, Name, NodeId};
+use std::alloc::Global;
+use std::marker::Model;
+
+/// A cluster of nodes in one thread, with the messages under way between them. Contracts see how many nodes there are, the
+/// start value and the steps so far with what came of them, which are a run.
+///
+/// A world keeps its steps, all messages that they sent and their marks.
+#[derive(Debug, Drop)]
+pub struct World {
+    start: u64,
+    /// The nodes by their numbers, from 1.
+    nodes: Vec<Node>,
+    under_way: Bag,
+    log: Log,
+}
+
+impl Model for World {
+    ghost use Rattle.ra_world.specs.World.{WorldState};
+    ghost use Rattle.ra_world.specs.Keeping.{world_of, IsKept};
+
+    ghost Value = { WorldState };
+
+    ghost view = { world_of };
+
+    ghost invariant = { IsKept };
+}
+
+impl World {
+    ghost use Rattle.ra_stamp.specs.NodeId.{IsNodeNumber};
+    ghost use Rattle.ra_world.specs.Traffic.{LeavesUnderWay};
+    ghost use Rattle.ra_world.specs.Run.{IsRun, GoesOn};
+    ghost use Rattle.ra_world.specs.World.{with_move, HasCause, Reports};
+    ghost use Rattle.ra_world.specs.MainTheorem.{MainTheorem};
+    ghost use Rattle.ra_world.specs.Keeping.{Tries};
+
+    /// Makes a world of this many nodes, in which nothing has happened yet. The highest number of each resource begins at
+    /// `start`, 0 to 2^64-1. The cost is linear in the number of nodes.
+    ///
+    /// # Errors
+    ///
+    /// The first that holds:
+    ///
+    /// 1. `BadCount`: the number of nodes is not 1 to 16.
+    /// 2. `Memory`: there is no room for the nodes.
+    pub fn new(alloc: Global, nodes: u16, start: u64) -> Result<World, NewError>
+        ensures ok { IfOk result (λ world. world ≡ record { count = nodes; start = start; moves = [] }) }
+        ensures run { IfOk result (λ world. IsRun world.count world.start world.moves) }
+        ensures count { OnOk result (IsNodeNumber nodes) }
+        ensures bad_count { IsErrOf result NewError.BadCount ↔ (IsNodeNumber nodes → ⊥) }
+    {
+        kept_runs_go_on();
+        if NodeId::new(nodes).is_none() {
+            return Err(NewError::BadCount);
+        }
+        let opened = opening_nodes(alloc, nodes, start)?;
+        let under_way = Bag::new(alloc)?;
+        Ok(World {
+            start,
+            nodes: opened,
+            under_way,
+            log: Log::new(alloc),
+        })
+    }
+
+    /// Makes a step, and answers what came of it: the messages that it sent, which are under way then, and its marks. By a
+    /// loss nothing is sent or marked. The cost is that of the node's event and of taking a message from those under way, and
+    /// beside these amortized constant: the steps so far are not looked at.
+    ///
+    /// # Errors
+    ///
+    /// The first that holds, and the world is as before:
+    ///
+    /// 1. `NoNode`: an ask or a leave is at a node above the number of nodes.
+    /// 2. `NotUnderWay`: a message that is to be delivered or lost is not under way.
+    /// 3. `Node`: the node refuses an ask (`Busy`, `Exhausted`) or a leave (`NotHeld`).
+    /// 4. `Memory`: there is no room for what the step makes.
+    pub fn step(&mut self, alloc: Global, step: &Step) -> Result<Outcome, StepError>
+        ensures ok { IfOk result (λ outcome.
+            self.new ≡ with_move self.old step.now outcome.sends.items outcome.marks.items) }
+        ensures run { IsRun self.new.count self.new.start self.new.moves }
+        ensures refused { (cause : StepError) → cause ≢ StepError.Memory
+            → IsErrOf result cause ↔ HasCause self.old.count self.old.start self.old.moves step.now cause }
+        // Memory is the one other error.
+        ensures allowed { IsOkUnless result StepError.Memory
+            ↔ GoesOn self.old.count self.old.start self.old.moves step.now }
+        ensures err { OnErr result (self.new ≡ self.old) }
+    {
+        steps_have_one_cause();
+        // What holds before the step is that the steps so far are a run.
+        let _ = &self.start;
+        match *step {
+            Step::Ask {
+                node,
+                client,
+                name,
+                mode,
+            } => self.ask(alloc, node, client, name, mode),
+            Step::Leave { node, client, name } => self.leave(alloc, node, client, name),
+            Step::Deliver(message) => self.deliver(alloc, message),
+            Step::Lose(message) => self.lose(alloc, message),
+        }
+    }
+
+    /// Returns whether `step` would make this step, memory aside. It does not allocate. The cost is that of looking at the
+    /// node's resource or for the message among those under way.
+    pub fn accepts(&self, step: &Step) -> bool
+        ensures value { IsTrue result ↔ GoesOn self.now.count self.now.start self.now.moves step.now }
+        ensures run { IsRun self.now.count self.now.start self.now.moves }
+    {
+        kept_runs_go_on();
+        runs_go_on_where_steps_are_allowed();
+        match *step {
+            Step::Ask {
+                node,
+                client,
+                name,
+                ..
+            } => self.may_ask(node, client, &name),
+            Step::Leave { node, client, name } => self.may_leave(node, client, &name),
+            Step::Deliver(message) | Step::Lose(message) => self.under_way.contains(&message),
+        }
+    }
+
+    /// Returns the message under way at this place, counted from 0 in the order of sending, or `None` past the end.
+    /// It does not allocate.
+    pub fn message_at(&self, place: u64) -> Option<Message>
+        ensures value { (left : List Message) × LeavesUnderWay self.now.moves left
+            × (result ≡ slice_get left place) }
+        ensures run { IsRun self.now.count self.now.start self.now.moves }
+    {
+        self.under_way.at(place)
+    }
+
+    /// Returns how many messages are under way. It does not allocate.
+    pub fn under_way(&self) -> u64
+        ensures value { (left : List Message) × LeavesUnderWay self.now.moves left × (result ≡ length left) }
+        ensures run { IsRun self.now.count self.now.start self.now.moves }
+    {
+        self.under_way.len()
+    }
+
+    /// Returns how many steps were made. It does not allocate.
+    pub fn steps(&self) -> u64
+        ensures value { result ≡ length self.now.moves }
+        ensures run { IsRun self.now.count self.now.start self.now.moves }
+    {
+        self.log.len()
+    }
+
+    /// Reports what came of the steps so far. The cost is linear in the number of marks and of the names that the nodes have
+    /// met.
+    ///
+    /// # Errors
+    ///
+    /// `Memory`: there is no room for a copy of the marks.
+    pub fn report(&self, alloc: Global) -> Result<Report, Memory>
+        ensures ok { IfOk result (Reports self.now.count self.now.start self.now.moves) }
+        ensures run { IsRun self.now.count self.now.start self.now.moves }
+        ensures main_theorem { IfOk result (MainTheorem self.now.count) }
+    {
+        kept_runs_go_on();
+        reports_meet_the_main_theorem();
+        let marks = copy_of(alloc, self.log.marks())?;
+        // No more clients are queued than steps were made, so their count fits.
+        let _steps = self.log.len();
+        Ok(Report {
+            marks,
+            sent: u128::from(self.log.sent()),
+            requests: u128::from(self.log.requests()),
+            under_way: u128::from(self.under_way.len()),
+            lost: u128::from(self.log.lost()),
+            waiting: waiting_at(&self.nodes),
+            queued: queued_at(&self.nodes),
+        })
+    }
+
+    /// A client asks for a name at a node.
+    fn ask(
+        &mut self,
+        alloc: Global,
+        node: NodeId,
+        client: u32,
+        name: Name,
+        mode: Mode,
+    ) -> Result<Outcome, StepError>
+        ensures tried { Tries self.old (Step.Ask node client name mode) result self.new }
+        ensures run { IsRun self.new.count self.new.start self.new.moves }
+    {
+        kept_runs_go_on();
+        runs_go_on_where_steps_are_allowed();
+        events_keep_a_node_consistent();
+        let Some(place) = place_of(&self.nodes, node) else {
+            return Err(StepError::NoNode);
+        };
+        let asked = &self.nodes[place];
+        asked.may_ask(client, &name)?;
+        make_room(&mut self.under_way, &mut self.log, MAX_SENDS, MAX_MARKS)?;
+        let asked = &mut self.nodes[place];
+        let outcome = asked.ask(alloc, client, name, mode)?;
+        let step = Step::Ask {
+            node,
+            client,
+            name,
+            mode,
+        };
+        keep(&mut self.under_way, &mut self.log, step, &outcome);
+        Ok(outcome)
+    }
+
+    /// A client leaves a name at a node.
+    fn leave(
+        &mut self,
+        alloc: Global,
+        node: NodeId,
+        client: u32,
+        name: Name,
+    ) -> Result<Outcome, StepError>
+        ensures tried { Tries self.old (Step.Leave node client name) result self.new }
+        ensures run { IsRun self.new.count self.new.start self.new.moves }
+    {
+        kept_runs_go_on();
+        runs_go_on_where_steps_are_allowed();
+        events_keep_a_node_consistent();
+        let Some(place) = place_of(&self.nodes, node) else {
+            return Err(StepError::NoNode);
+        };
+        let left = &self.nodes[place];
+        if !is_held_by(left, client, &name) {
+            return Err(StepError::Node(NodeRefusal::NotHeld));
+        }
+        make_room(&mut self.under_way, &mut self.log, MAX_SENDS, MAX_MARKS)?;
+        let left = &mut self.nodes[place];
+        let outcome = left.leave(alloc, client, name)?;
+        keep(
+            &mut self.under_way,
+            &mut self.log,
+            Step::Leave { node, client, name },
+            &outcome,
+        );
+        Ok(outcome)
+    }
+
+    /// A message under way reaches its node.
+    fn deliver(&mut self, alloc: Global, message: Message) -> Result<Outcome, StepError>
+        ensures tried { Tries self.old (Step.Deliver message) result self.new }
+        ensures run { IsRun self.new.count self.new.start self.new.moves }
+    {
+        kept_runs_go_on();
+        runs_go_on_where_steps_are_allowed();
+        events_keep_a_node_consistent();
+        if !self.under_way.contains(&message) {
+            return Err(StepError::NotUnderWay);
+        }
+        // What is under way is for one of the nodes, so there is always a place.
+        let Some(place) = place_of(&self.nodes, message.to()) else {
+            return Err(StepError::NotUnderWay);
+        };
+        make_room(&mut self.under_way, &mut self.log, MAX_SENDS, MAX_MARKS)?;
+        let receiver = &mut self.nodes[place];
+        // What is under way is for its node and from another one, so only memory can be wanting.
+        let outcome = match receiver.receive(alloc, &message) {
+            Ok(outcome) => outcome,
+            Err(_) => return Err(StepError::Memory),
+        };
+        self.under_way.take(&message);
+        keep(
+            &mut self.under_way,
+            &mut self.log,
+            Step::Deliver(message),
+            &outcome,
+        );
+        Ok(outcome)
+    }
+
+    /// A message under way is lost.
+    fn lose(&mut self, alloc: Global, message: Message) -> Result<Outcome, StepError>
+        ensures tried { Tries self.old (Step.Lose message) result self.new }
+        ensures run { IsRun self.new.count self.new.start self.new.moves }
+    {
+        kept_runs_go_on();
+        runs_go_on_where_steps_are_allowed();
+        events_keep_a_node_consistent();
+        if !self.under_way.contains(&message) {
+            return Err(StepError::NotUnderWay);
+        }
+        make_room(&mut self.under_way, &mut self.log, 0, 0)?;
+        let outcome = nothing(alloc);
+        self.under_way.take(&message);
+        keep(
+            &mut self.under_way,
+            &mut self.log,
+            Step::Lose(message),
+            &outcome,
+        );
+        Ok(outcome)
+    }
+
+    /// Returns whether a client may ask for a name at a node.
+    fn may_ask(&self, node: NodeId, client: u32, name: &Name) -> bool
+        ensures value { (mode : Mode) → IsTrue result
+            ↔ GoesOn self.now.count self.now.start self.now.moves (Step.Ask node client name.now mode) }
+        ensures run { IsRun self.now.count self.now.start self.now.moves }
+    {
+        runs_go_on_where_steps_are_allowed();
+        match place_of(&self.nodes, node) {
+            Some(place) => self.nodes[place].may_ask(client, name).is_ok(),
+            None => false,
+        }
+    }
+
+    /// Returns whether a client may leave a name at a node.
+    fn may_leave(&self, node: NodeId, client: u32, name: &Name) -> bool
+        ensures value { IsTrue result
+            ↔ GoesOn self.now.count self.now.start self.now.moves (Step.Leave node client name.now) }
+        ensures run { IsRun self.now.count self.now.start self.now.moves }
+    {
+        runs_go_on_where_steps_are_allowed();
+        match place_of(&self.nodes, node) {
+            Some(place) => is_held_by(&self.nodes[place], client, name),
+            None => false,
+        }
+    }
+}
