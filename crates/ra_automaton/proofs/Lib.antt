@@ -1,4 +1,4 @@
-mod Opening
+pub mod Opening
 pub mod SlotLemmas
 mod Sent
 mod Marks

@@ -14,7 +14,7 @@ use Rattle.ra_node.specs.Events.Event.{Ask, Leave, Receive}
 use Rattle.ra_node.specs.Carried.{IsSend, IsMark, MarksLead}
 use Rattle.ra_node.proofs.Leading.{ask_leads, leave_leads, receive_leads}
 use Rattle.ra_node.proofs.Room.{ask_room, leave_turn_room, receive_room}
-use Rattle.ra_node.specs.Lookups.{resource_changed, entry_stays}
+use Rattle.ra_node.proofs.Lookups.{resource_changed, entry_stays}
 use Rattle.ra_node.proofs.Sends.{answers_are_sends}
 use Rattle.ra_node.proofs.Kept.{ask_sends, ask_marks, leave_sends, leave_marks, receive_marks}
 

@@ -15,7 +15,7 @@ use Rattle.ra_node.specs.Node.{NodeState, opening_node, resource_at, with_resour
 use Rattle.ra_node.specs.Events.{Event, name_of_event, NodeEvent, IsForThisNode}
 use Rattle.ra_node.specs.Events.Event.{Ask, Leave, Receive}
 use Rattle.ra_node.specs.Carried.{IsSend, IsMark, MarksLead, sends_at_most, marks_at_most}
-use Rattle.ra_node.specs.Lookups.{same_or_apart, nothing_met, resource_changed, entry_stays}
+use Rattle.ra_node.proofs.Lookups.{same_or_apart, nothing_met, resource_changed, entry_stays}
 use Rattle.ra_node.proofs.Opening.{unmet_is_consistent}
 use Rattle.ra_node.proofs.Kept.{ask_kept, leave_kept, receive_kept}
 use Rattle.ra_node.proofs.EventLemmas.{addressed, ask_event_room, leave_event_room, receive_event_room, ask_event_sends, leave_event_sends, receive_event_sends, ask_event_marks, leave_event_marks, receive_event_marks, ask_event_leads, leave_event_leads, receive_event_leads}

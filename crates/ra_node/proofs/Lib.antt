@@ -1,3 +1,5 @@
+pub mod Lookups
+pub mod Handed
 pub mod Uses
 pub mod Named
 pub mod Opening

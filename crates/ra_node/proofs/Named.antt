@@ -14,7 +14,7 @@ use Rattle.std.proofs.lemmas.List.Elements.{All-head, All-tail}
 use Rattle.std.proofs.lemmas.List.Sums.{sum_by-cons}
 use Rattle.ra_node.specs.Resource.{Resource}
 use Rattle.ra_node.specs.View.{named, AreApart}
-use Rattle.ra_node.specs.Lookups.{names-Decides, same_name, other_name}
+use Rattle.ra_node.proofs.Lookups.{names-Decides, same_name, other_name}
 
 abbrev cmp : List ℕ → List ℕ → Ordering
 cmp = slice_cmp nat_cmp

@@ -20,7 +20,7 @@ use Rattle.ra_automaton.specs.Steps.{others_of, RequestStep, LeaveStep, ReceiveS
 use Rattle.ra_node.specs.Resource.{Resource}
 use Rattle.ra_node.specs.Turns.{request_marks, next_entry, EntersBy, AsksAtOnce, AskTurn, LeaveTurn, ReceiveTurn}
 use Rattle.ra_node.proofs.Kept.{leave_keeps}
-use Rattle.ra_node.specs.Lookups.{true_of}
+use Rattle.ra_node.proofs.Lookups.{true_of}
 use Rattle.ra_node.proofs.Sends.{all_deferred}
 
 filter_is_shorter : (p : ℕ → Bool) (xs : List ℕ) → length (filter p xs) ≤ length xs

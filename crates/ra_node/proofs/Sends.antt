@@ -16,7 +16,7 @@ use Rattle.ra_automaton.proofs.Consistent.{not_me}
 use Rattle.ra_automaton.specs.State.{State, IsOther, IsAddressed, IsConsistent}
 use Rattle.ra_automaton.specs.Steps.{others_of, ReceiveStep}
 use Rattle.ra_node.specs.Carried.{IsSend}
-use Rattle.ra_node.specs.Lookups.{true_of}
+use Rattle.ra_node.proofs.Lookups.{true_of}
 
 -- a message of this node about this resource, with a number
 abbrev pub IsNumberedSend : State → Message → Type 0

@@ -26,7 +26,7 @@ pub enum Message {
 impl Message {
     ghost use Rattle.ra_stamp.specs.Message.{from_of, to_of, name_of, seq_of};
 
-    /// Returns the node that sends it.
+    /// Returns the node that sends it. It does not allocate.
     pub fn from(&self) -> NodeId
         ensures { result ≡ from_of self.now }
     {
@@ -35,7 +35,7 @@ impl Message {
         }
     }
 
-    /// Returns the node that it is for.
+    /// Returns the node that it is for. It does not allocate.
     pub fn to(&self) -> NodeId
         ensures { result ≡ to_of self.now }
     {
@@ -44,7 +44,7 @@ impl Message {
         }
     }
 
-    /// Returns the resource that it is about.
+    /// Returns the resource that it is about. It does not allocate.
     pub fn name(&self) -> Name
         ensures { result ≡ name_of self.now }
     {
@@ -53,7 +53,7 @@ impl Message {
         }
     }
 
-    /// Returns the number of the request that it is, or that it answers.
+    /// Returns the number of the request that it is, or that it answers. It does not allocate.
     pub fn seq(&self) -> u64
         ensures { result ≡ seq_of self.now }
     {

@@ -103,7 +103,7 @@ impl Name {
         Ok(Name { bytes: padded, len })
     }
 
-    /// Returns its bytes.
+    /// Returns its bytes. It does not allocate.
     pub fn bytes(&self) -> &[u8]
         ensures value { result.now ≡ self.now }
         ensures valid { IsName result.now }

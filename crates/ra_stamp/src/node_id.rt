@@ -36,7 +36,7 @@ impl NodeId {
         }
     }
 
-    /// Returns the number, 1 to 16.
+    /// Returns the number, 1 to 16. It does not allocate.
     pub fn get(self) -> u16
         ensures value { result ≡ self }
         ensures valid { IsNodeNumber result }

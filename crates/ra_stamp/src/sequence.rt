@@ -30,21 +30,21 @@ impl<T: Copy> Sequence<T> {
         }
     }
 
-    /// Returns how many items there are.
+    /// Returns how many items there are. It does not allocate.
     pub fn len(&self) -> u64
         ensures { result ≡ length self.now.items }
     {
         self.items.len() as u64
     }
 
-    /// Returns the item at this place, counted from 0, or `None` past the end.
+    /// Returns the item at this place, counted from 0, or `None` past the end. It does not allocate.
     pub fn at(&self, place: u64) -> Option<T>
         ensures { result ≡ slice_get self.now.items place }
     {
         self.items.get(place as usize).copied()
     }
 
-    /// Returns the items in their order.
+    /// Returns the items in their order. It does not allocate.
     pub fn as_slice(&self) -> &[T]
         ensures { result.now ≡ self.now.items }
     {

@@ -18,7 +18,7 @@ use Rattle.ra_automaton.specs.State.{State}
 use Rattle.ra_automaton.specs.Steps.{others_of, later_of, RequestStep, LeaveStep}
 use Rattle.ra_bag.specs.Bag.{TakesFirst}
 use Rattle.ra_node.specs.Resource.{Resource}
-use Rattle.ra_node.specs.Handed.{handed_step, handed_marks}
+use Rattle.ra_node.proofs.Handed.{handed_step, handed_marks}
 use Rattle.ra_node.specs.Turns.{request_marks, next_entry, EntersBy, AskTurn, LeaveTurn, ReceiveTurn}
 use Rattle.ra_world.specs.Quiet.{requests_in}
 use Rattle.ra_automaton.proofs.SlotLemmas.{cases_same}

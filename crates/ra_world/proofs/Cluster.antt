@@ -21,13 +21,13 @@ use Rattle.ra_automaton.specs.Steps.{RequestStep, ReceiveStep, LeaveStep, LeaveA
 use Rattle.ra_bag.specs.Bag.{TakesFirst}
 use Rattle.ra_node.specs.Resource.{Resource, unmet, Use, use_of}
 use Rattle.ra_node.specs.Resource.Use.{Nobody, HoldsBy}
-use Rattle.ra_node.specs.Handed.{handed_step, handed_marks}
+use Rattle.ra_node.proofs.Handed.{handed_step, handed_marks}
 use Rattle.ra_node.specs.Turns.{request_marks, next_entry, EntersBy, AskTurn, LeaveTurn, ReceiveTurn}
 use Rattle.ra_node.specs.Node.{NodeState, resource_at, with_resource, IsConsistentNode}
 use Rattle.ra_node.specs.Carried.{IsSend, MarksLead}
 use Rattle.ra_table.specs.Table.{LockTable, TableSteps}
 use Rattle.ra_automaton.proofs.SlotLemmas.{cases_same}
-use Rattle.ra_node.specs.Lookups.{same_or_apart, resource_changed}
+use Rattle.ra_node.proofs.Lookups.{same_or_apart, resource_changed}
 use Rattle.ra_world.proofs.Lists.{filter_left, All-taken}
 use Rattle.ra_world.proofs.Dialogs.{belongs, between, IsOf, belongs_not, between_none}
 use Rattle.ra_world.proofs.Protocol.{IsNode, IsPlaced, Protocol, Changes}

@@ -14,12 +14,12 @@ use Rattle.ra_automaton.specs.State.{State, IsForNode}
 use Rattle.ra_automaton.specs.Steps.{RequestStep, LeaveStep, LeaveAndRequestStep, ReceiveStep}
 use Rattle.ra_bag.specs.Bag.{TakesFirst}
 use Rattle.ra_node.specs.Resource.{Resource}
-use Rattle.ra_node.specs.Handed.{handed_step}
+use Rattle.ra_node.proofs.Handed.{handed_step}
 use Rattle.ra_node.specs.Turns.{AskTurn, LeaveTurn, ReceiveTurn}
 use Rattle.ra_node.specs.Node.{NodeState, resource_at}
 use Rattle.ra_node.specs.Carried.{IsSend}
 use Rattle.ra_automaton.proofs.SlotLemmas.{cases_same}
-use Rattle.ra_node.specs.Lookups.{same_or_apart}
+use Rattle.ra_node.proofs.Lookups.{same_or_apart}
 use Rattle.ra_world.proofs.Dialogs.{between, IsOf, between_none}
 use Rattle.ra_world.proofs.Protocol.{IsNode, IsPlaced, Protocol}
 use Rattle.ra_world.proofs.Asking.{none_between}

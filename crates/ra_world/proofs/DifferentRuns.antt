@@ -22,7 +22,7 @@ use Rattle.ra_world.specs.Traffic.{Move, sent_by, taken_in, TakesEach, IsUnderWa
 use Rattle.ra_world.specs.Run.{events_at, happened_at, IsFit, IsRun}
 use Rattle.ra_world.proofs.Dialogs.{belongs, between, asker_of, answerer_of, belongs_here}
 use Rattle.ra_world.proofs.Protocol.{IsNode}
-use Rattle.ra_node.specs.Lookups.{resource_changed}
+use Rattle.ra_node.proofs.Lookups.{resource_changed}
 use Rattle.ra_world.proofs.Moves.{may_lose_all, sent_more, happens, happened_more, fits_split, at_node, only_at}
 use Rattle.ra_world.proofs.Reached.{Reached, under_way_more, one_list, was_under_way}
 use Rattle.ra_world.proofs.Runs.{fronts, every_run}

@@ -13,7 +13,7 @@ use Rattle.ra_stamp.specs.declared.entry.Mark.{Mark}
 use Rattle.ra_stamp.specs.Message.{seq_of}
 use Rattle.ra_stamp.specs.NodeId.{IsNodeNumber}
 use Rattle.ra_bag.specs.Bag.{TakesFirst}
-use Rattle.ra_node.specs.Lookups.{nothing_met, resource_changed}
+use Rattle.ra_node.proofs.Lookups.{nothing_met, resource_changed}
 use Rattle.ra_node.specs.Resource.{Resource, unmet, use_of, waiting_at}
 use Rattle.ra_node.specs.Node.{NodeState, opening_node, resource_at, with_resource, waiting_count}
 use Rattle.ra_node.specs.Events.{Event, Happening, name_of_event, NodeEvent, NodeEvents, IsForThisNode}

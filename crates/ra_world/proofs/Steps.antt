@@ -27,7 +27,7 @@ use Rattle.ra_world.proofs.Dialogs.{belongs, between, belongs_at}
 use Rattle.ra_world.proofs.Receiving.{was_asked}
 use Rattle.ra_world.proofs.Balance.{is_request, asking_both, ask_balanced, leave_balanced, receive_balanced}
 use Rattle.ra_world.proofs.Protocol.{IsNode, Protocol}
-use Rattle.ra_node.specs.Lookups.{resource_changed}
+use Rattle.ra_node.proofs.Lookups.{resource_changed}
 use Rattle.ra_world.proofs.Cluster.{states, asked, left, received, lost}
 use Rattle.ra_world.proofs.Nodes.{EndsAt, left_alone}
 use Rattle.ra_world.proofs.Reached.{Reached, under_way_more, was_under_way, event_happened, went, leads, reached}

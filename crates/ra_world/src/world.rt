@@ -91,6 +91,7 @@ impl World {
         ensures ok { IfOk result (λ outcome.
             self.new ≡ with_move self.old step.now outcome.sends.items outcome.marks.items) }
         ensures run { IsRun self.new.count self.new.start self.new.moves }
+        ensures count { IsNodeNumber self.new.count }
         ensures refused { (cause : StepError) → cause ≢ StepError.Memory
             → IsErrOf result cause ↔ HasCause self.old.count self.old.start self.old.moves step.now cause }
         // Memory is the one other error.
@@ -119,6 +120,7 @@ impl World {
     pub fn accepts(&self, step: &Step) -> bool
         ensures value { IsTrue result ↔ GoesOn self.now.count self.now.start self.now.moves step.now }
         ensures run { IsRun self.now.count self.now.start self.now.moves }
+        ensures count { IsNodeNumber self.now.count }
     {
         kept_runs_go_on();
         runs_go_on_where_steps_are_allowed();
@@ -140,6 +142,7 @@ impl World {
         ensures value { (left : List Message) × LeavesUnderWay self.now.moves left
             × (result ≡ slice_get left place) }
         ensures run { IsRun self.now.count self.now.start self.now.moves }
+        ensures count { IsNodeNumber self.now.count }
     {
         self.under_way.at(place)
     }
@@ -148,6 +151,7 @@ impl World {
     pub fn under_way(&self) -> u64
         ensures value { (left : List Message) × LeavesUnderWay self.now.moves left × (result ≡ length left) }
         ensures run { IsRun self.now.count self.now.start self.now.moves }
+        ensures count { IsNodeNumber self.now.count }
     {
         self.under_way.len()
     }
@@ -156,6 +160,7 @@ impl World {
     pub fn steps(&self) -> u64
         ensures value { result ≡ length self.now.moves }
         ensures run { IsRun self.now.count self.now.start self.now.moves }
+        ensures count { IsNodeNumber self.now.count }
     {
         self.log.len()
     }
@@ -169,6 +174,7 @@ impl World {
     pub fn report(&self, alloc: Global) -> Result<Report, Memory>
         ensures ok { IfOk result (Reports self.now.count self.now.start self.now.moves) }
         ensures run { IsRun self.now.count self.now.start self.now.moves }
+        ensures count { IsNodeNumber self.now.count }
         ensures main_theorem { IfOk result (MainTheorem self.now.count) }
     {
         kept_runs_go_on();
@@ -198,6 +204,7 @@ impl World {
     ) -> Result<Outcome, StepError>
         ensures tried { Tries self.old (Step.Ask node client name mode) result self.new }
         ensures run { IsRun self.new.count self.new.start self.new.moves }
+        ensures count { IsNodeNumber self.new.count }
     {
         kept_runs_go_on();
         runs_go_on_where_steps_are_allowed();
@@ -230,6 +237,7 @@ impl World {
     ) -> Result<Outcome, StepError>
         ensures tried { Tries self.old (Step.Leave node client name) result self.new }
         ensures run { IsRun self.new.count self.new.start self.new.moves }
+        ensures count { IsNodeNumber self.new.count }
     {
         kept_runs_go_on();
         runs_go_on_where_steps_are_allowed();
@@ -257,6 +265,7 @@ impl World {
     fn deliver(&mut self, alloc: Global, message: Message) -> Result<Outcome, StepError>
         ensures tried { Tries self.old (Step.Deliver message) result self.new }
         ensures run { IsRun self.new.count self.new.start self.new.moves }
+        ensures count { IsNodeNumber self.new.count }
     {
         kept_runs_go_on();
         runs_go_on_where_steps_are_allowed();
@@ -289,6 +298,7 @@ impl World {
     fn lose(&mut self, alloc: Global, message: Message) -> Result<Outcome, StepError>
         ensures tried { Tries self.old (Step.Lose message) result self.new }
         ensures run { IsRun self.new.count self.new.start self.new.moves }
+        ensures count { IsNodeNumber self.new.count }
     {
         kept_runs_go_on();
         runs_go_on_where_steps_are_allowed();
@@ -313,6 +323,7 @@ impl World {
         ensures value { (mode : Mode) → IsTrue result
             ↔ GoesOn self.now.count self.now.start self.now.moves (Step.Ask node client name.now mode) }
         ensures run { IsRun self.now.count self.now.start self.now.moves }
+        ensures count { IsNodeNumber self.now.count }
     {
         runs_go_on_where_steps_are_allowed();
         match place_of(&self.nodes, node) {
@@ -326,6 +337,7 @@ impl World {
         ensures value { IsTrue result
             ↔ GoesOn self.now.count self.now.start self.now.moves (Step.Leave node client name.now) }
         ensures run { IsRun self.now.count self.now.start self.now.moves }
+        ensures count { IsNodeNumber self.now.count }
     {
         runs_go_on_where_steps_are_allowed();
         match place_of(&self.nodes, node) {
