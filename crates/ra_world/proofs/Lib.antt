@@ -14,7 +14,7 @@ mod Counting
 mod Blocked
 mod Balance
 mod Counted
-mod Moves
+pub mod Moves
 mod Nodes
 mod Reached
 mod Steps
@@ -36,3 +36,5 @@ mod Trying
 mod Tried
 mod Worlds
 mod Refusing
+mod NameText
+mod Written

@@ -7,3 +7,5 @@ pub mod MainTheorem
 pub mod Log
 pub mod Keeping
 pub mod Refused
+pub mod Lines
+pub mod Input

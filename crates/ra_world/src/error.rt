@@ -2,9 +2,11 @@ ghost use Rattle.std.specs.Prelude.{◌≡◌};
 ghost use Rattle.ra_world.specs.declared.error.NewError.TheVariants as new;
 ghost use Rattle.ra_world.specs.declared.error.StepError.TheVariants as step;
 ghost use Rattle.ra_world.specs.declared.error.RunError.TheVariants as run;
+ghost use Rattle.ra_world.specs.declared.error.ReadFault.TheVariants as read;
 
 use ra_node::{AskError, LeaveError};
 use ra_stamp::Memory;
+use std::alloc::{AllocError, AllocFailed};
 use thiserror::Error;
 
 /// Why there is no world.
@@ -66,6 +68,38 @@ pub enum RunError {
     /// Memory ran out.
     #[error("Memory")]
     Memory,
+}
+
+/// Why an input was not read.
+#[derive(Clone, Copy, Debug, PartialEq, Eq, Error)]
+pub enum ReadFault {
+    /// The reader failed.
+    #[error("Read")]
+    Read,
+    /// Memory ran out.
+    #[error("Memory")]
+    Memory,
+}
+
+/// The writer failed, or took nothing.
+#[derive(Clone, Copy, Debug, PartialEq, Eq, Error)]
+#[error("Write")]
+pub struct WriteFault;
+
+impl From<AllocError> for ReadFault {
+    ghost from_gives = { λ _ e. e ≡ read.Memory };
+
+    fn from(_refused: AllocError) -> ReadFault {
+        ReadFault::Memory
+    }
+}
+
+impl<T: Drop> From<AllocFailed<T>> for ReadFault {
+    ghost from_gives = { λ _ e. e ≡ read.Memory };
+
+    fn from(_refused: AllocFailed<T>) -> ReadFault {
+        ReadFault::Memory
+    }
 }
 
 impl From<Memory> for NewError {

@@ -1,17 +1,22 @@
-//! What a run of the cluster is, what holds of every run, and a cluster in one thread that makes such runs.
+//! What a run of the cluster is, what holds of every run, and a cluster in one thread that makes such runs. Also the lines in
+//! which its report is printed, and how bytes are read and written.
 #![tactic(auto)]
 
 mod error;
+mod input;
 mod keeping;
 mod laws;
+mod lines;
 mod log;
 mod numbering;
+mod output;
 mod report;
 mod running;
 mod step;
 mod world;
 
-pub use error::{NewError, NodeRefusal, RunError, StepError};
+pub use error::{NewError, NodeRefusal, ReadFault, RunError, StepError, WriteFault};
+pub use input::read_up_to;
 pub use laws::{
     fronts_of_runs_are_runs, marks_of_runs_are_table_runs, messages_of_runs_are_different,
     messages_under_way_are_between_nodes, no_delivered_reply_is_a_stray,
@@ -19,6 +24,8 @@ pub use laws::{
     runs_go_on_by_events, runs_go_on_where_steps_are_allowed, two_nodes_never_hold_in_conflict,
     waiting_requests_are_blocked_in_quiet_runs,
 };
+pub use lines::{mark_line, report_text};
+pub use output::write_out;
 pub use report::Report;
 pub use running::run;
 pub use step::{Step, Steps};

@@ -1,6 +1,8 @@
 use super::*;
-use ra_stamp::{Marks, Message, Mode, Name, NodeId};
+use ra_stamp::{Entry, Mark, Marks, Message, Mode, Name, NodeId, Stamp};
 use std::alloc::Global;
+use std::io;
+use std::io::{Read, Write};
 use std::test::*;
 
 fn id(number: u16) -> Result<NodeId, &'static str> {
@@ -383,5 +385,190 @@ fn refusals_are_printed_as_their_words(rt: HostRuntime) -> Result<(), Fail> {
     ] {
         assert_eq!(rt; format!(in alloc; "{bad}")?.as_str(), word);
     }
+    Ok(())
+}
+
+#[test]
+fn a_report_is_printed_as_its_lines(rt: HostRuntime) -> Result<(), Fail> {
+    let acts = [Ask(1, 1, b'r'), Deliver(2), Leave(1, 1, b'r')];
+    let report = played(rt.alloc(), 2, 0, &acts)?.report(rt.alloc())?;
+    let printed = "request 1 1 r X 1
+enter 1 1 r X 1
+leave 1 1 r X 1
+requests 1
+messages 2
+under-way 0
+lost 0
+waiting 0
+queued 0
+";
+    assert_eq!(rt; report_text(rt.alloc(), &report)?.as_str(), printed);
+    Ok(())
+}
+
+#[test]
+fn the_greatest_numbers_are_printed(rt: HostRuntime) -> Result<(), Fail> {
+    let mark = Mark::Requested(Entry {
+        name: Name::new(b"abcdefghijklmnopqrstuvwxyzABCDEF")?,
+        stamp: Stamp {
+            seq: 18446744073709551615,
+            node: id(16)?,
+        },
+        client: 4294967295,
+        mode: Mode::Shared,
+    });
+    assert_eq!(rt;
+        mark_line(rt.alloc(), &mark)?.as_str(),
+        "request 16 4294967295 abcdefghijklmnopqrstuvwxyzABCDEF S 18446744073709551615\n"
+    );
+    Ok(())
+}
+
+/// Faults that other readers and writers would try again, and one that they would not.
+const FAULTS: [io::ErrorKind; 3] = [
+    io::ErrorKind::Interrupted,
+    io::ErrorKind::WouldBlock,
+    io::ErrorKind::BrokenPipe,
+];
+
+/// Gives one byte at a time. After so many reads it fails once, and then goes on.
+#[derive(Drop)]
+struct FailingReader<'a> {
+    bytes: &'a [u8],
+    before_fault: Option<usize>,
+    fault: io::ErrorKind,
+}
+
+impl Read for FailingReader<'_> {
+    fn read(&mut self, buf: &mut [u8]) -> io::Result<usize> {
+        match self.before_fault {
+            Some(0) => {
+                self.before_fault = None;
+                return Err(self.fault.into());
+            }
+            Some(reads) => self.before_fault = Some(reads - 1),
+            None => {}
+        }
+        if self.bytes.is_empty() || buf.is_empty() {
+            return Ok(0);
+        }
+        buf[0] = self.bytes[0];
+        self.bytes = &self.bytes[1..];
+        Ok(1)
+    }
+}
+
+#[test]
+fn a_reader_that_failed_is_not_tried_again(rt: HostRuntime) -> Result<(), Fail> {
+    let bytes = b"abc".as_slice();
+    for fault in FAULTS {
+        for before_fault in 0..=3 {
+            let mut reader = FailingReader {
+                bytes,
+                before_fault: Some(before_fault),
+                fault,
+            };
+            let read = read_up_to(rt.alloc(), &mut reader, 4);
+            assert_eq!(rt; read.err(), Some(ReadFault::Read));
+            assert_eq!(rt; Some(reader.bytes), bytes.get(before_fault..));
+        }
+    }
+    Ok(())
+}
+
+#[test]
+fn nothing_is_read_behind_the_limit(rt: HostRuntime) -> Result<(), Fail> {
+    let bytes = b"abc".as_slice();
+    for limit in 0..=3 {
+        let mut reader = FailingReader {
+            bytes,
+            before_fault: Some(limit),
+            fault: io::ErrorKind::BrokenPipe,
+        };
+        let read = read_up_to(rt.alloc(), &mut reader, limit)?;
+        assert_eq!(rt; Some(read.as_slice()), bytes.get(..limit));
+    }
+    Ok(())
+}
+
+#[test]
+fn the_limit_may_be_more_than_there_is_room_for(rt: HostRuntime) -> Result<(), Fail> {
+    let bytes = [b'a'; 10_000];
+    let mut reader = bytes.as_slice();
+    let read = read_up_to(rt.alloc(), &mut reader, usize::MAX)?;
+    assert_eq!(rt; read.as_slice(), bytes.as_slice());
+    Ok(())
+}
+
+/// Takes one byte at a time. After so many writes it fails once, or takes nothing once where there is no fault, and
+/// then goes on.
+#[derive(Drop)]
+struct FailingWriter {
+    taken: Vec<u8>,
+    before_fault: usize,
+    fault: Option<io::ErrorKind>,
+    failed: bool,
+}
+
+impl Write for FailingWriter {
+    fn write(&mut self, buf: &[u8]) -> io::Result<usize> {
+        if self.taken.len() == self.before_fault && !self.failed {
+            self.failed = true;
+            return match self.fault {
+                Some(kind) => Err(kind.into()),
+                None => Ok(0),
+            };
+        }
+        if buf.is_empty() {
+            return Ok(0);
+        }
+        self.taken.push(buf[0])?;
+        Ok(1)
+    }
+
+    fn flush(&mut self) -> io::Result<()> {
+        Ok(())
+    }
+}
+
+/// What comes of writing `abc` to such a writer, and what it has taken.
+fn write_abc(
+    alloc: Global,
+    before_fault: usize,
+    fault: Option<io::ErrorKind>,
+) -> (Result<(), WriteFault>, Vec<u8>) {
+    let mut writer = FailingWriter {
+        taken: Vec::new(alloc),
+        before_fault,
+        fault,
+        failed: false,
+    };
+    let written = write_out(&mut writer, b"abc");
+    (written, writer.taken)
+}
+
+#[test]
+fn a_writer_that_failed_is_not_tried_again(rt: HostRuntime) -> Result<(), Fail> {
+    let [first, second, third] = FAULTS;
+    for fault in [Some(first), Some(second), Some(third), None] {
+        for before_fault in 0..3 {
+            let (written, taken) = write_abc(rt.alloc(), before_fault, fault);
+            assert_eq!(rt; written, Err(WriteFault));
+            assert_eq!(rt; Some(taken.as_slice()), b"abc".get(..before_fault));
+        }
+        let (written, taken) = write_abc(rt.alloc(), 3, fault);
+        assert_eq!(rt; written, Ok(()));
+        assert_eq!(rt; taken.as_slice(), b"abc".as_slice());
+    }
+    Ok(())
+}
+
+#[test]
+fn faults_are_printed_as_their_words(rt: HostRuntime) -> Result<(), Fail> {
+    let alloc = rt.alloc();
+    for (fault, word) in [(ReadFault::Read, "Read"), (ReadFault::Memory, "Memory")] {
+        assert_eq!(rt; format!(in alloc; "{fault}")?.as_str(), word);
+    }
+    assert_eq!(rt; format!(in alloc; "{WriteFault}")?.as_str(), "Write");
     Ok(())
 }

@@ -1,0 +1,9 @@
+-- Bytes of which a front was written.
+use Rattle.std.proofs.Common.{◌≡◌, ℕ, ◌-◌, List, ◌++◌, length, take, drop, sym, ap, ◌∙◌, append_assoc}
+use Rattle.std.proofs.lemmas.List.{take-append-drop, take_rest}
+
+-- a list whose end is cut again
+pub cut_again : (bytes front rest : List ℕ) (n : ℕ) → bytes ≡ front ++ rest → bytes ≡ (front ++ take n rest) ++ take (length rest - n) (drop n rest)
+cut_again bytes front rest n e =
+    e ∙ (ap (λ (xs : List ℕ). front ++ xs) (sym (take-append-drop n rest)) ∙ (sym (append_assoc front (take n rest) (drop n rest))
+    ∙ ap (λ (xs : List ℕ). (front ++ take n rest) ++ xs) (sym (take_rest rest n))))

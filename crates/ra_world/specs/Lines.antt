@@ -1,0 +1,44 @@
+-- The printed lines of a report. A line is words with one space between two, and a line feed at its end. Numbers are decimal,
+-- with no zero in front.
+use Rattle.std.specs.Prelude.{ℕ, List, ◌++◌, codes, decimal, flat_map}
+use Rattle.ra_stamp.specs.declared.mode.Mode.{Mode}
+use Rattle.ra_stamp.specs.declared.mode.Mode.TheVariants.{Shared, Exclusive}
+use Rattle.ra_stamp.specs.declared.entry.Entry.{Entry}
+use Rattle.ra_stamp.specs.declared.entry.Mark.{Mark}
+use Rattle.ra_stamp.specs.declared.entry.Mark.TheVariants.{Requested, Entered, Left}
+use Rattle.ra_world.specs.declared.report.Report.{Report}
+
+abbrev pub mode_letter : Mode → List ℕ
+mode_letter Shared = codes "S"
+mode_letter Exclusive = codes "X"
+
+-- what stands behind the first word of a line, with the space before it
+abbrev pub field : List ℕ → List ℕ
+field text = codes " " ++ text
+
+-- node, client, name, mode and number
+abbrev pub entry_fields : Entry → List ℕ
+entry_fields entry =
+    field (decimal entry.stamp.node) ++ field (decimal entry.client) ++ field entry.name ++ field (mode_letter entry.mode)
+    ++ field (decimal entry.stamp.seq)
+
+abbrev pub mark_line : Mark → List ℕ
+mark_line (Requested entry) = codes "request" ++ entry_fields entry ++ codes "\n"
+mark_line (Entered entry) = codes "enter" ++ entry_fields entry ++ codes "\n"
+mark_line (Left entry) = codes "leave" ++ entry_fields entry ++ codes "\n"
+
+abbrev pub total_line : List ℕ → ℕ → List ℕ
+total_line word total = word ++ field (decimal total) ++ codes "\n"
+
+abbrev pub total_lines : Report → List ℕ
+total_lines report =
+    total_line (codes "requests") report.requests
+    ++ total_line (codes "messages") report.sent
+    ++ total_line (codes "under-way") report.under_way
+    ++ total_line (codes "lost") report.lost
+    ++ total_line (codes "waiting") report.waiting
+    ++ total_line (codes "queued") report.queued
+
+-- a line for each mark, in order, and then those of the six totals
+abbrev pub report_text : Report → List ℕ
+report_text report = flat_map mark_line report.marks.items ++ total_lines report

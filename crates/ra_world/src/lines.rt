@@ -1,0 +1,119 @@
+ghost use Rattle.std.specs.Prelude.{◌≡◌, ◌++◌, string_bytes, IfOk, OnOk};
+ghost use Rattle.ra_world.specs.Lines as spec;
+
+use crate::Report;
+use itoa::{Buffer, Integer};
+use ra_stamp::{Entry, Mark, Memory, Mode, Name};
+use std::alloc::Global;
+
+/// Returns the text of a name. It does not allocate.
+#[tactic(auto, using(crate::proofs::NameText::name_is_utf8))]
+fn text_of(name: &Name) -> &str
+    ensures { result.now ≡ name.now }
+{
+    str::from_utf8(name.bytes()).unwrap()
+}
+
+/// Returns the letter of a mode. It does not allocate.
+fn letter_of(mode: Mode) -> &'static str
+    ensures { result.now ≡ spec.mode_letter mode }
+{
+    match mode {
+        Mode::Shared => "S",
+        Mode::Exclusive => "X",
+    }
+}
+
+/// Adds a field that is text.
+fn push_field(text: &mut String, field: &str) -> Result<(), Memory>
+    ensures { OnOk result (string_bytes text.new ≡ string_bytes text.old ++ spec.field field.now) }
+{
+    text.push_str(" ")?;
+    text.push_str(field)?;
+    Ok(())
+}
+
+/// Adds a field that is a number.
+fn push_number<I: Integer>(text: &mut String, number: I) -> Result<(), Memory>
+    ensures { OnOk result (string_bytes text.new ≡ string_bytes text.old ++ spec.field (I.text number)) }
+{
+    push_field(text, Buffer::new().format(number))
+}
+
+/// Adds the fields of an entry.
+fn push_entry(text: &mut String, entry: &Entry) -> Result<(), Memory>
+    ensures { OnOk result (string_bytes text.new ≡ string_bytes text.old ++ spec.entry_fields entry.now) }
+{
+    push_number(text, entry.stamp.node.get())?;
+    push_number(text, entry.client)?;
+    push_field(text, text_of(&entry.name))?;
+    push_field(text, letter_of(entry.mode))?;
+    push_number(text, entry.stamp.seq)
+}
+
+/// Adds the line of a mark.
+fn push_mark_line(text: &mut String, mark: &Mark) -> Result<(), Memory>
+    ensures { OnOk result (string_bytes text.new ≡ string_bytes text.old ++ spec.mark_line mark.now) }
+{
+    let (word, entry) = match mark {
+        Mark::Requested(entry) => ("request", entry),
+        Mark::Entered(entry) => ("enter", entry),
+        Mark::Left(entry) => ("leave", entry),
+    };
+    text.push_str(word)?;
+    push_entry(text, entry)?;
+    text.push_str("\n")?;
+    Ok(())
+}
+
+/// Adds the line of a total.
+fn push_total_line(text: &mut String, word: &str, total: u128) -> Result<(), Memory>
+    ensures { OnOk result (string_bytes text.new ≡ string_bytes text.old ++ spec.total_line word.now total) }
+{
+    text.push_str(word)?;
+    push_number(text, total)?;
+    text.push_str("\n")?;
+    Ok(())
+}
+
+/// Adds the lines of the totals.
+fn push_totals(text: &mut String, report: &Report) -> Result<(), Memory>
+    ensures { OnOk result (string_bytes text.new ≡ string_bytes text.old ++ spec.total_lines report.now) }
+{
+    push_total_line(text, "requests", report.requests)?;
+    push_total_line(text, "messages", report.sent)?;
+    push_total_line(text, "under-way", report.under_way)?;
+    push_total_line(text, "lost", report.lost)?;
+    push_total_line(text, "waiting", report.waiting)?;
+    push_total_line(text, "queued", report.queued)
+}
+
+/// Returns the line of a mark, its line feed at the end, in time linear in it.
+///
+/// # Errors
+///
+/// `Memory`: there is none for the line.
+pub fn mark_line(alloc: Global, mark: &Mark) -> Result<String, Memory>
+    ensures { IfOk result (λ line. string_bytes line ≡ spec.mark_line mark.now) }
+{
+    let mut line = String::new(alloc);
+    push_mark_line(&mut line, mark)?;
+    Ok(line)
+}
+
+/// Returns the lines of a report: one for each mark, in order, and then those of the six totals. The cost is linear in
+/// the text.
+///
+/// # Errors
+///
+/// `Memory`: there is none for the text.
+pub fn report_text(alloc: Global, report: &Report) -> Result<String, Memory>
+    ensures { IfOk result (λ text. string_bytes text ≡ spec.report_text report.now) }
+{
+    let mut text = String::new(alloc);
+    for mark in report.marks.as_slice() {
+        push_mark_line(&mut text, mark)?;
+    }
+    push_totals(&mut text, report)?;
+    Ok(text)
+}
