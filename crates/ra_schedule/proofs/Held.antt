@@ -1,0 +1,71 @@
+-- Which names a client has after its operations.
+use Rattle.std.proofs.Common.{◌≡◌, ◌≢◌, ◌+◌, ◌<◌, ℕ, Bool, List, [], ◌∷◌, ◌++◌, length, get_or, take, All, refl, sym, ap, ◌∙◌, subst, inl, inr, append_assoc}
+use Rattle.std.specs.Prelude.{◌⊎◌, ◌↔◌, IsTrue}
+use Rattle.std.proofs.lemmas.List.{same_from_push, take_at, take_more}
+use Rattle.std.proofs.lemmas.List.Elements.{All-nil, All-push, All-take, All-same, All-contains, Contains-push}
+use Rattle.ra_stamp.specs.declared.mode.Mode.{Mode}
+use Rattle.ra_schedule.specs.declared.script.Op.{Op}
+use Rattle.ra_schedule.specs.declared.script.Op.TheVariants.{Lock, Unlock}
+use Rattle.ra_schedule.specs.Script.{IsHeldAfter, IsHeldThen}
+
+-- a list is empty, or it has a last element
+pub ends : {X : Type 0} (xs : List X) → (xs ≡ []) ⊎ ((front : List X) × (last : X) × (xs ≡ front ++ last ∷ []))
+ends [] = inl refl
+ends (x ∷ xs) =
+    elim (ends xs) [
+      | inl e ↦ inr ([], x, ap (λ ys. x ∷ ys) e)
+      | inr w ↦ inr (x ∷ w.0, w.1, ap (λ ys. x ∷ ys) w.2)
+    ]
+
+-- what stands before the last element, where a list is split at an earlier one
+pub before_last : {X : Type 0} (xs before front : List X) (x y last : X) → xs ++ x ∷ [] ≡ before ++ y ∷ (front ++ last ∷ []) → (xs ≡ before ++ y ∷ front) × (x ≡ last)
+before_last xs before front x y last e = same_from_push xs (before ++ y ∷ front) x last (e ∙ sym (append_assoc before (y ∷ front) (last ∷ [])))
+
+-- where the operations are split at the lock of the name
+held_by_split : (ops before after : List Op) (op : Op) (name : List ℕ) (mode : Mode) → ops ++ op ∷ [] ≡ before ++ Lock name mode ∷ after → All (λ o. o ≢ Unlock name) after → IsHeldThen (IsHeldAfter ops name) op name
+held_by_split ops before after op name mode e none =
+    elim (ends after) [
+      | inl empty ↦ inl (mode, (same_from_push ops before op (Lock name mode) (e ∙ ap (λ xs. before ++ Lock name mode ∷ xs) empty)).1)
+      | inr w ↦
+          let front = w.0 in
+          let last = w.1 in
+          let P = λ (o : Op). o ≢ Unlock name in
+          let is = before_last ops before front op (Lock name mode) last (e ∙ ap (λ xs. before ++ Lock name mode ∷ xs) w.2) in
+          let all : All P (front ++ last ∷ []) = All-same P (front ++ last ∷ []) after (sym w.2) none in
+          let in-front : All P front = All-same P front _ (sym (take_at front (last ∷ []) (length front) refl)) (All-take P (length front) (front ++ last ∷ []) all) in
+          let not-last : last ≢ Unlock name = All-contains P (front ++ last ∷ []) last all (Contains-push front last) in
+          inr (λ o. not-last (sym is.1 ∙ o), (before, front, mode, is.0, in-front))
+    ]
+
+-- a client has a name after one more operation exactly where this one locks it, or does not unlock it and it had it before
+pub held_pushed : (ops : List Op) (op : Op) (name : List ℕ) → IsHeldAfter (ops ++ op ∷ []) name ↔ IsHeldThen (IsHeldAfter ops name) op name
+held_pushed ops op name = (
+  λ h. held_by_split ops h.0 h.1 op name h.2 h.3 h.4,
+  λ then. elim then [
+    | inl w ↦ (ops, [], w.0, ap (λ o. ops ++ o ∷ []) w.1, All-nil (λ o. o ≢ Unlock name))
+    | inr w ↦ (
+      w.1.0,
+      w.1.1 ++ op ∷ [],
+      w.1.2,
+      ap (λ xs. xs ++ op ∷ []) w.1.3 ∙ append_assoc w.1.0 (Lock name w.1.2 ∷ w.1.1) (op ∷ []),
+      All-push (λ o. o ≢ Unlock name) w.1.1 op w.1.4 w.0,
+    )
+  ],
+)
+
+-- one more step of a loop that keeps whether the name is held
+pub held_more : (ops : List Op) (i : ℕ) (op : Op) (name : List ℕ) (held now : Bool) → i < length ops → op ≡ get_or ops i op
+    → (IsTrue held ↔ IsHeldAfter (take i ops) name) → (IsTrue now ↔ IsHeldThen (IsTrue held) op name)
+    → IsTrue now ↔ IsHeldAfter (take (i + 1) ops) name
+held_more ops i op name held now lt is before step =
+    let more : take (i + 1) ops ≡ take i ops ++ op ∷ [] = take_more ops i op lt ∙ ap (λ (o : Op). take i ops ++ o ∷ []) (sym is) in
+    let pushed = held_pushed (take i ops) op name in (
+      λ yes. subst (λ (xs : List Op). IsHeldAfter xs name) (sym more) (pushed.1 (elim (step.0 yes) [
+        | inl w ↦ inl w
+        | inr w ↦ inr (w.0, before.0 w.1)
+      ])),
+      λ h. step.1 (elim (pushed.0 (subst (λ (xs : List Op). IsHeldAfter xs name) more h)) [
+        | inl w ↦ inl w
+        | inr w ↦ inr (w.0, before.1 w.1)
+      ]),
+    )

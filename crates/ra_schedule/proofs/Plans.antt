@@ -1,0 +1,27 @@
+-- Operations that fit one behind the other.
+use Rattle.std.proofs.Common.{◌≡◌, ◌<◌, ℕ, List, [], ◌∷◌, ◌++◌, sym, ap, ◌∙◌, subst, inl, inr, length, length-append, arith}
+use Rattle.std.proofs.lemmas.List.{same_from_push}
+use Rattle.ra_schedule.specs.declared.script.Op.{Op}
+use Rattle.ra_schedule.specs.Script.{ScriptClient, Fits, IsPlan, IsScriptClient}
+use Rattle.ra_schedule.proofs.Held.{ends, before_last}
+
+-- an operation that fits behind a plan makes a plan
+pub plan_pushed : (ops : List Op) (op : Op) → IsPlan ops → Fits ops op → IsPlan (ops ++ op ∷ [])
+plan_pushed ops op plan fits before after x e =
+    elim (ends after) [
+      | inl empty ↦
+          let is = same_from_push ops before op x (e ∙ ap (λ xs. before ++ x ∷ xs) empty) in
+          subst (λ (o : Op). Fits before o) is.1 (subst (λ (xs : List Op). Fits xs op) is.0 fits)
+      | inr w ↦ plan before w.0 x (before_last ops before w.0 op x w.1 (e ∙ ap (λ xs. before ++ x ∷ xs) w.2)).0
+    ]
+
+-- a client with one more operation, that fits
+pub client_pushed : (nodes : ℕ) (old new : ScriptClient) (op : Op) → length old.ops < 1024 → Fits old.ops op → new.node ≡ old.node → new.ops ≡ old.ops ++ op ∷ []
+    → IsScriptClient nodes old → IsScriptClient nodes new
+client_pushed nodes old new op room fits node-is ops-is client =
+    record {
+      first = omega (arith, client.first, node-is);
+      last = omega (arith, client.last, node-is);
+      at_most = omega (arith, ap length ops-is, length-append old.ops (op ∷ []), room);
+      plan = subst IsPlan (sym ops-is) (plan_pushed old.ops op client.plan fits);
+    }

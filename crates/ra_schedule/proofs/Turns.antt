@@ -1,0 +1,197 @@
+-- What the driver keeps from turn to turn, and how its end is read off.
+use Rattle.std.proofs.Common.{◌≡◌, ◌↔◌, ◌⊎◌, ℕ, zero, suc, ◌+◌, ◌<◌, ◌≤◌, ◌^◌, Bool, true, false, Option, Some, None, List, [], ◌∷◌, ◌++◌, length, map, take, drop, replicate, slice_get, slice_index_or, refl, sym, ap, ◌∙◌, subst, arith, inl, inr}
+use Rattle.std.specs.Prelude.{◌==◌, if◌then◌else◌, option_map, Contains}
+use Rattle.std.proofs.lemmas.List as lists
+use Rattle.std.proofs.lemmas.List.Elements.{All-replicate}
+use Rattle.ra_stamp.specs.NodeId.{IsNodeNumber}
+use Rattle.ra_stamp.specs.declared.message.Message.{Message as Sent}
+use Rattle.ra_world.specs.declared.step.Step.{Step}
+use Rattle.ra_world.specs.declared.step.Step.TheVariants.{Ask, Leave, Deliver, Lose}
+use Rattle.ra_world.specs.declared.report.Report.{Report}
+use Rattle.ra_world.specs.Traffic.{Move, IsUnderWay}
+use Rattle.ra_world.specs.World.{WorldState}
+use Rattle.ra_world.specs.Run.{IsRun, GoesOn}
+use Rattle.ra_schedule.specs.declared.progress.Progress.{Progress}
+use Rattle.ra_schedule.specs.declared.choice.Choice.{Choice}
+use Rattle.ra_schedule.specs.declared.choice.Choice.TheVariants.{Client, Message, Lost}
+use Rattle.ra_schedule.specs.declared.choice.Policy.{Policy}
+use Rattle.ra_schedule.specs.Script.{ScriptClient, ScriptState, client_at}
+use Rattle.ra_schedule.specs.Schedule.{steps_of, steps_in, steps_by, IsAtPlace, Means, Picks, Follows, IsFinished}
+use Rattle.ra_schedule.specs.Progress.{IsProgress, Tracks, OfEach, IsProgressAfter, AreCountable, AreDone}
+use Rattle.ra_schedule.specs.Below.{LawsBelow}
+use Rattle.ra_schedule.proofs.Waiting.{nobody_waits, goes_on, steps_of-append}
+use Rattle.ra_schedule.proofs.Following.{follows_none, follows_more}
+use Rattle.ra_schedule.proofs.Choosing.{same_some}
+
+-- after so many turns
+pub record IsDriven (script : ScriptState) (policy : Policy) (world : WorldState) (clients : List Progress) (steps : List Step) (turns : ℕ) : Type 0 where
+  pub tracks : Tracks script world clients
+  pub follows : Follows script policy world.moves
+  pub steps_are : steps ≡ steps_of world.moves
+  pub turns_are : length world.moves ≡ turns
+
+abbrev pub opening_progress : Progress
+opening_progress = record { done = 0; waiting = false }
+
+-- a client that has done nothing
+opened : (client : ℕ) → IsProgress client [] opening_progress
+opened client = record { done = refl; waiting = (λ h. absurd cc, λ h. absurd (nobody_waits client h)) }
+
+pub driven_none : (script : ScriptState) (policy : Policy) (world : WorldState) (clients : List Progress) (steps : List Step)
+    → world ≡ record { count = script.nodes; start = 0; moves = [] } → IsRun world.count world.start world.moves
+    → clients ≡ replicate (length script.clients) opening_progress → steps ≡ [] → IsDriven script policy world clients steps 0
+driven_none script policy world clients steps is run are none =
+    let no_moves : world.moves ≡ [] = ap (λ (w : WorldState). w.moves) is in
+    let nodes : world.count ≡ script.nodes = ap (λ (w : WorldState). w.count) is in
+    let start : world.start ≡ 0 = ap (λ (w : WorldState). w.start) is in
+    record {
+      tracks = record {
+        count = nodes;
+        start = start;
+        length_is = ap length are ∙ lists.length-replicate (length script.clients) opening_progress;
+        each = λ k d within.
+            subst (λ (ms : List Move). IsProgress (k + 1) ms (slice_index_or clients k d)) (sym no_moves)
+            (subst (λ (ps : List Progress). k < length ps → IsProgress (k + 1) [] (slice_index_or ps k d)) (sym are)
+            (All-replicate (λ p. IsProgress (k + 1) [] p) (length script.clients) opening_progress (opened (k + 1)) k d) within);
+      };
+      follows = subst (Follows script policy) (sym no_moves) (follows_none script policy
+          (subst (λ (ms : List Move). IsRun script.nodes 0 ms) no_moves
+          (subst (λ (s : ℕ). IsRun script.nodes s world.moves) start (subst (λ (n : ℕ). IsRun n world.start world.moves) nodes run))));
+      steps_are = none ∙ ap steps_of (sym no_moves);
+      turns_are = ap length no_moves;
+    }
+
+tracks_on : (script : ScriptState) (world next : WorldState) (clients new : List Progress) (move : Move) → Tracks script world clients
+    → next ≡ record world { moves = world.moves ++ move ∷ [] } → length new ≡ length clients → OfEach (IsProgressAfter move) clients new
+    → Tracks script next new
+tracks_on script world next clients new move tracks is len after =
+    let moves : next.moves ≡ world.moves ++ move ∷ [] = ap (λ (w : WorldState). w.moves) is in
+    record {
+      count = ap (λ (w : WorldState). w.count) is ∙ tracks.count;
+      start = ap (λ (w : WorldState). w.start) is ∙ tracks.start;
+      length_is = len ∙ tracks.length_is;
+      each = λ k d within.
+          let before : k < length clients = omega arith in
+          subst (λ (ms : List Move). IsProgress (k + 1) ms (slice_index_or new k d)) (sym moves)
+          (goes_on (k + 1) world.moves move (slice_index_or clients k d) (slice_index_or new k d) (tracks.each k d before) (after k d before));
+    }
+
+pub driven_more : (script : ScriptState) (policy : Policy) (world next : WorldState) (clients new : List Progress) (steps more : List Step)
+    (turns : ℕ) (choice : Choice) (step : Step) (move : Move) → IsDriven script policy world clients steps turns
+    → Picks script policy world.moves choice → Means script world.moves choice step → move.step ≡ step
+    → next ≡ record world { moves = world.moves ++ move ∷ [] } → IsRun next.count next.start next.moves
+    → more ≡ steps ++ step ∷ [] → length new ≡ length clients → OfEach (IsProgressAfter move) clients new
+    → IsDriven script policy next new more (turns + 1)
+driven_more script policy world next clients new steps more turns choice step move driven picks means this is run added len after =
+    let moves : next.moves ≡ world.moves ++ move ∷ [] = ap (λ (w : WorldState). w.moves) is in
+    let tracks = tracks_on script world next clients new move driven.tracks is len after in
+    let run' : IsRun script.nodes 0 (world.moves ++ move ∷ []) =
+    subst (λ (ms : List Move). IsRun script.nodes 0 ms) moves
+    (subst (λ (s : ℕ). IsRun script.nodes s next.moves) tracks.start (subst (λ (n : ℕ). IsRun n next.start next.moves) tracks.count run)) in
+    record {
+      tracks = tracks;
+      follows = subst (Follows script policy) (sym moves)
+          (follows_more script policy world.moves move choice driven.follows picks (subst (Means script world.moves choice) (sym this) means) run');
+      steps_are = added ∙ ap (λ (ss : List Step). ss ++ step ∷ []) driven.steps_are ∙ ap (λ (s : Step). steps_of world.moves ++ s ∷ []) (sym this)
+          ∙ sym (steps_of-append world.moves (move ∷ [])) ∙ ap steps_of (sym moves);
+      turns_are = ap length moves ∙ lists.length-append world.moves (move ∷ []) ∙ ap (λ n. n + 1) driven.turns_are;
+    }
+
+-- ---- A client has made no more steps than there are
+
+one_at_most : (client : ℕ) (step : Step) → steps_in client step ≤ 1
+one_at_most client (Ask node asker name mode) = at_most (asker == client)
+  where
+    at_most : (b : Bool) → (if b then 1 else 0) ≤ 1
+    at_most true = omega arith
+    at_most false = omega arith
+one_at_most client (Leave node leaver name) = at_most (leaver == client)
+  where
+    at_most : (b : Bool) → (if b then 1 else 0) ≤ 1
+    at_most true = omega arith
+    at_most false = omega arith
+one_at_most client (Deliver message) = omega arith
+one_at_most client (Lose message) = omega arith
+
+few_steps : (client : ℕ) (moves : List Move) → steps_by client (steps_of moves) ≤ length moves
+few_steps client [] = omega arith
+few_steps client (move ∷ moves) = let one = one_at_most client move.step in let rest = few_steps client moves in omega arith
+
+pub countable : (script : ScriptState) (world : WorldState) (clients : List Progress) (turns limit : ℕ) → Tracks script world clients
+    → length world.moves ≡ turns → turns < limit → limit < 2 ^ 64 → AreCountable clients
+countable script world clients turns limit tracks is less fits k d within =
+    let done = (tracks.each k d within).done in
+    let few = few_steps (k + 1) world.moves in
+    omega arith
+
+-- ---- What a choice stands for can be done
+
+contained : {X : Type 0} (xs : List X) (k : ℕ) (x : X) → slice_get xs k ≡ Some x → Contains xs x
+contained [] k x e = absurd cc
+contained (y ∷ xs) zero x e = (0, omega arith, cc)
+contained (y ∷ xs) (suc k) x e =
+    let (i, within, is) = contained xs k x e in (suc i, omega arith, is)
+
+at_place_is_under_way : (moves : List Move) (place : ℕ) (message : Sent) → IsAtPlace moves place message → IsUnderWay moves message
+at_place_is_under_way moves place message (left, leaves, is) = (left, leaves, contained left place message is)
+
+pub can_be_done : LawsBelow → (script : ScriptState) (moves : List Move) (choice : Choice) (step : Step) → IsNodeNumber script.nodes
+    → IsRun script.nodes 0 moves → Means script moves choice step → GoesOn script.nodes 0 moves step
+can_be_done laws script moves (Client client) step count run means = means.goes_on
+can_be_done laws script moves (Message place) step count run (message, at, is) =
+    subst (GoesOn script.nodes 0 moves) (sym is)
+    ((laws.deliver script.nodes 0 moves count run message).1 (at_place_is_under_way moves place message at))
+can_be_done laws script moves (Lost place) step count run (message, at, is) =
+    subst (GoesOn script.nodes 0 moves) (sym is)
+    ((laws.lose script.nodes 0 moves count run message).1 (at_place_is_under_way moves place message at))
+
+-- ---- The end
+
+within_clients : {X : Type 0} (xs : List X) (k : ℕ) (x : X) → slice_get xs k ≡ Some x → k < length xs
+within_clients [] k x e = absurd cc
+within_clients (y ∷ xs) zero x e = omega arith
+within_clients (y ∷ xs) (suc k) x e = let less = within_clients xs k x e in omega arith
+
+there_is_one : {X : Type 0} (xs : List X) (k : ℕ) → k < length xs → (x : X) × (slice_get xs k ≡ Some x)
+there_is_one [] k less = absurd (omega arith)
+there_is_one (x ∷ xs) zero less = (x, refl)
+there_is_one (x ∷ xs) (suc k) less = there_is_one xs k (omega arith)
+
+at_next : (script : ScriptState) (k : ℕ) → client_at script (k + 1) ≡ slice_get script.clients k
+at_next script k = let e : k + 1 ≡ suc k = omega arith in ap (client_at script) e
+
+pub all_done : (script : ScriptState) (world : WorldState) (clients : List Progress) (steps : List Step) → Tracks script world clients
+    → steps ≡ steps_of world.moves → AreDone script clients
+    → (client : ℕ) (who : ScriptClient) → client_at script client ≡ Some who → steps_by client steps ≡ length who.ops
+all_done script world clients steps tracks are done zero who is = absurd cc
+all_done script world clients steps tracks are done (suc k) who is =
+    let within : k < length clients = let less = within_clients script.clients k who is in let same = tracks.length_is in omega arith in
+    let p = slice_index_or clients k opening_progress in
+    let told = done k opening_progress within in
+    let here : option_map (λ (w : ScriptClient). length w.ops) (client_at script (k + 1)) ≡ Some (length who.ops) =
+    ap (option_map (λ (w : ScriptClient). length w.ops)) (at_next script k ∙ is) in
+    let count : p.done ≡ length who.ops = same_some told here in
+    let stands : p.done ≡ steps_by (k + 1) (steps_of world.moves) = (tracks.each k opening_progress within).done in
+    let number : k + 1 ≡ suc k = omega arith in
+    ap (steps_by (suc k)) are ∙ ap (λ (n : ℕ). steps_by n (steps_of world.moves)) (sym number) ∙ sym stands ∙ count
+
+pub are_done : (script : ScriptState) (world : WorldState) (clients : List Progress) (steps : List Step) → Tracks script world clients
+    → steps ≡ steps_of world.moves
+    → ((client : ℕ) (who : ScriptClient) → client_at script client ≡ Some who → steps_by client steps ≡ length who.ops)
+    → AreDone script clients
+are_done script world clients steps tracks are done k d within =
+    let (who, is) = there_is_one script.clients k (let same = tracks.length_is in omega arith) in
+    let at = at_next script k ∙ is in
+    let stands = (tracks.each k d within).done in
+    let count = done (k + 1) who at in
+    let same : (slice_index_or clients k d).done ≡ length who.ops = stands ∙ ap (steps_by (k + 1)) (sym are) ∙ count in
+    ap (option_map (λ (w : ScriptClient). length w.ops)) at ∙ ap Some (sym same)
+
+-- ---- A list that was lent whole comes back whole
+
+pub whole : {X : Type 0} (xs ys : List X) (n : ℕ) → n ≡ length xs → take n (xs ++ ys) ≡ xs
+whole xs ys n e = ap (λ (k : ℕ). take k (xs ++ ys)) e ∙ front xs ys
+  where
+    front : {X : Type 0} (xs ys : List X) → take (length xs) (xs ++ ys) ≡ xs
+    front [] ys = refl
+    front (x ∷ xs) ys = ap (λ zs. x ∷ zs) (front xs ys)

@@ -1,0 +1,25 @@
+use Rattle.std.proofs.Common.{◌≡◌, ◌<◌, ◌∷◌, ◌++◌, [], List, length, refl, ap, ◌∙◌, subst}
+use Rattle.std.proofs.lemmas.Result.{err_from_is_err_and}
+use Rattle.ra_schedule.specs.declared.script.Op.{Op}
+use Rattle.ra_schedule.specs.Script.{ScriptClient, Fits}
+use Rattle.ra_schedule.proofs.Plans.{client_pushed}
+use Rattle.ra_schedule.proofs.script.Client.add_op.Goals as goal
+
+pub returns-in_err-push-clause-allowed : goal.returns-in_err-push-clause-allowed
+returns-in_err-push-clause-allowed c =
+    let ops-is : c.deref.result.now ≡ c.args.self.now.ops = c.deref.ensures.value ∙ ap (λ (t : ScriptClient). t.ops) c.self.view_is in
+    let p = err_from_is_err_and c.from_residual-in_err-push.result c.from_residual-in_err-push.ensures.1 in
+    rw (p.1, p.2) (
+      λ _. subst (λ (xs : List Op). (length xs < 1024) × Fits xs c.args.op) ops-is (c.in_ok-check_op.ensures.allowed.0 refl),
+      λ _. refl,
+    )
+
+pub returns-clause-client : goal.returns-clause-client
+returns-clause-client c nodes client =
+    let fields-are = ap (λ (t : ScriptClient). t.ops) c.self.view_is in
+    let ops-is : c.deref.result.now ≡ c.args.self.now.ops = c.deref.ensures.value ∙ fields-are in
+    let allowed = subst (λ (xs : List Op). (length xs < 1024) × Fits xs c.args.op) ops-is (c.in_ok-check_op.ensures.allowed.0 refl) in
+    client_pushed nodes c.args.self.now _ c.args.op allowed.0 allowed.1
+    (ap (λ (t : ScriptClient). t.node) c.self.view_is)
+    (c.in_ok-push.ensures.items ∙ ap (λ (xs : List Op). xs ++ c.args.op ∷ []) fields-are)
+    client

@@ -1,0 +1,51 @@
+use Rattle.std.proofs.Common.{◌≡◌, ◌-◌, ◌<◌, ◌++◌, ◌∷◌, ℕ, [], List, length, take, refl, sym, ap, ◌∙◌, subst}
+use Rattle.std.specs.Prelude.{vec_len}
+use Rattle.std.proofs.lemmas.Result.{on_ok_weaker}
+use Rattle.ra_stamp.specs.declared.mode.Mode.{Mode}
+use Rattle.ra_schedule.specs.declared.script.Op.{Op}
+use Rattle.ra_schedule.specs.declared.script.Op.TheVariants.{Lock, Unlock}
+use Rattle.ra_schedule.specs.Script.{ScriptState, IsHeldAfter}
+use Rattle.ra_schedule.proofs.Last.{ends_with, with_last, same_ops, adds_op}
+use Rattle.ra_schedule.proofs.script.Script.add_op.Goals as goal
+
+pub invariant_of-self-2 : goal.invariant_of-self-2
+invariant_of-self-2 c =
+    with_last c.self.inside.nodes c.self.inside.clients.items (vec_len c.self.inside.clients) c.in-Some.last.now c.add_op.new.self
+    c.self.inside.clients.ok.0 (c.in-Some.ensures.variant.0 refl) c.in-Some.ensures.value
+    (c.add_op.ensures.client c.self.inside.nodes) c.self.invariant
+
+pub returns-clause-script : goal.returns-clause-script
+returns-clause-script c = invariant_of-self-2 c
+
+pub returns-clause-ok : goal.returns-clause-ok
+returns-clause-ok c =
+    on_ok_weaker c.add_op.result
+    (adds_op c.args.self.now c.self.inside.nodes c.self.inside.clients.items (vec_len c.self.inside.clients) c.in-Some.last.now c.add_op.new.self c.args.op
+    c.self.inside.clients.ok.0 (c.in-Some.ensures.variant.0 refl) c.in-Some.ensures.value c.self.view_is)
+    c.add_op.ensures.ok
+
+pub returns-clause-not_held : goal.returns-clause-not_held
+returns-clause-not_held c =
+    let before = take (vec_len c.self.inside.clients - 1) c.self.inside.clients.items in
+    let last = c.in-Some.last.now in
+    let is : c.args.self.now.clients ≡ before ++ last ∷ [] = ap (λ (s : ScriptState). s.clients) (sym c.self.view_is)
+    ∙ ends_with _ _ last c.self.inside.clients.ok.0 (c.in-Some.ensures.variant.0 refl) c.in-Some.ensures.value in (
+      λ e. let h = c.add_op.ensures.not_held.0 e in (last.ops, (before, last, is, refl), h.0, h.1, h.2, h.3),
+      λ w. c.add_op.ensures.not_held.1 (
+          subst (λ (ops : List Op). (length ops < 1024) × (name : List ℕ) × (c.args.op ≡ Unlock name) × (IsHeldAfter ops name → ⊥))
+          (same_ops c.args.self.now before last w.0 is w.1) (w.2, w.3, w.4, w.5)
+          ),
+    )
+
+pub returns-clause-already_held : goal.returns-clause-already_held
+returns-clause-already_held c =
+    let before = take (vec_len c.self.inside.clients - 1) c.self.inside.clients.items in
+    let last = c.in-Some.last.now in
+    let is : c.args.self.now.clients ≡ before ++ last ∷ [] = ap (λ (s : ScriptState). s.clients) (sym c.self.view_is)
+    ∙ ends_with _ _ last c.self.inside.clients.ok.0 (c.in-Some.ensures.variant.0 refl) c.in-Some.ensures.value in (
+      λ e. let h = c.add_op.ensures.already_held.0 e in (last.ops, (before, last, is, refl), h.0, h.1, h.2, h.3, h.4),
+      λ w. c.add_op.ensures.already_held.1 (
+          subst (λ (ops : List Op). (length ops < 1024) × (name : List ℕ) × (mode : Mode) × (c.args.op ≡ Lock name mode) × IsHeldAfter ops name)
+          (same_ops c.args.self.now before last w.0 is w.1) (w.2, w.3, w.4, w.5, w.6)
+          ),
+    )

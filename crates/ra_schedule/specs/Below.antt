@@ -1,0 +1,21 @@
+-- What the laws of runs say, as far as schedules rest on it.
+use Rattle.std.specs.Prelude.{◌≡◌, ◌↔◌, ℕ, List, ◌++◌, map}
+use Rattle.ra_stamp.specs.declared.message.Message.{Message}
+use Rattle.ra_stamp.specs.NodeId.{IsNodeNumber}
+use Rattle.ra_world.specs.declared.step.Step.{Step}
+use Rattle.ra_world.specs.declared.step.Step.TheVariants.{Deliver, Lose}
+use Rattle.ra_world.specs.Traffic.{Move, LeavesUnderWay, IsUnderWay}
+use Rattle.ra_world.specs.Run.{IsRun, GoesOn}
+
+pub record LawsBelow : Type 0 where
+  pub fronts : (n start : ℕ) (front back : List Move) → IsRun n start (front ++ back) → IsRun n start front
+  pub determined : (n start : ℕ) (a b : List Move) → IsNodeNumber n → IsRun n start a → IsRun n start b
+      → map (λ move. move.step) a ≡ map (λ move. move.step) b → a ≡ b
+  pub one_list : (moves : List Move) (a b : List Message)
+      → LeavesUnderWay moves a → LeavesUnderWay moves b → a ≡ b
+  pub a_list : (n start : ℕ) (moves : List Move) → IsNodeNumber n → IsRun n start moves
+      → (left : List Message) × LeavesUnderWay moves left
+  pub deliver : (n start : ℕ) (moves : List Move) → IsNodeNumber n → IsRun n start moves
+      → (message : Message) → GoesOn n start moves (Deliver message) ↔ IsUnderWay moves message
+  pub lose : (n start : ℕ) (moves : List Move) → IsNodeNumber n → IsRun n start moves
+      → (message : Message) → GoesOn n start moves (Lose message) ↔ IsUnderWay moves message

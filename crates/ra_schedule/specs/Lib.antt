@@ -1,0 +1,4 @@
+pub mod Script
+pub mod Schedule
+pub mod Progress
+pub mod Below

@@ -1,0 +1,50 @@
+-- How the driver keeps where the clients stand. No public contract speaks of it.
+use Rattle.std.specs.Prelude.{◌≡◌, ◌⊎◌, ◌↔◌, ℕ, ◌+◌, ◌^◌, ◌<◌, List, length, slice_index_or, Some, option_map, IsTrue, All}
+use Rattle.ra_stamp.specs.declared.entry.Mark.{Mark}
+use Rattle.ra_world.specs.declared.step.Step.{Step}
+use Rattle.ra_world.specs.Traffic.{Move}
+use Rattle.ra_world.specs.World.{WorldState}
+use Rattle.ra_schedule.specs.declared.progress.Progress.{Progress}
+use Rattle.ra_schedule.specs.Script.{ScriptState, client_at}
+use Rattle.ra_schedule.specs.Schedule.{steps_of, steps_in, steps_by, Asks, IsWaiting, Enters}
+
+-- this is where a client stands after these moves
+pub record IsProgress (client : ℕ) (moves : List Move) (progress : Progress) : Type 0 where
+  pub done : progress.done ≡ steps_by client (steps_of moves)
+  pub waiting : IsTrue progress.waiting ↔ IsWaiting client moves
+
+-- the world has come so far with the script, and this is where its clients stand
+pub record Tracks (script : ScriptState) (world : WorldState) (clients : List Progress) : Type 0 where
+  pub count : world.count ≡ script.nodes
+  pub start : world.start ≡ 0
+  pub length_is : length clients ≡ length script.clients
+  pub each : (k : ℕ) (d : Progress) → k < length clients
+      → IsProgress (k + 1) world.moves (slice_index_or clients k d)
+
+-- a step moves its client on, and one that asks waits from then on
+pub record IsAfterStep (client : ℕ) (step : Step) (old new : Progress) : Type 0 where
+  pub done : new.done ≡ old.done + steps_in client step
+  pub waiting : IsTrue new.waiting ↔ (Asks client step ⊎ IsTrue old.waiting)
+
+-- a client waits on behind these marks where it waited and none of them says that it entered
+pub record IsAfterMarks (client : ℕ) (marks : List Mark) (old new : Progress) : Type 0 where
+  pub done : new.done ≡ old.done
+  pub waiting : IsTrue new.waiting ↔ (IsTrue old.waiting × All (λ mark. Enters client mark → ⊥) marks)
+
+-- for each client, by its number from 1, how it stood before and how it stands now
+abbrev pub OfEach : (ℕ → Progress → Progress → Type 0) → List Progress → List Progress → Type 0
+OfEach R old new = (k : ℕ) (d : Progress) → k < length old → R (k + 1) (slice_index_or old k d) (slice_index_or new k d)
+
+-- no client has done so many operations that one more would not count
+abbrev pub AreCountable : List Progress → Type 0
+AreCountable list = All (λ progress. progress.done + 1 < 2 ^ 64) list
+
+-- where a client stands behind one more move
+abbrev pub IsProgressAfter : Move → ℕ → Progress → Progress → Type 0
+IsProgressAfter move client old new = (between : Progress) × IsAfterStep client move.step old between
+    × IsAfterMarks client move.marks between new
+
+-- each client has done all its operations
+abbrev pub AreDone : ScriptState → List Progress → Type 0
+AreDone script clients = (k : ℕ) (d : Progress) → k < length clients
+    → option_map (λ who. length who.ops) (client_at script (k + 1)) ≡ Some (slice_index_or clients k d).done

@@ -1,0 +1,140 @@
+-- Which choice comes next where a cluster follows a script, and the runs that a policy makes. All of it speaks of the steps
+-- so far, with what was sent and marked at each.
+use Rattle.std.specs.Prelude.{◌≡◌, ◌≢◌, ◌⊎◌, ◌↔◌, ℕ, ◌+◌, ◌<◌, ◌≤◌, List, [], ◌∷◌, ◌++◌, length, map, Some, None, slice_get, All, if◌then◌else◌, ◌==◌}
+use Rattle.ra_stamp.specs.declared.entry.Mark.{Mark}
+use Rattle.ra_stamp.specs.declared.entry.Mark.TheVariants.{Requested, Entered, Left}
+use Rattle.ra_stamp.specs.declared.message.Message.{Message as Sent}
+use Rattle.ra_world.specs.declared.step.Step.{Step}
+use Rattle.ra_world.specs.declared.step.Step.TheVariants.{Ask, Leave, Deliver, Lose}
+use Rattle.ra_world.specs.declared.report.Report.{Report}
+use Rattle.ra_world.specs.Traffic.{Move, LeavesUnderWay}
+use Rattle.ra_world.specs.Run.{IsRun, GoesOn, marks_of}
+use Rattle.ra_schedule.specs.declared.script.Op.{Op}
+use Rattle.ra_schedule.specs.declared.script.Op.TheVariants.{Lock, Unlock}
+use Rattle.ra_schedule.specs.declared.choice.Choice.{Choice}
+use Rattle.ra_schedule.specs.declared.choice.Choice.TheVariants.{Client, Message, Lost}
+use Rattle.ra_schedule.specs.declared.choice.Policy.{Policy}
+use Rattle.ra_schedule.specs.declared.choice.Policy.TheVariants.{Oldest, Newest, Listed}
+use Rattle.ra_schedule.specs.declared.error.DriveError.{DriveError}
+use Rattle.ra_schedule.specs.declared.error.DriveError.TheVariants.{TurnLimit, BadPlace, NotEnabled, Memory}
+use Rattle.ra_schedule.specs.Script.{ScriptClient, ScriptState, client_at}
+
+abbrev pub steps_of : List Move → List Step
+steps_of moves = map (λ move. move.step) moves
+
+-- how many of these steps are a client's: where it stands in its list
+abbrev pub steps_in : ℕ → Step → ℕ
+steps_in client (Ask node asker name mode) = if asker == client then 1 else 0
+steps_in client (Leave node leaver name) = if leaver == client then 1 else 0
+steps_in client (Deliver message) = 0
+steps_in client (Lose message) = 0
+
+abbrev pub steps_by : ℕ → List Step → ℕ
+steps_by client [] = 0
+steps_by client (step ∷ steps) = steps_in client step + steps_by client steps
+
+-- the client asks by this step
+abbrev pub Asks : ℕ → Step → Type 0
+Asks client (Ask node asker name mode) = asker ≡ client
+Asks client (Leave node leaver name) = ⊥
+Asks client (Deliver message) = ⊥
+Asks client (Lose message) = ⊥
+
+-- the mark says that the client entered
+abbrev pub Enters : ℕ → Mark → Type 0
+Enters client (Requested entry) = ⊥
+Enters client (Entered entry) = entry.client ≡ client
+Enters client (Left entry) = ⊥
+
+-- the client waits: it has asked, and has no mark Entered since then. So one that is queued waits too.
+abbrev pub IsWaiting : ℕ → List Move → Type 0
+IsWaiting client moves = (before after : List Move) × (ask : Move) × (moves ≡ before ++ ask ∷ after)
+    × Asks client ask.step × All (λ mark. Enters client mark → ⊥) (marks_of (ask ∷ after))
+
+-- an operation of a client of a node, as a step
+abbrev pub step_of : ℕ → ℕ → Op → Step
+step_of node client (Lock name mode) = Ask node client name mode
+step_of node client (Unlock name) = Leave node client name
+
+-- the client has an operation left, and the next one is this step
+abbrev pub IsNext : ScriptState → List Move → ℕ → Step → Type 0
+IsNext script moves client step = (who : ScriptClient) × (op : Op) × (client_at script client ≡ Some who)
+    × (slice_get who.ops (steps_by client (steps_of moves)) ≡ Some op) × (step ≡ step_of who.node client op)
+
+-- the client is enabled, with this step: it is the next one, the client does not wait, and the run goes on with it
+pub record Enables (script : ScriptState) (moves : List Move) (client : ℕ) (step : Step) : Type 0 where
+  pub next : IsNext script moves client step
+  pub free : IsWaiting client moves → ⊥
+  pub goes_on : GoesOn script.nodes 0 moves step
+
+abbrev pub IsEnabled : ScriptState → List Move → ℕ → Type 0
+IsEnabled script moves client = (step : Step) × Enables script moves client step
+
+-- this message is under way at this place, counted from 0 in the order of sending
+abbrev pub IsAtPlace : List Move → ℕ → Sent → Type 0
+IsAtPlace moves place message = (left : List Sent) × LeavesUnderWay moves left × (slice_get left place ≡ Some message)
+
+-- what a choice stands for, where it can be made
+abbrev pub Means : ScriptState → List Move → Choice → Step → Type 0
+Means script moves (Client client) step = Enables script moves client step
+Means script moves (Message place) step = (message : Sent) × IsAtPlace moves place message × (step ≡ Deliver message)
+Means script moves (Lost place) step = (message : Sent) × IsAtPlace moves place message × (step ≡ Lose message)
+
+-- the choice names a client or a message that there is not
+abbrev pub IsBadPlace : ScriptState → List Move → Choice → Type 0
+IsBadPlace script moves (Client client) = client_at script client ≡ None
+IsBadPlace script moves (Message place) = (message : Sent) → IsAtPlace moves place message → ⊥
+IsBadPlace script moves (Lost place) = (message : Sent) → IsAtPlace moves place message → ⊥
+
+-- the choice names a client that is not enabled
+abbrev pub IsNotEnabled : ScriptState → List Move → Choice → Type 0
+IsNotEnabled script moves (Client client) = (client_at script client ≢ None) × (IsEnabled script moves client → ⊥)
+IsNotEnabled script moves (Message place) = ⊥
+IsNotEnabled script moves (Lost place) = ⊥
+
+-- the first enabled client in the order of the script
+abbrev pub IsFirstEnabled : ScriptState → List Move → ℕ → Type 0
+IsFirstEnabled script moves client = IsEnabled script moves client
+    × ((other : ℕ) → other < client → IsEnabled script moves other → ⊥)
+
+-- no client is enabled, and so many messages are under way
+abbrev pub LeavesMessages : ScriptState → List Move → ℕ → Type 0
+LeavesMessages script moves count = ((client : ℕ) → IsEnabled script moves client → ⊥)
+    × ((left : List Sent) × LeavesUnderWay moves left × (length left ≡ count))
+
+-- the choice that a policy makes after these moves
+abbrev pub Picks : ScriptState → Policy → List Move → Choice → Type 0
+Picks script Oldest moves (Client client) = IsFirstEnabled script moves client
+Picks script Oldest moves (Message place) = (place ≡ 0) × ((count : ℕ) × LeavesMessages script moves (count + 1))
+Picks script Oldest moves (Lost place) = ⊥
+Picks script Newest moves (Client client) = IsFirstEnabled script moves client
+Picks script Newest moves (Message place) = LeavesMessages script moves (place + 1)
+Picks script Newest moves (Lost place) = ⊥
+Picks script (Listed choices) moves choice = slice_get choices.items (length moves) ≡ Some choice
+
+-- the policy has no choice left
+abbrev pub Ends : ScriptState → Policy → List Move → Type 0
+Ends script policy moves = (choice : Choice) → Picks script policy moves choice → ⊥
+
+-- the moves are a run from start 0, each of them what the policy chose after those before it
+pub record Follows (script : ScriptState) (policy : Policy) (moves : List Move) : Type 0 where
+  pub run : IsRun script.nodes 0 moves
+  pub each : (before after : List Move) (move : Move) → moves ≡ before ++ move ∷ after
+      → (choice : Choice) × Picks script policy before choice × Means script before choice move.step
+
+-- why a policy can't go on behind these moves, of which there may be so many
+abbrev pub Stops : ScriptState → Policy → ℕ → List Move → DriveError → Type 0
+Stops script policy limit moves TurnLimit = (length moves ≡ limit) × ((choice : Choice) × Picks script policy moves choice)
+Stops script policy limit moves BadPlace = (length moves < limit)
+    × ((choice : Choice) × Picks script policy moves choice × IsBadPlace script moves choice)
+Stops script policy limit moves NotEnabled = (length moves < limit)
+    × ((choice : Choice) × Picks script policy moves choice × IsNotEnabled script moves choice)
+Stops script policy limit moves Memory = ⊥
+
+-- every operation is done, and nothing waits, is queued or under way
+pub record IsFinished (script : ScriptState) (steps : List Step) (report : Report) : Type 0 where
+  pub all_done : (client : ℕ) (who : ScriptClient) → client_at script client ≡ Some who
+      → steps_by client steps ≡ length who.ops
+  pub none_waits : report.waiting ≡ 0
+  pub none_queued : report.queued ≡ 0
+  pub none_under_way : report.under_way ≡ 0

@@ -1,0 +1,161 @@
+ghost use Rattle.std.specs.Prelude.{◌≡◌, ◌≢◌, ◌⊎◌, ◌↔◌, ℕ, ◌≤◌, ◌++◌, ◌∷◌, [], List, length, IsTrue, IsErrOf, IsOkUnless, IfOk, OnOk, IfErr};
+ghost use Rattle.ra_world.specs.Traffic.{Move};
+ghost use Rattle.ra_world.specs.World.{Reports};
+ghost use Rattle.ra_world.specs.MainTheorem.{MainTheorem};
+ghost use Rattle.ra_schedule.specs.Schedule.{steps_of, Follows, Ends, Stops, IsFinished};
+ghost use Rattle.ra_schedule.specs.Progress.{Tracks, OfEach, IsProgressAfter, AreCountable, AreDone};
+ghost use Rattle.ra_world.specs.Run.{IsRun, GoesOn};
+ghost use Rattle.ra_schedule.specs.declared.error.DriveError.{DriveError};
+
+use crate::laws::schedules_rest_on_runs;
+use crate::picking::{meaning, pick};
+use crate::progress::{Progress, note_marks, note_step, opening_progress};
+use crate::{DriveError, Policy, Script};
+use ra_world::{Report, Step, Steps, World};
+use std::alloc::Global;
+
+/// What a policy made of a script.
+#[derive(Debug, Drop)]
+pub struct Recording {
+    /// All steps, in order.
+    pub steps: Steps,
+    /// What came of them.
+    pub report: Report,
+    /// Whether every operation is done, and nothing waits, is queued or under way.
+    pub finished: bool,
+}
+
+/// Drives a cluster through a script, from numbers that begin at 0: at each turn the policy makes a choice, and what it
+/// stands for is done, until no choice is left. A turn costs time linear in the number of clients, and that of one step of the
+/// world.
+///
+/// # Errors
+///
+/// The first that holds, at each turn:
+///
+/// 1. `TurnLimit`: a choice is left after `limit` turns.
+/// 2. `BadPlace`: the choice names a client or a message that there is not.
+/// 3. `NotEnabled`: it names a client that has nothing left to do, waits, or would be refused.
+/// 4. `Memory`.
+pub fn drive(
+    alloc: Global,
+    script: &Script,
+    policy: &Policy,
+    limit: u64,
+) -> Result<Recording, DriveError>
+    // The steps are all that the policy chose until no choice was left, and the report is that of their run.
+    ensures ok { IfOk result (λ recording. (moves : List Move)
+        × (steps_of moves ≡ recording.steps.items)
+        × Follows script.now policy.now moves × Ends script.now policy.now moves × (length moves ≤ limit)
+        × Reports script.now.nodes 0 moves recording.report) }
+    ensures main_theorem { IfOk result (λ recording. MainTheorem script.now.nodes recording.report) }
+    ensures finished { IfOk result (λ recording.
+        IsTrue recording.finished ↔ IsFinished script.now recording.steps.items recording.report) }
+    // A refusal but want of memory comes where its cause stands, and where one stands nothing else is answered.
+    ensures refused { (cause : DriveError) → cause ≢ DriveError.Memory → IsErrOf result cause
+        → (moves : List Move) × Follows script.now policy.now moves × Stops script.now policy.now limit moves cause }
+    ensures exact { (cause : DriveError) (moves : List Move) → Follows script.now policy.now moves
+        → Stops script.now policy.now limit moves cause
+        → IsErrOf result cause ⊎ IsErrOf result DriveError.Memory }
+    ensures allowed { (moves : List Move) → Follows script.now policy.now moves → Ends script.now policy.now moves
+        → length moves ≤ limit → IsOkUnless result DriveError.Memory }
+{
+    schedules_rest_on_runs();
+    let Ok(mut world) = World::new(alloc, script.nodes(), 0) else {
+        return Err(DriveError::Memory);
+    };
+    let mut clients = opening_progress(alloc, script.clients())?;
+    let mut steps = Steps::new(alloc);
+    for _turn in 0..limit {
+        let Some(choice) = pick(script, policy, &world, &clients) else {
+            return recording_of(alloc, script, &world, &clients, steps);
+        };
+        let step = meaning(script, &world, &clients, choice)?;
+        make(alloc, &mut world, &mut clients, &mut steps, step)?;
+    }
+    match pick(script, policy, &world, &clients) {
+        None => recording_of(alloc, script, &world, &clients, steps),
+        Some(_) => Err(DriveError::TurnLimit),
+    }
+}
+
+/// Makes a step that the run goes on with, and notes it and what came of it.
+///
+/// # Errors
+///
+/// `Memory`.
+fn make(
+    alloc: Global,
+    world: &mut World,
+    clients: &mut [Progress],
+    steps: &mut Steps,
+    step: Step,
+) -> Result<(), DriveError>
+    requires allowed { GoesOn world.old.count world.old.start world.old.moves step }
+    requires countable { AreCountable clients.old }
+    ensures ok { OnOk result ((move : Move) × (move.step ≡ step)
+        × (world.new ≡ record world.old { moves = world.old.moves ++ move ∷ [] })
+        × (steps.new.items ≡ steps.old.items ++ step ∷ [])
+        × OfEach (IsProgressAfter move) clients.old clients.new) }
+    ensures run { OnOk result (IsRun world.new.count world.new.start world.new.moves) }
+    ensures err { IfErr result (λ fault. fault ≡ DriveError.Memory) }
+{
+    steps.reserve(1)?;
+    let Ok(outcome) = world.step(alloc, &step) else {
+        return Err(DriveError::Memory);
+    };
+    steps.push(step).unwrap();
+    note_step(clients, &step);
+    note_marks(clients, outcome.marks.as_slice());
+    Ok(())
+}
+
+/// Reports what a policy made of a script.
+///
+/// # Errors
+///
+/// `Memory`.
+fn recording_of(
+    alloc: Global,
+    script: &Script,
+    world: &World,
+    clients: &[Progress],
+    steps: Steps,
+) -> Result<Recording, DriveError>
+    requires tracked { Tracks script.now world.now clients.now }
+    requires steps { steps.items ≡ steps_of world.now.moves }
+    ensures steps { IfOk result (λ recording. recording.steps.items ≡ steps.items) }
+    ensures report { IfOk result (λ recording. Reports script.now.nodes 0 world.now.moves recording.report) }
+    ensures main_theorem { IfOk result (λ recording. MainTheorem script.now.nodes recording.report) }
+    ensures finished { IfOk result (λ recording.
+        IsTrue recording.finished ↔ IsFinished script.now recording.steps.items recording.report) }
+    ensures err { IfErr result (λ fault. fault ≡ DriveError.Memory) }
+{
+    let report = world.report(alloc)?;
+    let finished = has_nothing_left(&report) && are_done(script, clients);
+    Ok(Recording {
+        steps,
+        report,
+        finished,
+    })
+}
+
+/// Returns whether nothing waits, is queued or under way.
+fn has_nothing_left(report: &Report) -> bool
+    ensures { IsTrue result ↔ ((report.now.waiting ≡ 0) × (report.now.queued ≡ 0) × (report.now.under_way ≡ 0)) }
+{
+    report.waiting == 0 && report.queued == 0 && report.under_way == 0
+}
+
+/// Returns whether each client has done all that it has to do.
+fn are_done(script: &Script, clients: &[Progress]) -> bool
+    requires { length clients.now ≡ length script.now.clients }
+    ensures { IsTrue result ↔ AreDone script.now clients.now }
+{
+    for place in 0..script.clients() {
+        if script.ops_of(place + 1) != Some(clients[place as usize].done) {
+            return false;
+        }
+    }
+    true
+}

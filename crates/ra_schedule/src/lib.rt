@@ -1,0 +1,18 @@
+//! Scripts of what clients do, as data, and policies that drive a cluster through them.
+#![tactic(auto)]
+
+mod choice;
+mod driving;
+mod error;
+mod laws;
+mod picking;
+mod progress;
+mod script;
+
+pub use choice::{Choice, Choices, Policy};
+pub use driving::{Recording, drive};
+pub use error::{AddClientError, AddOpError, DriveError, NewScriptError};
+pub use script::{Op, Script};
+
+#[cfg(test)]
+mod tests;

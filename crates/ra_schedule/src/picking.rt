@@ -1,0 +1,132 @@
+//! Which choice comes next, and what it stands for.
+ghost use Rattle.std.specs.Prelude.{◌≡◌, ◌≢◌, ◌<◌, ◌+◌, ◌⊎◌, ℕ, List, Some, length, option_map, slice_get, IsNone, IsErrOf, IfOk, IfErr, IfSome};
+ghost use Rattle.ra_world.specs.declared.step.Step.{Step};
+ghost use Rattle.ra_schedule.specs.declared.choice.Choice.{Choice};
+ghost use Rattle.ra_schedule.specs.declared.error.DriveError.{DriveError};
+ghost use Rattle.ra_schedule.specs.Script.{client_at, op_at};
+ghost use Rattle.ra_schedule.specs.Schedule.{Enables, IsEnabled, IsFirstEnabled, IsNext, Means, IsBadPlace, IsNotEnabled, Picks, Ends, step_of};
+ghost use Rattle.ra_schedule.specs.Progress.{Tracks, IsProgress};
+
+use crate::laws::schedules_rest_on_runs;
+use crate::progress::Progress;
+use crate::{Choice, DriveError, Op, Policy, Script};
+use ra_stamp::NodeId;
+use ra_world::{Step, World};
+
+/// Returns an operation of a client of this node as a step.
+fn step_of(node: NodeId, client: u32, op: Op) -> Step
+    ensures { result ≡ step_of node client op }
+{
+    match op {
+        Op::Lock(name, mode) => Step::Ask {
+            node,
+            client,
+            name,
+            mode,
+        },
+        Op::Unlock(name) => Step::Leave { node, client, name },
+    }
+}
+
+/// Returns the step of a client that stands here, where it is enabled, or `None`.
+fn enabled_step(script: &Script, world: &World, client: u32, progress: Progress) -> Option<Step>
+    requires count { world.now.count ≡ script.now.nodes }
+    requires start { world.now.start ≡ 0 }
+    requires progress { IsProgress client world.now.moves progress }
+    ensures some { IfSome result (Enables script.now world.now.moves client) }
+    ensures none { IsNone result → IsEnabled script.now world.now.moves client → ⊥ }
+{
+    if progress.waiting {
+        return None;
+    }
+    let node = script.node_of(client)?;
+    let op = script.op(client, progress.done)?;
+    let step = step_of(node, client, op);
+    if world.accepts(&step) {
+        Some(step)
+    } else {
+        None
+    }
+}
+
+/// Returns the first enabled client in the order of the script, or `None`.
+fn first_enabled(script: &Script, world: &World, clients: &[Progress]) -> Option<u32>
+    requires { Tracks script.now world.now clients.now }
+    ensures some { IfSome result (IsFirstEnabled script.now world.now.moves) }
+    ensures none { IsNone result → (client : ℕ) → IsEnabled script.now world.now.moves client → ⊥ }
+{
+    for place in 0..script.clients() {
+        let client = place + 1;
+        let progress = clients[place as usize];
+        // Looked at first, since most clients wait most of the time.
+        if progress.waiting {
+            continue;
+        }
+        if enabled_step(script, world, client, progress).is_some() {
+            return Some(client);
+        }
+    }
+    None
+}
+
+/// Returns the choice that the policy makes next, or `None` at the end.
+pub fn pick(script: &Script, policy: &Policy, world: &World, clients: &[Progress]) -> Option<Choice>
+    requires { Tracks script.now world.now clients.now }
+    ensures some { IfSome result (Picks script.now policy.now world.now.moves) }
+    ensures none { IsNone result → Ends script.now policy.now world.now.moves }
+{
+    schedules_rest_on_runs();
+    if let Policy::Listed(choices) = policy {
+        return choices.at(world.steps());
+    }
+    if let Some(client) = first_enabled(script, world, clients) {
+        return Some(Choice::Client(client));
+    }
+    let messages = world.under_way();
+    if messages == 0 {
+        return None;
+    }
+    match policy {
+        Policy::Newest => Some(Choice::Message(messages - 1)),
+        _ => Some(Choice::Message(0)),
+    }
+}
+
+/// Returns what a choice stands for.
+///
+/// # Errors
+///
+/// The first that holds:
+///
+/// 1. `BadPlace`: there is no such client or message.
+/// 2. `NotEnabled`: the client is not enabled.
+pub fn meaning(
+    script: &Script,
+    world: &World,
+    clients: &[Progress],
+    choice: Choice,
+) -> Result<Step, DriveError>
+    requires { Tracks script.now world.now clients.now }
+    ensures ok { IfOk result (Means script.now world.now.moves choice) }
+    ensures err { IfErr result (λ fault. ((fault ≡ DriveError.BadPlace) × IsBadPlace script.now world.now.moves choice)
+        ⊎ ((fault ≡ DriveError.NotEnabled) × IsNotEnabled script.now world.now.moves choice)) }
+{
+    schedules_rest_on_runs();
+    match choice {
+        Choice::Client(client) => {
+            if client == 0 || client > script.clients() {
+                return Err(DriveError::BadPlace);
+            }
+            let progress = clients[client as usize - 1];
+            enabled_step(script, world, client, progress).ok_or(DriveError::NotEnabled)
+        }
+        Choice::Message(place) => match world.message_at(place) {
+            Some(message) => Ok(Step::Deliver(message)),
+            None => Err(DriveError::BadPlace),
+        },
+        Choice::Lost(place) => match world.message_at(place) {
+            Some(message) => Ok(Step::Lose(message)),
+            None => Err(DriveError::BadPlace),
+        },
+    }
+}

@@ -1,0 +1,89 @@
+//! Where the clients stand.
+ghost use Rattle.std.specs.Prelude.{◌≡◌, ◌≢◌, ◌+◌, ◌<◌, ◌||◌, ℕ, length, replicate, false, slice_index_or, IfOk};
+ghost use Rattle.ra_schedule.specs.Progress.{IsAfterStep, IsAfterMarks, OfEach, AreCountable};
+
+use ra_stamp::{Mark, Memory};
+use ra_world::Step;
+use std::alloc::Global;
+
+/// Where a client stands in its list.
+#[derive(Clone, Copy, Debug)]
+pub struct Progress {
+    /// How many of its operations are done, the one that it waits for among them.
+    pub done: u64,
+    /// Whether it has asked and not entered since.
+    pub waiting: bool,
+}
+
+/// Makes the progress of clients that have done nothing yet.
+///
+/// # Errors
+///
+/// `Memory`.
+pub fn opening_progress(alloc: Global, clients: u32) -> Result<Vec<Progress>, Memory>
+    ensures { IfOk result (λ list. list.items ≡ replicate clients (record { done = 0; waiting = false })) }
+{
+    let mut list = Vec::with_capacity(alloc, clients as usize)?;
+    for _client in 0..clients {
+        list.push(Progress {
+            done: 0,
+            waiting: false,
+        })?;
+    }
+    Ok(list)
+}
+
+/// Moves a client on by one operation, after which it waits if this is an ask.
+fn advance(list: &mut [Progress], client: u32, asks: bool)
+    requires { AreCountable list.old }
+    ensures others { (k : ℕ) (d : Progress) → k + 1 ≢ client
+        → slice_index_or list.new k d ≡ slice_index_or list.old k d }
+    ensures this { (k : ℕ) (d : Progress) → k < length list.old → k + 1 ≡ client
+        → slice_index_or list.new k d ≡ record {
+          done = (slice_index_or list.old k d).done + 1;
+          waiting = asks || (slice_index_or list.old k d).waiting;
+        } }
+{
+    let number = client as usize;
+    if 1 <= number && number <= list.len() {
+        let progress = &mut list[number - 1];
+        progress.done += 1;
+        progress.waiting = asks || progress.waiting;
+    }
+}
+
+/// Notes a step: its client moves on.
+pub fn note_step(list: &mut [Progress], step: &Step)
+    requires { AreCountable list.old }
+    ensures { OfEach (λ client old new. IsAfterStep client step.now old new) list.old list.new }
+{
+    match *step {
+        Step::Ask { client, .. } => advance(list, client, true),
+        Step::Leave { client, .. } => advance(list, client, false),
+        Step::Deliver(_) | Step::Lose(_) => {}
+    }
+}
+
+/// Notes that a client entered.
+fn stop_waiting(list: &mut [Progress], client: u32)
+    ensures others { (k : ℕ) (d : Progress) → k + 1 ≢ client
+        → slice_index_or list.new k d ≡ slice_index_or list.old k d }
+    ensures this { (k : ℕ) (d : Progress) → k < length list.old → k + 1 ≡ client
+        → slice_index_or list.new k d ≡ record (slice_index_or list.old k d) { waiting = false } }
+{
+    let number = client as usize;
+    if 1 <= number && number <= list.len() {
+        list[number - 1].waiting = false;
+    }
+}
+
+/// Notes marks: who entered waits no longer.
+pub fn note_marks(list: &mut [Progress], marks: &[Mark])
+    ensures { OfEach (λ client old new. IsAfterMarks client marks.now old new) list.old list.new }
+{
+    for mark in marks {
+        if let Mark::Entered(entry) = mark {
+            stop_waiting(list, entry.client);
+        }
+    }
+}

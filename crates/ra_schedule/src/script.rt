@@ -1,0 +1,290 @@
+ghost use Rattle.std.specs.Prelude.{◌≡◌, ◌⊎◌, ◌<◌, ◌≤◌, ◌↔◌, ◌∷◌, ◌++◌, ℕ, List, [], length, option_map, option_copied, IsTrue, IsErrOf, IsOkUnless, IsOk, IsSome, IfOk, IfSome, OnOk, OnErr};
+ghost use Rattle.ra_stamp.specs.NodeId.{IsNodeNumber};
+ghost use Rattle.ra_schedule.specs.declared.script.Op.{Op};
+ghost use Rattle.ra_schedule.specs.Script.{IsHeldAfter, IsHeldThen, Fits, IsScriptClient};
+
+use crate::{AddClientError, AddOpError, NewScriptError};
+use ra_stamp::{Mode, Name, NodeId};
+use std::alloc::Global;
+use std::marker::Model;
+
+/// An operation of a client.
+#[derive(Clone, Copy, Debug, PartialEq, Eq)]
+pub enum Op {
+    /// It locks the name, and goes on when it has it.
+    Lock(Name, Mode),
+    /// It unlocks the name.
+    Unlock(Name),
+}
+
+/// A client: its node, and what it does.
+#[derive(Debug, Drop)]
+struct Client {
+    node: NodeId,
+    ops: Vec<Op>,
+}
+
+impl Model for Client {
+    ghost use Rattle.ra_schedule.specs.Script.{ScriptClient};
+
+    ghost Value = { ScriptClient };
+
+    ghost view = { λ c. record { node = c.node; ops = c.ops.items } };
+}
+
+impl Client {
+    /// Adds an operation behind the others, in time linear in the number of these.
+    ///
+    /// # Errors
+    ///
+    /// Those of `Script::add_op`, but for `Clients`.
+    fn add_op(&mut self, op: Op) -> Result<(), AddOpError>
+        ensures ok { OnOk result (self.new ≡ record self.old { ops = self.old.ops ++ op ∷ [] }) }
+        ensures clients { ¬ IsErrOf result AddOpError.Clients }
+        ensures limit { IsErrOf result AddOpError.Limit ↔ (1024 ≤ length self.old.ops) }
+        ensures not_held { IsErrOf result AddOpError.NotHeld ↔ ((length self.old.ops < 1024)
+            × (name : List ℕ) × (op ≡ Op.Unlock name) × (IsHeldAfter self.old.ops name → ⊥)) }
+        ensures already_held { IsErrOf result AddOpError.AlreadyHeld ↔ ((length self.old.ops < 1024)
+            × (name : List ℕ) × (mode : Mode) × (op ≡ Op.Lock name mode) × IsHeldAfter self.old.ops name) }
+        ensures allowed { IsOkUnless result AddOpError.Memory
+            ↔ ((length self.old.ops < 1024) × Fits self.old.ops op) }
+        ensures err { OnErr result (self.new ≡ self.old) }
+        ensures client { (nodes : ℕ) → IsScriptClient nodes self.old → IsScriptClient nodes self.new }
+    {
+        check_op(&self.ops, &op)?;
+        self.ops.push(op)?;
+        Ok(())
+    }
+}
+
+/// What clients do at the nodes of a cluster. Contracts see how many nodes there are, and for each client its node and its
+/// operations. There are at most 64 clients, each at a node that there is, with at most 1,024 operations; and none locks a
+/// name that it has, or unlocks one that it has not. A client may have names at the end.
+#[derive(Debug, Drop)]
+pub struct Script {
+    nodes: u16,
+    clients: Vec<Client>,
+}
+
+impl Model for Script {
+    ghost use Rattle.ra_schedule.specs.Script.{ScriptState, IsScript};
+
+    ghost Value = { ScriptState };
+
+    ghost view = { λ s. record { nodes = s.nodes; clients = s.clients.items } };
+
+    ghost invariant = { λ s. IsScript (record { nodes = s.nodes; clients = s.clients.items }) };
+}
+
+impl Script {
+    ghost use Rattle.ra_schedule.specs.Script.{IsScript, LastHas, AddsOp, client_at, op_at, with_client};
+
+    /// The most clients that a script may have.
+    pub const MAX_CLIENTS: usize = 64;
+
+    /// The most operations that a client may have.
+    pub const MAX_OPS: usize = 1024;
+
+    /// Makes the script of this many nodes that has no client yet. What it keeps grows by `alloc`.
+    ///
+    /// # Errors
+    ///
+    /// The first that holds:
+    ///
+    /// 1. `Nodes`: the number of nodes is not 1 to 16.
+    /// 2. `Memory`.
+    pub fn new(alloc: Global, nodes: u16) -> Result<Script, NewScriptError>
+        ensures ok { IfOk result (λ script. script ≡ record { nodes = nodes; clients = [] }) }
+        ensures nodes { IsErrOf result NewScriptError.Nodes ↔ (IsNodeNumber nodes → ⊥) }
+        // Memory is the one other error.
+        ensures allowed { IsOkUnless result NewScriptError.Memory ↔ IsNodeNumber nodes }
+        ensures script { IfOk result IsScript }
+    {
+        if NodeId::new(nodes).is_none() {
+            return Err(NewScriptError::Nodes);
+        }
+        Ok(Script {
+            nodes,
+            clients: Vec::new(alloc),
+        })
+    }
+
+    /// Adds a client at this node, behind the others, with nothing to do yet, in amortized constant time.
+    ///
+    /// # Errors
+    ///
+    /// The first that holds, and the script is as before:
+    ///
+    /// 1. `Clients`: there are 64 clients, or the node is not 1 to the number of nodes.
+    /// 2. `Memory`.
+    pub fn add_client(&mut self, alloc: Global, node: u16) -> Result<(), AddClientError>
+        ensures ok { OnOk result (self.new ≡ with_client self.old node) }
+        ensures clients { IsErrOf result AddClientError.Clients
+            ↔ ((64 ≤ length self.old.clients) ⊎ ((1 ≤ node) × (node ≤ self.old.nodes) → ⊥)) }
+        // Memory is the one other error.
+        ensures allowed { IsOkUnless result AddClientError.Memory
+            ↔ ((length self.old.clients < 64) × (1 ≤ node) × (node ≤ self.old.nodes)) }
+        ensures err { OnErr result (self.new ≡ self.old) }
+        ensures script { IsScript self.new }
+    {
+        let Some(node) = self.node_for_client(node) else {
+            return Err(AddClientError::Clients);
+        };
+        self.clients.push(Client {
+            node,
+            ops: Vec::new(alloc),
+        })?;
+        Ok(())
+    }
+
+    /// Adds an operation of the last client, behind its others, in time linear in the number of these.
+    ///
+    /// # Errors
+    ///
+    /// The first that holds, and the script is as before:
+    ///
+    /// 1. `Clients`: there is no client.
+    /// 2. `Limit`: the last client has 1,024 operations.
+    /// 3. `NotHeld`: it unlocks a name that the client does not have then.
+    /// 4. `AlreadyHeld`: it locks a name that the client has.
+    /// 5. `Memory`.
+    pub fn add_op(&mut self, op: Op) -> Result<(), AddOpError>
+        ensures ok { OnOk result (AddsOp self.old op self.new) }
+        ensures clients { IsErrOf result AddOpError.Clients ↔ (self.old.clients ≡ []) }
+        ensures limit { IsErrOf result AddOpError.Limit
+            ↔ ((ops : List Op) × LastHas self.old ops × (1024 ≤ length ops)) }
+        ensures not_held { IsErrOf result AddOpError.NotHeld
+            ↔ ((ops : List Op) × LastHas self.old ops × (length ops < 1024)
+            × (name : List ℕ) × (op ≡ Op.Unlock name) × (IsHeldAfter ops name → ⊥)) }
+        ensures already_held { IsErrOf result AddOpError.AlreadyHeld
+            ↔ ((ops : List Op) × LastHas self.old ops × (length ops < 1024)
+            × (name : List ℕ) × (mode : Mode) × (op ≡ Op.Lock name mode) × IsHeldAfter ops name) }
+        // Memory is the one other error.
+        ensures allowed { IsOkUnless result AddOpError.Memory
+            ↔ ((ops : List Op) × LastHas self.old ops × (length ops < 1024) × Fits ops op) }
+        ensures err { OnErr result (self.new ≡ self.old) }
+        ensures script { IsScript self.new }
+    {
+        let Some(last) = self.clients.last_mut() else {
+            return Err(AddOpError::Clients);
+        };
+        last.add_op(op)
+    }
+
+    /// Returns how many nodes there are, 1 to 16. It does not allocate.
+    pub fn nodes(&self) -> u16
+        ensures value { result ≡ self.now.nodes }
+        ensures script { IsScript self.now }
+    {
+        self.nodes
+    }
+
+    /// Returns how many clients there are, at most 64. It does not allocate.
+    pub fn clients(&self) -> u32
+        ensures value { result ≡ length self.now.clients }
+        ensures script { IsScript self.now }
+    {
+        self.clients.len() as u32
+    }
+
+    /// Returns the node of the client with this number, counted from 1, or `None` where there is no such client. It does not
+    /// allocate.
+    pub fn node_of(&self, client: u32) -> Option<NodeId>
+        ensures value { result ≡ option_map (λ c. c.node) (client_at self.now client) }
+        ensures script { IsScript self.now }
+    {
+        let client = self.client(client)?;
+        Some(client.node)
+    }
+
+    /// Returns how many operations the client with this number has, at most 1,024, or `None` where there is no such client.
+    /// It does not allocate.
+    pub fn ops_of(&self, client: u32) -> Option<u64>
+        ensures value { result ≡ option_map (λ c. length c.ops) (client_at self.now client) }
+        ensures script { IsScript self.now }
+    {
+        let client = self.client(client)?;
+        Some(client.ops.len() as u64)
+    }
+
+    /// Returns the operation of the client with this number that stands at this place, counted from 0, or `None` where there
+    /// is no such client or no operation. It does not allocate.
+    pub fn op(&self, client: u32, place: u64) -> Option<Op>
+        ensures value { result ≡ op_at self.now client place }
+        ensures script { IsScript self.now }
+    {
+        let client = self.client(client)?;
+        client.ops.get(place as usize).copied()
+    }
+
+    /// Returns the client with this number, or `None`.
+    fn client(&self, client: u32) -> Option<&Client>
+        ensures value { option_copied result ≡ client_at self.now client }
+        ensures script { IsScript self.now }
+    {
+        let clients = &self.clients;
+        if client == 0 {
+            return None;
+        }
+        clients.get(client as usize - 1)
+    }
+
+    /// Returns the node with this number, or `None` where there is none, or no room for one more client.
+    fn node_for_client(&self, node: u16) -> Option<NodeId>
+        ensures value { IfSome result (λ member. member ≡ node) }
+        ensures room { IsSome result
+            ↔ ((length self.now.clients < 64) × (1 ≤ node) × (node ≤ self.now.nodes)) }
+        ensures script { IsScript self.now }
+    {
+        if self.clients.len() >= Script::MAX_CLIENTS || node > self.nodes {
+            return None;
+        }
+        NodeId::new(node)
+    }
+}
+
+/// Checks whether the operation fits behind these, and they are fewer than a client may have.
+///
+/// # Errors
+///
+/// Those of `Script::add_op`, but for `Clients` and `Memory`.
+fn check_op(ops: &[Op], op: &Op) -> Result<(), AddOpError>
+    ensures allowed { IsOk result ↔ ((length ops.now < 1024) × Fits ops.now op.now) }
+    ensures limit { IsErrOf result AddOpError.Limit ↔ (1024 ≤ length ops.now) }
+    ensures not_held { IsErrOf result AddOpError.NotHeld ↔ ((length ops.now < 1024)
+        × (name : List ℕ) × (op.now ≡ Op.Unlock name) × (IsHeldAfter ops.now name → ⊥)) }
+    ensures already_held { IsErrOf result AddOpError.AlreadyHeld ↔ ((length ops.now < 1024)
+        × (name : List ℕ) × (mode : Mode) × (op.now ≡ Op.Lock name mode) × IsHeldAfter ops.now name) }
+    ensures no_clients { ¬ IsErrOf result AddOpError.Clients }
+    ensures no_memory { ¬ IsErrOf result AddOpError.Memory }
+{
+    if ops.len() >= Script::MAX_OPS {
+        return Err(AddOpError::Limit);
+    }
+    match op {
+        Op::Lock(name, _) if is_held_after(ops, name) => Err(AddOpError::AlreadyHeld),
+        Op::Unlock(name) if !is_held_after(ops, name) => Err(AddOpError::NotHeld),
+        _ => Ok(()),
+    }
+}
+
+/// Returns whether a client that did these operations has the name.
+fn is_held_after(ops: &[Op], name: &Name) -> bool
+    ensures { IsTrue result ↔ IsHeldAfter ops.now name.now }
+{
+    let mut held = false;
+    for op in ops {
+        held = is_held_then(held, op, name);
+    }
+    held
+}
+
+/// Returns whether a client has the name after the operation, where `held` says whether it had it before.
+fn is_held_then(held: bool, op: &Op, name: &Name) -> bool
+    ensures { IsTrue result ↔ IsHeldThen (IsTrue held) op.now name.now }
+{
+    match op {
+        Op::Lock(locked, _) => held || locked == name,
+        Op::Unlock(unlocked) => held && unlocked != name,
+    }
+}
