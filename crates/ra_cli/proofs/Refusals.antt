@@ -7,7 +7,7 @@ use Rattle.std.proofs.lemmas.List.{append-nil, length-append}
 use Rattle.ra_cli.specs.declared.error.AnswerError.{AnswerError}
 use Rattle.ra_cli.specs.declared.error.AnswerError.TheVariants as fault
 use Rattle.ra_cli.specs.Line.{IsLine}
-use Rattle.ra_cli.specs.Input.{Reads}
+use Rattle.ra_world.specs.Input.{Reads}
 use Rattle.ra_cli.specs.Answer.{IsAnswered, Refuses}
 
 no_long_line : (input line : List ℕ) → 258 ≤ length input → IsLine input line → ⊥
@@ -71,3 +71,8 @@ answers_input (Some input) (Some rest) node nodes taken output h r =
 pub for_each : (old : Option (List ℕ)) (node nodes : ℕ) (why : AnswerError) → ((input : List ℕ) → Refuses node nodes input why) → IfSome old (λ input. Refuses node nodes input why)
 for_each None node nodes why h = tt
 for_each (Some input) node nodes why h = h input
+
+-- a list of which an end is left
+pub not_nil : (bytes front back : List ℕ) → bytes ≡ front ++ back → back ≢ [] → bytes ≢ []
+not_nil bytes [] back e left nothing = left (sym e ∙ nothing)
+not_nil bytes (x ∷ xs) back e left nothing = absurd cc

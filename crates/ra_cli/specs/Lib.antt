@@ -1,4 +1,4 @@
 pub mod Line
 pub mod Answer
-pub mod Input
 pub mod Words
+pub mod Performs

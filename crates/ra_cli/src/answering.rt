@@ -3,17 +3,16 @@ ghost use Rattle.std.specs.Io.KnownBytes.{Consumes, Appends};
 ghost use Rattle.hex.specs.Hex.{decode_of, encode_lower};
 ghost use Rattle.ra_frame.specs.Fits.{Fits};
 ghost use Rattle.ra_frame.specs.FrameText.{IsFrameText};
-ghost use Rattle.ra_cli.specs.Input.{IsFromOutside};
 ghost use Rattle.ra_cli.specs.Answer.{Carries, IsMember, IsUnwanted, Reacts, AreLines, IsAnswered, Refuses};
 ghost use Rattle.ra_automaton.specs.State.{IsForNode};
 
 use crate::AnswerError;
-use crate::input::{MAX_LINE, line_of, read_up_to};
-use crate::output::write_out;
+use crate::input::{MAX_LINE, line_of};
 use hex::FromHexError;
 use ra_automaton::{Automaton, Reaction, ReceiveError};
 use ra_frame::{Frame, decode, encode};
 use ra_stamp::{Memory, Message, Messages, NodeId};
+use ra_world::{read_up_to, write_out};
 use std::alloc::Global;
 use std::io::{Read, Write};
 

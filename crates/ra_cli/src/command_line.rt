@@ -1,25 +1,76 @@
-ghost use Rattle.std.specs.Prelude.{Any, IsTrue, IfOk, string_bytes};
+ghost use Rattle.std.specs.Prelude.{Any, IsTrue, IfOk, IfSome, string_bytes};
 ghost use Rattle.ra_cli.specs.Words.{IsHelpWord, OnHelp};
 
 use clap::error::ErrorKind;
-use clap::{Arg, ArgAction, ArgMatches, Command, Error, value_parser};
+use clap::{Arg, ArgAction, ArgMatches, Command, Error as ParseError, value_parser};
 use std::alloc::Global;
+use thiserror::Error;
+
+/// The words for the policies.
+const POLICIES: &[&str] = &["oldest", "newest", "listed"];
+
+/// What is said of the command `answer` below its options.
+const ANSWER_HELP: &str = "\
+The node has met no number before, and its clock was 0. It prints the frames that it sends, a line each.
+
+Example, a REQUEST of node 1 for the name r, answered by node 2 of 3:
+  echo 0101010201000000000000000100000000000000010172 | ra answer --node 2 --nodes 3";
+
+/// What is said of the command `sim` below its options.
+const SIM_HELP: &str = "\
+A script, read from standard input, is a TOML document: how many nodes there are, and for each client its node and what it
+does, in order. `X NAME` locks a name exclusively, `S NAME` locks it shared, and `U NAME` unlocks it.
+  nodes = 2
+  client = [{ node = 1, ops = [\"X r\", \"U r\"] },
+            { node = 2, ops = [\"S r\", \"U r\"] }]
+
+Policies:
+  oldest  the first client in the order of the script that can go on, and else the message that was sent first
+  newest  the same, with the message that was sent last
+  listed  the words of --choices, one after the other: cK the next operation of client K, mI delivers and lI loses the
+          message at place I of those under way, counted from 0 in the order of sending, as in --choices \"c1 m0 m0 c1\"
+
+Status 0: each operation is done, and nothing waits, is queued or under way. Status 3: the run ended before that.
+Status 2: the words or the script are refused. Status 1: the input or the output failed.";
+
+/// What is said of the program below its commands.
+const STATUS_HELP: &str = "\
+Status 0: done. Status 1: the input or the output failed. Status 2: refused, by one line with the word that says why.
+Status 3: a run that ended with something left to do.";
+
+/// Which policy the words name.
+#[derive(Clone, Copy, Debug)]
+pub enum PolicyName {
+    Oldest,
+    Newest,
+    Listed,
+}
 
 /// What the words of a command line ask for.
 #[derive(Debug, Drop)]
-pub enum Task {
+pub enum Task<'a> {
     /// The command `answer`, with its two numbers.
-    Answer { node: u16, nodes: u16 },
+    Answer {
+        node: u16,
+        nodes: u16,
+    },
+    /// The command `sim`, with its policy and the text of the choices.
+    Sim {
+        policy: PolicyName,
+        choices: &'a str,
+    },
     /// A text of help.
     Help(String),
 }
 
-/// Why the words ask for nothing.
-#[derive(Clone, Copy, Debug)]
+/// Why the words of a command line ask for nothing.
+#[derive(Clone, Copy, Debug, PartialEq, Eq, Error)]
 pub enum CommandFault {
     /// They are no command line of `ra`.
+    #[error("Usage")]
     Usage,
     /// Memory ran out.
+    #[error("Memory")]
     Memory,
 }
 
@@ -33,24 +84,74 @@ fn number<'a>(alloc: Global, name: &'a str, help: &'a str) -> Arg<'a> {
         .value_parser(value_parser!(u16))
 }
 
-/// Makes the command line that `ra` understands.
-fn command<'a>(alloc: Global) -> Result<Command<'a>, Error> {
+/// Makes the command `answer`.
+fn answer_command<'a>(alloc: Global) -> Result<Command<'a>, ParseError> {
     let answer = Command::new(alloc, "answer")
         .about("Answer one frame, a line of hexadecimal digits, as an idle node does")
+        .after_help(ANSWER_HELP)
         .arg(number(alloc, "node", "The number of the node that answers"))?
         .arg(number(alloc, "nodes", "How many nodes there are, 1 to 16"))?;
+    Ok(answer)
+}
+
+/// Makes the command `sim`.
+fn sim_command<'a>(alloc: Global) -> Result<Command<'a>, ParseError> {
+    let policy = Arg::new(alloc, "policy")
+        .long("policy")
+        .help("Who chooses what comes next")
+        .action(ArgAction::Set)
+        .value_parser(POLICIES)
+        .default_value("oldest");
+    let choices = Arg::new(alloc, "choices")
+        .long("choices")
+        .help("The choices of the policy listed")
+        .action(ArgAction::Set)
+        .default_value("")
+        .hide_default_value(true);
+    let sim = Command::new(alloc, "sim")
+        .about(
+            "Drive a cluster through a script, and print who asked, entered and left, and what it cost",
+        )
+        .after_help(SIM_HELP)
+        .arg(policy)?
+        .arg(choices)?;
+    Ok(sim)
+}
+
+/// Makes the command line that `ra` understands.
+fn command<'a>(alloc: Global) -> Result<Command<'a>, ParseError> {
+    let answer = answer_command(alloc)?;
+    let sim = sim_command(alloc)?;
     let ra = Command::new(alloc, "ra")
         .about("Lock named resources by messages alone")
+        .after_help(STATUS_HELP)
         .disable_help_subcommand(true)
         .subcommand_required(true)
-        .subcommand(answer)?;
+        .subcommand(answer)?
+        .subcommand(sim)?;
     Ok(ra)
 }
 
-/// Returns the two numbers of a command line that was understood, or `None` where it has no command.
-fn numbers_of(matches: &ArgMatches<'_>) -> Option<(u16, u16)> {
-    let answer = matches.subcommand_matches("answer")?;
-    Some((answer.get_one("node")?, answer.get_one("nodes")?))
+/// Returns the task of a command line that was understood, or `None` where it has no command.
+fn task_of<'a>(matches: &ArgMatches<'a>) -> Option<Task<'a>>
+    ensures { IfSome result (λ task. OnHelp task ⊥) }
+{
+    if let Some(answer) = matches.subcommand_matches("answer") {
+        return Some(Task::Answer {
+            node: answer.get_one("node")?,
+            nodes: answer.get_one("nodes")?,
+        });
+    }
+    let sim = matches.subcommand_matches("sim")?;
+    let policy = match sim.get_str("policy")? {
+        "newest" => PolicyName::Newest,
+        "listed" => PolicyName::Listed,
+        _ => PolicyName::Oldest,
+    };
+    Some(Task::Sim {
+        policy,
+        choices: sim.get_str("choices")?,
+    })
 }
 
 /// Returns whether a word asks for a text of help. It does not allocate.
@@ -71,7 +172,7 @@ fn asks_for_help(words: &[String]) -> bool
 /// # Errors
 ///
 /// `Usage`: they are no command line of `ra`. `Memory`: memory ran out.
-pub fn parse(alloc: Global, words: &[String]) -> Result<Task, CommandFault>
+pub fn parse<'a>(alloc: Global, words: &'a [String]) -> Result<Task<'a>, CommandFault>
     ensures help { IfOk result (λ task.
         OnHelp task (Any (λ word. IsHelpWord (string_bytes word)) words.now)) }
 {
@@ -80,10 +181,7 @@ pub fn parse(alloc: Global, words: &[String]) -> Result<Task, CommandFault>
         Err(error) => Err(error),
     };
     match matches {
-        Ok(matches) => match numbers_of(&matches) {
-            Some((node, nodes)) => Ok(Task::Answer { node, nodes }),
-            None => Err(CommandFault::Usage),
-        },
+        Ok(matches) => task_of(&matches).ok_or(CommandFault::Usage),
         Err(error) => match error.kind() {
             // No contract of the parser's says that it gives help only to those who ask.
             ErrorKind::DisplayHelp if asks_for_help(words) => match format!(in alloc; "{error}") {

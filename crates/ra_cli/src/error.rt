@@ -1,10 +1,10 @@
 ghost use Rattle.std.specs.Prelude.{◌≡◌};
-ghost use Rattle.ra_cli.specs.declared.error.AnswerError.TheVariants.{Frame, Memory, Write};
+ghost use Rattle.ra_cli.specs.declared.error.AnswerError.TheVariants.{Read, Frame, Memory, Write};
+ghost use Rattle.ra_world.specs.declared.error.ReadFault.{ReadFault};
 
-use crate::output::WriteFault;
 use ra_frame::FrameError;
 use ra_stamp::Memory;
-use std::alloc::{AllocError, AllocFailed};
+use ra_world::{ReadFault, WriteFault};
 use thiserror::Error;
 
 /// Why `answer` gave no answer, in the order in which the causes are looked for.
@@ -63,21 +63,15 @@ impl From<Memory> for AnswerError {
     }
 }
 
-impl From<AllocError> for AnswerError {
-    ghost from_gives = { λ _ e. e ≡ Memory };
+impl From<ReadFault> for AnswerError {
+    ghost from_gives = { λ fault e. (fault ≡ ReadFault.Read → e ≡ Read) × (fault ≡ ReadFault.Memory → e ≡ Memory) };
 
-    /// Says that memory ran out.
-    fn from(_refused: AllocError) -> AnswerError {
-        AnswerError::Memory
-    }
-}
-
-impl<T: Drop> From<AllocFailed<T>> for AnswerError {
-    ghost from_gives = { λ _ e. e ≡ Memory };
-
-    /// Says that memory ran out.
-    fn from(_refused: AllocFailed<T>) -> AnswerError {
-        AnswerError::Memory
+    /// Returns the refusal of the same word.
+    fn from(fault: ReadFault) -> AnswerError {
+        match fault {
+            ReadFault::Read => AnswerError::Read,
+            ReadFault::Memory => AnswerError::Memory,
+        }
     }
 }
 

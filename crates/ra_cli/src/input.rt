@@ -1,61 +1,8 @@
-ghost use Rattle.std.specs.Prelude.{◌≡◌, ◌≢◌, ◌≤◌, ◌⊎◌, ◌↔◌, List, ℕ, [], ◌∷◌, ◌++◌, length, All, IsTrue, IfOk, IfErr, OnErr, IfSome, IfNone, MatchOption};
-ghost use Rattle.std.specs.Io.KnownBytes.{Consumes, IsAtEnd, Keeps};
+ghost use Rattle.std.specs.Prelude.{◌≡◌, ◌≢◌, ◌⊎◌, ◌↔◌, List, ℕ, [], ◌∷◌, ◌++◌, All, IsTrue, IfSome, IfNone};
 ghost use Rattle.ra_cli.specs.Line.{IsLine};
-ghost use Rattle.ra_cli.specs.Input.{Reads, IsFromOutside};
-
-use crate::AnswerError;
-use std::alloc::Global;
-use std::io::Read;
 
 /// The most bytes of a line, without its line feed.
 pub const MAX_LINE: usize = 256;
-
-/// Reads the next byte, or answers `None` at the end. It does not allocate.
-///
-/// # Errors
-///
-/// `Read`: the reader failed. It is not tried again.
-fn next_byte<R: Read>(reader: &mut R) -> Result<Option<u8>, AnswerError>
-    ensures some { IfOk result (λ next. MatchOption next
-        (Keeps (R.remaining reader.old) (R.remaining reader.new))
-        (λ byte. Consumes (R.remaining reader.old) (R.remaining reader.new) (byte ∷ []))) }
-    ensures none { IfOk result (λ next. IfNone next (IsAtEnd (R.remaining reader.new))) }
-    ensures err { IfErr result (λ fault. fault ≡ AnswerError.Read) }
-    ensures untaken { OnErr result (Keeps (R.remaining reader.old) (R.remaining reader.new)) }
-{
-    let mut byte = [0];
-    match reader.read(&mut byte) {
-        Ok(0) => Ok(None),
-        Ok(_) => Ok(Some(byte[0])),
-        Err(_) => Err(AnswerError::Read),
-    }
-}
-
-/// Reads to the end, and at most `limit` bytes.
-///
-/// # Errors
-///
-/// `Read`: the reader failed, and is not tried again. `Memory`: there is none for the bytes.
-pub fn read_up_to<R: Read>(
-    alloc: Global,
-    reader: &mut R,
-    limit: usize,
-) -> Result<Vec<u8>, AnswerError>
-    ensures bytes { IfOk result (λ bytes.
-        Reads (R.remaining reader.old) (R.remaining reader.new) limit bytes.items) }
-    ensures at_most { (taken : List ℕ) × (length taken ≤ limit)
-        × Consumes (R.remaining reader.old) (R.remaining reader.new) taken }
-    ensures err { IfErr result IsFromOutside }
-{
-    let mut bytes = Vec::with_capacity(alloc, limit)?;
-    for _turn in 0..limit {
-        match next_byte(reader)? {
-            Some(byte) => bytes.push(byte)?,
-            None => break,
-        }
-    }
-    Ok(bytes)
-}
 
 /// Returns the input without the line feed at its end, if it has one there. It does not allocate.
 fn without_feed(input: &[u8]) -> &[u8]

@@ -5,12 +5,14 @@ mod answering;
 mod command_line;
 mod error;
 mod input;
-mod output;
 mod serving;
 
 pub use answering::answer;
+pub use command_line::CommandFault;
 pub use error::AnswerError;
-pub use serving::serve;
+pub use serving::{refuse_words, serve};
 
+#[cfg(test)]
+mod sim_tests;
 #[cfg(test)]
 mod tests;

@@ -1,13 +1,15 @@
-ghost use Rattle.std.specs.Prelude.{◌≡◌, ◌≤◌, ◌⊎◌, List, ℕ, Any, IfSome, string_bytes};
+ghost use Rattle.std.specs.Prelude.{true, false, ◌≡◌, ◌≤◌, ◌⊎◌, List, ℕ, Any, IfSome, string_bytes};
 ghost use Rattle.std.specs.Io.KnownBytes.{Consumes, Appends};
 ghost use Rattle.ra_cli.specs.Answer.{IsAnswered};
-ghost use Rattle.ra_cli.specs.Words.{IsHelpWord};
-ghost use Rattle.ra_cli.specs.declared.command_line.CommandFault.{CommandFault};
+ghost use Rattle.ra_cli.specs.Words.{IsHelpWord, refusal_line};
+ghost use Rattle.ra_cli.specs.Performs.{Performs};
 ghost use Rattle.ra_cli.specs.declared.serving.Refusal.{Refusal};
 
-use crate::command_line::{CommandFault, Task, parse};
-use crate::output::write_out;
-use crate::{AnswerError, answer};
+use crate::command_line::{PolicyName, Task, parse};
+use crate::{AnswerError, CommandFault, answer};
+use ra_schedule::Policy;
+use ra_script::{ChoicesError, PerformError, perform, read_choices};
+use ra_world::write_out;
 use std::alloc::Global;
 use std::io::{Read, Write};
 use thiserror::Error;
@@ -21,28 +23,20 @@ const BROKEN: u8 = 1;
 /// The words or the input were refused, or memory ran out.
 const REFUSED: u8 = 2;
 
+/// The run ended with something left to do.
+const UNFINISHED: u8 = 3;
+
 /// Why a command was not done. Its `Display` is the word that is printed.
 #[derive(Clone, Copy, Debug, Error)]
 enum Refusal {
-    #[error("Usage")]
-    Usage,
-    #[error("Memory")]
-    Memory,
+    #[error(transparent)]
+    Command(CommandFault),
     #[error(transparent)]
     Answer(AnswerError),
-}
-
-impl From<CommandFault> for Refusal {
-    ghost from_gives = { λ fault refusal. (fault ≡ CommandFault.Usage → refusal ≡ Refusal.Usage)
-        × (fault ≡ CommandFault.Memory → refusal ≡ Refusal.Memory) };
-
-    /// Returns the refusal of the same word.
-    fn from(fault: CommandFault) -> Refusal {
-        match fault {
-            CommandFault::Usage => Refusal::Usage,
-            CommandFault::Memory => Refusal::Memory,
-        }
-    }
+    #[error(transparent)]
+    Choices(ChoicesError),
+    #[error(transparent)]
+    Perform(PerformError),
 }
 
 /// Writes a text and returns the status, or that of a fault where the writer fails. It does not allocate.
@@ -61,11 +55,14 @@ fn written<W: Write>(writer: &mut W, text: &[u8], status: u8) -> u8
 fn refuse<W: Write>(alloc: Global, writer: &mut W, refusal: Refusal) -> u8
     ensures range { result ≤ 2 }
     ensures not_done { 1 ≤ result }
-    ensures unwritten { refusal ≡ Refusal.Answer AnswerError.Write → writer.new ≡ writer.old }
+    ensures unwritten { (refusal ≡ Refusal.Answer AnswerError.Write) ⊎ (refusal ≡ Refusal.Perform PerformError.Write)
+        → writer.new ≡ writer.old }
 {
     let status = match refusal {
-        Refusal::Answer(AnswerError::Write) => return BROKEN,
-        Refusal::Answer(AnswerError::Read) => BROKEN,
+        Refusal::Answer(AnswerError::Write) | Refusal::Perform(PerformError::Write) => {
+            return BROKEN;
+        }
+        Refusal::Answer(AnswerError::Read) | Refusal::Perform(PerformError::Read) => BROKEN,
         _ => REFUSED,
     };
     match format!(in alloc; "refused {refusal}\n") {
@@ -74,10 +71,54 @@ fn refuse<W: Write>(alloc: Global, writer: &mut W, refusal: Refusal) -> u8
     }
 }
 
-/// Does what the words ask for, of which the first is the program's name, and returns the exit status: 0 done,
-/// 1 a fault of the input or the output, 2 refused. A refusal is printed as one line, `refused` and its word. No read
-/// or write that failed is tried again, and after a fault of the output nothing more is written. It waits for nobody
-/// but the reader and the writer.
+/// Prints why there are no words of a command line, and returns the status, 2, or 1 where the writer fails. It does not
+/// allocate.
+pub fn refuse_words<W: Write>(writer: &mut W, fault: CommandFault) -> u8
+    ensures { ((result ≡ 2) × Appends (W.contents writer.old) (W.contents writer.new) (refusal_line fault))
+        ⊎ (result ≡ 1) }
+{
+    let line: &[u8] = match fault {
+        CommandFault::Usage => b"refused Usage\n",
+        CommandFault::Memory => b"refused Memory\n",
+    };
+    match write_out(writer, line) {
+        Ok(()) => REFUSED,
+        Err(_) => BROKEN,
+    }
+}
+
+/// Reads the choices, and drives a cluster through the script of the reader.
+fn simulate<R: Read, W: Write>(
+    alloc: Global,
+    policy: PolicyName,
+    choices: &str,
+    reader: &mut R,
+    writer: &mut W,
+) -> u8
+    ensures range { result ≤ 3 }
+    ensures done { result ≡ 0 → Performs (R.remaining reader.old) (R.remaining reader.new) (W.contents writer.old) (W.contents writer.new) true }
+    ensures unfinished { result ≡ 3 → Performs (R.remaining reader.old) (R.remaining reader.new) (W.contents writer.old) (W.contents writer.new) false }
+{
+    let choices = match read_choices(alloc, choices) {
+        Ok(choices) => choices,
+        Err(fault) => return refuse(alloc, writer, Refusal::Choices(fault)),
+    };
+    let policy = match policy {
+        PolicyName::Oldest => Policy::Oldest,
+        PolicyName::Newest => Policy::Newest,
+        PolicyName::Listed => Policy::Listed(choices),
+    };
+    match perform(alloc, reader, writer, &policy) {
+        Ok(true) => DONE,
+        Ok(false) => UNFINISHED,
+        Err(fault) => refuse(alloc, writer, Refusal::Perform(fault)),
+    }
+}
+
+/// Does what the words ask for, of which the first is the program's name, and returns the exit status: 0 done, 1 a fault of
+/// the input or the output, 2 refused, 3 a run that ended with something left to do. A refusal is printed as one line,
+/// `refused` and its word. No read or write that failed is tried again, and after a fault of the output nothing more is
+/// written. It waits for nobody but the reader and the writer.
 pub fn serve<T, R: Read, W: Write>(
     _rt: &T,
     alloc: Global,
@@ -85,21 +126,26 @@ pub fn serve<T, R: Read, W: Write>(
     reader: &mut R,
     writer: &mut W,
 ) -> u8
-    ensures range { result ≤ 2 }
-    // Status 0 comes only where the input was answered, or where a word asks for a text of help and nothing was read.
+    ensures range { result ≤ 3 }
+    // Status 0 comes only where the input was answered or performed to its end, or where a word asks for a text of help and
+    // nothing was read; and status 3 only where the input was performed and something is left to do.
     ensures done { result ≡ 0
         → ((reader.new ≡ reader.old) × Any (λ word. IsHelpWord (string_bytes word)) words.now)
         ⊎ ((node : ℕ) × (nodes : ℕ) × IfSome (R.remaining reader.old) (λ input. (output : List ℕ)
         × IsAnswered node nodes input output
         × Consumes (R.remaining reader.old) (R.remaining reader.new) input
-        × Appends (W.contents writer.old) (W.contents writer.new) output)) }
+        × Appends (W.contents writer.old) (W.contents writer.new) output))
+        ⊎ Performs (R.remaining reader.old) (R.remaining reader.new) (W.contents writer.old) (W.contents writer.new) true }
+    ensures unfinished { result ≡ 3
+        → Performs (R.remaining reader.old) (R.remaining reader.new) (W.contents writer.old) (W.contents writer.new) false }
 {
     match parse(alloc, words) {
         Ok(Task::Answer { node, nodes }) => match answer(alloc, node, nodes, reader, writer) {
             Ok(()) => DONE,
             Err(fault) => refuse(alloc, writer, Refusal::Answer(fault)),
         },
+        Ok(Task::Sim { policy, choices }) => simulate(alloc, policy, choices, reader, writer),
         Ok(Task::Help(text)) => written(writer, text.as_bytes(), DONE),
-        Err(fault) => refuse(alloc, writer, Refusal::from(fault)),
+        Err(fault) => refuse(alloc, writer, Refusal::Command(fault)),
     }
 }

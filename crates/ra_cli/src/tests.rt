@@ -28,10 +28,10 @@ const WRITE_FAULTS: [Option<io::ErrorKind>; 4] = [
 
 /// Gives one byte at a time. After so many reads it fails once, and then goes on.
 #[derive(Drop)]
-struct FailingReader<'a> {
-    bytes: &'a [u8],
-    before_fault: Option<usize>,
-    fault: io::ErrorKind,
+pub struct FailingReader<'a> {
+    pub bytes: &'a [u8],
+    pub before_fault: Option<usize>,
+    pub fault: io::ErrorKind,
 }
 
 impl Read for FailingReader<'_> {
@@ -56,10 +56,10 @@ impl Read for FailingReader<'_> {
 /// Takes one byte at a time. After so many writes it fails once, or takes nothing once where there is no fault, and
 /// then goes on.
 #[derive(Drop)]
-struct FailingWriter {
-    taken: Vec<u8>,
-    before_fault: Option<usize>,
-    fault: Option<io::ErrorKind>,
+pub struct FailingWriter {
+    pub taken: Vec<u8>,
+    pub before_fault: Option<usize>,
+    pub fault: Option<io::ErrorKind>,
 }
 
 impl Write for FailingWriter {
@@ -87,7 +87,8 @@ impl Write for FailingWriter {
     }
 }
 
-fn words_of(alloc: Global, line: &str) -> Result<Vec<String>, Fail> {
+/// The words of a line.
+pub fn words_of(alloc: Global, line: &str) -> Result<Vec<String>, Fail> {
     let mut words = Vec::new(alloc);
     for word in line.split(' ') {
         words.push(word.to_string(alloc)?)?;
@@ -96,7 +97,7 @@ fn words_of(alloc: Global, line: &str) -> Result<Vec<String>, Fail> {
 }
 
 /// What `ra` answers and prints, with the line of its words and an input.
-fn run<T: AllocGlobal>(rt: &T, line: &str, input: &str) -> Result<(u8, Vec<u8>), Fail> {
+pub fn run<T: AllocGlobal>(rt: &T, line: &str, input: &str) -> Result<(u8, Vec<u8>), Fail> {
     let alloc = rt.alloc();
     let words = words_of(alloc, line)?;
     let mut reader = input.as_bytes();
@@ -309,7 +310,7 @@ fn a_line_has_at_most_256_bytes_and_nothing_behind_it(rt: HostRuntime) -> Result
 fn words_that_are_no_command_are_refused(rt: HostRuntime) -> Result<(), Fail> {
     let lines = [
         "ra",
-        "ra sim",
+        "ra simulate",
         "ra help",
         "ra answer",
         "ra answer --node 2",
@@ -340,6 +341,11 @@ Options:
       --node <node>    The number of the node that answers
       --nodes <nodes>  How many nodes there are, 1 to 16
   -h, --help           Print help
+
+The node has met no number before, and its clock was 0. It prints the frames that it sends, a line each.
+
+Example, a REQUEST of node 1 for the name r, answered by node 2 of 3:
+  echo 0101010201000000000000000100000000000000010172 | ra answer --node 2 --nodes 3
 ";
     assert_eq!(rt; status, 0);
     assert_eq!(rt; output.as_slice(), text.as_bytes());
@@ -510,7 +516,7 @@ fn a_writer_that_fails_once_has_the_bytes_before_and_no_more(rt: HostRuntime) ->
     let answers = "ra answer --node 2 --nodes 3";
     assert_write_fault(&rt, answers, REQUEST, printed.as_bytes())?;
     assert_write_fault(&rt, answers, "zz", b"refused Hex\n".as_slice())?;
-    assert_write_fault(&rt, "ra sim", REQUEST, b"refused Usage\n".as_slice())?;
+    assert_write_fault(&rt, "ra", REQUEST, b"refused Usage\n".as_slice())?;
     assert_write_fault(&rt, "ra --help", "", b"Lock named resources".as_slice())
 }
 

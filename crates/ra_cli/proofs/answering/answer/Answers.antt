@@ -1,7 +1,6 @@
 use Rattle.std.proofs.Common.{[]}
 use Rattle.std.proofs.lemmas.Result.{err_from_is_err_and}
-use Rattle.ra_cli.proofs.Refusals.{for_each, refuses_input}
-use Rattle.ra_cli.proofs.Known.{not_nil}
+use Rattle.ra_cli.proofs.Refusals.{for_each, refuses_input, not_nil}
 use Rattle.ra_cli.proofs.answering.answer.Goals as goal
 
 pub returns-in_err-me-clause-refused : goal.returns-in_err-me-clause-refused

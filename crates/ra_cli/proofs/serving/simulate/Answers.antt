@@ -1,0 +1,7 @@
+use Rattle.ra_cli.proofs.serving.simulate.Goals as goal
+
+pub returns-in-Ok-true-clause-done : goal.returns-in-Ok-true-clause-done
+returns-in-Ok-true-clause-done g c is = (c.match-policy.policy, rw c.in-Ok-true.field-0-test at c.in-Ok-true.ensures.ok)
+
+pub returns-in-Ok-false-clause-unfinished : goal.returns-in-Ok-false-clause-unfinished
+returns-in-Ok-false-clause-unfinished g c is = (c.match-policy.policy, rw c.in-Ok-false.field-0-test at c.in-Ok-false.ensures.ok)

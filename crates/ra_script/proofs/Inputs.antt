@@ -1,0 +1,84 @@
+-- What holds of the bytes that were read holds of the whole input: one of which 65,537 bytes were read is no script.
+use Rattle.std.proofs.Common.{◌≡◌, ◌≢◌, ◌⊎◌, ℕ, ◌<◌, ◌≤◌, Bool, List, [], ◌∷◌, ◌++◌, length, Option, Some, None, Ok, Err, refl, sym, ap, subst, ◌∙◌, arith, inl, inr, true, nat_lt}
+use Rattle.std.specs.Prelude.{IfSome, Result, if◌then◌else◌, ok_or, not}
+use Rattle.std.specs.Str.{is_utf8}
+use Rattle.std.specs.Io.KnownBytes.{Consumes}
+use Rattle.std.proofs.lemmas.Bool.{cases_lt, lt-ltb}
+use Rattle.std.proofs.lemmas.List.{append-nil, length-append}
+use Rattle.toml.specs.Data.{Members}
+use Rattle.toml.specs.Parse.{parse_document}
+use Rattle.ra_world.specs.Input.{Reads}
+use Rattle.ra_schedule.specs.declared.choice.Policy.{Policy}
+use Rattle.ra_schedule.specs.Script.{ScriptState}
+use Rattle.ra_script.specs.declared.error.ScriptError.{ScriptError}
+use Rattle.ra_script.specs.declared.error.ScriptError.TheVariants.{Limit, Toml, Shape}
+use Rattle.ra_script.specs.declared.error.PerformError.{PerformError}
+use Rattle.ra_script.specs.declared.error.PerformError.TheVariants as fault
+use Rattle.ra_script.specs.Document.{document_of}
+use Rattle.ra_script.specs.ScriptText.{result_and_then, script_in, tree_of, script_of}
+use Rattle.ra_script.specs.Performed.{IsPerformed, Refuses}
+
+long_is_refused : (text : List ℕ) → 65537 ≤ length text → script_of text ≡ Err Limit
+long_is_refused text long =
+    ap (λ (b : Bool). result_and_then script_in (result_and_then (λ tree. ok_or (document_of tree) Shape)
+    (if b then Err Limit else if not (is_utf8 text) then Err Toml else ok_or (parse_document text) Toml)))
+    (lt-ltb 65536 (length text) (omega arith))
+
+no_long_script : (text : List ℕ) (script : ScriptState) → 65537 ≤ length text → script_of text ≡ Ok script → ⊥
+no_long_script text script long is = let not : script_of text ≡ Err Limit = long_is_refused text long in absurd cc
+
+-- all of the input was read, or 65,537 bytes of it
+record IsRead (input taken : List ℕ) (new : Option (List ℕ)) : Type 0 where
+  how : ((input ≡ taken) × (new ≡ Some [])) ⊎ ((65537 ≤ length taken) × (65537 ≤ length input))
+
+is_read : (input rest taken : List ℕ) → Reads (Some input) (Some rest) 65537 taken → IsRead input taken (Some rest)
+is_read input rest taken h =
+    elim (cases_lt (length taken) 65537) [
+      | inl short ↦
+          let nothing : rest ≡ [] = h.ended short in
+          record { how = inl (h.taken ∙ (ap (λ (xs : List ℕ). taken ++ xs) nothing ∙ append-nil taken), ap Some nothing) }
+      | inr long ↦ record { how = inr (long, omega (arith, ap length h.taken, length-append taken rest)) }
+    ]
+
+too_long : (policy : Policy) (taken input : List ℕ) (why : PerformError) → why ≢ fault.Write → 65537 ≤ length taken → 65537 ≤ length input
+    → Refuses policy taken why → Refuses policy input why
+too_long policy taken input fault.Read early t i h = h
+too_long policy taken input (fault.Script why) early t i h = (h.0, long_is_refused input i ∙ sym (long_is_refused taken t) ∙ h.1)
+too_long policy taken input (fault.Drive cause) early t i (script, moves, is, follows, stops) = absurd (no_long_script taken script t is)
+too_long policy taken input fault.Memory early t i h = h
+too_long policy taken input fault.Write early t i h = absurd (early refl)
+
+-- a refusal of what was read is one of the input
+pub refuses_input : (old new : Option (List ℕ)) (policy : Policy) (taken : List ℕ) (why : PerformError) → why ≢ fault.Write
+    → Reads old new 65537 taken → Refuses policy taken why → IfSome old (λ input. Refuses policy input why)
+refuses_input None new policy taken why early h r = tt
+refuses_input (Some input) None policy taken why early h r = absurd h.taken
+refuses_input (Some input) (Some rest) policy taken why early h r =
+    elim (is_read input rest taken h).how [
+      | inl whole ↦ subst (λ (xs : List ℕ). Refuses policy xs why) (sym whole.0) r
+      | inr long ↦ too_long policy taken input why early long.0 long.1 r
+    ]
+
+-- what comes of what was read comes of the input, and nothing of it is left
+pub performs_input : (old new : Option (List ℕ)) (policy : Policy) (taken output : List ℕ) (finished : Bool) → Reads old new 65537 taken
+    → IsPerformed policy taken output finished → IfSome old (λ input. IsPerformed policy input output finished × Consumes old new input)
+performs_input None new policy taken output finished h r = tt
+performs_input (Some input) None policy taken output finished h r = absurd h.taken
+performs_input (Some input) (Some rest) policy taken output finished h r =
+    elim (is_read input rest taken h).how [
+      | inl whole ↦ (
+        subst (λ (xs : List ℕ). IsPerformed policy xs output finished) (sym whole.0) r,
+        subst (λ (xs : List ℕ). Consumes (Some input) (Some rest) xs) (sym whole.0) h.taken,
+      )
+      | inr long ↦ absurd (no_long_script taken r.script long.0 r.script_is)
+    ]
+
+-- a fact on the known bytes leads to another one
+pub of_known : (old : Option (List ℕ)) (P Q : List ℕ → Type 0) → ((input : List ℕ) → P input → Q input) → IfSome old P → IfSome old Q
+of_known None P Q f h = tt
+of_known (Some input) P Q f h = f input h
+
+-- a list of which an end is left
+pub not_nil : (bytes front back : List ℕ) → bytes ≡ front ++ back → back ≢ [] → bytes ≢ []
+not_nil bytes [] back e left nothing = left (sym e ∙ nothing)
+not_nil bytes (x ∷ xs) back e left nothing = absurd cc

@@ -1,0 +1,10 @@
+mod Names
+mod Trees
+mod Held
+mod Numbers
+mod Texts
+mod Adding
+mod Scripts
+mod Meanings
+mod Spelled
+mod Inputs

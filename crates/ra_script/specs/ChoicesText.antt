@@ -1,0 +1,61 @@
+-- How lists of choices are written.
+use Rattle.std.specs.Prelude.{◌≡◌, ◌<◌, ◌^◌, All, ℕ, ◌+◌, ◌*◌, ◌-◌, nat_le, ◌==◌, ◌&&◌, ◌||◌, Bool, not, List, [], ◌∷◌, length, slice_index, Option, Some, None, if◌then◌else◌, option_map, option_and_then, fold, map}
+use Rattle.std.specs.Char.{is_ascii_digit}
+use Rattle.std.specs.Fmt.{decimal}
+use Rattle.std.specs.List.{list_all, slice_split, join_with_byte}
+use Rattle.ra_schedule.specs.declared.choice.Choice.{Choice}
+use Rattle.ra_schedule.specs.declared.choice.Choice.TheVariants.{Client, Message, Lost}
+
+-- 1 to 9 digits, of which the first of two or more is not `0`
+abbrev pub is_decimal : List ℕ → Bool
+is_decimal digits =
+    ((nat_le 1 (length digits) && nat_le (length digits) 9) && list_all is_ascii_digit digits)
+    && (length digits == 1 || not (slice_index digits 0 == 48))
+
+-- the number of decimal digits
+abbrev pub decimal_value : List ℕ → ℕ
+decimal_value digits = fold (λ value digit. 10 * value + (digit - 48)) 0 digits
+
+-- the choice of a letter and a number: `c` a client's next operation, `m` a message that is delivered, `l` one that is lost
+abbrev pub choice_with : ℕ → ℕ → Option Choice
+choice_with letter number =
+    if letter == 99 then Some (Client number)
+    else if letter == 109 then Some (Message number)
+    else if letter == 108 then Some (Lost number)
+    else None
+
+-- the choice of a letter and a decimal
+abbrev pub choice_of : List ℕ → Option Choice
+choice_of [] = None
+choice_of (letter ∷ digits) = if is_decimal digits then choice_with letter (decimal_value digits) else None
+
+-- the choices of words
+abbrev pub choices_in : List (List ℕ) → Option (List Choice)
+choices_in [] = Some []
+choices_in (word ∷ words) = option_and_then (λ choice. option_map (λ choices. choice ∷ choices) (choices_in words)) (choice_of word)
+
+-- the choices of a text: of the words between its spaces, and none of the empty text
+abbrev pub choices_of : List ℕ → Option (List Choice)
+choices_of [] = Some []
+choices_of (byte ∷ bytes) = choices_in (slice_split (λ b. b == 32) (byte ∷ bytes))
+
+-- a choice as it is written
+abbrev pub spelled : Choice → List ℕ
+spelled (Client number) = 99 ∷ decimal number
+spelled (Message place) = 109 ∷ decimal place
+spelled (Lost place) = 108 ∷ decimal place
+
+-- choices as they are written, with a space between each two
+abbrev pub spelled_all : List Choice → List ℕ
+spelled_all choices = join_with_byte 32 (map spelled choices)
+
+-- the number of a choice
+abbrev pub number_in : Choice → ℕ
+number_in (Client number) = number
+number_in (Message place) = place
+number_in (Lost place) = place
+
+-- the text is these choices, each number of at most nine digits
+pub record Lists (text : List ℕ) (choices : List Choice) : Type 0 where
+  pub whole : text ≡ spelled_all choices
+  pub short : All (λ choice. number_in choice < 10 ^ 9) choices

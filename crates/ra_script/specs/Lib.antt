@@ -1,0 +1,7 @@
+pub mod Faults
+pub mod Document
+pub mod Operation
+pub mod ScriptText
+pub mod Meaning
+pub mod ChoicesText
+pub mod Performed

@@ -1,0 +1,44 @@
+-- What `perform` makes of its input.
+use Rattle.std.specs.Prelude.{◌≡◌, ◌≢◌, ◌↔◌, ℕ, ◌≤◌, List, [], Bool, IsTrue, length, Ok, Err}
+use Rattle.ra_world.specs.declared.report.Report.{Report}
+use Rattle.ra_world.specs.Traffic.{Move}
+use Rattle.ra_world.specs.World.{Reports}
+use Rattle.ra_world.specs.MainTheorem.{MainTheorem}
+use Rattle.ra_world.specs.Lines.{report_text}
+use Rattle.ra_schedule.specs.declared.choice.Policy.{Policy}
+use Rattle.ra_schedule.specs.Script.{ScriptState}
+use Rattle.ra_schedule.specs.Schedule.{steps_of, Follows, Ends, Stops, IsFinished}
+use Rattle.ra_script.specs.declared.error.ScriptError.TheVariants as script_fault
+use Rattle.ra_script.specs.declared.error.PerformError.{PerformError}
+use Rattle.ra_script.specs.declared.error.PerformError.TheVariants as fault
+use Rattle.ra_script.specs.ScriptText.{script_of}
+
+-- the most turns that a script may take
+abbrev pub turn_limit : ℕ
+turn_limit = 16777216
+
+-- The input is the text of a script. The policy was followed through it to its end, and the output is the lines of the report
+-- of this run, for which the main theorem holds.
+pub record IsPerformed (policy : Policy) (input output : List ℕ) (finished : Bool) : Type 0 where
+  pub script : ScriptState
+  pub script_is : script_of input ≡ Ok script
+  pub moves : List Move
+  pub follows : Follows script policy moves
+  pub ends : Ends script policy moves
+  pub at_most : length moves ≤ turn_limit
+  pub report : Report
+  pub reports : Reports script.nodes 0 moves report
+  pub main_theorem : MainTheorem script.nodes report
+  pub finished_is : IsTrue finished ↔ IsFinished script (steps_of moves) report
+  pub lines : output ≡ report_text report
+
+-- where each refusal may come: its cause stands. Want of memory and faults of the reader and the writer come from outside, but
+-- the writer fails only where there is something to write.
+abbrev pub Refuses : Policy → List ℕ → PerformError → Type 0
+Refuses policy input fault.Read = Unit {0}
+Refuses policy input (fault.Script why) = (why ≢ script_fault.Memory) × (script_of input ≡ Err why)
+Refuses policy input (fault.Drive cause) = (script : ScriptState) × (moves : List Move) × (script_of input ≡ Ok script)
+    × Follows script policy moves × Stops script policy turn_limit moves cause
+Refuses policy input fault.Memory = Unit {0}
+Refuses policy input fault.Write = (output : List ℕ) × (finished : Bool) × IsPerformed policy input output finished
+    × (output ≢ [])

@@ -1,0 +1,91 @@
+-- The script of a text, check by check, in the order in which refusals come.
+use Rattle.std.specs.Prelude.{ℕ, ℤ, pos, negsuc, nat_le, nat_lt, ◌&&◌, Bool, true, false, not, List, [], ◌∷◌, ◌++◌, length, Result, Ok, Err, if◌then◌else◌, ok_or}
+use Rattle.std.specs.List.{list_all}
+use Rattle.std.specs.Str.{is_utf8, bytes_eq}
+use Rattle.toml.specs.Data.{Members}
+use Rattle.toml.specs.Parse.{parse_document}
+use Rattle.ra_schedule.specs.declared.script.Op.{Op}
+use Rattle.ra_schedule.specs.declared.script.Op.TheVariants.{Lock, Unlock}
+use Rattle.ra_schedule.specs.Script.{ScriptClient, ScriptState}
+use Rattle.ra_script.specs.declared.error.ScriptError.{ScriptError}
+use Rattle.ra_script.specs.declared.error.ScriptError.TheVariants as fault
+use Rattle.ra_script.specs.Document.{ClientTable, Document, document_of}
+use Rattle.ra_script.specs.Operation.{op_of}
+
+-- the next check, where the ones before it passed
+abbrev pub result_and_then : {A B : Type 0} → (A → Result B ScriptError) → Result A ScriptError → Result B ScriptError
+result_and_then next (Ok value) = next value
+result_and_then next (Err why) = Err why
+
+-- the script with one more client
+abbrev pub with_last : ScriptState → ScriptClient → ScriptState
+with_last script client = record script { clients = script.clients ++ client ∷ [] }
+
+-- a number that is not below zero, and 0 for one that is
+abbrev pub natural : ℤ → ℕ
+natural (pos number) = number
+natural (negsuc number) = 0
+
+-- the number is 1 to `most`
+abbrev pub is_up_to : ℕ → ℤ → Bool
+is_up_to most number = nat_le 1 (natural number) && nat_le (natural number) most
+
+-- a client has the name after these operations, where `held` says whether it had it before them
+abbrev pub is_held_from : Bool → List Op → List ℕ → Bool
+is_held_from held [] name = held
+is_held_from held (Lock locked mode ∷ ops) name = is_held_from (if bytes_eq locked name then true else held) ops name
+is_held_from held (Unlock unlocked ∷ ops) name = is_held_from (if bytes_eq unlocked name then false else held) ops name
+
+-- a client has the name after these operations
+abbrev pub is_held_after : List Op → List ℕ → Bool
+is_held_after ops name = is_held_from false ops name
+
+-- an operation behind those that are done: a name is locked where the client does not have it, and unlocked where it does
+abbrev pub fitting : List Op → Op → Result Op ScriptError
+fitting done (Lock name mode) = if is_held_after done name then Err fault.AlreadyHeld else Ok (Lock name mode)
+fitting done (Unlock name) = if is_held_after done name then Ok (Unlock name) else Err fault.NotHeld
+
+-- the operation of a string behind those that are done
+abbrev pub next_op : List Op → List ℕ → Result Op ScriptError
+next_op done string = result_and_then (fitting done) (ok_or (op_of string) fault.Op)
+
+-- the operations of strings behind those that are done, and these
+abbrev pub ops_behind : List Op → List (List ℕ) → Result (List Op) ScriptError
+ops_behind done [] = Ok done
+ops_behind done (string ∷ strings) = result_and_then (λ op. ops_behind (done ++ op ∷ []) strings) (next_op done string)
+
+-- the operations of a client
+abbrev pub ops_of : List (List ℕ) → Result (List Op) ScriptError
+ops_of strings = if nat_lt 1024 (length strings) then Err fault.Limit else ops_behind [] strings
+
+-- a client
+abbrev pub client_of : ClientTable → Result ScriptClient ScriptError
+client_of client = result_and_then (λ ops. Ok (record { node = natural client.node; ops = ops })) (ops_of client.ops)
+
+-- the clients behind those that are done, and these
+abbrev pub clients_behind : List ScriptClient → List ClientTable → Result (List ScriptClient) ScriptError
+clients_behind done [] = Ok done
+clients_behind done (client ∷ clients) = result_and_then (λ c. clients_behind (done ++ c ∷ []) clients) (client_of client)
+
+-- there are 1 to 64 clients, and each is at one of the nodes
+abbrev pub are_placed : ℕ → List ClientTable → Bool
+are_placed nodes clients =
+    (nat_le 1 (length clients) && nat_le (length clients) 64) && list_all (λ client. is_up_to nodes client.node) clients
+
+-- the script of a document
+abbrev pub script_in : Document → Result ScriptState ScriptError
+script_in document =
+    if not (is_up_to 16 document.nodes) then Err fault.Nodes
+    else if not (are_placed (natural document.nodes) document.clients) then Err fault.Clients
+    else result_and_then (λ clients. Ok (record { nodes = natural document.nodes; clients = clients })) (clients_behind [] document.clients)
+
+-- the tree of a text
+abbrev pub tree_of : List ℕ → Result Members ScriptError
+tree_of text =
+    if nat_lt 65536 (length text) then Err fault.Limit
+    else if not (is_utf8 text) then Err fault.Toml
+    else ok_or (parse_document text) fault.Toml
+
+-- the script of a text
+abbrev pub script_of : List ℕ → Result ScriptState ScriptError
+script_of text = result_and_then script_in (result_and_then (λ tree. ok_or (document_of tree) fault.Shape) (tree_of text))

@@ -1,0 +1,93 @@
+ghost use Rattle.std.specs.Prelude.{◌≡◌, ◌⊎◌, ◌≤◌, List, Some, None, length, IfOk, IfErr, MatchResult};
+ghost use Rattle.std.specs.List.{AllPass, list_all};
+ghost use Rattle.std.specs.Char.{is_ascii_digit};
+ghost use Rattle.ra_schedule.specs.declared.choice.Choice.{Choice};
+ghost use Rattle.ra_script.specs.ChoicesText as spec;
+ghost use Rattle.ra_script.specs.ChoicesText.{Lists};
+
+use crate::ChoicesError;
+use ra_schedule::{Choice, Choices};
+use std::alloc::Global;
+
+/// The most digits of a number.
+const MAX_DIGITS: usize = 9;
+
+/// Returns whether these are 1 to 9 digits, of which the first of two or more is not `0`. It does not allocate.
+fn is_decimal(digits: &[u8]) -> bool
+    ensures { result ≡ spec.is_decimal digits.now }
+{
+    if digits.is_empty() || digits.len() > MAX_DIGITS || !are_digits(digits) {
+        return false;
+    }
+    digits.len() == 1 || digits[0] != b'0'
+}
+
+/// Returns whether each byte is a digit. It does not allocate.
+fn are_digits(bytes: &[u8]) -> bool
+    ensures { result ≡ list_all is_ascii_digit bytes.now }
+{
+    bytes.iter().all(|byte| byte.is_ascii_digit())
+}
+
+/// Returns the number of at most 9 digits. It does not allocate.
+fn decimal_value(digits: &[u8]) -> u32
+    requires few { length digits.now ≤ 9 }
+    requires digits { AllPass is_ascii_digit digits.now }
+    ensures { result ≡ spec.decimal_value digits.now }
+{
+    let mut value = 0;
+    for digit in digits {
+        value = 10 * value + u32::from(*digit - b'0');
+    }
+    value
+}
+
+/// Returns the choice that a word spells, or `None` where it spells none: `c`, `m` or `l`, and a decimal of 1 to 9 digits with no
+/// zeros before it. It does not allocate.
+fn choice_of(word: &[u8]) -> Option<Choice>
+    ensures { result ≡ spec.choice_of word.now }
+{
+    let [letter, digits @ ..] = word else {
+        return None;
+    };
+    if !is_decimal(digits) {
+        return None;
+    }
+    let number = decimal_value(digits);
+    match letter {
+        b'c' => Some(Choice::Client(number)),
+        b'm' => Some(Choice::Message(u64::from(number))),
+        b'l' => Some(Choice::Lost(u64::from(number))),
+        _ => None,
+    }
+}
+
+/// Reads a list of choices: words with one space between them, and none at the ends. The empty text is the empty list. A word is
+/// `c`, `m` or `l` and a decimal of 1 to 9 digits with no zeros before it: `cK` is the next operation of client K, `mI` delivers the
+/// message at place I, and `lI` loses it. The cost is linear in the text.
+///
+/// # Errors
+///
+/// `Choice`: a word is none of these. `Memory`, which may come before it.
+pub fn read_choices(alloc: Global, text: &str) -> Result<Choices, ChoicesError>
+    ensures ok { IfOk result (λ choices. spec.choices_of text.now ≡ Some choices.items) }
+    ensures refused { IfErr result (λ fault. ((fault ≡ ChoicesError.Choice) × (spec.choices_of text.now ≡ None))
+        ⊎ (fault ≡ ChoicesError.Memory)) }
+
+    // It is read as choices only where it is how they are written, and where it is, only memory can be wanting.
+    ensures lists { IfOk result (λ choices. Lists text.now choices.items) }
+    ensures only { (choices : List Choice) → Lists text.now choices
+        → MatchResult result (λ read. read.items ≡ choices) (λ fault. fault ≡ ChoicesError.Memory) }
+{
+    let mut choices = Choices::new(alloc);
+    if text.is_empty() {
+        return Ok(choices);
+    }
+    for word in text.split(' ') {
+        let Some(choice) = choice_of(word.as_bytes()) else {
+            return Err(ChoicesError::Choice);
+        };
+        choices.push(choice)?;
+    }
+    Ok(choices)
+}

@@ -1,0 +1,176 @@
+ghost use Rattle.std.specs.Prelude.{◌≡◌};
+ghost use Rattle.ra_script.specs.Faults.{of_new, of_client, of_op};
+ghost use Rattle.ra_script.specs.declared.error.ScriptError.TheVariants as script;
+ghost use Rattle.ra_script.specs.declared.error.ChoicesError.TheVariants as choices;
+ghost use Rattle.ra_script.specs.declared.error.PerformError.TheVariants as perform;
+ghost use Rattle.ra_script.specs.Faults.{of_read, of_script, of_drive};
+
+use ra_schedule::{AddClientError, AddOpError, DriveError, NewScriptError};
+use ra_stamp::Memory;
+use ra_world::{ReadFault, WriteFault};
+use std::alloc::AllocFailed;
+use thiserror::Error;
+
+/// Why a text is no script.
+#[derive(Clone, Copy, Debug, PartialEq, Eq, Error)]
+pub enum ScriptError {
+    /// It is not UTF-8, or no TOML document.
+    #[error("Toml")]
+    Toml,
+    /// A key is missing, unknown or of another type.
+    #[error("Shape")]
+    Shape,
+    /// The number of nodes is not 1 to 16.
+    #[error("Nodes")]
+    Nodes,
+    /// There are not 1 to 64 clients, or one is at no node that there is.
+    #[error("Clients")]
+    Clients,
+    /// A string is no operation.
+    #[error("Op")]
+    Op,
+    /// A client unlocks a name that it does not have then.
+    #[error("NotHeld")]
+    NotHeld,
+    /// A client locks a name that it has.
+    #[error("AlreadyHeld")]
+    AlreadyHeld,
+    /// The text has more than 65,536 bytes, or a client more than 1,024 operations.
+    #[error("Limit")]
+    Limit,
+    /// Memory ran out.
+    #[error("Memory")]
+    Memory,
+}
+
+/// Why a text is no list of choices.
+#[derive(Clone, Copy, Debug, PartialEq, Eq, Error)]
+pub enum ChoicesError {
+    /// A word is no choice, or there is not one space between two.
+    #[error("Choice")]
+    Choice,
+    /// Memory ran out.
+    #[error("Memory")]
+    Memory,
+}
+
+/// Why a script was not performed, in the order in which the causes are looked for.
+#[derive(Clone, Copy, Debug, PartialEq, Eq, Error)]
+pub enum PerformError {
+    /// The reader failed.
+    #[error("Read")]
+    Read,
+    /// What was read is no script. It is never want of memory.
+    #[error(transparent)]
+    Script(ScriptError),
+    /// The policy could not go on. It is never want of memory.
+    #[error(transparent)]
+    Drive(DriveError),
+    /// Memory ran out.
+    #[error("Memory")]
+    Memory,
+    /// The writer failed.
+    #[error("Write")]
+    Write,
+}
+
+impl From<NewScriptError> for ScriptError {
+    ghost from_gives = { λ fault e. e ≡ of_new fault };
+
+    fn from(fault: NewScriptError) -> ScriptError {
+        match fault {
+            NewScriptError::Nodes => ScriptError::Nodes,
+            NewScriptError::Memory => ScriptError::Memory,
+        }
+    }
+}
+
+impl From<AddClientError> for ScriptError {
+    ghost from_gives = { λ fault e. e ≡ of_client fault };
+
+    fn from(fault: AddClientError) -> ScriptError {
+        match fault {
+            AddClientError::Clients => ScriptError::Clients,
+            AddClientError::Memory => ScriptError::Memory,
+        }
+    }
+}
+
+impl From<AddOpError> for ScriptError {
+    ghost from_gives = { λ fault e. e ≡ of_op fault };
+
+    fn from(fault: AddOpError) -> ScriptError {
+        match fault {
+            AddOpError::Clients => ScriptError::Clients,
+            AddOpError::Limit => ScriptError::Limit,
+            AddOpError::NotHeld => ScriptError::NotHeld,
+            AddOpError::AlreadyHeld => ScriptError::AlreadyHeld,
+            AddOpError::Memory => ScriptError::Memory,
+        }
+    }
+}
+
+impl<T: Drop> From<AllocFailed<T>> for ScriptError {
+    ghost from_gives = { λ _ e. e ≡ script.Memory };
+
+    fn from(_refused: AllocFailed<T>) -> ScriptError {
+        ScriptError::Memory
+    }
+}
+
+impl From<Memory> for ChoicesError {
+    ghost from_gives = { λ _ e. e ≡ choices.Memory };
+
+    fn from(_refused: Memory) -> ChoicesError {
+        ChoicesError::Memory
+    }
+}
+
+impl From<ReadFault> for PerformError {
+    ghost from_gives = { λ fault e. e ≡ of_read fault };
+
+    fn from(fault: ReadFault) -> PerformError {
+        match fault {
+            ReadFault::Read => PerformError::Read,
+            ReadFault::Memory => PerformError::Memory,
+        }
+    }
+}
+
+impl From<ScriptError> for PerformError {
+    ghost from_gives = { λ fault e. e ≡ of_script fault };
+
+    fn from(fault: ScriptError) -> PerformError {
+        match fault {
+            ScriptError::Memory => PerformError::Memory,
+            fault => PerformError::Script(fault),
+        }
+    }
+}
+
+impl From<DriveError> for PerformError {
+    ghost from_gives = { λ fault e. e ≡ of_drive fault };
+
+    fn from(fault: DriveError) -> PerformError {
+        match fault {
+            DriveError::Memory => PerformError::Memory,
+            fault => PerformError::Drive(fault),
+        }
+    }
+}
+
+impl From<Memory> for PerformError {
+    ghost from_gives = { λ _ e. e ≡ perform.Memory };
+
+    fn from(_refused: Memory) -> PerformError {
+        PerformError::Memory
+    }
+}
+
+impl From<WriteFault> for PerformError {
+    ghost from_gives = { λ _ e. e ≡ perform.Write };
+
+    fn from(_fault: WriteFault) -> PerformError {
+        PerformError::Write
+    }
+}

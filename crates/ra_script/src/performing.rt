@@ -1,0 +1,95 @@
+ghost use Rattle.std.specs.Prelude.{◌≡◌, ◌≢◌, ◌≤◌, List, ℕ, [], ◌++◌, Bool, length, string_bytes, IfOk, IfErr, IfSome, IsErrOf};
+ghost use Rattle.std.specs.Io.KnownBytes.{Consumes, Appends};
+ghost use Rattle.ra_script.specs.Performed.{IsPerformed, Refuses};
+
+use crate::{PerformError, read_script};
+use ra_schedule::{Policy, drive};
+use ra_world::{read_up_to, report_text, write_out};
+use std::alloc::Global;
+use std::io::{Read, Write};
+
+/// The most bytes that are read: one more than a script may have.
+const MAX_INPUT: usize = 65_537;
+
+/// The most turns that a script may take.
+const MAX_TURNS: u64 = 16_777_216;
+
+/// The lines of what came of a script, and whether it is finished.
+#[derive(Debug, Drop)]
+struct Printed {
+    text: String,
+    finished: bool,
+}
+
+/// Returns the lines of what comes of a script.
+///
+/// # Errors
+///
+/// The first that holds, but that `Memory` may come before the others:
+///
+/// 1. `Script`: the input is no script.
+/// 2. `Drive`: the policy can't go on.
+/// 3. `Memory`.
+fn lines_of(alloc: Global, policy: &Policy, input: &[u8]) -> Result<Printed, PerformError>
+    ensures ok { IfOk result (λ p. IsPerformed policy.now input.now (string_bytes p.text) p.finished) }
+    ensures err { IfErr result (Refuses policy.now input.now) }
+    ensures early { IfErr result (λ fault. fault ≢ PerformError.Write) }
+{
+    let script = read_script(alloc, input)?;
+    let recording = drive(alloc, &script, policy, MAX_TURNS)?;
+    let text = report_text(alloc, &recording.report)?;
+    Ok(Printed {
+        text,
+        finished: recording.finished,
+    })
+}
+
+/// Reads the text of a script, drives a cluster through it by a policy, in at most 16,777,216 turns, and writes the lines of
+/// the report. Returns whether the run is finished: every operation is done, and nothing waits, is queued or under way. It takes
+/// at most 65,537 bytes from the reader, and no read or write that failed is tried again.
+///
+/// # Errors
+///
+/// The first that holds, but that `Memory` may come before any:
+///
+/// 1. `Read`: the reader failed, before its end and before it gave 65,537 bytes.
+/// 2. `Script`: the input is no script.
+/// 3. `Drive`: a choice is left after the last turn, or can't be made.
+/// 4. `Memory`: memory ran out.
+/// 5. `Write`: the writer failed or took nothing, with bytes left to write. A front of the text was written.
+///
+/// After each of the others the writer is as before.
+pub fn perform<R: Read, W: Write>(
+    alloc: Global,
+    reader: &mut R,
+    writer: &mut W,
+    policy: &Policy,
+) -> Result<bool, PerformError>
+    // What is read is a script to its end, and what is written is what comes of it and nothing else.
+    ensures ok { IfOk result (λ finished. IfSome (R.remaining reader.old) (λ input. (output : List ℕ)
+        × IsPerformed policy.now input output finished
+        × Consumes (R.remaining reader.old) (R.remaining reader.new) input
+        × Appends (W.contents writer.old) (W.contents writer.new) output)) }
+
+    ensures refused { IfErr result (λ fault.
+        IfSome (R.remaining reader.old) (λ input. Refuses policy.now input fault)) }
+    // Where the reader tells nothing of its input, there still is one of which this holds.
+    ensures performed { IfOk result (λ finished. (input output : List ℕ)
+        × IsPerformed policy.now input output finished
+        × Appends (W.contents writer.old) (W.contents writer.new) output) }
+    ensures cause { IfErr result (λ fault. (input : List ℕ) × Refuses policy.now input fault) }
+
+    ensures unwritten { IfErr result (λ fault. fault ≢ PerformError.Write → writer.new ≡ writer.old) }
+    // A fault of the writer comes only with something left to write.
+    ensures front { IsErrOf result PerformError.Write → IfSome (R.remaining reader.old) (λ input.
+        (front back : List ℕ) × (finished : Bool) × IsPerformed policy.now input (front ++ back) finished × (back ≢ [])
+        × Appends (W.contents writer.old) (W.contents writer.new) front) }
+
+    ensures at_most { (taken : List ℕ) × (length taken ≤ 65537)
+        × Consumes (R.remaining reader.old) (R.remaining reader.new) taken }
+{
+    let input = read_up_to(alloc, reader, MAX_INPUT)?;
+    let done = lines_of(alloc, policy, &input)?;
+    write_out(writer, done.text.as_bytes())?;
+    Ok(done.finished)
+}
