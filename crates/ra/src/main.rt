@@ -2,6 +2,7 @@
 #![tactic(auto)]
 
 use ra_cli::{CommandFault, refuse_words, serve};
+use std::io::BufReader;
 use std::process::ExitCode;
 use std::{env, io};
 
@@ -19,11 +20,17 @@ fn words(rt: &HostRuntime) -> Result<Vec<String>, CommandFault> {
 }
 
 fn main(rt: HostRuntime) -> ExitCode {
-    let mut reader = rt.reader();
+    let alloc = rt.alloc();
     let mut writer = io::writer(&rt);
-    let status = match words(&rt) {
-        Ok(words) => serve(&rt, rt.alloc(), words.as_slice(), &mut reader, &mut writer),
-        Err(fault) => refuse_words(&mut writer, fault),
+    let words = match words(&rt) {
+        Ok(words) => words,
+        Err(fault) => return ExitCode::from(refuse_words(&mut writer, fault)),
     };
+    // A byte at a time is read from it, which would else be a call of the system each.
+    let mut reader = match BufReader::new(alloc, rt.reader()) {
+        Ok(reader) => reader,
+        Err(_) => return ExitCode::from(refuse_words(&mut writer, CommandFault::Memory)),
+    };
+    let status = serve(&rt, alloc, words.as_slice(), &mut reader, &mut writer);
     ExitCode::from(status)
 }

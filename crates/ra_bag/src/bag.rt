@@ -1,28 +1,31 @@
-ghost use Rattle.std.specs.Prelude.{◌≡◌, ◌≢◌, ◌+◌, ◌<◌, ◌≤◌, ◌↔◌, [], ◌++◌, length, slice_get, slice_index_or, Contains, IsNone, IsSome, IsOk, IfOk, IfSome, OnOk, OnErr, IsTrue, ℕ, vec_len, vec_capacity};
+ghost use Rattle.std.specs.Prelude.{◌≡◌, ◌≢◌, ◌+◌, ◌<◌, ◌≤◌, ◌↔◌, [], ◌++◌, length, slice_get, slice_index_or, Contains, IsNone, IsSome, IsOk, IfOk, IfSome, OnOk, OnErr, IsTrue, ℕ};
+ghost use Rattle.std.specs.VecDeque.{deque_len, deque_capacity};
 ghost use Rattle.std.specs.List.{remove};
 ghost use Rattle.ra_stamp.specs.declared.message.Message.{Message};
 ghost use Rattle.ra_bag.specs.Bag.{TakesFirst};
 
 use ra_stamp::{Memory, Message, Messages};
 use std::alloc::Global;
+use std::collections::VecDeque;
 use std::marker::Model;
 
 /// The messages under way, in the order in which they were sent; equal ones may stand in it. Contracts see them
 /// and the spare, which is how many more messages there is room for already.
 #[derive(Debug, Drop)]
 pub struct Bag {
-    messages: Vec<Message>,
+    messages: VecDeque<Message>,
 }
 
 impl Model for Bag {
-    ghost use Rattle.std.specs.Prelude.{◌-◌, vec_len, vec_capacity};
+    ghost use Rattle.std.specs.Prelude.{◌-◌};
+    ghost use Rattle.std.specs.VecDeque.{deque_len, deque_capacity};
     ghost use Rattle.ra_stamp.specs.declared.message.Message.{Message};
     ghost use Rattle.ra_stamp.specs.Sequence.{Listed};
 
     ghost Value = { Listed Message };
 
     ghost view = { λ b.
-        record { items = b.messages.items; spare = vec_capacity b.messages - vec_len b.messages } };
+        record { items = b.messages.items; spare = deque_capacity b.messages - deque_len b.messages } };
 }
 
 impl Bag {
@@ -35,7 +38,7 @@ impl Bag {
         ensures empty { IfOk result (λ bag. bag.items ≡ []) }
     {
         Ok(Bag {
-            messages: Vec::new(alloc),
+            messages: VecDeque::new(alloc),
         })
     }
 
@@ -58,7 +61,8 @@ impl Bag {
     pub fn contains(&self, message: &Message) -> bool
         ensures { IsTrue result ↔ Contains self.now.items message.now }
     {
-        self.messages.contains(message)
+        // Who delivers the newest asks for the last.
+        is_last(&self.messages, message) || place_of(&self.messages, message).is_some()
     }
 
     /// Makes room for this many more messages, in time linear in the number of messages. The messages stay, and
@@ -104,45 +108,80 @@ impl Bag {
         ensures spare { self.old.spare ≤ self.new.spare }
     {
         let place = place_of(&self.messages, message)?;
-        Some(self.messages.remove(place))
+        self.messages.remove(place)
     }
 }
 
 /// Makes room for this many more messages, where there is none yet.
-fn make_room(list: &mut Vec<Message>, more: usize) -> Result<(), Memory>
+fn make_room(list: &mut VecDeque<Message>, more: usize) -> Result<(), Memory>
     ensures same { list.new.items ≡ list.old.items }
-    ensures ok { OnOk result (vec_len list.new + more ≤ vec_capacity list.new) }
-    ensures enough { vec_len list.old + more ≤ vec_capacity list.old
-        → vec_capacity list.new ≡ vec_capacity list.old }
-    ensures err { OnErr result (vec_capacity list.new ≡ vec_capacity list.old) }
-    ensures succeeds { vec_len list.old + more ≤ vec_capacity list.old → IsOk result }
+    ensures ok { OnOk result (deque_len list.new + more ≤ deque_capacity list.new) }
+    ensures enough { deque_len list.old + more ≤ deque_capacity list.old
+        → deque_capacity list.new ≡ deque_capacity list.old }
+    ensures err { OnErr result (deque_capacity list.new ≡ deque_capacity list.old) }
+    ensures succeeds { deque_len list.old + more ≤ deque_capacity list.old → IsOk result }
 {
-    // A list that has the room is left as it is, which `reserve` alone does not promise.
+    // A list that has the room is left as it is, which `reserve` alone does not promise, nor that a refusal leaves the capacity.
     if list.capacity() - list.len() < more {
-        list.reserve(more)?;
+        list.reserve_exact(more.max(list.capacity()))?;
     }
     Ok(())
 }
 
 /// Puts messages at the end of a list that has room for them.
-fn append(list: &mut Vec<Message>, messages: &[Message])
-    requires { vec_len list.old + length messages.now ≤ vec_capacity list.old }
+fn append(list: &mut VecDeque<Message>, messages: &[Message])
+    requires { deque_len list.old + length messages.now ≤ deque_capacity list.old }
     ensures items { list.new.items ≡ list.old.items ++ messages.now }
-    ensures capacity { vec_capacity list.new ≡ vec_capacity list.old }
+    ensures capacity { deque_capacity list.new ≡ deque_capacity list.old }
 {
     for message in messages {
-        list.push_reserved(*message);
+        list.push_back_reserved(*message);
     }
 }
 
-/// Returns where the first message that is equal to this one stands.
-fn place_of(messages: &[Message], message: &Message) -> Option<usize>
+/// Returns where the first message that is equal to this one stands. The list lies in two parts, which are gone through faster
+/// one after the other.
+fn place_of(messages: &VecDeque<Message>, message: &Message) -> Option<usize>
+    ensures absent { IsNone result ↔ ¬ Contains messages.now.items message.now }
+    ensures found { IfSome result (λ place. (place < length messages.now.items)
+        × (slice_index_or messages.now.items place message.now ≡ message.now)) }
+    ensures first { IfSome result (λ place. (k : ℕ) → k < place
+        → slice_index_or messages.now.items k message.now ≢ message.now) }
+    ensures taken { IfSome result (λ place. TakesFirst messages.now.items message.now (remove messages.now.items place)) }
+{
+    let (front, back) = messages.as_slices();
+    if let Some(place) = place_in(front, message) {
+        return Some(place);
+    }
+    let place = place_in(back, message)?;
+    Some(front.len() + place)
+}
+
+/// Returns where the first of these messages that is equal to this one stands.
+fn place_in(messages: &[Message], message: &Message) -> Option<usize>
     ensures absent { IsNone result ↔ ¬ Contains messages.now message.now }
     ensures found { IfSome result (λ place. (place < length messages.now)
         × (slice_index_or messages.now place message.now ≡ message.now)) }
     ensures first { IfSome result (λ place. (k : ℕ) → k < place
         → slice_index_or messages.now k message.now ≢ message.now) }
-    ensures taken { IfSome result (λ place. TakesFirst messages.now message.now (remove messages.now place)) }
 {
-    messages.iter().position(|other| other == message)
+    messages.iter().position(|other| is_same(other, message))
+}
+
+/// Returns whether the last message is equal to this one.
+fn is_last(messages: &VecDeque<Message>, message: &Message) -> bool
+    ensures { IsTrue result → Contains messages.now.items message.now }
+{
+    match messages.back() {
+        Some(last) => is_same(last, message),
+        None => false,
+    }
+}
+
+/// Returns whether two messages are equal. Most that are not differ in their numbers or nodes, which are looked at first.
+#[inline(always)]
+fn is_same(a: &Message, b: &Message) -> bool
+    ensures { IsTrue result ↔ (a.now ≡ b.now) }
+{
+    a.seq() == b.seq() && a.to() == b.to() && a.from() == b.from() && a == b
 }

@@ -1,12 +1,31 @@
 -- What `ra sim` does.
-use Rattle.std.specs.Prelude.{ℕ, List, Bool, Option, IfSome}
+use Rattle.std.specs.Prelude.{◌≡◌, ℕ, List, Bool, Option, Some, IfSome}
 use Rattle.std.specs.Io.KnownBytes.{Consumes, Appends}
+use Rattle.ra_stamp.specs.Sequence.{Listed as Listing}
+use Rattle.ra_schedule.specs.declared.choice.Choice.{Choice}
 use Rattle.ra_schedule.specs.declared.choice.Policy.{Policy}
+use Rattle.ra_schedule.specs.declared.choice.Policy.TheVariants as policies
+use Rattle.ra_script.specs.ChoicesText.{choices_of}
 use Rattle.ra_script.specs.Performed.{IsPerformed}
+use Rattle.ra_cli.specs.declared.command_line.PolicyName.{PolicyName}
+use Rattle.ra_cli.specs.declared.command_line.PolicyName.TheVariants.{Oldest, Newest, Seeded, Listed}
 
--- What was to be read, where it is known, is a script that was performed by some policy, finished or not; it was read to its end,
--- and what came of it was written and nothing else.
-abbrev pub Performs : (old new before after : Option (List ℕ)) → Bool → Type 0
-Performs old new before after finished =
-    (policy : Policy) × IfSome old (λ input. (output : List ℕ) × IsPerformed policy input output finished
+-- the policy of a name, with its seed, and of the text of its choices
+abbrev pub IsNamed : PolicyName → List ℕ → Policy → Type 0
+IsNamed Oldest text policy = policy ≡ policies.Oldest
+IsNamed Newest text policy = policy ≡ policies.Newest
+IsNamed (Seeded seed) text policy = policy ≡ policies.Seeded seed
+IsNamed Listed text policy = (choices : Listing Choice) × (choices_of text ≡ Some choices.items)
+    × (policy ≡ policies.Listed choices)
+
+-- What was to be read, where it is known, is a script that this policy performed, finished or not; it was read to its end, and
+-- what came of it was written and nothing else. Where it is not known, there still is such a script.
+abbrev pub PerformsBy : Policy → (old new before after : Option (List ℕ)) → Bool → Type 0
+PerformsBy policy old new before after finished =
+    IfSome old (λ input. (output : List ℕ) × IsPerformed policy input output finished
     × Consumes old new input × Appends before after output)
+    × ((input output : List ℕ) × IsPerformed policy input output finished × Appends before after output)
+
+-- some policy performed it so
+abbrev pub Performs : (old new before after : Option (List ℕ)) → Bool → Type 0
+Performs old new before after finished = (policy : Policy) × PerformsBy policy old new before after finished

@@ -7,7 +7,7 @@ use std::alloc::Global;
 use thiserror::Error;
 
 /// The words for the policies.
-const POLICIES: &[&str] = &["oldest", "newest", "listed"];
+const POLICIES: &[&str] = &["oldest", "newest", "seeded", "listed"];
 
 /// What is said of the command `answer` below its options.
 const ANSWER_HELP: &str = "\
@@ -27,6 +27,8 @@ does, in order. `X NAME` locks a name exclusively, `S NAME` locks it shared, and
 Policies:
   oldest  the first client in the order of the script that can go on, and else the message that was sent first
   newest  the same, with the message that was sent last
+  seeded  by chance: each turn takes one of the clients that can go on and the messages under way, by the next word of the
+          generator PCG XSL RR 128/64 of --seed. A script and a seed have one run, the same on each machine
   listed  the words of --choices, one after the other: cK the next operation of client K, mI delivers and lI loses the
           message at place I of those under way, counted from 0 in the order of sending, as in --choices \"c1 m0 m0 c1\"
 
@@ -43,6 +45,8 @@ Status 3: a run that ended with something left to do.";
 pub enum PolicyName {
     Oldest,
     Newest,
+    /// With its seed.
+    Seeded(u64),
     Listed,
 }
 
@@ -102,6 +106,12 @@ fn sim_command<'a>(alloc: Global) -> Result<Command<'a>, ParseError> {
         .action(ArgAction::Set)
         .value_parser(POLICIES)
         .default_value("oldest");
+    let seed = Arg::new(alloc, "seed")
+        .long("seed")
+        .help("The seed of the policy seeded")
+        .action(ArgAction::Set)
+        .value_parser(value_parser!(u64))
+        .default_value("0");
     let choices = Arg::new(alloc, "choices")
         .long("choices")
         .help("The choices of the policy listed")
@@ -114,6 +124,7 @@ fn sim_command<'a>(alloc: Global) -> Result<Command<'a>, ParseError> {
         )
         .after_help(SIM_HELP)
         .arg(policy)?
+        .arg(seed)?
         .arg(choices)?;
     Ok(sim)
 }
@@ -145,6 +156,7 @@ fn task_of<'a>(matches: &ArgMatches<'a>) -> Option<Task<'a>>
     let sim = matches.subcommand_matches("sim")?;
     let policy = match sim.get_str("policy")? {
         "newest" => PolicyName::Newest,
+        "seeded" => PolicyName::Seeded(sim.get_one("seed")?),
         "listed" => PolicyName::Listed,
         _ => PolicyName::Oldest,
     };

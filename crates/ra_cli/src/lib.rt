@@ -13,6 +13,8 @@ pub use error::AnswerError;
 pub use serving::{refuse_words, serve};
 
 #[cfg(test)]
+mod seed_tests;
+#[cfg(test)]
 mod sim_tests;
 #[cfg(test)]
 mod tests;

@@ -1,8 +1,11 @@
-ghost use Rattle.std.specs.Prelude.{true, false, ◌≡◌, ◌≤◌, ◌⊎◌, List, ℕ, Any, IfSome, string_bytes};
+ghost use Rattle.std.specs.Prelude.{true, false, [], ◌++◌, None, ◌≢◌, IsErr, IfOk, IfErr, ◌≡◌, ◌≤◌, ◌⊎◌, List, ℕ, Any, IfSome, string_bytes};
 ghost use Rattle.std.specs.Io.KnownBytes.{Consumes, Appends};
 ghost use Rattle.ra_cli.specs.Answer.{IsAnswered};
-ghost use Rattle.ra_cli.specs.Words.{IsHelpWord, refusal_line};
-ghost use Rattle.ra_cli.specs.Performs.{Performs};
+ghost use Rattle.ra_cli.specs.Words.{IsHelpWord};
+ghost use Rattle.ra_cli.specs.Words as spec;
+ghost use Rattle.ra_cli.specs.Performs.{IsNamed, PerformsBy, Performs};
+ghost use Rattle.ra_script.specs.ChoicesText.{choices_of};
+ghost use Rattle.ra_schedule.specs.declared.choice.Policy.{Policy};
 ghost use Rattle.ra_cli.specs.declared.serving.Refusal.{Refusal};
 
 use crate::command_line::{PolicyName, Task, parse};
@@ -43,7 +46,9 @@ enum Refusal {
 fn written<W: Write>(writer: &mut W, text: &[u8], status: u8) -> u8
     requires { status ≤ 2 }
     ensures range { result ≤ 2 }
-    ensures value { (result ≡ status) ⊎ (result ≡ 1) }
+    ensures value { ((result ≡ status) × Appends (W.contents writer.old) (W.contents writer.new) text.now)
+        ⊎ ((result ≡ 1) × (front : List ℕ) × (back : List ℕ) × (text.now ≡ front ++ back) × (back ≢ [])
+        × Appends (W.contents writer.old) (W.contents writer.new) front) }
 {
     match write_out(writer, text) {
         Ok(()) => status,
@@ -56,7 +61,7 @@ fn refuse<W: Write>(alloc: Global, writer: &mut W, refusal: Refusal) -> u8
     ensures range { result ≤ 2 }
     ensures not_done { 1 ≤ result }
     ensures unwritten { (refusal ≡ Refusal.Answer AnswerError.Write) ⊎ (refusal ≡ Refusal.Perform PerformError.Write)
-        → writer.new ≡ writer.old }
+        → (result ≡ 1) × (writer.new ≡ writer.old) }
 {
     let status = match refusal {
         Refusal::Answer(AnswerError::Write) | Refusal::Perform(PerformError::Write) => {
@@ -74,39 +79,68 @@ fn refuse<W: Write>(alloc: Global, writer: &mut W, refusal: Refusal) -> u8
 /// Prints why there are no words of a command line, and returns the status, 2, or 1 where the writer fails. It does not
 /// allocate.
 pub fn refuse_words<W: Write>(writer: &mut W, fault: CommandFault) -> u8
-    ensures { ((result ≡ 2) × Appends (W.contents writer.old) (W.contents writer.new) (refusal_line fault))
-        ⊎ (result ≡ 1) }
+    ensures { ((result ≡ 2) × Appends (W.contents writer.old) (W.contents writer.new) (spec.refusal_line fault))
+        ⊎ ((result ≡ 1) × (front : List ℕ) × (back : List ℕ) × (spec.refusal_line fault ≡ front ++ back) × (back ≢ [])
+        × Appends (W.contents writer.old) (W.contents writer.new) front) }
 {
-    let line: &[u8] = match fault {
-        CommandFault::Usage => b"refused Usage\n",
-        CommandFault::Memory => b"refused Memory\n",
-    };
-    match write_out(writer, line) {
+    match write_out(writer, refusal_line(fault)) {
         Ok(()) => REFUSED,
         Err(_) => BROKEN,
     }
 }
 
+/// Returns the line that says why there are no words.
+fn refusal_line(fault: CommandFault) -> &'static [u8]
+    ensures { result.now ≡ spec.refusal_line fault }
+{
+    match fault {
+        CommandFault::Usage => b"refused Usage\n".as_slice(),
+        CommandFault::Memory => b"refused Memory\n".as_slice(),
+    }
+}
+
+/// Returns the policy of a name. The choices are read whatever the name.
+///
+/// # Errors
+///
+/// 1. `Choice`: they are no list of choices.
+/// 2. `Memory`, which may come before it.
+fn policy_of(alloc: Global, name: PolicyName, choices: &str) -> Result<Policy, ChoicesError>
+    ensures ok { IfOk result (IsNamed name choices.now) }
+    ensures choices { choices_of choices.now ≡ None → IsErr result }
+    ensures err { IfErr result (λ fault. ((fault ≡ ChoicesError.Choice) × (choices_of choices.now ≡ None))
+        ⊎ (fault ≡ ChoicesError.Memory)) }
+{
+    let choices = read_choices(alloc, choices)?;
+    Ok(match name {
+        PolicyName::Oldest => Policy::Oldest,
+        PolicyName::Newest => Policy::Newest,
+        PolicyName::Seeded(seed) => Policy::Seeded(seed),
+        PolicyName::Listed => Policy::Listed(choices),
+    })
+}
+
 /// Reads the choices, and drives a cluster through the script of the reader.
 fn simulate<R: Read, W: Write>(
     alloc: Global,
-    policy: PolicyName,
+    name: PolicyName,
     choices: &str,
     reader: &mut R,
     writer: &mut W,
 ) -> u8
     ensures range { result ≤ 3 }
-    ensures done { result ≡ 0 → Performs (R.remaining reader.old) (R.remaining reader.new) (W.contents writer.old) (W.contents writer.new) true }
-    ensures unfinished { result ≡ 3 → Performs (R.remaining reader.old) (R.remaining reader.new) (W.contents writer.old) (W.contents writer.new) false }
+    ensures done { result ≡ 0 → (policy : Policy) × IsNamed name choices.now policy
+        × PerformsBy policy (R.remaining reader.old) (R.remaining reader.new)
+        (W.contents writer.old) (W.contents writer.new) true }
+    ensures unfinished { result ≡ 3 → (policy : Policy) × IsNamed name choices.now policy
+        × PerformsBy policy (R.remaining reader.old) (R.remaining reader.new)
+        (W.contents writer.old) (W.contents writer.new) false }
+    // Choices that are none are refused before anything is read.
+    ensures choices_first { choices_of choices.now ≡ None → (1 ≤ result) × (reader.new ≡ reader.old) }
 {
-    let choices = match read_choices(alloc, choices) {
-        Ok(choices) => choices,
+    let policy = match policy_of(alloc, name, choices) {
+        Ok(policy) => policy,
         Err(fault) => return refuse(alloc, writer, Refusal::Choices(fault)),
-    };
-    let policy = match policy {
-        PolicyName::Oldest => Policy::Oldest,
-        PolicyName::Newest => Policy::Newest,
-        PolicyName::Listed => Policy::Listed(choices),
     };
     match perform(alloc, reader, writer, &policy) {
         Ok(true) => DONE,

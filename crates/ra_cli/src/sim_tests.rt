@@ -12,8 +12,7 @@ client = [{ node = 1, ops = ["X r", "U r"] }]
 "#;
 
 /// The same with a second node.
-const ONE_CLIENT: &str = r#"
-nodes = 2
+const ONE_CLIENT: &str = r#"nodes = 2
 
 [[client]]
 node = 1
@@ -33,8 +32,7 @@ queued 0
 ";
 
 /// A client each at two of three nodes.
-const TWO_CLIENTS: &str = r#"
-nodes = 3
+pub const TWO_CLIENTS: &str = r#"nodes = 3
 client = [{ node = 1, ops = ["X r", "U r"] }, { node = 2, ops = ["X r", "U r"] }]
 "#;
 
@@ -45,8 +43,7 @@ client = [{ node = 1, ops = ["X r", "U r"] }, { node = 2, ops = ["X r", "U r"] }
 "#;
 
 /// A writer between two readers.
-const A_WRITER: &str = r#"
-nodes = 3
+pub const A_WRITER: &str = r#"nodes = 3
 client = [
     { node = 1, ops = ["S r", "U r"] },
     { node = 2, ops = ["X r", "U r"] },
@@ -61,18 +58,22 @@ client = [{ node = 1, ops = ["S r", "U r"] }, { node = 2, ops = ["S r", "U r"] }
 "#;
 
 /// Two clients of one node.
-const A_QUEUE: &str = r#"
-nodes = 2
+const A_QUEUE: &str = r#"nodes = 2
 client = [{ node = 1, ops = ["X r", "U r"] }, { node = 1, ops = ["X r", "U r"] }]
 "#;
 
 /// Two clients that lock two names in opposite orders.
-const A_DEADLOCK: &str = r#"
-nodes = 2
+const A_DEADLOCK: &str = r#"nodes = 2
 client = [
     { node = 1, ops = ["X a", "X b", "U b", "U a"] },
     { node = 2, ops = ["X b", "X a", "U a", "U b"] },
 ]
+"#;
+
+/// Two clients, each with a name of its own.
+const APART: &str = r#"
+nodes = 2
+client = [{ node = 1, ops = ["X a", "U a"] }, { node = 2, ops = ["X b", "U b"] }]
 "#;
 
 /// One client with two names.
@@ -148,7 +149,16 @@ fn scripts_print_their_marks_and_totals(rt: HostRuntime) -> Result<(), Fail> {
         "request 1 1 b X 1 / enter 1 1 b X 1 / request 1 1 a X 1 / enter 1 1 a X 1 / leave 1 1 a X 1 / leave 1 1 b X 1";
     let newest: &[&str] = &["--policy", "newest"];
     let oldest: &[&str] = &["--policy", "oldest"];
-    let cases: [(&[&str], &str, &str, [u32; 6], u8); 11] = [
+    let stuck_by_newest =
+        "request 1 1 a X 1 / request 2 2 b X 1 / enter 2 2 b X 1 / request 2 2 a X 1 / enter 1 1 a X 1 / request 1 1 b X 2";
+    let first_by_oldest =
+        "request 1 1 a X 1 / request 2 2 b X 1 / enter 1 1 a X 1 / leave 1 1 a X 1 / enter 2 2 b X 1 / leave 2 2 b X 1";
+    let last_by_newest =
+        "request 1 1 a X 1 / request 2 2 b X 1 / enter 2 2 b X 1 / leave 2 2 b X 1 / enter 1 1 a X 1 / leave 1 1 a X 1";
+    let cases: [(&[&str], &str, &str, [u32; 6], u8); 14] = [
+        (newest, A_DEADLOCK, stuck_by_newest, [4, 6, 0, 0, 2, 0], 3),
+        (oldest, APART, first_by_oldest, [2, 4, 0, 0, 0, 0], 0),
+        (newest, APART, last_by_newest, [2, 4, 0, 0, 0, 0], 0),
         (&[], ALONE, alone, [1, 0, 0, 0, 0, 0], 0),
         (&[], ONE_CLIENT, alone, [1, 2, 0, 0, 0, 0], 0),
         (newest, ONE_CLIENT, alone, [1, 2, 0, 0, 0, 0], 0),
@@ -242,6 +252,55 @@ fn choices_that_cannot_be_made_are_refused(rt: HostRuntime) -> Result<(), Fail> 
     assert_printed(&rt, words.as_slice(), ONE_CLIENT, ONE_CLIENT_PRINTED, 0)
 }
 
+/// Asserts what is answered where the first read would fail, and that nothing is read.
+fn assert_unread<T: Abort + AllocGlobal>(rt: &T, line: &str, text: &str) -> Result<(), Fail> {
+    let alloc = rt.alloc();
+    let words = words_of(alloc, line)?;
+    let mut reader = FailingReader {
+        bytes: ONE_CLIENT.as_bytes(),
+        before_fault: Some(0),
+        fault: io::ErrorKind::BrokenPipe,
+    };
+    let mut output = Vec::new(alloc);
+    let status = serve(rt, alloc, words.as_slice(), &mut reader, &mut output);
+    assert_eq!(rt; output.as_slice(), text.as_bytes(), "{line}");
+    assert_eq!(rt; status, 2, "{line}");
+    assert_eq!(rt; reader.bytes, ONE_CLIENT.as_bytes(), "{line}");
+    assert_eq!(rt; reader.before_fault, Some(0), "{line}");
+    Ok(())
+}
+
+#[test]
+fn words_and_choices_are_refused_before_anything_is_read(rt: HostRuntime) -> Result<(), Fail> {
+    assert_unread(&rt, "ra sim --choices q1", "refused Choice\n")?;
+    assert_unread(&rt, "ra sim --policy latest", "refused Usage\n")?;
+    assert_unread(&rt, "ra sim --seed x", "refused Usage\n")
+}
+
+/// After 65,537 bytes the reader is not asked again.
+#[test]
+fn a_text_that_is_too_long_is_refused_before_a_fault_behind_it(
+    rt: HostRuntime,
+) -> Result<(), Fail> {
+    let alloc = rt.alloc();
+    let words = words_of(alloc, "ra sim")?;
+    let mut spaces = Vec::new(alloc);
+    for _ in 0..65_540 {
+        spaces.push(b' ')?;
+    }
+    let mut reader = FailingReader {
+        bytes: spaces.as_slice(),
+        before_fault: Some(65_537),
+        fault: io::ErrorKind::BrokenPipe,
+    };
+    let mut output = Vec::new(alloc);
+    let status = serve(&rt, alloc, words.as_slice(), &mut reader, &mut output);
+    assert_eq!(rt; output.as_slice(), b"refused Limit\n".as_slice());
+    assert_eq!(rt; status, 2);
+    assert_eq!(rt; reader.bytes.len(), 3);
+    Ok(())
+}
+
 #[test]
 fn a_script_is_refused_by_one_word(rt: HostRuntime) -> Result<(), Fail> {
     let alloc = rt.alloc();
@@ -253,6 +312,10 @@ fn a_script_is_refused_by_one_word(rt: HostRuntime) -> Result<(), Fail> {
         (spaces.as_str(), "Limit"),
         ("nodes = ", "Toml"),
         ("nodes = 2", "Shape"),
+        (
+            "nodes = 2\nclient = [{ node = 1, ops = [], name = 1 }]",
+            "Shape",
+        ),
         ("nodes = 17\nclient = [{ node = 1, ops = [] }]", "Nodes"),
         ("nodes = 2\nclient = []", "Clients"),
         ("nodes = 2\nclient = [{ node = 3, ops = [] }]", "Clients"),
@@ -273,12 +336,32 @@ fn a_script_is_refused_by_one_word(rt: HostRuntime) -> Result<(), Fail> {
 }
 
 #[test]
+fn a_client_with_1025_operations_is_refused(rt: HostRuntime) -> Result<(), Fail> {
+    let alloc = rt.alloc();
+    let mut ops = String::new(alloc);
+    for _ in 0..512 {
+        ops.push_str("\"X r\", \"U r\", ")?;
+    }
+    let most = format!(in alloc; "nodes = 1\nclient = [{{ node = 1, ops = [{ops}] }}]")?;
+    let (status, _printed) = run(&rt, "ra sim", most.as_str())?;
+    assert_eq!(rt; status, 0);
+    let more = format!(in alloc; "nodes = 1\nclient = [{{ node = 1, ops = [{ops}\"X r\"] }}]")?;
+    assert_printed(&rt, &[], more.as_str(), "refused Limit\n", 2)
+}
+
+#[test]
 fn words_that_are_no_simulation_are_refused(rt: HostRuntime) -> Result<(), Fail> {
     for line in [
-        "ra sim --policy seeded",
         "ra sim --policy Oldest",
         "ra sim --policy",
-        "ra sim --seed 1",
+        "ra sim --policy seeded --seed",
+        "ra sim --policy seeded --seed x",
+        "ra sim --policy seeded --seed -1",
+        "ra sim --policy seeded --seed 18446744073709551616",
+        "ra sim --policy seeded --seed 1 --seed 2",
+        "ra sim --seed x",
+        "ra sim --seed -1",
+        "ra sim --seed 18446744073709551616",
         "ra sim --trace",
         "ra sim script.toml",
         "ra sim --policy oldest --policy newest",
@@ -299,7 +382,8 @@ fn help_on_sim_prints_a_script(rt: HostRuntime) -> Result<(), Fail> {
 Usage: ra sim [OPTIONS]
 
 Options:
-      --policy <policy>    Who chooses what comes next [default: oldest] [possible values: oldest, newest, listed]
+      --policy <policy>    Who chooses what comes next [default: oldest] [possible values: oldest, newest, seeded, listed]
+      --seed <seed>        The seed of the policy seeded [default: 0]
       --choices <choices>  The choices of the policy listed
   -h, --help               Print help
 
@@ -312,6 +396,8 @@ does, in order. `X NAME` locks a name exclusively, `S NAME` locks it shared, and
 Policies:
   oldest  the first client in the order of the script that can go on, and else the message that was sent first
   newest  the same, with the message that was sent last
+  seeded  by chance: each turn takes one of the clients that can go on and the messages under way, by the next word of the
+          generator PCG XSL RR 128/64 of --seed. A script and a seed have one run, the same on each machine
   listed  the words of --choices, one after the other: cK the next operation of client K, mI delivers and lI loses the
           message at place I of those under way, counted from 0 in the order of sending, as in --choices \"c1 m0 m0 c1\"
 

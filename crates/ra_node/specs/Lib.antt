@@ -5,3 +5,4 @@ pub mod Node
 pub mod Events
 pub mod Carried
 pub mod View
+pub mod Hints

@@ -44,6 +44,7 @@
 #![tactic(auto)]
 
 mod error;
+mod hints;
 mod laws;
 mod marks;
 mod node;

@@ -1,6 +1,7 @@
 ghost use Rattle.std.specs.Prelude.{◌≡◌, ◌≢◌, ◌<◌, ◌≤◌, ◌⊎◌, ◌↔◌, None, length, vec_len, vec_capacity, slice_index_or, All, IsErrOf, IsOk, IsOkUnless, IfOk, OnOk, OnErr, IfErr, IsNone, IfSome};
 ghost use Rattle.ra_node.specs.Resource.{Resource};
 
+use crate::hints::Hints;
 use crate::slot::Slot;
 use crate::{AskError, LeaveError, NewError, Outcome, ReceiveError};
 use ra_stamp::{Entry, Memory, Message, Mode, Name, NodeId};
@@ -22,6 +23,8 @@ pub struct Node {
     start: u64,
     /// One for each name that a client or a message was about.
     slots: Vec<Slot>,
+    /// Where they may stand.
+    hints: Hints,
 }
 
 impl Model for Node {
@@ -39,13 +42,17 @@ impl Model for Node {
     ghost invariant = { IsKept };
 }
 
-/// Returns the index of the slot of a name, or `None` where there is none.
-fn place_of(slots: &[Slot], name: &Name) -> Option<usize>
+/// Returns the index of the slot of a name, or `None` where there is none. It looks first where the hints say.
+fn place_of(slots: &[Slot], hints: &Hints, name: &Name) -> Option<usize>
     ensures absent { IsNone result → All (λ r. r.state.name ≢ name.now) slots.now }
     ensures found { IfSome result (λ place. (place < length slots.now)
         × ((d : Resource) → (slice_index_or slots.now place d).state.name ≡ name.now)) }
 {
-    slots.iter().position(|slot| slot.name() == *name)
+    let hint = hints.place_of(name);
+    if hint < slots.len() && slots[hint].is_named(name) {
+        return Some(hint);
+    }
+    slots.iter().position(|slot| slot.is_named(name))
 }
 
 /// Makes room for one more slot.
@@ -99,6 +106,7 @@ impl Node {
             nodes,
             start,
             slots: Vec::new(alloc),
+            hints: Hints::new(),
         })
     }
 
@@ -133,7 +141,7 @@ impl Node {
         ensures err { OnErr result (self.new ≡ self.old) }
     {
         self.may_ask(client, &name)?;
-        match place_of(&self.slots, &name) {
+        match place_of(&self.slots, &self.hints, &name) {
             Some(place) => {
                 let slot = &mut self.slots[place];
                 slot.ask(alloc, client, mode)
@@ -164,7 +172,7 @@ impl Node {
             ↔ ((entry : Entry) × Holds (resource_at self.old name) client entry) }
         ensures err { OnErr result (self.new ≡ self.old) }
     {
-        let Some(place) = place_of(&self.slots, &name) else {
+        let Some(place) = place_of(&self.slots, &self.hints, &name) else {
             return Err(LeaveError::NotHeld);
         };
         let slot = &mut self.slots[place];
@@ -202,7 +210,7 @@ impl Node {
         if sender == self.me || sender.get() > self.nodes {
             return Err(ReceiveError::Stranger);
         }
-        match place_of(&self.slots, &message.name()) {
+        match place_of(&self.slots, &self.hints, &message.name()) {
             Some(place) => {
                 let slot = &mut self.slots[place];
                 slot.receive(alloc, message)
@@ -295,7 +303,7 @@ impl Node {
             → resource_at self.now name.now ≡ unmet self.now.me self.now.nodes name.now self.now.start }
         ensures consistent { IsConsistentNode self.now }
     {
-        let place = place_of(&self.slots, name)?;
+        let place = place_of(&self.slots, &self.hints, name)?;
         Some(&self.slots[place])
     }
 
@@ -322,6 +330,7 @@ impl Node {
         let mut slot = Slot::new(alloc, self.me, self.nodes, name, self.start)?;
         make_room(&mut self.slots)?;
         let outcome = slot.ask(alloc, client, mode)?;
+        self.hints.note(&name, self.slots.len());
         self.slots.push_reserved(slot);
         Ok(outcome)
     }
@@ -343,6 +352,7 @@ impl Node {
         let mut slot = Slot::new(alloc, self.me, self.nodes, message.name(), self.start)?;
         make_room(&mut self.slots)?;
         let outcome = slot.receive(alloc, message)?;
+        self.hints.note(&message.name(), self.slots.len());
         self.slots.push_reserved(slot);
         Ok(outcome)
     }

@@ -66,11 +66,11 @@ impl Slot {
         })
     }
 
-    /// Returns the resource's name.
-    pub fn name(&self) -> Name
-        ensures { result ≡ self.now.state.name }
+    /// Returns whether this is the resource's name.
+    pub fn is_named(&self, name: &Name) -> bool
+        ensures { IsTrue result ↔ (self.now.state.name ≡ name.now) }
     {
-        self.automaton.name()
+        self.automaton.name() == *name
     }
 
     /// Returns the highest number that this node has met for the resource.

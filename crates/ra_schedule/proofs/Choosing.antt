@@ -1,19 +1,21 @@
 -- A policy makes one choice, a choice stands for one step, and has one fault at most.
-use Rattle.std.proofs.Common.{◌≡◌, ◌≢◌, ◌⊎◌, ℕ, zero, suc, ◌+◌, ◌-◌, ◌<◌, ◌≤◌, true, Option, Some, None, List, [], ◌∷◌, length, slice_get, refl, sym, ap, ◌∙◌, subst, arith, inl, inr}
+use Rattle.std.proofs.Common.{◌≡◌, ◌⊎◌, ℕ, zero, suc, ◌+◌, ◌-◌, ◌%◌, ◌<◌, ◌≤◌, true, Option, Some, None, List, [], ◌∷◌, length, slice_get, refl, sym, ap, ◌∙◌, subst, arith, inl, inr}
 use Rattle.std.specs.Option.{IfSome, is_some}
 use Rattle.std.proofs.lemmas.Bool.{cases_eq}
 use Rattle.ra_stamp.specs.Sequence.{Listed as Listing}
 use Rattle.ra_stamp.specs.declared.message.Message.{Message as Sent}
 use Rattle.ra_world.specs.declared.step.Step.{Step}
-use Rattle.ra_world.specs.declared.step.Step.TheVariants.{Deliver, Lose}
 use Rattle.ra_world.specs.Traffic.{Move, LeavesUnderWay}
 use Rattle.ra_schedule.specs.declared.script.Op.{Op}
 use Rattle.ra_schedule.specs.declared.choice.Choice.{Choice}
 use Rattle.ra_schedule.specs.declared.choice.Choice.TheVariants.{Client, Message, Lost}
 use Rattle.ra_schedule.specs.declared.choice.Policy.{Policy}
-use Rattle.ra_schedule.specs.declared.choice.Policy.TheVariants.{Oldest, Newest, Listed}
-use Rattle.ra_schedule.specs.Script.{ScriptClient, ScriptState, client_at}
-use Rattle.ra_schedule.specs.Schedule.{steps_of, steps_by, step_of, IsNext, Enables, IsEnabled, IsAtPlace, Means, IsBadPlace, IsNotEnabled, IsFirstEnabled, LeavesMessages, Picks, Ends}
+use Rattle.ra_schedule.specs.declared.choice.Policy.TheVariants.{Oldest, Newest, Seeded, Listed}
+use Rattle.ra_schedule.specs.Script.{ScriptClient, ScriptState}
+use Rattle.ra_schedule.specs.Seeds.{word_of}
+use Rattle.ra_schedule.specs.Schedule.{steps_of, steps_by, IsNext, IsEnabled, IsAtPlace, StandsFor, IsBadPlace, IsNotEnabled, IsFirstEnabled, LeavesMessages, Picks, Ends}
+use Rattle.ra_schedule.proofs.Enabled.{nobody_is_zero}
+use Rattle.ra_schedule.proofs.Naming.{choices_are_one}
 
 -- the messages under way are one list
 abbrev pub OneList : Type 0
@@ -37,20 +39,20 @@ place_is_one one moves place a b (left, leaves, is) (left', leaves', is') =
     same_some is (ap (λ (xs : List Sent). slice_get xs place) same ∙ is')
 
 pub means_one : OneList → (script : ScriptState) (moves : List Move) (choice : Choice) (a b : Step)
-    → Means script moves choice a → Means script moves choice b → a ≡ b
+    → StandsFor script moves choice a → StandsFor script moves choice b → a ≡ b
 means_one one script moves (Client client) a b h g = next_is_one script moves client a b h.next g.next
 means_one one script moves (Message place) a b (m, at, is) (m', at', is') = let same = place_is_one one moves place m m' at at' in cc
 means_one one script moves (Lost place) a b (m, at, is) (m', at', is') = let same = place_is_one one moves place m m' at at' in cc
 
 -- what stands for a step has no fault
 pub no_bad_place : (script : ScriptState) (moves : List Move) (choice : Choice) (step : Step)
-    → Means script moves choice step → IsBadPlace script moves choice → ⊥
+    → StandsFor script moves choice step → IsBadPlace script moves choice → ⊥
 no_bad_place script moves (Client client) step h bad = let at = h.next.2 in absurd cc
 no_bad_place script moves (Message place) step (m, at, is) bad = bad m at
 no_bad_place script moves (Lost place) step (m, at, is) bad = bad m at
 
 pub not_refused : (script : ScriptState) (moves : List Move) (choice : Choice) (step : Step)
-    → Means script moves choice step → IsNotEnabled script moves choice → ⊥
+    → StandsFor script moves choice step → IsNotEnabled script moves choice → ⊥
 not_refused script moves (Client client) step h bad = bad.1 (step, h)
 not_refused script moves (Message place) step h bad = bad
 not_refused script moves (Lost place) step h bad = bad
@@ -60,10 +62,6 @@ pub one_fault : (script : ScriptState) (moves : List Move) (choice : Choice)
 one_fault script moves (Client client) bad not = not.0 bad
 one_fault script moves (Message place) bad not = not
 one_fault script moves (Lost place) bad not = not
-
--- nobody has the number 0
-pub nobody_is_zero : (script : ScriptState) (moves : List Move) → IsEnabled script moves 0 → ⊥
-nobody_is_zero script moves (step, h) = let at = h.next.2 in absurd cc
 
 first_is_one : (script : ScriptState) (moves : List Move) (a b : ℕ) → IsFirstEnabled script moves a → IsFirstEnabled script moves b → a ≡ b
 first_is_one script moves a b (on, first) (on', first') =
@@ -108,6 +106,9 @@ picks_one one script Newest moves (Message a) (Message b) h g =
     let e : a ≡ b = omega arith in ap Message e
 picks_one one script Newest moves (Message a) (Lost b) h g = absurd g
 picks_one one script Newest moves (Lost a) b h g = absurd h
+picks_one one script (Seeded seed) moves a b (all, are, is) (all', are', is') =
+    let same : all ≡ all' = choices_are_one script moves (one moves) all all' are are' in
+    same_some is (ap (λ (xs : List Choice). slice_get xs (word_of seed (length moves) % length xs)) same ∙ is')
 picks_one one script (Listed choices) moves a b h g = same_some h g
 
 -- of the clients from 1 to n, none; so none below n + 1
@@ -135,23 +136,26 @@ found (Some x) P h e = (x, h)
 
 -- where no client is enabled and no message under way, no choice is left
 pub nothing_left : OneList → (script : ScriptState) (policy : Policy) (moves : List Move) → ((choices : Listing Choice) → policy ≡ Listed choices → ⊥)
-    → LeavesMessages script moves 0 → Ends script policy moves
-nothing_left one script Oldest moves not idle (Client client) picks = idle.0 client picks.0
-nothing_left one script Oldest moves not idle (Message place) (is, (count, more)) = let e = counts_are_one one script moves 0 (count + 1) idle more in omega arith
-nothing_left one script Oldest moves not idle (Lost place) picks = picks
-nothing_left one script Newest moves not idle (Client client) picks = idle.0 client picks.0
-nothing_left one script Newest moves not idle (Message place) more = let e = counts_are_one one script moves 0 (place + 1) idle more in omega arith
-nothing_left one script Newest moves not idle (Lost place) picks = picks
-nothing_left one script (Listed choices) moves not idle choice picks = not choices refl
+    → ((seed : ℕ) → policy ≡ Seeded seed → ⊥) → LeavesMessages script moves 0 → Ends script policy moves
+nothing_left one script Oldest moves not free idle (Client client) picks = idle.0 client picks.0
+nothing_left one script Oldest moves not free idle (Message place) (is, (count, more)) = let e = counts_are_one one script moves 0 (count + 1) idle more in omega arith
+nothing_left one script Oldest moves not free idle (Lost place) picks = picks
+nothing_left one script Newest moves not free idle (Client client) picks = idle.0 client picks.0
+nothing_left one script Newest moves not free idle (Message place) more = let e = counts_are_one one script moves 0 (place + 1) idle more in omega arith
+nothing_left one script Newest moves not free idle (Lost place) picks = picks
+nothing_left one script (Seeded seed) moves not free idle choice picks = free seed refl
+nothing_left one script (Listed choices) moves not free idle choice picks = not choices refl
 
 pub newest_message : (script : ScriptState) (policy : Policy) (moves : List Move) (count : ℕ) → policy ≡ Newest → (count ≡ 0 → ⊥)
     → LeavesMessages script moves count → Picks script policy moves (Message (count - 1))
 newest_message script Newest moves count is some idle = subst (LeavesMessages script moves) (omega arith) idle
 newest_message script Oldest moves count is some idle = absurd cc
+newest_message script (Seeded seed) moves count is some idle = absurd cc
 newest_message script (Listed choices) moves count is some idle = absurd cc
 
 pub oldest_message : (script : ScriptState) (policy : Policy) (moves : List Move) (count : ℕ) → ((choices : Listing Choice) → policy ≡ Listed choices → ⊥)
-    → (policy ≡ Newest → ⊥) → (count ≡ 0 → ⊥) → LeavesMessages script moves count → Picks script policy moves (Message 0)
-oldest_message script Oldest moves count not other some idle = (refl, (count - 1, subst (LeavesMessages script moves) (omega arith) idle))
-oldest_message script Newest moves count not other some idle = absurd (other refl)
-oldest_message script (Listed choices) moves count not other some idle = absurd (not choices refl)
+    → ((seed : ℕ) → policy ≡ Seeded seed → ⊥) → (policy ≡ Newest → ⊥) → (count ≡ 0 → ⊥) → LeavesMessages script moves count → Picks script policy moves (Message 0)
+oldest_message script Oldest moves count not free other some idle = (refl, (count - 1, subst (LeavesMessages script moves) (omega arith) idle))
+oldest_message script Newest moves count not free other some idle = absurd (other refl)
+oldest_message script (Seeded seed) moves count not free other some idle = absurd (free seed refl)
+oldest_message script (Listed choices) moves count not free other some idle = absurd (not choices refl)

@@ -10,7 +10,7 @@ use Rattle.ra_schedule.specs.declared.choice.Policy.{Policy}
 use Rattle.ra_schedule.specs.declared.error.DriveError.{DriveError}
 use Rattle.ra_schedule.specs.declared.error.DriveError.TheVariants.{TurnLimit, BadPlace, NotEnabled, Memory}
 use Rattle.ra_schedule.specs.Script.{ScriptState}
-use Rattle.ra_schedule.specs.Schedule.{steps_of, Means, Picks, IsBadPlace, IsNotEnabled, Ends, Follows, Stops}
+use Rattle.ra_schedule.specs.Schedule.{steps_of, StandsFor, Picks, IsBadPlace, IsNotEnabled, Ends, Follows, Stops}
 use Rattle.ra_schedule.specs.Below.{LawsBelow}
 use Rattle.ra_schedule.proofs.Lists.{split_last, at_place}
 use Rattle.ra_schedule.proofs.Waiting.{steps_of-append}
@@ -25,7 +25,7 @@ follows_none script policy run = record { run = run; each = λ before after move
     nothing (x ∷ before) after move is = cc
 
 pub follows_more : (script : ScriptState) (policy : Policy) (moves : List Move) (move : Move) (choice : Choice)
-    → Follows script policy moves → Picks script policy moves choice → Means script moves choice move.step
+    → Follows script policy moves → Picks script policy moves choice → StandsFor script moves choice move.step
     → IsRun script.nodes 0 (moves ++ move ∷ []) → Follows script policy (moves ++ move ∷ [])
 follows_more script policy moves move choice follows picks means run =
     record {
@@ -34,8 +34,8 @@ follows_more script policy moves move choice follows picks means run =
         | inl h ↦ (
           choice,
           subst (λ (ms : List Move). Picks script policy ms choice) (sym h.0) picks,
-          subst (λ (m : Move). Means script before choice m.step) (sym h.1)
-              (subst (λ (ms : List Move). Means script ms choice move.step) (sym h.0) means),
+          subst (λ (m : Move). StandsFor script before choice m.step) (sym h.1)
+              (subst (λ (ms : List Move). StandsFor script ms choice move.step) (sym h.0) means),
         )
         | inr h ↦ follows.each before h.0 this h.2
       ];
@@ -43,7 +43,7 @@ follows_more script policy moves move choice follows picks means run =
 
 -- what was chosen behind the first n moves
 chosen : (script : ScriptState) (policy : Policy) (moves : List Move) (n : ℕ) → Follows script policy moves → n < length moves
-    → (move : Move) × (choice : Choice) × Picks script policy (take n moves) choice × Means script (take n moves) choice move.step
+    → (move : Move) × (choice : Choice) × Picks script policy (take n moves) choice × StandsFor script (take n moves) choice move.step
     × (take (suc n) moves ≡ take n moves ++ move ∷ [])
 chosen script policy moves n follows within =
     let (move, whole, front) = at_place n moves within in
@@ -64,8 +64,8 @@ same_front laws script policy a b count f g (suc n) la lb =
     let (move', choice', picks', means', front') = chosen script policy b n g (omega arith) in
     let picks'' = subst (λ (ms : List Move). Picks script policy ms choice') (sym before) picks' in
     let one : choice ≡ choice' = picks_one laws.one_list script policy (take n a) choice choice' picks picks'' in
-    let means'' = subst (λ (x : Choice). Means script (take n a) x move'.step) (sym one)
-    (subst (λ (ms : List Move). Means script ms choice' move'.step) (sym before) means') in
+    let means'' = subst (λ (x : Choice). StandsFor script (take n a) x move'.step) (sym one)
+    (subst (λ (ms : List Move). StandsFor script ms choice' move'.step) (sym before) means') in
     let step : move.step ≡ move'.step = means_one laws.one_list script (take n a) choice move.step move'.step means means'' in
     let left : steps_of (take (suc n) a) ≡ steps_of (take n a) ++ move.step ∷ [] = ap steps_of front ∙ steps_of-append (take n a) (move ∷ []) in
     let right : steps_of (take (suc n) b) ≡ steps_of (take n b) ++ move'.step ∷ [] = ap steps_of front' ∙ steps_of-append (take n b) (move' ∷ []) in
@@ -83,7 +83,7 @@ same_moves laws script policy a b count f g e =
 -- behind the shorter of two lists a choice was made that stands for a step
 pub goes_further : LawsBelow → (script : ScriptState) (policy : Policy) (a b : List Move) → IsNodeNumber script.nodes
     → Follows script policy a → Follows script policy b → length a < length b
-    → (choice : Choice) × (step : Step) × Picks script policy a choice × Means script a choice step
+    → (choice : Choice) × (step : Step) × Picks script policy a choice × StandsFor script a choice step
 goes_further laws script policy a b count f g less =
     let (move, choice, picks, means, front) = chosen script policy b (length a) g less in
     let here : take (length a) b ≡ a =
@@ -91,7 +91,7 @@ goes_further laws script policy a b count f g less =
       choice,
       move.step,
       subst (λ (ms : List Move). Picks script policy ms choice) here picks,
-      subst (λ (ms : List Move). Means script ms choice move.step) here means,
+      subst (λ (ms : List Move). StandsFor script ms choice move.step) here means,
     )
 
 -- how the moves of a policy end: with no choice left, or with a refusal
@@ -102,7 +102,7 @@ EndsBy script policy limit moves (Some cause) = Stops script policy limit moves 
 -- where they end, they go no further
 no_further : LawsBelow → (script : ScriptState) (policy : Policy) (limit : ℕ) (moves : List Move) (why : Option DriveError)
     → EndsBy script policy limit moves why → length moves < limit → (choice : Choice) (step : Step)
-    → Picks script policy moves choice → Means script moves choice step → ⊥
+    → Picks script policy moves choice → StandsFor script moves choice step → ⊥
 no_further laws script policy limit moves None ends less choice step picks means = ends.0 choice picks
 no_further laws script policy limit moves (Some TurnLimit) ends less choice step picks means = absurd (omega arith)
 no_further laws script policy limit moves (Some BadPlace) (short, (other, picked, bad)) less choice step picks means =
@@ -150,6 +150,20 @@ one_way laws script policy limit moves (Some NotEnabled) (Some NotEnabled) h g =
 one_way laws script policy limit moves (Some NotEnabled) (Some Memory) h g = absurd g
 one_way laws script policy limit moves (Some Memory) b h g = absurd h
 
+-- which of two numbers is less, if one is
+compare : (x y : ℕ) → (x < y) ⊎ ((x ≡ y) ⊎ (y < x))
+compare zero zero = inr (inl refl)
+compare zero (suc y) = inl (omega arith)
+compare (suc x) zero = inr (inr (omega arith))
+compare (suc x) (suc y) =
+    elim (compare x y) [
+      | inl less ↦ inl (omega arith)
+      | inr rest ↦ elim rest [
+        | inl same ↦ inr (inl (ap suc same))
+        | inr more ↦ inr (inr (omega arith))
+      ]
+    ]
+
 -- a policy ends in one way
 pub one_ending : LawsBelow → (script : ScriptState) (policy : Policy) (limit : ℕ) (a b : List Move) (why other : Option DriveError)
     → IsNodeNumber script.nodes → Follows script policy a → Follows script policy b
@@ -171,19 +185,6 @@ one_ending laws script policy limit a b why other count f g h k =
                 absurd (no_further laws script policy limit b other k (omega arith) choice step picks means)
           ]
     ]
-  where
-    compare : (x y : ℕ) → (x < y) ⊎ ((x ≡ y) ⊎ (y < x))
-    compare zero zero = inr (inl refl)
-    compare zero (suc y) = inl (omega arith)
-    compare (suc x) zero = inr (inr (omega arith))
-    compare (suc x) (suc y) =
-        elim (compare x y) [
-          | inl less ↦ inl (omega arith)
-          | inr rest ↦ elim rest [
-            | inl same ↦ inr (inl (ap suc same))
-            | inr more ↦ inr (inr (omega arith))
-          ]
-        ]
 
 -- a choice that can't be made stops the policy
 pub refused_here : (script : ScriptState) (policy : Policy) (limit : ℕ) (moves : List Move) (choice : Choice) (fault : DriveError)
@@ -194,3 +195,16 @@ refused_here script policy limit moves choice fault picks less (inl (is, bad)) =
     subst (Stops script policy limit moves) (sym is) (less, (choice, picks, bad))
 refused_here script policy limit moves choice fault picks less (inr (is, not)) =
     subst (Stops script policy limit moves) (sym is) (less, (choice, picks, not))
+
+-- where two lists of moves follow a policy to its end, they are one
+pub one_run : LawsBelow → (script : ScriptState) (policy : Policy) (a b : List Move) → IsNodeNumber script.nodes
+    → Follows script policy a → Ends script policy a → Follows script policy b → Ends script policy b → a ≡ b
+one_run laws script policy a b count f ends g end =
+    elim (compare (length a) (length b)) [
+      | inl less ↦ let (choice, step, picks, means) = goes_further laws script policy a b count f g less in absurd (ends choice picks)
+      | inr rest ↦
+          elim rest [
+            | inl same ↦ same_moves laws script policy a b count f g same
+            | inr more ↦ let (choice, step, picks, means) = goes_further laws script policy b a count g f more in absurd (end choice picks)
+          ]
+    ]

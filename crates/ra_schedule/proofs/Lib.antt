@@ -3,6 +3,10 @@ mod Plans
 mod Last
 mod Lists
 mod Waiting
+mod Rising
+mod Enabled
+mod Naming
 mod Choosing
+mod Seeded
 mod Following
 mod Turns

@@ -1,4 +1,6 @@
 pub mod Script
+pub mod Seeds
 pub mod Schedule
 pub mod Progress
+pub mod Drawing
 pub mod Below

@@ -1,11 +1,11 @@
 -- How the driver keeps where the clients stand. No public contract speaks of it.
-use Rattle.std.specs.Prelude.{◌≡◌, ◌⊎◌, ◌↔◌, ℕ, ◌+◌, ◌^◌, ◌<◌, List, length, slice_index_or, Some, option_map, IsTrue, All}
+use Rattle.std.specs.Prelude.{◌≡◌, ◌⊎◌, ◌↔◌, ℕ, ◌+◌, ◌^◌, ◌<◌, List, length, slice_index_or, Some, None, option_map, IsTrue, All}
 use Rattle.ra_stamp.specs.declared.entry.Mark.{Mark}
 use Rattle.ra_world.specs.declared.step.Step.{Step}
 use Rattle.ra_world.specs.Traffic.{Move}
 use Rattle.ra_world.specs.World.{WorldState}
 use Rattle.ra_schedule.specs.declared.progress.Progress.{Progress}
-use Rattle.ra_schedule.specs.Script.{ScriptState, client_at}
+use Rattle.ra_schedule.specs.Script.{ScriptState, client_at, op_at}
 use Rattle.ra_schedule.specs.Schedule.{steps_of, steps_in, steps_by, Asks, IsWaiting, Enters}
 
 -- this is where a client stands after these moves
@@ -48,3 +48,16 @@ IsProgressAfter move client old new = (between : Progress) × IsAfterStep client
 abbrev pub AreDone : ScriptState → List Progress → Type 0
 AreDone script clients = (k : ℕ) (d : Progress) → k < length clients
     → option_map (λ who. length who.ops) (client_at script (k + 1)) ≡ Some (slice_index_or clients k d).done
+
+-- the client waits, or has nothing left to do
+abbrev pub IsStuck : ScriptState → ℕ → Progress → Type 0
+IsStuck script client progress = IsTrue progress.waiting ⊎ (op_at script client progress.done ≡ None)
+
+-- so does each client before this place, counted from 0
+abbrev pub AreStuck : ScriptState → List Progress → ℕ → Type 0
+AreStuck script clients first = (k : ℕ) (d : Progress) → k < first → k < length clients
+    → IsStuck script (k + 1) (slice_index_or clients k d)
+
+-- no client before this place, counted from 0, entered by these marks
+abbrev pub NoneEnters : ℕ → List Mark → Type 0
+NoneEnters first marks = (k : ℕ) → k < first → All (λ mark. Enters (k + 1) mark → ⊥) marks

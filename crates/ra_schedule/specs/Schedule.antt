@@ -1,6 +1,8 @@
 -- Which choice comes next where a cluster follows a script, and the runs that a policy makes. All of it speaks of the steps
 -- so far, with what was sent and marked at each.
-use Rattle.std.specs.Prelude.{◌≡◌, ◌≢◌, ◌⊎◌, ◌↔◌, ℕ, ◌+◌, ◌<◌, ◌≤◌, List, [], ◌∷◌, ◌++◌, length, map, Some, None, slice_get, All, if◌then◌else◌, ◌==◌}
+use Rattle.std.specs.Prelude.{◌≡◌, ◌≢◌, ◌↔◌, ℕ, ◌+◌, ◌%◌, ◌<◌, List, [], ◌∷◌, ◌++◌, length, map, Some, None, slice_get, All, Contains, if◌then◌else◌, ◌==◌}
+use Rattle.std.specs.List.{range_with_len}
+use Rattle.std.specs.List.Sorted.{IsStrictlyIncreasing}
 use Rattle.ra_stamp.specs.declared.entry.Mark.{Mark}
 use Rattle.ra_stamp.specs.declared.entry.Mark.TheVariants.{Requested, Entered, Left}
 use Rattle.ra_stamp.specs.declared.message.Message.{Message as Sent}
@@ -14,10 +16,11 @@ use Rattle.ra_schedule.specs.declared.script.Op.TheVariants.{Lock, Unlock}
 use Rattle.ra_schedule.specs.declared.choice.Choice.{Choice}
 use Rattle.ra_schedule.specs.declared.choice.Choice.TheVariants.{Client, Message, Lost}
 use Rattle.ra_schedule.specs.declared.choice.Policy.{Policy}
-use Rattle.ra_schedule.specs.declared.choice.Policy.TheVariants.{Oldest, Newest, Listed}
+use Rattle.ra_schedule.specs.declared.choice.Policy.TheVariants.{Oldest, Newest, Seeded, Listed}
 use Rattle.ra_schedule.specs.declared.error.DriveError.{DriveError}
 use Rattle.ra_schedule.specs.declared.error.DriveError.TheVariants.{TurnLimit, BadPlace, NotEnabled, Memory}
 use Rattle.ra_schedule.specs.Script.{ScriptClient, ScriptState, client_at}
+use Rattle.ra_schedule.specs.Seeds.{word_of}
 
 abbrev pub steps_of : List Move → List Step
 steps_of moves = map (λ move. move.step) moves
@@ -75,10 +78,10 @@ abbrev pub IsAtPlace : List Move → ℕ → Sent → Type 0
 IsAtPlace moves place message = (left : List Sent) × LeavesUnderWay moves left × (slice_get left place ≡ Some message)
 
 -- what a choice stands for, where it can be made
-abbrev pub Means : ScriptState → List Move → Choice → Step → Type 0
-Means script moves (Client client) step = Enables script moves client step
-Means script moves (Message place) step = (message : Sent) × IsAtPlace moves place message × (step ≡ Deliver message)
-Means script moves (Lost place) step = (message : Sent) × IsAtPlace moves place message × (step ≡ Lose message)
+abbrev pub StandsFor : ScriptState → List Move → Choice → Step → Type 0
+StandsFor script moves (Client client) step = Enables script moves client step
+StandsFor script moves (Message place) step = (message : Sent) × IsAtPlace moves place message × (step ≡ Deliver message)
+StandsFor script moves (Lost place) step = (message : Sent) × IsAtPlace moves place message × (step ≡ Lose message)
 
 -- the choice names a client or a message that there is not
 abbrev pub IsBadPlace : ScriptState → List Move → Choice → Type 0
@@ -102,6 +105,18 @@ abbrev pub LeavesMessages : ScriptState → List Move → ℕ → Type 0
 LeavesMessages script moves count = ((client : ℕ) → IsEnabled script moves client → ⊥)
     × ((left : List Sent) × LeavesUnderWay moves left × (length left ≡ count))
 
+-- these are the enabled clients, each of them once, in the order of the script
+pub record AreEnabled (script : ScriptState) (moves : List Move) (clients : List ℕ) : Type 0 where
+  pub each : (client : ℕ) → Contains clients client ↔ IsEnabled script moves client
+  pub in_order : IsStrictlyIncreasing clients
+
+-- all choices that there are: the enabled clients in the order of the script, then the messages under way in the order of
+-- sending
+abbrev pub AreChoices : ScriptState → List Move → List Choice → Type 0
+AreChoices script moves choices = (clients : List ℕ) × (left : List Sent)
+    × AreEnabled script moves clients × LeavesUnderWay moves left
+    × (choices ≡ map Client clients ++ map Message (range_with_len 0 (length left)))
+
 -- the choice that a policy makes after these moves
 abbrev pub Picks : ScriptState → Policy → List Move → Choice → Type 0
 Picks script Oldest moves (Client client) = IsFirstEnabled script moves client
@@ -110,6 +125,8 @@ Picks script Oldest moves (Lost place) = ⊥
 Picks script Newest moves (Client client) = IsFirstEnabled script moves client
 Picks script Newest moves (Message place) = LeavesMessages script moves (place + 1)
 Picks script Newest moves (Lost place) = ⊥
+Picks script (Seeded seed) moves choice = (choices : List Choice) × AreChoices script moves choices
+    × (slice_get choices (word_of seed (length moves) % length choices) ≡ Some choice)
 Picks script (Listed choices) moves choice = slice_get choices.items (length moves) ≡ Some choice
 
 -- the policy has no choice left
@@ -120,7 +137,7 @@ Ends script policy moves = (choice : Choice) → Picks script policy moves choic
 pub record Follows (script : ScriptState) (policy : Policy) (moves : List Move) : Type 0 where
   pub run : IsRun script.nodes 0 moves
   pub each : (before after : List Move) (move : Move) → moves ≡ before ++ move ∷ after
-      → (choice : Choice) × Picks script policy before choice × Means script before choice move.step
+      → (choice : Choice) × Picks script policy before choice × StandsFor script before choice move.step
 
 -- why a policy can't go on behind these moves, of which there may be so many
 abbrev pub Stops : ScriptState → Policy → ℕ → List Move → DriveError → Type 0

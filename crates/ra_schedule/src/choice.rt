@@ -22,6 +22,11 @@ pub enum Policy {
     Oldest,
     /// The same, with the message that was sent last.
     Newest,
+    /// Chance, by a seed. The choices of a turn are the clients that are enabled, in the order of the script, and behind them
+    /// the messages under way, in the order of sending. The turn draws one word, the next one of the PCG generator XSL RR
+    /// 128/64 of this seed, and takes the choice whose number, counted from 0, is the word modulo the number of choices. Where
+    /// there is no choice, no word is drawn and it ends. So a script and a seed have one run, the same on each machine.
+    Seeded(u64),
     /// These choices, one after the other, and then the end.
     Listed(Choices),
 }

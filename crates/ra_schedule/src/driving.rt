@@ -3,13 +3,16 @@ ghost use Rattle.ra_world.specs.Traffic.{Move};
 ghost use Rattle.ra_world.specs.World.{Reports};
 ghost use Rattle.ra_world.specs.MainTheorem.{MainTheorem};
 ghost use Rattle.ra_schedule.specs.Schedule.{steps_of, Follows, Ends, Stops, IsFinished};
-ghost use Rattle.ra_schedule.specs.Progress.{Tracks, OfEach, IsProgressAfter, AreCountable, AreDone};
+ghost use Rattle.ra_schedule.specs.Progress.{Tracks, OfEach, IsProgressAfter, AreCountable, AreDone, NoneEnters};
 ghost use Rattle.ra_world.specs.Run.{IsRun, GoesOn};
 ghost use Rattle.ra_schedule.specs.declared.error.DriveError.{DriveError};
 
+use crate::draws::Draws;
 use crate::laws::schedules_rest_on_runs;
 use crate::picking::{meaning, pick};
-use crate::progress::{Progress, note_marks, note_step, opening_progress};
+use crate::progress::{
+    Progress, first_entered, first_free, note_marks, note_step, opening_progress,
+};
 use crate::{DriveError, Policy, Script};
 use ra_world::{Report, Step, Steps, World};
 use std::alloc::Global;
@@ -65,21 +68,25 @@ pub fn drive(
         return Err(DriveError::Memory);
     };
     let mut clients = opening_progress(alloc, script.clients())?;
-    let mut steps = Steps::new(alloc);
+    let mut draws = Draws::of(policy);
+    // Each client before this place waits or has nothing left to do, so that most turns need not look at all clients.
+    let mut first = 0;
     for _turn in 0..limit {
-        let Some(choice) = pick(script, policy, &world, &clients) else {
-            return recording_of(alloc, script, &world, &clients, steps);
+        first = first_free(script, &clients, first);
+        let Some(choice) = pick(script, policy, &mut draws, &world, &clients, first) else {
+            return recording_of(alloc, script, world, &clients);
         };
         let step = meaning(script, &world, &clients, choice)?;
-        make(alloc, &mut world, &mut clients, &mut steps, step)?;
+        first = make(alloc, &mut world, &mut clients, first, step)?;
     }
-    match pick(script, policy, &world, &clients) {
-        None => recording_of(alloc, script, &world, &clients, steps),
+    match pick(script, policy, &mut draws, &world, &clients, first) {
+        None => recording_of(alloc, script, world, &clients),
         Some(_) => Err(DriveError::TurnLimit),
     }
 }
 
-/// Makes a step that the run goes on with, and notes it and what came of it.
+/// Makes a step that the run goes on with, and notes it and what came of it. Returns the place `first`, or the one of a client
+/// before it that entered, such that nobody before it did.
 ///
 /// # Errors
 ///
@@ -88,26 +95,25 @@ fn make(
     alloc: Global,
     world: &mut World,
     clients: &mut [Progress],
-    steps: &mut Steps,
+    first: u32,
     step: Step,
-) -> Result<(), DriveError>
+) -> Result<u32, DriveError>
     requires allowed { GoesOn world.old.count world.old.start world.old.moves step }
     requires countable { AreCountable clients.old }
-    ensures ok { OnOk result ((move : Move) × (move.step ≡ step)
+    ensures ok { IfOk result (λ place. (move : Move) × (move.step ≡ step)
         × (world.new ≡ record world.old { moves = world.old.moves ++ move ∷ [] })
-        × (steps.new.items ≡ steps.old.items ++ step ∷ [])
-        × OfEach (IsProgressAfter move) clients.old clients.new) }
+        × OfEach (IsProgressAfter move) clients.old clients.new
+        × (place ≤ first) × NoneEnters place move.marks) }
     ensures run { OnOk result (IsRun world.new.count world.new.start world.new.moves) }
     ensures err { IfErr result (λ fault. fault ≡ DriveError.Memory) }
 {
-    steps.reserve(1)?;
     let Ok(outcome) = world.step(alloc, &step) else {
         return Err(DriveError::Memory);
     };
-    steps.push(step).unwrap();
     note_step(clients, &step);
-    note_marks(clients, outcome.marks.as_slice());
-    Ok(())
+    let marks = outcome.marks.as_slice();
+    note_marks(clients, marks);
+    Ok(first_entered(marks, first))
 }
 
 /// Reports what a policy made of a script.
@@ -118,14 +124,12 @@ fn make(
 fn recording_of(
     alloc: Global,
     script: &Script,
-    world: &World,
+    world: World,
     clients: &[Progress],
-    steps: Steps,
 ) -> Result<Recording, DriveError>
-    requires tracked { Tracks script.now world.now clients.now }
-    requires steps { steps.items ≡ steps_of world.now.moves }
-    ensures steps { IfOk result (λ recording. recording.steps.items ≡ steps.items) }
-    ensures report { IfOk result (λ recording. Reports script.now.nodes 0 world.now.moves recording.report) }
+    requires tracked { Tracks script.now world clients.now }
+    ensures steps { IfOk result (λ recording. recording.steps.items ≡ steps_of world.moves) }
+    ensures report { IfOk result (λ recording. Reports script.now.nodes 0 world.moves recording.report) }
     ensures main_theorem { IfOk result (λ recording. MainTheorem script.now.nodes recording.report) }
     ensures finished { IfOk result (λ recording.
         IsTrue recording.finished ↔ IsFinished script.now recording.steps.items recording.report) }
@@ -134,7 +138,7 @@ fn recording_of(
     let report = world.report(alloc)?;
     let finished = has_nothing_left(&report) && are_done(script, clients);
     Ok(Recording {
-        steps,
+        steps: world.into_steps(),
         report,
         finished,
     })

@@ -1,4 +1,10 @@
-//! What schedules rest on.
+//! What is true of every schedule: a function does nothing, and its contract is the law.
+ghost use Rattle.std.specs.Prelude.{◌≡◌, List};
+ghost use Rattle.ra_stamp.specs.NodeId.{IsNodeNumber};
+ghost use Rattle.ra_world.specs.Traffic.{Move};
+ghost use Rattle.ra_schedule.specs.declared.choice.Policy.{Policy};
+ghost use Rattle.ra_schedule.specs.Script.{ScriptState};
+ghost use Rattle.ra_schedule.specs.Schedule.{Follows, Ends};
 ghost use Rattle.ra_schedule.specs.Below.{LawsBelow};
 
 use ra_world::{
@@ -14,4 +20,13 @@ pub fn schedules_rest_on_runs()
     messages_under_way_are_between_nodes();
     runs_are_determined();
     runs_go_on_where_steps_are_allowed();
+}
+
+/// A policy leads through a script in one way: two lists of moves that follow it to its end are one.
+pub fn policies_lead_to_one_run()
+    ensures { (script : ScriptState) (policy : Policy) (a b : List Move) → IsNodeNumber script.nodes
+        → Follows script policy a → Ends script policy a → Follows script policy b → Ends script policy b
+        → a ≡ b }
+{
+    schedules_rest_on_runs();
 }

@@ -2,6 +2,8 @@
 #![tactic(auto)]
 
 mod choice;
+mod drawing;
+mod draws;
 mod driving;
 mod error;
 mod laws;
@@ -12,6 +14,7 @@ mod script;
 pub use choice::{Choice, Choices, Policy};
 pub use driving::{Recording, drive};
 pub use error::{AddClientError, AddOpError, DriveError, NewScriptError};
+pub use laws::policies_lead_to_one_run;
 pub use script::{Op, Script};
 
 #[cfg(test)]

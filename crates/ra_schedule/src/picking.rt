@@ -1,12 +1,15 @@
 //! Which choice comes next, and what it stands for.
-ghost use Rattle.std.specs.Prelude.{◌≡◌, ◌≢◌, ◌<◌, ◌+◌, ◌⊎◌, ℕ, List, Some, length, option_map, slice_get, IsNone, IsErrOf, IfOk, IfErr, IfSome};
+ghost use Rattle.std.specs.Prelude.{◌≡◌, ◌≢◌, ◌<◌, ◌+◌, ◌⊎◌, ℕ, List, Some, length, option_map, slice_get, IsSome, IsNone, IsErrOf, IfOk, IfErr, IfSome};
 ghost use Rattle.ra_world.specs.declared.step.Step.{Step};
 ghost use Rattle.ra_schedule.specs.declared.choice.Choice.{Choice};
 ghost use Rattle.ra_schedule.specs.declared.error.DriveError.{DriveError};
 ghost use Rattle.ra_schedule.specs.Script.{client_at, op_at};
-ghost use Rattle.ra_schedule.specs.Schedule.{Enables, IsEnabled, IsFirstEnabled, IsNext, Means, IsBadPlace, IsNotEnabled, Picks, Ends, step_of};
-ghost use Rattle.ra_schedule.specs.Progress.{Tracks, IsProgress};
+ghost use Rattle.ra_schedule.specs.Schedule.{Enables, IsEnabled, IsFirstEnabled, IsNext, StandsFor, IsBadPlace, IsNotEnabled, Picks, Ends, step_of};
+ghost use Rattle.ra_schedule.specs.Progress.{Tracks, IsProgress, AreStuck};
+ghost use Rattle.ra_schedule.specs.Drawing.{generator_at};
 
+use crate::drawing::draw;
+use crate::draws::Draws;
 use crate::laws::schedules_rest_on_runs;
 use crate::progress::Progress;
 use crate::{Choice, DriveError, Op, Policy, Script};
@@ -29,7 +32,7 @@ fn step_of(node: NodeId, client: u32, op: Op) -> Step
 }
 
 /// Returns the step of a client that stands here, where it is enabled, or `None`.
-fn enabled_step(script: &Script, world: &World, client: u32, progress: Progress) -> Option<Step>
+pub fn enabled_step(script: &Script, world: &World, client: u32, progress: Progress) -> Option<Step>
     requires count { world.now.count ≡ script.now.nodes }
     requires start { world.now.start ≡ 0 }
     requires progress { IsProgress client world.now.moves progress }
@@ -49,19 +52,16 @@ fn enabled_step(script: &Script, world: &World, client: u32, progress: Progress)
     }
 }
 
-/// Returns the first enabled client in the order of the script, or `None`.
-fn first_enabled(script: &Script, world: &World, clients: &[Progress]) -> Option<u32>
-    requires { Tracks script.now world.now clients.now }
+/// Returns the first enabled client in the order of the script, or `None`. None is before the place `first`.
+fn first_enabled(script: &Script, world: &World, clients: &[Progress], first: u32) -> Option<u32>
+    requires tracked { Tracks script.now world.now clients.now }
+    requires stuck { AreStuck script.now clients.now first }
     ensures some { IfSome result (IsFirstEnabled script.now world.now.moves) }
     ensures none { IsNone result → (client : ℕ) → IsEnabled script.now world.now.moves client → ⊥ }
 {
-    for place in 0..script.clients() {
+    for place in first..script.clients() {
         let client = place + 1;
         let progress = clients[place as usize];
-        // Looked at first, since most clients wait most of the time.
-        if progress.waiting {
-            continue;
-        }
         if enabled_step(script, world, client, progress).is_some() {
             return Some(client);
         }
@@ -69,17 +69,30 @@ fn first_enabled(script: &Script, world: &World, clients: &[Progress]) -> Option
     None
 }
 
-/// Returns the choice that the policy makes next, or `None` at the end.
-pub fn pick(script: &Script, policy: &Policy, world: &World, clients: &[Progress]) -> Option<Choice>
-    requires { Tracks script.now world.now clients.now }
+/// Returns the choice that the policy makes next, or `None` at the end. No client before the place `first` is enabled.
+pub fn pick(
+    script: &Script,
+    policy: &Policy,
+    draws: &mut Draws,
+    world: &World,
+    clients: &[Progress],
+    first: u32,
+) -> Option<Choice>
+    requires tracked { Tracks script.now world.now clients.now }
+    requires stuck { AreStuck script.now clients.now first }
+    requires drawn { draws.old.generator ≡ generator_at policy.now (length world.now.moves) }
     ensures some { IfSome result (Picks script.now policy.now world.now.moves) }
     ensures none { IsNone result → Ends script.now policy.now world.now.moves }
+    ensures drawn { IsSome result → draws.new.generator ≡ generator_at policy.now (length world.now.moves + 1) }
 {
     schedules_rest_on_runs();
     if let Policy::Listed(choices) = policy {
         return choices.at(world.steps());
     }
-    if let Some(client) = first_enabled(script, world, clients) {
+    if let Some(generator) = &mut draws.generator {
+        return draw(generator, script, world, clients);
+    }
+    if let Some(client) = first_enabled(script, world, clients, first) {
         return Some(Choice::Client(client));
     }
     let messages = world.under_way();
@@ -107,7 +120,7 @@ pub fn meaning(
     choice: Choice,
 ) -> Result<Step, DriveError>
     requires { Tracks script.now world.now clients.now }
-    ensures ok { IfOk result (Means script.now world.now.moves choice) }
+    ensures ok { IfOk result (StandsFor script.now world.now.moves choice) }
     ensures err { IfErr result (λ fault. ((fault ≡ DriveError.BadPlace) × IsBadPlace script.now world.now.moves choice)
         ⊎ ((fault ≡ DriveError.NotEnabled) × IsNotEnabled script.now world.now.moves choice)) }
 {

@@ -1,7 +1,9 @@
 //! Where the clients stand.
-ghost use Rattle.std.specs.Prelude.{◌≡◌, ◌≢◌, ◌+◌, ◌<◌, ◌||◌, ℕ, length, replicate, false, slice_index_or, IfOk};
-ghost use Rattle.ra_schedule.specs.Progress.{IsAfterStep, IsAfterMarks, OfEach, AreCountable};
+ghost use Rattle.std.specs.Prelude.{◌≡◌, ◌≢◌, ◌+◌, ◌<◌, ◌≤◌, ◌⊎◌, ◌||◌, ℕ, length, replicate, false, slice_index_or, IsTrue, IfOk};
+ghost use Rattle.ra_schedule.specs.Schedule.{Enters};
+ghost use Rattle.ra_schedule.specs.Progress.{IsAfterStep, IsAfterMarks, OfEach, AreCountable, IsStuck, AreStuck, NoneEnters};
 
+use crate::Script;
 use ra_stamp::{Mark, Memory};
 use ra_world::Step;
 use std::alloc::Global;
@@ -31,6 +33,50 @@ pub fn opening_progress(alloc: Global, clients: u32) -> Result<Vec<Progress>, Me
         })?;
     }
     Ok(list)
+}
+
+/// Returns whether the client does not wait and has something left to do.
+fn is_free(script: &Script, client: u32, progress: Progress) -> bool
+    ensures { IsTrue result ⊎ IsStuck script.now client progress }
+{
+    !progress.waiting && script.op(client, progress.done).is_some()
+}
+
+/// Returns the place of the first client that does not wait and has something left to do, or the number of clients, where there
+/// is none before the place `first`.
+pub fn first_free(script: &Script, clients: &[Progress], first: u32) -> u32
+    requires alike { length clients.now ≡ length script.now.clients }
+    requires stuck { AreStuck script.now clients.now first }
+    ensures { AreStuck script.now clients.now result }
+{
+    for place in first..script.clients() {
+        if is_free(script, place + 1, clients[place as usize]) {
+            return place;
+        }
+    }
+    script.clients()
+}
+
+/// Returns the place `first`, or the one of a client before it that entered, such that nobody before it did.
+pub fn first_entered(marks: &[Mark], first: u32) -> u32
+    ensures not_past { result ≤ first }
+    ensures none { NoneEnters result marks.now }
+{
+    let mut place = first;
+    for mark in marks {
+        place = place.min(place_entered(mark, place));
+    }
+    place
+}
+
+/// Returns the place of the client that entered by the mark, or `first` where it says so of nobody.
+fn place_entered(mark: &Mark, first: u32) -> u32
+    ensures { (k : ℕ) → k < result → Enters (k + 1) mark.now → ⊥ }
+{
+    match mark {
+        Mark::Entered(entry) => entry.client.saturating_sub(1),
+        Mark::Requested(_) | Mark::Left(_) => first,
+    }
 }
 
 /// Moves a client on by one operation, after which it waits if this is an ask.

@@ -1,6 +1,8 @@
 use super::*;
 use ra_stamp::{Mode, Name};
+use ra_world::Step;
 use std::alloc::Global;
+use std::process::Abort;
 use std::test::*;
 
 /// Returns the operation that locks a name for itself alone.
@@ -166,6 +168,126 @@ fn one_lock_takes_four_turns(rt: HostRuntime) -> Result<(), Fail> {
     assert_eq!(rt; recording.report.requests, 1);
     assert_eq!(rt; recording.report.sent, 2);
     assert_eq!(rt; recording.report.marks.len(), 3);
+    Ok(())
+}
+
+/// Makes a script of 3 nodes: a client at each of these nodes locks `r` in its mode and unlocks it.
+fn lockers(alloc: Global, clients: &[(u16, Mode)]) -> Result<Script, Fail> {
+    let mut script = Script::new(alloc, 3)?;
+    for (node, mode) in clients {
+        script.add_client(alloc, *node)?;
+        script.add_op(Op::Lock(Name::new(b"r")?, *mode))?;
+        script.add_op(unlock(b"r")?)?;
+    }
+    Ok(script)
+}
+
+/// Makes a script of 3 nodes with two writers.
+fn two_writers(alloc: Global) -> Result<Script, Fail> {
+    lockers(alloc, &[(1, Mode::Exclusive), (2, Mode::Exclusive)])
+}
+
+/// Makes a script of 3 nodes with a writer between two readers.
+fn a_writer_and_two_readers(alloc: Global) -> Result<Script, Fail> {
+    let clients = [(1, Mode::Shared), (2, Mode::Exclusive), (3, Mode::Shared)];
+    lockers(alloc, &clients)
+}
+
+/// Asserts that a seed drives a script to its end, with nothing left, and how many requests and messages it makes.
+fn assert_finished<T: Abort + AllocGlobal>(
+    rt: &T,
+    script: &Script,
+    seed: u64,
+    requests: u128,
+    sent: u128,
+) -> Result<(), Fail> {
+    let recording = drive(rt.alloc(), script, &Policy::Seeded(seed), 100)?;
+    assert!(rt; recording.finished, "seed {seed}");
+    assert_eq!(rt; recording.report.requests, requests, "seed {seed}");
+    assert_eq!(rt; recording.report.sent, sent, "seed {seed}");
+    assert_eq!(rt; recording.report.under_way, 0, "seed {seed}");
+    assert_eq!(rt; recording.report.lost, 0, "seed {seed}");
+    assert_eq!(rt; recording.report.waiting, 0, "seed {seed}");
+    assert_eq!(rt; recording.report.queued, 0, "seed {seed}");
+    Ok(())
+}
+
+#[test]
+fn each_seed_leads_to_the_end(rt: HostRuntime) -> Result<(), Fail> {
+    let writers = two_writers(rt.alloc())?;
+    let readers = a_writer_and_two_readers(rt.alloc())?;
+    for seed in 0..100 {
+        assert_finished(&rt, &writers, seed, 2, 8)?;
+        assert_finished(&rt, &readers, seed, 3, 12)?;
+    }
+    Ok(())
+}
+
+#[test]
+fn one_seed_means_one_run(rt: HostRuntime) -> Result<(), Fail> {
+    let alloc = rt.alloc();
+    let script = a_writer_and_two_readers(alloc)?;
+    let first = drive(alloc, &script, &Policy::Seeded(0), 100)?;
+    let mut differ = 0u64;
+    for seed in 0..100 {
+        let once = drive(alloc, &script, &Policy::Seeded(seed), 100)?;
+        let again = drive(alloc, &script, &Policy::Seeded(seed), 100)?;
+        assert!(rt;
+            once.steps.as_slice() == again.steps.as_slice(),
+            "seed {seed}"
+        );
+        if once.steps.as_slice() != first.steps.as_slice() {
+            differ = seed;
+        }
+    }
+    assert!(rt; differ > 0);
+    Ok(())
+}
+
+/// The first word of seed 0 is the one that the Rust crate `rand_pcg` has in its own tests.
+#[test]
+fn the_first_word_names_the_first_client(rt: HostRuntime) -> Result<(), Fail> {
+    let alloc = rt.alloc();
+    let mut script = Script::new(alloc, 1)?;
+    for clients in 1..=64u32 {
+        script.add_client(alloc, 1)?;
+        script.add_op(lock(b"r")?)?;
+        let recording = drive(alloc, &script, &Policy::Seeded(0), 200)?;
+        let client = match recording.steps.at(0) {
+            Some(Step::Ask { client, .. }) => u64::from(client),
+            _ => 0,
+        };
+        let number = 2_354_861_276_966_075_475 % u64::from(clients);
+        assert_eq!(rt; client, number + 1, "of {clients}");
+    }
+    Ok(())
+}
+
+#[test]
+fn no_choice_is_the_end(rt: HostRuntime) -> Result<(), Fail> {
+    let alloc = rt.alloc();
+    let script = one_client(alloc)?;
+    let recording = drive(alloc, &script, &Policy::Seeded(7), 0)?;
+    assert!(rt; recording.finished);
+    assert_eq!(rt; recording.steps.len(), 0);
+    Ok(())
+}
+
+/// With no turn to make, the end is reached where no client has an operation, and else a choice is left.
+#[test]
+fn no_turn_suffices_where_there_is_no_operation(rt: HostRuntime) -> Result<(), Fail> {
+    let alloc = rt.alloc();
+    let idle = one_client(alloc)?;
+    let busy = two_clients(alloc)?;
+    for policy in [Policy::Oldest, Policy::Newest] {
+        let recording = drive(alloc, &idle, &policy, 0)?;
+        assert!(rt; recording.finished);
+        assert_eq!(rt; recording.steps.len(), 0);
+        assert_eq!(rt;
+            drive(alloc, &busy, &policy, 0).err(),
+            Some(DriveError::TurnLimit)
+        );
+    }
     Ok(())
 }
 

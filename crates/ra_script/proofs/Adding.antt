@@ -15,7 +15,7 @@ use Rattle.ra_script.specs.declared.error.ScriptError.TheVariants as fault
 use Rattle.ra_script.specs.Document.{texts}
 use Rattle.ra_script.specs.Faults.{IsRefusal, of_op}
 use Rattle.ra_script.specs.Operation.{op_of}
-use Rattle.ra_script.specs.ScriptText.{with_last, is_held_after, fitting, next_op, ops_behind, ops_of}
+use Rattle.ra_script.specs.ScriptText.{with_last, is_held_after, fitting, next_op, ops_behind, script_ops}
 use Rattle.ra_script.proofs.Held.{held_after, is_held_after-false}
 
 -- an operation that fits is taken as it is
@@ -129,14 +129,14 @@ pub IsAddedTo-all : (base : ScriptState) (node : ℕ) (strings : List (List ℕ)
 IsAddedTo-all base node strings place script past h = h.same ∙ rw (drop_all place strings past)
 
 -- within the limit, the operations are those of the strings
-pub ops_of-few : (strings : List (List ℕ)) → length strings ≤ 1024 → ops_of strings ≡ ops_behind [] strings
-ops_of-few strings few = rw (within (length strings) few)
+pub script_ops-few : (strings : List (List ℕ)) → length strings ≤ 1024 → script_ops strings ≡ ops_behind [] strings
+script_ops-few strings few = rw (within (length strings) few)
   where
     within : (n : ℕ) → n ≤ 1024 → nat_lt 1024 n ≡ false
     within n h = grind (arith, nat_tests)
 
-pub ops_of-many : (strings : List (List ℕ)) → 1024 < length strings → ops_of strings ≡ Err fault.Limit
-ops_of-many strings many = rw (beyond (length strings) many)
+pub script_ops-many : (strings : List (List ℕ)) → 1024 < length strings → script_ops strings ≡ Err fault.Limit
+script_ops-many strings many = rw (beyond (length strings) many)
   where
     beyond : (n : ℕ) → 1024 < n → nat_lt 1024 n ≡ true
     beyond n h = grind (arith, nat_tests)

@@ -22,9 +22,9 @@ use Rattle.ra_script.specs.Document.{ClientTable, Document, document_of}
 use Rattle.ra_script.specs.Faults.{IsRefusal}
 use Rattle.ra_script.specs.Meaning.{written_client, written, IsNamed, Means}
 use Rattle.ra_script.specs.Operation.{op_of, spelling, name_in}
-use Rattle.ra_script.specs.ScriptText.{result_and_then, natural, is_up_to, is_held_after, fitting, next_op, ops_behind, ops_of, client_of, are_placed, clients_behind, script_in, tree_of, script_of}
+use Rattle.ra_script.specs.ScriptText.{result_and_then, natural, is_up_to, is_held_after, fitting, next_op, ops_behind, script_ops, script_client, are_placed, clients_behind, script_in, tree_of, script_of}
 use Rattle.ra_script.proofs.Names.{spelled_from, op_of-spelling}
-use Rattle.ra_script.proofs.Adding.{fitting-fits, ops_of-few}
+use Rattle.ra_script.proofs.Adding.{fitting-fits, script_ops-few}
 use Rattle.ra_script.proofs.Texts.{tree_of-text}
 
 -- checks that passed
@@ -78,7 +78,7 @@ ops_written done (string ∷ strings) ops e =
       named = All-cons (λ op. IsName (name_in op)) w.0 rest.new spelled.1 rest.named;
     }
 
-limited : (strings : List (List ℕ)) (ops : List Op) → ops_of strings ≡ Ok ops → ops_behind [] strings ≡ Ok ops
+limited : (strings : List (List ℕ)) (ops : List Op) → script_ops strings ≡ Ok ops → ops_behind [] strings ≡ Ok ops
 limited strings ops e =
     elim (cases_Bool (nat_lt 1024 (length strings))) [
       | inl many ↦ absurd (let clash : Err fault.Limit ≡ Ok ops = rw many at e in cc)
@@ -90,9 +90,9 @@ pub pos-natural : (most : ℕ) (number : ℤ) → is_up_to most number ≡ true 
 pos-natural most (pos n) within = refl
 pos-natural most (negsuc n) within = absurd (false≢true within)
 
-client_written : (nodes : ℕ) (table : ClientTable) (client : ScriptClient) → is_up_to nodes table.node ≡ true → client_of table ≡ Ok client → (table ≡ written_client client) × IsNamed client
+client_written : (nodes : ℕ) (table : ClientTable) (client : ScriptClient) → is_up_to nodes table.node ≡ true → script_client table ≡ Ok client → (table ≡ written_client client) × IsNamed client
 client_written nodes table client within e =
-    let w = passed (λ ops. Ok (record { node = natural table.node; ops = ops })) (ops_of table.ops) client e in
+    let w = passed (λ ops. Ok (record { node = natural table.node; ops = ops })) (script_ops table.ops) client e in
     let made : ScriptClient = record { node = natural table.node; ops = w.0 } in
     let same : made ≡ client = cc in
     let ops = ops_written [] table.ops w.0 (limited table.ops w.0 w.1) in
@@ -115,7 +115,7 @@ clients_written nodes done [] clients placed e =
     record { new = []; is = sym same ∙ sym (append-nil done); tables_are = refl; named = All-nil IsNamed }
 clients_written nodes done (table ∷ tables) clients placed e =
     let (here, others) = and_parts (is_up_to nodes table.node) (list_all (λ (t : ClientTable). is_up_to nodes t.node) tables) placed in
-    let w = passed (λ c. clients_behind (done ++ c ∷ []) tables) (client_of table) clients e in
+    let w = passed (λ c. clients_behind (done ++ c ∷ []) tables) (script_client table) clients e in
     let first = client_written nodes table w.0 here w.1 in
     let rest = clients_written nodes (done ++ w.0 ∷ []) tables clients others w.2 in
     record {
@@ -208,11 +208,11 @@ ops_read done (op ∷ rest) fits named =
     let others = ops_read (done ++ op ∷ []) rest (λ before after o e. rw append_assoc (fits (op ∷ before) after o (ap (λ (xs : List Op). op ∷ xs) e))) (All-tail (λ o. IsName (name_in o)) op rest named) in
     rw next (others ∙ ap Ok (append_assoc done (op ∷ []) rest))
 
-client_read : (nodes : ℕ) (client : ScriptClient) → IsScriptClient nodes client → IsNamed client → client_of (written_client client) ≡ Ok client
+client_read : (nodes : ℕ) (client : ScriptClient) → IsScriptClient nodes client → IsNamed client → script_client (written_client client) ≡ Ok client
 client_read nodes client h named =
     let few : length (map spelling client.ops) ≤ 1024 = omega (arith, length-map client.ops spelling, h.at_most) in
     let read = ops_read [] client.ops h.plan named in
-    rw (ops_of-few (map spelling client.ops) few, read)
+    rw (script_ops-few (map spelling client.ops) few, read)
 
 clients_read : (nodes : ℕ) (done rest : List ScriptClient) → All (IsScriptClient nodes) rest → All IsNamed rest → clients_behind done (map written_client rest) ≡ Ok (done ++ rest)
 clients_read nodes done [] each named = ap Ok (sym (append-nil done))

@@ -12,7 +12,7 @@ use Rattle.ra_script.specs.declared.error.ScriptError.{ScriptError}
 use Rattle.ra_script.specs.declared.error.ScriptError.TheVariants as fault
 use Rattle.ra_script.specs.Document.{ClientTable, Document, client_table}
 use Rattle.ra_script.specs.Faults.{IsRefusal}
-use Rattle.ra_script.specs.ScriptText.{with_last, result_and_then, natural, is_up_to, are_placed, ops_of, client_of, clients_behind, script_in}
+use Rattle.ra_script.specs.ScriptText.{with_last, result_and_then, natural, is_up_to, are_placed, script_ops, script_client, clients_behind, script_in}
 
 -- a number that was looked at
 pub up_to_some : (b : Bool) (m n : ℕ) → Some m ≡ (if b then Some n else None) → (b ≡ true) × (m ≡ n)
@@ -59,11 +59,11 @@ pub record IsScriptTo (nodes : ℕ) (tables : List ClientTable) (place : ℕ) (s
   pub same : clients_behind [] tables ≡ clients_behind script.clients (drop place tables)
   pub valid : IsScript script
 
-client_of-ops : (table : ClientTable) (node : ℕ) (ops : List Op) → node ≡ natural table.node → ops_of table.ops ≡ Ok ops → client_of table ≡ Ok (record { node = node; ops = ops })
-client_of-ops table node ops same read = rw (read, same)
+script_client-ops : (table : ClientTable) (node : ℕ) (ops : List Op) → node ≡ natural table.node → script_ops table.ops ≡ Ok ops → script_client table ≡ Ok (record { node = node; ops = ops })
+script_client-ops table node ops same read = rw (read, same)
 
 pub IsScriptTo-more : (nodes : ℕ) (tables : List ClientTable) (place : ℕ) (script new : ScriptState) (table : ClientTable) (node : ℕ) → place < length tables → table ≡ get_or tables place table → node ≡ natural table.node
-    → (ops : List Op) × (ops_of table.ops ≡ Ok ops) × (new ≡ with_last script (record { node = node; ops = ops })) → IsScript new
+    → (ops : List Op) × (script_ops table.ops ≡ Ok ops) × (new ≡ with_last script (record { node = node; ops = ops })) → IsScript new
     → IsScriptTo nodes tables place script → IsScriptTo nodes tables (place + 1) new
 IsScriptTo-more nodes tables place script new table node lt at same step valid h =
     let client : ScriptClient = record { node = node; ops = step.0 } in
@@ -72,7 +72,7 @@ IsScriptTo-more nodes tables place script new table node lt at same step valid h
     record {
       nodes_are = ap (λ (s : ScriptState). s.nodes) step.2 ∙ h.nodes_are;
       count = ap length clients ∙ (length_push script.clients client ∙ ap (λ n. n + 1) h.count);
-      same = h.same ∙ (front ∙ rw (sym at, client_of-ops table node step.0 same step.1, clients));
+      same = h.same ∙ (front ∙ rw (sym at, script_client-ops table node step.0 same step.1, clients));
       valid = valid;
     }
 
@@ -80,12 +80,12 @@ refused_client : (o : Result (List Op) ScriptError) (why : ScriptError) (node : 
 refused_client o why node e = rw e
 
 pub IsScriptTo-refused : (nodes : ℕ) (tables : List ClientTable) (place : ℕ) (script : ScriptState) (table : ClientTable) (why : ScriptError) → place < length tables → table ≡ get_or tables place table
-    → IsRefusal (ops_of table.ops) why → IsScriptTo nodes tables place script → IsRefusal (clients_behind [] tables) why
+    → IsRefusal (script_ops table.ops) why → IsScriptTo nodes tables place script → IsRefusal (clients_behind [] tables) why
 IsScriptTo-refused nodes tables place script table why lt at refusal h =
     let front = at_drop_more (clients_behind script.clients) tables place table lt in
     elim refusal [
       | inl because ↦
-          let no_client : client_of table ≡ Err why = refused_client (ops_of table.ops) why (natural table.node) because in
+          let no_client : script_client table ≡ Err why = refused_client (script_ops table.ops) why (natural table.node) because in
           inl (h.same ∙ (front ∙ rw (sym at, no_client)))
       | inr memory ↦ inr memory
     ]

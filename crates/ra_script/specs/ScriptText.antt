@@ -55,17 +55,17 @@ ops_behind done [] = Ok done
 ops_behind done (string ∷ strings) = result_and_then (λ op. ops_behind (done ++ op ∷ []) strings) (next_op done string)
 
 -- the operations of a client
-abbrev pub ops_of : List (List ℕ) → Result (List Op) ScriptError
-ops_of strings = if nat_lt 1024 (length strings) then Err fault.Limit else ops_behind [] strings
+abbrev pub script_ops : List (List ℕ) → Result (List Op) ScriptError
+script_ops strings = if nat_lt 1024 (length strings) then Err fault.Limit else ops_behind [] strings
 
 -- a client
-abbrev pub client_of : ClientTable → Result ScriptClient ScriptError
-client_of client = result_and_then (λ ops. Ok (record { node = natural client.node; ops = ops })) (ops_of client.ops)
+abbrev pub script_client : ClientTable → Result ScriptClient ScriptError
+script_client client = result_and_then (λ ops. Ok (record { node = natural client.node; ops = ops })) (script_ops client.ops)
 
 -- the clients behind those that are done, and these
 abbrev pub clients_behind : List ScriptClient → List ClientTable → Result (List ScriptClient) ScriptError
 clients_behind done [] = Ok done
-clients_behind done (client ∷ clients) = result_and_then (λ c. clients_behind (done ++ c ∷ []) clients) (client_of client)
+clients_behind done (client ∷ clients) = result_and_then (λ c. clients_behind (done ++ c ∷ []) clients) (script_client client)
 
 -- there are 1 to 64 clients, and each is at one of the nodes
 abbrev pub are_placed : ℕ → List ClientTable → Bool

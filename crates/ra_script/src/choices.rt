@@ -68,7 +68,10 @@ fn choice_of(word: &[u8]) -> Option<Choice>
 ///
 /// # Errors
 ///
-/// `Choice`: a word is none of these. `Memory`, which may come before it.
+/// The first that holds:
+///
+/// 1. `Choice`: a word is none of these.
+/// 2. `Memory`, which may come before it.
 pub fn read_choices(alloc: Global, text: &str) -> Result<Choices, ChoicesError>
     ensures ok { IfOk result (λ choices. spec.choices_of text.now ≡ Some choices.items) }
     ensures refused { IfErr result (λ fault. ((fault ≡ ChoicesError.Choice) × (spec.choices_of text.now ≡ None))

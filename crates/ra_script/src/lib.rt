@@ -1,4 +1,4 @@
-//! The text of a script, and of a list of choices.
+//! The texts of scripts and of lists of choices, and a script performed from its text to the lines of its report.
 #![tactic(auto)]
 
 mod choices;

@@ -1,4 +1,4 @@
-ghost use Rattle.std.specs.Prelude.{◌≡◌, ◌≢◌, ◌≤◌, List, ℕ, [], ◌++◌, Bool, length, string_bytes, IfOk, IfErr, IfSome, IsErrOf};
+ghost use Rattle.std.specs.Prelude.{◌≡◌, ◌≢◌, ◌≤◌, ◌<◌, List, ℕ, [], ◌++◌, Bool, length, string_bytes, IfOk, IfErr, IfSome, IsErrOf};
 ghost use Rattle.std.specs.Io.KnownBytes.{Consumes, Appends};
 ghost use Rattle.ra_script.specs.Performed.{IsPerformed, Refuses};
 
@@ -34,6 +34,7 @@ fn lines_of(alloc: Global, policy: &Policy, input: &[u8]) -> Result<Printed, Per
     ensures ok { IfOk result (λ p. IsPerformed policy.now input.now (string_bytes p.text) p.finished) }
     ensures err { IfErr result (Refuses policy.now input.now) }
     ensures early { IfErr result (λ fault. fault ≢ PerformError.Write) }
+    ensures unread { ¬ IsErrOf result PerformError.Read }
 {
     let script = read_script(alloc, input)?;
     let recording = drive(alloc, &script, policy, MAX_TURNS)?;
@@ -85,6 +86,8 @@ pub fn perform<R: Read, W: Write>(
         (front back : List ℕ) × (finished : Bool) × IsPerformed policy.now input (front ++ back) finished × (back ≢ [])
         × Appends (W.contents writer.old) (W.contents writer.new) front) }
 
+    ensures failed { IsErrOf result PerformError.Read → (taken : List ℕ) × (length taken < 65537)
+        × Consumes (R.remaining reader.old) (R.remaining reader.new) taken }
     ensures at_most { (taken : List ℕ) × (length taken ≤ 65537)
         × Consumes (R.remaining reader.old) (R.remaining reader.new) taken }
 {

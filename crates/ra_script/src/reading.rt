@@ -1,4 +1,4 @@
-ghost use Rattle.std.specs.Prelude.{◌≡◌, ◌<◌, ◌≤◌, ℕ, List, [], ◌∷◌, ◌++◌, Ok, length, map, IsTrue, OnOk, IfOk, IfErr, MatchResult};
+ghost use Rattle.std.specs.Prelude.{◌≡◌, ◌<◌, ◌≤◌, ℕ, List, [], ◌∷◌, ◌++◌, Ok, length, map, IsTrue, OnOk, IfOk, IfErr, IsErrOf, MatchResult};
 ghost use Rattle.std.specs.List.{list_all};
 ghost use Rattle.toml.specs.View.{table_view};
 ghost use Rattle.ra_stamp.specs.NodeId.{IsNodeNumber};
@@ -32,6 +32,7 @@ const MAX_TEXT: usize = 65_536;
 fn tree_of(alloc: Global, text: &[u8]) -> Result<Table, ScriptError>
     ensures ok { IfOk result (λ tree. spec.tree_of text.now ≡ Ok (table_view tree)) }
     ensures err { IfErr result (IsRefusal (spec.tree_of text.now)) }
+    ensures limit { 65536 < length text.now → IsErrOf result ScriptError.Limit }
 {
     if text.len() > MAX_TEXT {
         return Err(ScriptError::Limit);
@@ -90,9 +91,9 @@ fn add_client(
 ) -> Result<(), ScriptError>
     requires room { length script.old.clients < 64 }
     requires node { (1 ≤ node) × (node ≤ script.old.nodes) }
-    ensures ok { OnOk result ((ops : List Op) × (spec.ops_of (texts strings.now) ≡ Ok ops)
+    ensures ok { OnOk result ((ops : List Op) × (spec.script_ops (texts strings.now) ≡ Ok ops)
         × (script.new ≡ spec.with_last script.old (record { node = node; ops = ops }))) }
-    ensures err { IfErr result (IsRefusal (spec.ops_of (texts strings.now))) }
+    ensures err { IfErr result (IsRefusal (spec.script_ops (texts strings.now))) }
     ensures script { OnOk result (IsScript script.new) }
 {
     if strings.len() > Script::MAX_OPS {
@@ -193,6 +194,7 @@ fn script_with(alloc: Global, nodes: u16, clients: &[ClientRef<'_>]) -> Result<S
 pub fn read_script(alloc: Global, text: &[u8]) -> Result<Script, ScriptError>
     ensures ok { IfOk result (λ script. spec.script_of text.now ≡ Ok script) }
     ensures refused { IfErr result (IsRefusal (spec.script_of text.now)) }
+    ensures limit { 65536 < length text.now → IsErrOf result ScriptError.Limit }
     ensures script { IfOk result IsScript }
 
     // It is read as a script only where it is a document of that script, and where it is, only memory can be wanting.

@@ -1,5 +1,5 @@
-use crate::{ChoicesError, ScriptError, read_choices, read_script};
-use ra_schedule::{Choice, Choices, Op, Script};
+use crate::{ChoicesError, PerformError, ScriptError, read_choices, read_script};
+use ra_schedule::{Choice, Choices, DriveError, Op, Script};
 use ra_stamp::{Mode, Name, NodeId};
 use std::alloc::Global;
 use std::process::Abort;
@@ -78,6 +78,7 @@ fn a_text_that_is_no_toml_is_refused(rt: HostRuntime) {
     assert_refused(&rt, "nodes = ", ScriptError::Toml);
     assert_refused(&rt, "nodes = 1\nnodes = 1\n", ScriptError::Toml);
     assert_refused(&rt, "nodes = 9223372036854775808\n", ScriptError::Toml);
+    assert_refused(&rt, "nodes = -9223372036854775809\n", ScriptError::Toml);
     assert!(rt; matches!(read_script(alloc, b"# \xff\n"), Err(ScriptError::Toml)));
     assert!(rt;
         matches!(
@@ -106,6 +107,7 @@ fn deep_nesting_is_refused(rt: HostRuntime) -> Result<(), Fail> {
 
 #[test]
 fn another_shape_is_refused(rt: HostRuntime) {
+    assert_refused(&rt, "nodes.x = 1\nclient = []\n", ScriptError::Shape);
     assert_refused(&rt, "", ScriptError::Shape);
     assert_refused(&rt, "nodes = 2\n", ScriptError::Shape);
     assert_refused(&rt, "client = []\n", ScriptError::Shape);
@@ -333,13 +335,26 @@ fn other_words_are_no_choices(rt: HostRuntime) {
 #[test]
 fn refusals_print_as_their_words(rt: HostRuntime) -> Result<(), Fail> {
     let alloc = rt.alloc();
-    assert_eq!(rt;
-        format!(in alloc; "{}", ScriptError::AlreadyHeld)?.as_str(),
-        "AlreadyHeld"
-    );
-    assert_eq!(rt;
-        format!(in alloc; "{}", ChoicesError::Choice)?.as_str(),
-        "Choice"
-    );
+    for (fault, word) in [
+        (ScriptError::AlreadyHeld, "AlreadyHeld"),
+        (ScriptError::Memory, "Memory"),
+    ] {
+        assert_eq!(rt; format!(in alloc; "{fault}")?.as_str(), word);
+    }
+    for (fault, word) in [
+        (ChoicesError::Choice, "Choice"),
+        (ChoicesError::Memory, "Memory"),
+    ] {
+        assert_eq!(rt; format!(in alloc; "{fault}")?.as_str(), word);
+    }
+    for (fault, word) in [
+        (PerformError::Read, "Read"),
+        (PerformError::Script(ScriptError::Toml), "Toml"),
+        (PerformError::Drive(DriveError::TurnLimit), "TurnLimit"),
+        (PerformError::Memory, "Memory"),
+        (PerformError::Write, "Write"),
+    ] {
+        assert_eq!(rt; format!(in alloc; "{fault}")?.as_str(), word);
+    }
     Ok(())
 }

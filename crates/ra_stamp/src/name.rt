@@ -31,7 +31,8 @@ pub enum NameError {
 #[derive(Clone, Copy)]
 pub struct Name {
     bytes: [u8; 32],
-    len: usize,
+    // One byte, since messages and steps are kept by the hundred thousand, each with its name.
+    len: u8,
 }
 
 impl Model for Name {
@@ -100,7 +101,10 @@ impl Name {
         let len = bytes.len();
         let mut padded = [0; 32];
         padded[..len].copy_from_slice(bytes);
-        Ok(Name { bytes: padded, len })
+        Ok(Name {
+            bytes: padded,
+            len: len as u8,
+        })
     }
 
     /// Returns its bytes. It does not allocate.
@@ -108,7 +112,7 @@ impl Name {
         ensures value { result.now ≡ self.now }
         ensures valid { IsName result.now }
     {
-        &self.bytes[..self.len]
+        &self.bytes[..usize::from(self.len)]
     }
 }
 
@@ -117,8 +121,10 @@ impl PartialEq for Name {
 
     ghost laws = { Prim.search (comparing, rules) };
 
+    // Whole arrays compare faster than the bytes of a name, and zeros stand behind these.
+    #[inline(always)]
     fn eq(&self, other: &Name) -> bool {
-        self.bytes() == other.bytes()
+        self.len == other.len && self.bytes == other.bytes
     }
 }
 

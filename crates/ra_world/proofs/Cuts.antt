@@ -1,5 +1,5 @@
 -- The moves that a log stands for, cut from its lists.
-use Rattle.std.proofs.Common.{arith, ◌≡◌, ℕ, suc, ◌+◌, ◌-◌, ◌<◌, ◌≤◌, List, [], ◌∷◌, ◌++◌, length, get_or, take, drop, refl, ap, sym, ◌∙◌, subst}
+use Rattle.std.proofs.Common.{arith, ◌≡◌, ℕ, suc, ◌+◌, ◌-◌, ◌<◌, ◌≤◌, List, [], ◌∷◌, ◌++◌, length, map, get_or, take, drop, refl, ap, sym, ◌∙◌, subst}
 use Rattle.std.specs.Prelude.{sum_by}
 use Rattle.std.proofs.lemmas.List.{append-nil, append_assoc, length-append, length-take, length-drop, take_more, take-append-drop, take-append-le, drop-append-le, take_all, nil_from_length}
 use Rattle.std.proofs.lemmas.List.Sums.{sum_by-cons, sum_by_push}
@@ -8,11 +8,32 @@ use Rattle.ra_stamp.specs.declared.entry.Mark.{Mark}
 use Rattle.ra_stamp.specs.declared.entry.Mark.TheVariants.{Requested, Entered, Left}
 use Rattle.ra_world.specs.declared.step.Step.{Step}
 use Rattle.ra_world.specs.declared.step.Step.TheVariants.{Ask, Leave, Deliver, Lose}
-use Rattle.ra_world.specs.declared.log.Logged.{Logged}
+use Rattle.ra_world.specs.declared.log.Counts.{Counts}
 use Rattle.ra_world.specs.Traffic.{Move, sent_by, lost_by, lost_in}
 use Rattle.ra_world.specs.Run.{marks_of}
 use Rattle.ra_world.specs.Quiet.{requests_in}
-use Rattle.ra_world.specs.Log.{cut, AreCounted}
+use Rattle.ra_world.specs.Log.{Logged, logged, cut, AreCounted}
+
+pub length-logged : (steps : List Step) (counts : List Counts) → length counts ≡ length steps → length (logged steps counts) ≡ length steps
+length-logged [] counts h = refl
+length-logged (s ∷ ss) [] h = absurd (omega (arith, h))
+length-logged (s ∷ ss) (c ∷ cs) h = ap suc (length-logged ss cs (omega (arith, h)))
+
+-- one more step with its numbers
+logged-append : (steps : List Step) (counts : List Counts) (s : Step) (c : Counts) → length counts ≡ length steps
+    → logged (steps ++ s ∷ []) (counts ++ c ∷ []) ≡ logged steps counts ++ record { step = s; sends = c.sends; marks = c.marks } ∷ []
+logged-append [] [] s c h = refl
+logged-append [] (x ∷ cs) s c h = absurd (omega (arith, h))
+logged-append (x ∷ ss) [] s c h = absurd (omega (arith, h))
+logged-append (x ∷ ss) (y ∷ cs) s c h =
+    ap (λ (ls : List Logged). record { step = x; sends = y.sends; marks = y.marks } ∷ ls) (logged-append ss cs s c (omega (arith, h)))
+
+-- the steps are those of the moves
+pub steps-cut : (steps : List Step) (counts : List Counts) (sent : List Message) (marks : List Mark) → length counts ≡ length steps
+    → map (λ (move : Move). move.step) (cut (logged steps counts) sent marks) ≡ steps
+steps-cut [] counts sent marks h = refl
+steps-cut (s ∷ ss) [] sent marks h = absurd (omega (arith, h))
+steps-cut (s ∷ ss) (c ∷ cs) sent marks h = ap (λ (xs : List Step). s ∷ xs) (steps-cut ss cs (drop c.sends sent) (drop c.marks marks) (omega (arith, h)))
 
 abbrev sends_in : List Logged → ℕ
 sends_in ls = sum_by (λ l. l.sends) ls
@@ -106,49 +127,61 @@ pub requests_in-take-le : (marks : List Mark) (i : ℕ) → requests_in (take i 
 requests_in-take-le marks i = omega (arith, requests_in_le (take i marks), length-take i marks)
 
 -- the counts after one more step with these messages and marks
-pub AreCounted-push : (steps : List Logged) (sent s : List Message) (marks m : List Mark) (requests lost : ℕ) (step : Step)
-    → AreCounted steps sent marks requests lost
-    → AreCounted (steps ++ record { step = step; sends = length s; marks = length m } ∷ []) (sent ++ s) (marks ++ m)
-    (requests + requests_in m) (lost + length (lost_in step))
-AreCounted-push steps sent s marks m requests lost step h =
-    let l : Logged = record { step = step; sends = length s; marks = length m } in
-    record {
-      all_sent = sum_by_push (λ x. x.sends) steps l ∙ ap (λ n. n + length s) h.all_sent ∙ sym (length-append sent s);
-      all_marked = sum_by_push (λ x. x.marks) steps l ∙ ap (λ n. n + length m) h.all_marked ∙ sym (length-append marks m);
-      requests_are = ap (λ n. n + requests_in m) h.requests_are ∙ sym (requests_in-append marks m);
-      lost_are =
-          let moves = cut steps sent marks in
-          let more : List Move = record { step = step; sends = s; marks = m } ∷ [] in
-          ap (λ n. n + length (lost_in step)) h.lost_are
-          ∙ ap (λ xs. length (lost_by moves) + length xs) (sym (append-nil (lost_in step)))
-          ∙ sym (length-append (lost_by moves) (lost_by more))
-          ∙ ap length (sym (lost_by-append moves more))
-          ∙ ap (λ ms. length (lost_by ms)) (sym (cut-append steps sent marks l s m h.all_sent h.all_marked refl refl));
-    }
+pub AreCounted-push : (steps : List Step) (counts : List Counts) (sent s : List Message) (marks m : List Mark) (requests lost : ℕ) (step : Step) (c : Counts)
+    → AreCounted steps counts sent marks requests lost → c ≡ record { sends = length s; marks = length m }
+    → AreCounted (steps ++ step ∷ []) (counts ++ c ∷ []) (sent ++ s) (marks ++ m) (requests + requests_in m) (lost + length (lost_in step))
+    × (cut (logged (steps ++ step ∷ []) (counts ++ c ∷ [])) (sent ++ s) (marks ++ m) ≡ cut (logged steps counts) sent marks ++ record { step = step; sends = s; marks = m } ∷ [])
+AreCounted-push steps counts sent s marks m requests lost step c h is =
+    let ls = logged steps counts in
+    let l : Logged = record { step = step; sends = c.sends; marks = c.marks } in
+    let more = logged-append steps counts step c h.each in
+    let sends : c.sends ≡ length s = ap (λ (x : Counts). x.sends) is in
+    let marked : c.marks ≡ length m = ap (λ (x : Counts). x.marks) is in
+    let cuts : cut (logged (steps ++ step ∷ []) (counts ++ c ∷ [])) (sent ++ s) (marks ++ m) ≡ cut ls sent marks ++ record { step = step; sends = s; marks = m } ∷ [] =
+    ap (λ (xs : List Logged). cut xs (sent ++ s) (marks ++ m)) more ∙ cut-append ls sent marks l s m h.all_sent h.all_marked sends marked in
+    let moves = cut ls sent marks in
+    let one : List Move = record { step = step; sends = s; marks = m } ∷ [] in (
+      record {
+        each = length-append counts (c ∷ []) ∙ ap (λ n. n + 1) h.each ∙ sym (length-append steps (step ∷ []));
+        all_sent = ap (sum_by (λ x. x.sends)) more ∙ sum_by_push (λ x. x.sends) ls l ∙ (λ i. h.all_sent i + sends i) ∙ sym (length-append sent s);
+        all_marked = ap (sum_by (λ x. x.marks)) more ∙ sum_by_push (λ x. x.marks) ls l ∙ (λ i. h.all_marked i + marked i) ∙ sym (length-append marks m);
+        requests_are = ap (λ n. n + requests_in m) h.requests_are ∙ sym (requests_in-append marks m);
+        lost_are =
+            ap (λ n. n + length (lost_in step)) h.lost_are
+            ∙ ap (λ xs. length (lost_by moves) + length xs) (sym (append-nil (lost_in step)))
+            ∙ sym (length-append (lost_by moves) (lost_by one))
+            ∙ ap length (sym (lost_by-append moves one))
+            ∙ ap (λ ms. length (lost_by ms)) (sym cuts);
+      },
+      cuts,
+    )
 
 -- no more requests than marks, and no more losses than steps
-pub requests-le : (steps : List Logged) (sent : List Message) (marks : List Mark) (requests lost : ℕ)
-    → AreCounted steps sent marks requests lost → requests ≤ length marks
-requests-le steps sent marks requests lost h = omega (arith, h.requests_are, requests_in_le marks)
+pub requests-le : (steps : List Step) (counts : List Counts) (sent : List Message) (marks : List Mark) (requests lost : ℕ)
+    → AreCounted steps counts sent marks requests lost → requests ≤ length marks
+requests-le steps counts sent marks requests lost h = omega (arith, h.requests_are, requests_in_le marks)
 
-pub lost-le : (steps : List Logged) (sent : List Message) (marks : List Mark) (requests lost : ℕ)
-    → AreCounted steps sent marks requests lost → lost ≤ length steps
-lost-le steps sent marks requests lost h = omega (arith, h.lost_are, lost_by_le (cut steps sent marks), length-cut steps sent marks)
+pub lost-le : (steps : List Step) (counts : List Counts) (sent : List Message) (marks : List Mark) (requests lost : ℕ)
+    → AreCounted steps counts sent marks requests lost → lost ≤ length steps
+lost-le steps counts sent marks requests lost h =
+    let ls = logged steps counts in
+    omega (arith, h.lost_are, lost_by_le (cut ls sent marks), length-cut ls sent marks, length-logged steps counts h.each)
 
 -- the same, of lists and counts that are equal to these
-pub pushed : (steps steps' : List Logged) (sent sent' s : List Message) (marks marks' m : List Mark) (requests r lost k : ℕ) (step : Step)
-    → AreCounted steps sent marks requests lost
-    → steps' ≡ steps ++ record { step = step; sends = length s; marks = length m } ∷ []
+pub pushed : (steps steps' : List Step) (counts counts' : List Counts) (sent sent' s : List Message) (marks marks' m : List Mark) (requests r lost k : ℕ) (step : Step) (c : Counts)
+    → AreCounted steps counts sent marks requests lost → c ≡ record { sends = length s; marks = length m }
+    → steps' ≡ steps ++ step ∷ [] → counts' ≡ counts ++ c ∷ []
     → sent' ≡ sent ++ s → marks' ≡ marks ++ m → r ≡ requests_in m → k ≡ length (lost_in step)
-    → AreCounted steps' sent' marks' (requests + r) (lost + k)
-    × (cut steps' sent' marks' ≡ cut steps sent marks ++ record { step = step; sends = s; marks = m } ∷ [])
-pushed steps steps' sent sent' s marks marks' m requests r lost k step h es et em er ek =
-    let l : Logged = record { step = step; sends = length s; marks = length m } in (
-      subst (λ (xs : List Logged). AreCounted xs sent' marks' (requests + r) (lost + k)) (sym es)
-          (subst (λ (xs : List Message). AreCounted (steps ++ l ∷ []) xs marks' (requests + r) (lost + k)) (sym et)
-          (subst (λ (xs : List Mark). AreCounted (steps ++ l ∷ []) (sent ++ s) xs (requests + r) (lost + k)) (sym em)
-          (subst (λ (n : ℕ). AreCounted (steps ++ l ∷ []) (sent ++ s) (marks ++ m) (requests + n) (lost + k)) (sym er)
-          (subst (λ (n : ℕ). AreCounted (steps ++ l ∷ []) (sent ++ s) (marks ++ m) (requests + requests_in m) (lost + n)) (sym ek)
-          (AreCounted-push steps sent s marks m requests lost step h))))),
-      (λ i. cut (es i) (et i) (em i)) ∙ cut-append steps sent marks l s m h.all_sent h.all_marked refl refl,
+    → AreCounted steps' counts' sent' marks' (requests + r) (lost + k)
+    × (cut (logged steps' counts') sent' marks' ≡ cut (logged steps counts) sent marks ++ record { step = step; sends = s; marks = m } ∷ [])
+pushed steps steps' counts counts' sent sent' s marks marks' m requests r lost k step c h is es ec et em er ek =
+    let more = AreCounted-push steps counts sent s marks m requests lost step c h is in (
+      subst (λ (xs : List Step). AreCounted xs counts' sent' marks' (requests + r) (lost + k)) (sym es)
+          (subst (λ (xs : List Counts). AreCounted (steps ++ step ∷ []) xs sent' marks' (requests + r) (lost + k)) (sym ec)
+          (subst (λ (xs : List Message). AreCounted (steps ++ step ∷ []) (counts ++ c ∷ []) xs marks' (requests + r) (lost + k)) (sym et)
+          (subst (λ (xs : List Mark). AreCounted (steps ++ step ∷ []) (counts ++ c ∷ []) (sent ++ s) xs (requests + r) (lost + k)) (sym em)
+          (subst (λ (n : ℕ). AreCounted (steps ++ step ∷ []) (counts ++ c ∷ []) (sent ++ s) (marks ++ m) (requests + n) (lost + k)) (sym er)
+          (subst (λ (n : ℕ). AreCounted (steps ++ step ∷ []) (counts ++ c ∷ []) (sent ++ s) (marks ++ m) (requests + requests_in m) (lost + n)) (sym ek)
+          more.0))))),
+      (λ i. cut (logged (es i) (ec i)) (et i) (em i)) ∙ more.1,
     )

@@ -21,6 +21,7 @@ mod Steps
 mod Runs
 mod GoingOn
 mod Outcomes
+mod Numbered
 mod QuietRuns
 mod DifferentLists
 mod DifferentDialogs
@@ -35,6 +36,6 @@ mod Reporting
 mod Trying
 mod Tried
 mod Worlds
-mod Refusing
+pub mod Refusing
 mod NameText
 mod Written

@@ -200,4 +200,11 @@ few_carried law nodes place first old new event sends marks within at_first at c
 -- room for the most is room for fewer
 pub room_for : (log : LogState) (sends marks : ℕ) → HasRoom log 32 3 → sends ≤ 32 → marks ≤ 3 → HasRoom log sends marks
 room_for log sends marks has few_sends few_marks =
-    record { for_step = has.for_step; for_sends = omega (arith, few_sends, has.for_sends); for_marks = omega (arith, few_marks, has.for_marks) }
+    record {
+      few_sends = omega (arith, few_sends);
+      few_marks = omega (arith, few_marks);
+      for_step = has.for_step;
+      for_counts = has.for_counts;
+      for_sends = omega (arith, few_sends, has.for_sends);
+      for_marks = omega (arith, few_marks, has.for_marks);
+    }

@@ -1,4 +1,5 @@
 pub mod Traffic
+pub mod Numbers
 pub mod Run
 pub mod Quiet
 pub mod Below

@@ -38,6 +38,7 @@ pub const MAX_MARKS: u64 = 3;
 
 /// Makes room for a step with at most this many messages and marks.
 pub fn make_room(under_way: &mut Bag, log: &mut Log, sends: u64, marks: u64) -> Result<(), Memory>
+    requires few { (sends < 256) × (marks < 256) }
     ensures messages { under_way.new.items ≡ under_way.old.items }
     ensures moves { log.new.moves ≡ log.old.moves }
     ensures bag_room { OnOk result (sends ≤ under_way.new.spare) }

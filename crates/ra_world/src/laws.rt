@@ -1,5 +1,5 @@
 //! What is true of every run of a world, for the crates above: each function does nothing, and its contract is the law.
-ghost use Rattle.std.specs.Prelude.{◌≡◌, ◌≢◌, ◌≤◌, ◌++◌, ◌∷◌, ◌↔◌, [], ℕ, List, Some, AllPairs, Contains, length, map};
+ghost use Rattle.std.specs.Prelude.{◌≡◌, ◌≢◌, ◌≤◌, ◌++◌, ◌∷◌, ◌↔◌, [], ℕ, List, Some, All, AllPairs, Contains, length, map};
 ghost use Rattle.ra_stamp.specs.declared.message.Message.{Message};
 ghost use Rattle.ra_stamp.specs.declared.mode.Mode.{Mode};
 ghost use Rattle.ra_stamp.specs.declared.entry.Entry.{Entry};
@@ -15,7 +15,8 @@ ghost use Rattle.ra_node.specs.Node.{NodeState, opening_node, resource_at};
 ghost use Rattle.ra_node.specs.Events.{Event, NodeEvent, NodeEvents};
 ghost use Rattle.ra_table.specs.Table.{LockTable, TableRun, MayEnter};
 ghost use Rattle.ra_world.specs.declared.step.Step.{Step};
-ghost use Rattle.ra_world.specs.Traffic.{Move, TakesEach, LeavesUnderWay, IsUnderWay, sent_by, taken_in};
+ghost use Rattle.ra_world.specs.Traffic.{Move, TakesEach, LeavesUnderWay, IsUnderWay, sent_by, taken_by, taken_in};
+ghost use Rattle.ra_world.specs.Numbers.{HasNumber, IsNumbered};
 ghost use Rattle.ra_world.specs.Quiet.{IsQuiet, IsBlocked, MeetsMessageCount};
 ghost use Rattle.ra_world.specs.Below.{LawsBelow};
 ghost use Rattle.ra_world.specs.Run.{IsRun, IsFit, GoesOn, WorldRun, EndsWith, events_at, marks_of, happened_at, waiting_at_all, with_node};
@@ -145,6 +146,17 @@ pub fn fronts_of_runs_are_runs()
         → WorldRun n start (map (λ move. move.step) moves ++ step ∷ []) ↔ GoesOn n start moves step }
 {
     laws_below();
+}
+
+/// Each mark of a run has a number, 1 or more, and so has each message that is delivered or lost in it.
+pub fn marks_of_runs_are_numbered()
+    ensures marks { (n start : ℕ) (moves : List Move) → IsNodeNumber n → IsRun n start moves
+        → All HasNumber (marks_of moves) }
+    ensures taken { (n start : ℕ) (moves : List Move) → IsNodeNumber n → IsRun n start moves
+        → All IsNumbered (taken_by moves) }
+{
+    laws_below();
+    events_keep_a_node_consistent();
 }
 
 /// All messages that a run sends are different.

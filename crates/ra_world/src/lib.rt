@@ -18,13 +18,15 @@ mod world;
 pub use error::{NewError, NodeRefusal, ReadFault, RunError, StepError, WriteFault};
 pub use input::read_up_to;
 pub use laws::{
-    fronts_of_runs_are_runs, marks_of_runs_are_table_runs, messages_of_runs_are_different,
-    messages_under_way_are_between_nodes, no_delivered_reply_is_a_stray,
-    quiet_runs_sent_two_messages_for_each_request_and_other_node, runs_are_determined,
-    runs_go_on_by_events, runs_go_on_where_steps_are_allowed, two_nodes_never_hold_in_conflict,
-    waiting_requests_are_blocked_in_quiet_runs,
+    fronts_of_runs_are_runs, marks_of_runs_are_numbered, marks_of_runs_are_table_runs,
+    messages_of_runs_are_different, messages_under_way_are_between_nodes,
+    no_delivered_reply_is_a_stray, quiet_runs_sent_two_messages_for_each_request_and_other_node,
+    runs_are_determined, runs_go_on_by_events, runs_go_on_where_steps_are_allowed,
+    two_nodes_never_hold_in_conflict, waiting_requests_are_blocked_in_quiet_runs,
 };
-pub use lines::{mark_line, report_text};
+pub use lines::{
+    letter_of, mark_line, push_field, push_mark_line, push_number, report_text, text_of,
+};
 pub use output::write_out;
 pub use report::Report;
 pub use running::run;

@@ -8,14 +8,14 @@ use std::alloc::Global;
 
 /// Returns the text of a name. It does not allocate.
 #[tactic(auto, using(crate::proofs::NameText::name_is_utf8))]
-fn text_of(name: &Name) -> &str
+pub fn text_of(name: &Name) -> &str
     ensures { result.now ≡ name.now }
 {
     str::from_utf8(name.bytes()).unwrap()
 }
 
-/// Returns the letter of a mode. It does not allocate.
-fn letter_of(mode: Mode) -> &'static str
+/// Returns the letter of a mode, `S` or `X`. It does not allocate.
+pub fn letter_of(mode: Mode) -> &'static str
     ensures { result.now ≡ spec.mode_letter mode }
 {
     match mode {
@@ -24,8 +24,12 @@ fn letter_of(mode: Mode) -> &'static str
     }
 }
 
-/// Adds a field that is text.
-fn push_field(text: &mut String, field: &str) -> Result<(), Memory>
+/// Adds a field that is text, with the space before it, in time linear in it.
+///
+/// # Errors
+///
+/// `Memory`: there is none for it. A front of it may have been added.
+pub fn push_field(text: &mut String, field: &str) -> Result<(), Memory>
     ensures { OnOk result (string_bytes text.new ≡ string_bytes text.old ++ spec.field field.now) }
 {
     text.push_str(" ")?;
@@ -33,8 +37,12 @@ fn push_field(text: &mut String, field: &str) -> Result<(), Memory>
     Ok(())
 }
 
-/// Adds a field that is a number.
-fn push_number<I: Integer>(text: &mut String, number: I) -> Result<(), Memory>
+/// Adds a field that is a number, with the space before it.
+///
+/// # Errors
+///
+/// `Memory`: there is none for it. A front of it may have been added.
+pub fn push_number<I: Integer>(text: &mut String, number: I) -> Result<(), Memory>
     ensures { OnOk result (string_bytes text.new ≡ string_bytes text.old ++ spec.field (I.text number)) }
 {
     push_field(text, Buffer::new().format(number))
@@ -51,8 +59,12 @@ fn push_entry(text: &mut String, entry: &Entry) -> Result<(), Memory>
     push_number(text, entry.stamp.seq)
 }
 
-/// Adds the line of a mark.
-fn push_mark_line(text: &mut String, mark: &Mark) -> Result<(), Memory>
+/// Adds the line of a mark, its line feed at the end, in time linear in it.
+///
+/// # Errors
+///
+/// `Memory`: there is none for it. A front of it may have been added.
+pub fn push_mark_line(text: &mut String, mark: &Mark) -> Result<(), Memory>
     ensures { OnOk result (string_bytes text.new ≡ string_bytes text.old ++ spec.mark_line mark.now) }
 {
     let (word, entry) = match mark {

@@ -1,27 +1,28 @@
 //! The steps of a world so far, with what came of them.
-ghost use Rattle.std.specs.Prelude.{◌≡◌, ◌+◌, ◌≤◌, [], ◌∷◌, ◌++◌, length, OnOk};
+ghost use Rattle.std.specs.Prelude.{◌≡◌, ◌+◌, ◌<◌, ◌≤◌, [], ◌∷◌, ◌++◌, length, map, OnOk};
 ghost use Rattle.ra_stamp.specs.declared.entry.Mark.{Mark};
 ghost use Rattle.ra_world.specs.Traffic.{lost_in};
 ghost use Rattle.ra_world.specs.Quiet.{requests_in};
 
-use crate::Step;
+use crate::{Step, Steps};
 use ra_node::Outcome;
 use ra_stamp::{Mark, Marks, Memory, Message, Messages, Sequence};
 use std::alloc::Global;
 use std::marker::Model;
 
-/// A step, with how many messages it sent and how many marks it made.
+/// How many messages a step sent and marks it made. A log is long, so each count takes one byte.
 #[derive(Clone, Copy, Debug)]
-pub struct Logged {
-    step: Step,
-    sends: u64,
-    marks: u64,
+pub struct Counts {
+    sends: u8,
+    marks: u8,
 }
 
 /// The steps so far with what came of them. Contracts see the moves, and the room for more.
 #[derive(Debug, Drop)]
 pub struct Log {
-    steps: Sequence<Logged>,
+    steps: Steps,
+    /// What came of each of them.
+    counts: Sequence<Counts>,
     /// All messages that the steps sent, in order.
     sent: Messages,
     /// All marks of the steps, in order.
@@ -33,18 +34,20 @@ pub struct Log {
 }
 
 impl Model for Log {
-    ghost use Rattle.ra_world.specs.Log.{LogState, cut, AreCounted};
+    ghost use Rattle.ra_world.specs.Log.{LogState, logged, cut, AreCounted};
 
     ghost Value = { LogState };
 
     ghost view = { λ l. record {
-      moves = cut l.steps.items l.sent.items l.marks.items;
+      moves = cut (logged l.steps.items l.counts.items) l.sent.items l.marks.items;
       steps_room = l.steps.spare;
+      counts_room = l.counts.spare;
       sends_room = l.sent.spare;
       marks_room = l.marks.spare;
     } };
 
-    ghost invariant = { λ l. AreCounted l.steps.items l.sent.items l.marks.items l.requests l.lost };
+    ghost invariant = { λ l.
+        AreCounted l.steps.items l.counts.items l.sent.items l.marks.items l.requests l.lost };
 }
 
 impl Log {
@@ -57,7 +60,8 @@ impl Log {
         ensures { result.moves ≡ [] }
     {
         Log {
-            steps: Sequence::new(alloc),
+            steps: Steps::new(alloc),
+            counts: Sequence::new(alloc),
             sent: Messages::new(alloc),
             marks: Marks::new(alloc),
             requests: 0,
@@ -93,6 +97,14 @@ impl Log {
         self.lost
     }
 
+    /// Gives the steps up, in order.
+    pub fn into_steps(self) -> Steps
+        ensures { result.items ≡ map (λ move. move.step) self.moves }
+    {
+        let Log { steps, .. } = self;
+        steps
+    }
+
     /// Returns the marks of the steps, in order.
     pub fn marks(&self) -> &Marks
         ensures { result.now.items ≡ marks_of self.now.moves }
@@ -107,10 +119,12 @@ impl Log {
     ///
     /// `Memory`: the steps are as before.
     pub fn reserve(&mut self, sends: u64, marks: u64) -> Result<(), Memory>
+        requires few { (sends < 256) × (marks < 256) }
         ensures same { self.new.moves ≡ self.old.moves }
         ensures ok { OnOk result (HasRoom self.new sends marks) }
     {
         self.steps.reserve(1)?;
+        self.counts.reserve(1)?;
         self.sent.reserve(sends)?;
         self.marks.reserve(marks)?;
         Ok(())
@@ -122,7 +136,7 @@ impl Log {
         ensures { self.new.moves ≡ self.old.moves
             ++ record { step = step; sends = outcome.now.sends.items; marks = outcome.now.marks.items } ∷ [] }
     {
-        push_step(&mut self.steps, step, outcome);
+        push_step(&mut self.steps, &mut self.counts, step, outcome);
         append(&mut self.sent, outcome.sends.as_slice());
         append(&mut self.marks, outcome.marks.as_slice());
         // The counts fit, since there are no more of either than marks and steps.
@@ -143,18 +157,34 @@ fn losses_of(step: &Step) -> u64
     }
 }
 
-/// Adds a step with the numbers of what it sent and marked, where there is room for it.
-fn push_step(steps: &mut Sequence<Logged>, step: Step, outcome: &Outcome)
-    requires { 1 ≤ steps.old.spare }
-    ensures { steps.new.items ≡ steps.old.items ++ record {
-      step = step;
+/// Adds a step with the numbers of what it sent and marked, where there is room for them.
+fn push_step(steps: &mut Steps, counts: &mut Sequence<Counts>, step: Step, outcome: &Outcome)
+    requires room { (1 ≤ steps.old.spare) × (1 ≤ counts.old.spare) }
+    requires sends { length outcome.now.sends.items < 256 }
+    requires marks { length outcome.now.marks.items < 256 }
+    ensures step { steps.new.items ≡ steps.old.items ++ step ∷ [] }
+    ensures counts { counts.new.items ≡ counts.old.items ++ record {
       sends = length outcome.now.sends.items;
       marks = length outcome.now.marks.items;
     } ∷ [] }
 {
-    let sends = outcome.sends.len();
-    let marks = outcome.marks.len();
-    steps.push(Logged { step, sends, marks }).unwrap();
+    steps.push(step).unwrap();
+    counts.push(counts_of(outcome)).unwrap();
+}
+
+/// Returns how many messages and marks came of a step.
+fn counts_of(outcome: &Outcome) -> Counts
+    requires sends { length outcome.now.sends.items < 256 }
+    requires marks { length outcome.now.marks.items < 256 }
+    ensures { result ≡ record {
+      sends = length outcome.now.sends.items;
+      marks = length outcome.now.marks.items;
+    } }
+{
+    Counts {
+        sends: outcome.sends.len() as u8,
+        marks: outcome.marks.len() as u8,
+    }
 }
 
 /// Adds items to a list that has room for them.

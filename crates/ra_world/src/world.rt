@@ -1,4 +1,4 @@
-ghost use Rattle.std.specs.Prelude.{◌≡◌, ◌≢◌, ℕ, ◌<◌, ◌≤◌, ◌⊎◌, ◌↔◌, ◌*◌, [], ◌++◌, List, length, slice_get, IsTrue, IsErrOf, IsOk, IsOkUnless, IfOk, OnErr, IfErr, OnOk};
+ghost use Rattle.std.specs.Prelude.{◌≡◌, ◌≢◌, ℕ, ◌<◌, ◌≤◌, ◌⊎◌, ◌↔◌, ◌*◌, [], ◌++◌, List, length, map, slice_get, IsTrue, IsErrOf, IsOk, IsOkUnless, IfOk, OnErr, IfErr, OnOk};
 ghost use Rattle.ra_stamp.specs.declared.message.Message.{Message};
 
 use crate::keeping::{
@@ -7,7 +7,9 @@ use crate::keeping::{
 };
 use crate::log::Log;
 use crate::numbering::{is_held_by, opening_nodes, place_of, queued_at, waiting_at};
-use crate::{NewError, NodeRefusal, Report, Step, StepError, runs_go_on_where_steps_are_allowed};
+use crate::{
+    NewError, NodeRefusal, Report, Step, StepError, Steps, runs_go_on_where_steps_are_allowed,
+};
 use ra_bag::Bag;
 use ra_node::{Node, Outcome, events_keep_a_node_consistent};
 use ra_stamp::{Memory, Message, Mode, Name, NodeId};
@@ -163,6 +165,13 @@ impl World {
         ensures count { IsNodeNumber self.now.count }
     {
         self.log.len()
+    }
+
+    /// Gives up the steps so far, in order. It does not allocate.
+    pub fn into_steps(self) -> Steps
+        ensures { result.items ≡ map (λ move. move.step) self.moves }
+    {
+        self.log.into_steps()
     }
 
     /// Reports what came of the steps so far. The cost is linear in the number of marks and of the names that the nodes have

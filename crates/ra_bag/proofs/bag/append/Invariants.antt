@@ -1,5 +1,5 @@
 use Rattle.std.proofs.Common.{◌≡◌, ◌++◌, take}
-use Rattle.std.specs.Prelude.{vec_capacity}
+use Rattle.std.specs.VecDeque.{deque_capacity}
 use Rattle.ra_bag.proofs.bag.append.Given as goal
 
 -- the messages so far stand at the end
@@ -7,5 +7,5 @@ abbrev pub invariant-loop-message : goal.invariant-loop-message
 invariant-loop-message l =
     record {
       sent : l.list.items ≡ l.initial.list.items ++ take l.message-index l.messages;
-      capacity : vec_capacity l.list ≡ vec_capacity l.initial.list;
+      capacity : deque_capacity l.list ≡ deque_capacity l.initial.list;
     }

@@ -1,12 +1,11 @@
-use Rattle.std.proofs.Common.{rules, ◌≡◌, ◌⊎◌, ◌≤◌, ◌<◌, ◌+◌, ◌++◌, ℕ, List, [], Some, None, Err, IsErrOf, take, drop, length, replicate, refl, sym, ap, ◌∙◌, subst, arith, inl, inr}
-use Rattle.ra_world.specs.declared.step.Step.{Step}
+use Rattle.std.proofs.Common.{rules, ◌≡◌, ◌≤◌, ◌+◌, ◌++◌, ℕ, List, [], Some, None, Err, IsErrOf, take, drop, length, replicate, refl, sym, ap, ◌∙◌, subst, arith, inl}
 use Rattle.ra_world.specs.Run.{GoesOn}
 use Rattle.ra_world.specs.World.{WorldState}
 use Rattle.ra_schedule.specs.declared.progress.Progress.{Progress}
-use Rattle.ra_schedule.specs.declared.error.DriveError.{DriveError}
-use Rattle.ra_schedule.specs.declared.error.DriveError.TheVariants.{TurnLimit, BadPlace, NotEnabled, Memory}
+use Rattle.ra_schedule.specs.declared.error.DriveError.TheVariants.{TurnLimit}
 use Rattle.ra_schedule.specs.Schedule.{Stops}
-use Rattle.ra_schedule.specs.Progress.{AreCountable, OfEach, IsProgressAfter}
+use Rattle.ra_schedule.specs.Drawing.{generator_at}
+use Rattle.ra_schedule.specs.Progress.{AreCountable, OfEach, IsProgressAfter, AreStuck}
 use Rattle.ra_schedule.proofs.Turns.{IsDriven, driven_none, driven_more, countable, can_be_done, opening_progress, whole}
 use Rattle.ra_schedule.proofs.Following.{one_ending, refused_here}
 use Rattle.ra_schedule.proofs.driving.drive.Goals as goal
@@ -18,30 +17,31 @@ some_same : {X : Type 0} {x y : X} → Some x ≡ Some y → x ≡ y
 some_same e = cc
 
 pub loop-turn-init : goal.loop-turn-init
-loop-turn-init c =
-    driven_none c.args.script.now c.args.policy.now c.in-Ok.world c.in_ok-clients.clients.items c.new-steps.result.items
-    (c.in-Ok.ensures.ok ∙ ap (λ (n : ℕ). let w : WorldState = record { count = n; start = 0; moves = [] } in w) c.nodes.ensures.value)
-    c.in-Ok.ensures.run
-    (c.in_ok-clients.ensures ∙ ap (λ (n : ℕ). replicate n opening_progress) c.clients.ensures.value)
-    c.new-steps.ensures
+loop-turn-init c = (
+  driven_none c.args.script.now c.args.policy.now c.in-Ok.world c.in_ok-clients.clients.items
+      (c.in-Ok.ensures.ok ∙ ap (λ (n : ℕ). let w : WorldState = record { count = n; start = 0; moves = [] } in w) c.nodes.ensures.value)
+      c.in-Ok.ensures.run
+      (c.in_ok-clients.ensures ∙ ap (λ (n : ℕ). replicate n opening_progress) c.clients.ensures.value),
+  c.of-draws.ensures,
+)
 
 pub returns-in_default-pick-clause-exact : goal.returns-in_default-pick-clause-exact
 returns-in_default-pick-clause-exact c cause moves follows stops =
-    let driven = c.loop-turn.invariant in
+    let driven = c.loop-turn.invariant.0 in
     let short : length c.loop-turn.world.moves ≤ c.args.limit = let turns = driven.turns_are in omega arith in
     absurd (none_some (one_ending c.schedules_rest_on_runs.ensures c.args.script.now c.args.policy.now c.args.limit c.loop-turn.world.moves moves
     None (Some cause) c.nodes.ensures.script.count driven.follows follows (c.in_default-pick.ensures.none refl, short) stops))
 
 pub returns-in-None-clause-exact : goal.returns-in-None-clause-exact
 returns-in-None-clause-exact c cause moves follows stops =
-    let driven = c.loop-turn.invariant in
+    let driven = c.loop-turn.invariant.0 in
     let short : length c.loop-turn.world.moves ≤ c.args.limit = let turns = driven.turns_are in let all = c.loop-turn.auto._turn-end in omega arith in
     absurd (none_some (one_ending c.schedules_rest_on_runs.ensures c.args.script.now c.args.policy.now c.args.limit c.loop-turn.world.moves moves
     None (Some cause) c.nodes.ensures.script.count driven.follows follows (c.in-None.ensures.none refl, short) stops))
 
 pub make-requires-clause-allowed : goal.make-requires-clause-allowed
 make-requires-clause-allowed c =
-    let driven = c.loop-turn.invariant in
+    let driven = c.loop-turn.invariant.0 in
     let on = can_be_done c.schedules_rest_on_runs.ensures c.args.script.now c.loop-turn.world.moves c.in-Some.choice c.in_ok-step.step
     c.nodes.ensures.script.count driven.follows.run c.in_ok-step.ensures.ok in
     subst (λ (n : ℕ). GoesOn n c.loop-turn.world.start c.loop-turn.world.moves c.in_ok-step.step) (sym driven.tracks.count)
@@ -49,7 +49,7 @@ make-requires-clause-allowed c =
 
 pub make-requires-clause-countable : goal.make-requires-clause-countable
 make-requires-clause-countable c =
-    let driven = c.loop-turn.invariant in
+    let driven = c.loop-turn.invariant.0 in
     subst AreCountable (sym c.deref_mut.ensures.value)
     (countable c.args.script.now c.loop-turn.world c.loop-turn.clients.items c.loop-turn._turn c.args.limit driven.tracks driven.turns_are c.loop-turn-test.true c.ranges.limit.fits)
 
@@ -57,20 +57,24 @@ pub loop-turn-preserved : goal.loop-turn-preserved
 loop-turn-preserved c =
     let script = c.args.script.now in
     let clients = c.loop-turn.clients.items in
-    let (move, this, next, added, after) = c.in_ok-make.ensures.ok in
+    let driven = c.loop-turn.invariant.0 in
+    let (move, this, next, after, less, none) = c.in_ok-first.ensures.ok in
     let len : length c.make.new.clients ≡ c.loop-turn.clients.len =
     let same = c.make.auto.clients in let lent = c.deref_mut.ensures.len in omega arith in
     let back : take c.loop-turn.clients.len (c.make.new.clients ++ drop (length c.make.new.clients) clients) ≡ c.make.new.clients =
-    whole c.make.new.clients (drop (length c.make.new.clients) clients) c.loop-turn.clients.len (sym len) in
-    subst (λ (list : List Progress). IsDriven script c.args.policy.now c.make.new.world list c.make.new.steps.items (c.loop-turn._turn + 1)) (sym back)
-    (driven_more script c.args.policy.now c.loop-turn.world c.make.new.world clients c.make.new.clients c.loop-turn.steps.items c.make.new.steps.items
-    c.loop-turn._turn c.in-Some.choice c.in_ok-step.step move c.loop-turn.invariant c.in-Some.ensures.some c.in_ok-step.ensures.ok this next c.in_ok-make.ensures.run added
-    (c.make.auto.clients ∙ ap length c.deref_mut.ensures.value)
-    (subst (λ (list : List Progress). OfEach (IsProgressAfter move) list c.make.new.clients) c.deref_mut.ensures.value after))
+    whole c.make.new.clients (drop (length c.make.new.clients) clients) c.loop-turn.clients.len (sym len) in (
+      subst (λ (list : List Progress). IsDriven script c.args.policy.now c.make.new.world list c.in_ok-first.first (c.loop-turn._turn + 1)) (sym back)
+          (driven_more script c.args.policy.now c.loop-turn.world c.make.new.world clients c.make.new.clients c.loop-turn.first c.first_free-first.result c.in_ok-first.first
+          c.loop-turn._turn c.in-Some.choice c.in_ok-step.step move driven
+          (subst (λ (list : List Progress). AreStuck script list c.first_free-first.result) c.deref.ensures.value c.first_free-first.ensures) c.in-Some.ensures.some c.in_ok-step.ensures.ok this next c.in_ok-first.ensures.run
+          (c.make.auto.clients ∙ ap length c.deref_mut.ensures.value)
+          (subst (λ (list : List Progress). OfEach (IsProgressAfter move) list c.make.new.clients) c.deref_mut.ensures.value after) less none),
+      c.in-Some.ensures.drawn refl ∙ ap (λ (n : ℕ). generator_at c.args.policy.now (n + 1)) driven.turns_are,
+    )
 
 pub returns-in_err-step-clause-exact : goal.returns-in_err-step-clause-exact
 returns-in_err-step-clause-exact c cause moves follows stops =
-    let driven = c.loop-turn.invariant in
+    let driven = c.loop-turn.invariant.0 in
     let fault = c.in_err-step.field-0.0 in
     let here : Stops c.args.script.now c.args.policy.now c.args.limit c.loop-turn.world.moves fault =
     refused_here c.args.script.now c.args.policy.now c.args.limit c.loop-turn.world.moves c.in-Some.choice fault c.in-Some.ensures.some
@@ -82,7 +86,7 @@ returns-in_err-step-clause-exact c cause moves follows stops =
 
 pub returns-in_err-step-clause-allowed : goal.returns-in_err-step-clause-allowed
 returns-in_err-step-clause-allowed c moves follows ends short =
-    let driven = c.loop-turn.invariant in
+    let driven = c.loop-turn.invariant.0 in
     let fault = c.in_err-step.field-0.0 in
     let here : Stops c.args.script.now c.args.policy.now c.args.limit c.loop-turn.world.moves fault =
     refused_here c.args.script.now c.args.policy.now c.args.limit c.loop-turn.world.moves c.in-Some.choice fault c.in-Some.ensures.some
@@ -90,18 +94,18 @@ returns-in_err-step-clause-allowed c moves follows ends short =
     absurd (none_some (one_ending c.schedules_rest_on_runs.ensures c.args.script.now c.args.policy.now c.args.limit moves c.loop-turn.world.moves
     None (Some fault) c.nodes.ensures.script.count follows driven.follows (ends, short) here))
 
-pub returns-clause-exact : goal.returns-clause-exact
-returns-clause-exact c cause moves follows stops =
-    let driven = c.loop-turn.invariant in
+pub returns-in-Some-pick-clause-exact : goal.returns-in-Some-pick-clause-exact
+returns-in-Some-pick-clause-exact c cause moves follows stops =
+    let driven = c.loop-turn.invariant.0 in
     let here : Stops c.args.script.now c.args.policy.now c.args.limit c.loop-turn.world.moves TurnLimit =
     (let turns = driven.turns_are in let all = c.loop-turn.auto._turn-end in omega arith, (c.in-Some-pick.field-0, c.in-Some-pick.ensures.some)) in
     let same : TurnLimit ≡ cause = some_same (one_ending c.schedules_rest_on_runs.ensures c.args.script.now c.args.policy.now c.args.limit c.loop-turn.world.moves moves
     (Some TurnLimit) (Some cause) c.nodes.ensures.script.count driven.follows follows here stops) in
     inl (ap Err same)
 
-pub returns-clause-allowed : goal.returns-clause-allowed
-returns-clause-allowed c moves follows ends short =
-    let driven = c.loop-turn.invariant in
+pub returns-in-Some-pick-clause-allowed : goal.returns-in-Some-pick-clause-allowed
+returns-in-Some-pick-clause-allowed c moves follows ends short =
+    let driven = c.loop-turn.invariant.0 in
     let here : Stops c.args.script.now c.args.policy.now c.args.limit c.loop-turn.world.moves TurnLimit =
     (let turns = driven.turns_are in let all = c.loop-turn.auto._turn-end in omega arith, (c.in-Some-pick.field-0, c.in-Some-pick.ensures.some)) in
     absurd (none_some (one_ending c.schedules_rest_on_runs.ensures c.args.script.now c.args.policy.now c.args.limit moves c.loop-turn.world.moves

@@ -1,6 +1,6 @@
-use Rattle.std.proofs.Common.{length, ◌≡◌, ◌<◌, ◌+◌, ℕ, refl, sym, arith, below_more}
+use Rattle.std.proofs.Common.{◌+◌, sym, arith, below_more}
 use Rattle.ra_schedule.specs.Schedule.{Enables, IsEnabled}
-use Rattle.ra_schedule.proofs.Turns.{opening_progress}
+use Rattle.ra_schedule.proofs.Turns.{nobody_below}
 use Rattle.ra_schedule.proofs.Choosing.{found, none_below, nobody_past_the_end}
 use Rattle.ra_schedule.proofs.picking.first_enabled.Goals as goal
 
@@ -22,14 +22,5 @@ returns-clause-none c e =
     nobody_past_the_end c.args.script.now c.args.world.now.moves c.loop-place.place
     (let len = c.clients-place-end.ensures.value in omega arith) c.loop-place.invariant
 
-pub loop-place-preserved-then-progress : goal.loop-place-preserved-then-progress
-loop-place-preserved-then-progress c =
-    let place = c.loop-place.place in
-    let within : place < length c.args.clients.now =
-    let less = c.loop-place-test.true in
-    let all = c.clients-place-end.ensures.value in
-    let same = c.requires.length_is in
-    omega arith in
-    let stands = c.requires.each place opening_progress within in
-    below_more (λ k. IsEnabled c.args.script.now c.args.world.now.moves (k + 1) → ⊥) place c.loop-place.invariant
-    (λ enabled. enabled.1.free (stands.waiting.0 c.if-progress.true))
+pub loop-place-init : goal.loop-place-init
+loop-place-init c = nobody_below c.args.script.now c.args.world.now c.args.clients.now c.args.first c.requires.tracked c.requires.stuck

@@ -1,7 +1,7 @@
 use Rattle.std.proofs.Common.{◌<◌, ◌≤◌, length, arith}
 use Rattle.std.proofs.lemmas.Result.{err_from_is_err_and}
 use Rattle.ra_script.specs.Document.{texts}
-use Rattle.ra_script.proofs.Adding.{IsAddedTo-more, IsAddedTo-refused, ops_of-few, length-texts, text_at}
+use Rattle.ra_script.proofs.Adding.{IsAddedTo-more, IsAddedTo-refused, script_ops-few, length-texts, text_at}
 use Rattle.ra_script.proofs.reading.add_client.Goals as goal
 
 pub returns-in_err-add_op-clause-err : goal.returns-in_err-add_op-clause-err
@@ -11,7 +11,7 @@ returns-in_err-add_op-clause-err c =
     let in-strings : c.loop-string.string-index < length c.args.strings.now = omega arith in
     let lt : c.loop-string.string-index < length (texts c.args.strings.now) = omega arith in
     let few : length (texts c.args.strings.now) ≤ 1024 = omega arith in
-    rw (p.1, p.2, ops_of-few (texts c.args.strings.now) few)
+    rw (p.1, p.2, script_ops-few (texts c.args.strings.now) few)
     (IsAddedTo-refused c.args.script.now c.args.node (texts c.args.strings.now) c.loop-string.string-index c.loop-string.script _ c.in_err-add_op.field-0.0 lt
     (text_at c.args.strings.now c.loop-string.string-index _ in-strings) few c.in_err-add_op.ensures.err c.loop-string.invariant)
 

@@ -1,0 +1,20 @@
+-- What is left of a list behind a place.
+use Rattle.std.proofs.Common.{◌≡◌, ℕ, zero, suc, ◌+◌, ◌<◌, List, [], ◌∷◌, length, drop, slice_get, Option, Some, None, refl, sym, ap, ◌∙◌, arith}
+
+pub some_left : {X : Type 0} (xs : List X) (k : ℕ) → k < length xs → drop k xs ≡ [] → ⊥
+some_left [] k less e = absurd (omega arith)
+some_left (x ∷ xs) zero less e = cc
+some_left (x ∷ xs) (suc k) less e = some_left xs k (omega arith) e
+
+pub next_left : {X : Type 0} (xs : List X) (k : ℕ) (x : X) → slice_get xs k ≡ Some x → drop k xs ≡ x ∷ drop (k + 1) xs
+next_left [] k x e = absurd cc
+next_left (y ∷ xs) zero x e = let same : y ≡ x = cc in ap (λ z. z ∷ xs) same
+next_left (y ∷ xs) (suc k) x e =
+    let number : suc k + 1 ≡ suc (k + 1) = omega arith in
+    next_left xs k x e ∙ ap (λ n. x ∷ drop n (y ∷ xs)) (sym number)
+
+pub first_left : {X : Type 0} (xs : List X) (k : ℕ) (x : X) (others : List X) → drop k xs ≡ x ∷ others → slice_get xs k ≡ Some x
+first_left [] zero x others e = absurd cc
+first_left [] (suc k) x others e = absurd cc
+first_left (y ∷ xs) zero x others e = let same : y ≡ x = cc in ap Some same
+first_left (y ∷ xs) (suc k) x others e = first_left xs k x others e

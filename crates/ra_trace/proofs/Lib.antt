@@ -1,0 +1,14 @@
+pub mod Cuts
+pub mod Decimals
+pub mod Lines
+pub mod Names
+pub mod Rows
+pub mod Spelled
+pub mod Told
+pub mod Traced
+pub mod Fronts
+pub mod Verdicts
+pub mod Due
+pub mod Taking
+pub mod Along
+pub mod Inputs

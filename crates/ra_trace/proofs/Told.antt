@@ -1,0 +1,74 @@
+-- The text of a trace tells its run.
+use Rattle.std.proofs.Common.{◌≡◌, ℕ, List, [], ◌∷◌, ◌++◌, map, flat_map, length, codes, All, refl, sym, ap, subst, ◌∙◌, arith}
+use Rattle.std.proofs.lemmas.Grind.{flat_map-append}
+use Rattle.std.proofs.lemmas.List.{length-append, append-nil}
+use Rattle.std.proofs.lemmas.List.Elements.{All-head, All-tail}
+use Rattle.ra_stamp.specs.NodeId.{IsNodeNumber}
+use Rattle.ra_stamp.specs.declared.entry.Mark.{Mark}
+use Rattle.ra_world.specs.declared.step.Step.{Step}
+use Rattle.ra_world.specs.Run.{IsRun}
+use Rattle.ra_world.specs.Traffic.{Move}
+use Rattle.ra_trace.specs.declared.line.Line.{Line}
+use Rattle.ra_trace.specs.declared.line.Line.TheVariants.{First, Stepped, Marked, Last}
+use Rattle.ra_trace.specs.TraceText.{line_text, move_lines, trace_lines, IsLine, IsTrace}
+use Rattle.ra_trace.proofs.Lines.{begins_once}
+use Rattle.ra_trace.proofs.Rows.{body, has_body}
+
+-- a line has some bytes
+some_text : (line : Line) → IsLine line → (rest : List ℕ) → line_text line ++ rest ≡ [] → ⊥
+some_text line is rest none =
+    let long = has_body line is in
+    absurd (omega (arith, ap length none, length-append (line_text line) rest, ap length long.text_is, length-append (body line) (codes "\n")))
+
+-- no two lists of lines have one text
+pub same_lines : (a b : List Line) → All IsLine a → All IsLine b → flat_map line_text a ≡ flat_map line_text b → a ≡ b
+same_lines [] [] g h e = refl
+same_lines [] (y ∷ b) g h e = absurd (some_text y (All-head IsLine y b h) (flat_map line_text b) (sym e))
+same_lines (x ∷ a) [] g h e = absurd (some_text x (All-head IsLine x a g) (flat_map line_text a) e)
+same_lines (x ∷ a) (y ∷ b) g h e =
+    let once = begins_once (flat_map line_text (x ∷ a)) x y (flat_map line_text a) (flat_map line_text b) (All-head IsLine x a g, refl) (All-head IsLine y b h, e) in
+    ap (λ (line : Line). line ∷ a) once.0 ∙ ap (λ (lines : List Line). y ∷ lines) (same_lines a b (All-tail IsLine x a g) (All-tail IsLine y b h) once.1)
+
+-- the steps that stand in a line
+abbrev steps_in : Line → List Step
+steps_in (First nodes start) = []
+steps_in (Stepped step) = step ∷ []
+steps_in (Marked mark) = []
+steps_in Last = []
+
+no_steps : (marks : List Mark) → flat_map steps_in (map Marked marks) ≡ []
+no_steps [] = refl
+no_steps (mark ∷ marks) = no_steps marks
+
+steps_of : (moves : List Move) → flat_map steps_in (flat_map move_lines moves) ≡ map (λ move. move.step) moves
+steps_of [] = refl
+steps_of (move ∷ moves) =
+    flat_map-append steps_in (move_lines move) (flat_map move_lines moves)
+    ∙ ap (λ (steps : List Step). move.step ∷ steps) (ap (λ (steps : List Step). steps ++ flat_map steps_in (flat_map move_lines moves)) (no_steps move.marks) ∙ steps_of moves)
+
+steps_told : (n start : ℕ) (moves : List Move) → flat_map steps_in (trace_lines n start moves) ≡ map (λ move. move.step) moves
+steps_told n start moves = flat_map-append steps_in (flat_map move_lines moves) (Last ∷ []) ∙ (append-nil _ ∙ steps_of moves)
+
+abbrev nodes_of : List Line → ℕ
+nodes_of [] = 0
+nodes_of (First nodes start ∷ lines) = nodes
+nodes_of (Stepped step ∷ lines) = 0
+nodes_of (Marked mark ∷ lines) = 0
+nodes_of (Last ∷ lines) = 0
+
+abbrev start_of : List Line → ℕ
+start_of [] = 0
+start_of (First nodes start ∷ lines) = start
+start_of (Stepped step ∷ lines) = 0
+start_of (Marked mark ∷ lines) = 0
+start_of (Last ∷ lines) = 0
+
+pub told : ((n start : ℕ) (a b : List Move) → IsNodeNumber n → IsRun n start a → IsRun n start b → map (λ move. move.step) a ≡ map (λ move. move.step) b → a ≡ b)
+    → (n m start other : ℕ) (moves others : List Move) (text : List ℕ) → IsTrace n start moves text → IsTrace m other others text → (n ≡ m) × (start ≡ other) × (moves ≡ others)
+told determined n m start other moves others text g h =
+    let lines = same_lines (trace_lines n start moves) (trace_lines m other others) g.lines h.lines (sym g.text_is ∙ h.text_is) in
+    let nodes : n ≡ m = ap nodes_of lines in
+    let first : start ≡ other = ap start_of lines in
+    let steps = sym (steps_told n start moves) ∙ (ap (flat_map steps_in) lines ∙ steps_told m other others) in
+    let run : IsRun n start others = subst (λ (k : ℕ). IsRun k start others) (sym nodes) (subst (λ (s : ℕ). IsRun m s others) (sym first) h.run) in
+    (nodes, first, determined n start moves others g.count g.run run steps)

@@ -1,0 +1,132 @@
+-- A world, and the text of its steps so far, which grows with them.
+use Rattle.std.proofs.Common.{◌≡◌, ◌^◌, ◌<◌, ℕ, ◌+◌, List, [], ◌∷◌, ◌++◌, map, flat_map, length, get_or, take, All, codes, refl, sym, ap, subst, ◌∙◌, append_assoc}
+use Rattle.std.proofs.lemmas.Grind.{flat_map-append}
+use Rattle.std.proofs.lemmas.List.{append-nil, map-append, take_more}
+use Rattle.std.proofs.lemmas.List.Elements.{All-nil, All-cons, All-append, All-head, All-tail, All-push}
+use Rattle.ra_stamp.specs.NodeId.{IsNodeNumber}
+use Rattle.ra_stamp.specs.declared.message.Message.{Message}
+use Rattle.ra_stamp.specs.declared.entry.Mark.{Mark}
+use Rattle.ra_stamp.specs.declared.entry.Mark.TheVariants.{Requested, Entered, Left}
+use Rattle.ra_world.specs.declared.step.Step.{Step}
+use Rattle.ra_world.specs.declared.step.Step.TheVariants.{Ask, Leave, Deliver, Lose}
+use Rattle.ra_world.specs.Lines.{mark_line}
+use Rattle.ra_world.specs.Numbers.{HasNumber, IsNumbered}
+use Rattle.ra_world.specs.Run.{IsRun, marks_of}
+use Rattle.ra_world.specs.Traffic.{Move, taken_in, taken_by}
+use Rattle.ra_world.specs.World.{WorldState, with_move}
+use Rattle.ra_world.proofs.Refusing.{HasMade}
+use Rattle.ra_trace.specs.declared.line.Line.{Line}
+use Rattle.ra_trace.specs.declared.line.Line.TheVariants.{First, Stepped, Marked, Last}
+use Rattle.ra_trace.specs.Ranges.{StepFits, MarkFits}
+use Rattle.ra_trace.specs.TraceText.{step_line, line_text, move_lines, IsMarkLine, IsStepLine, IsLine, IsTrace}
+
+abbrev pub MoveFits : Move → Type 0
+MoveFits move = StepFits move.step × All MarkFits move.marks
+
+-- all lines but the last
+abbrev pub front_text : ℕ → ℕ → List Move → List ℕ
+front_text n start moves = line_text (First n start) ++ flat_map line_text (flat_map move_lines moves)
+
+pub record HasTraced (n start : ℕ) (steps : List Step) (world : WorldState) (text : List ℕ) : Type 0 where
+  pub made : HasMade n start steps world
+  pub text_is : text ≡ front_text n start world.moves
+  pub fit : All MoveFits world.moves
+
+pub traced_none : (n start : ℕ) (world : WorldState) (text : List ℕ) → IsNodeNumber n → world ≡ record { count = n; start = start; moves = [] } → IsRun world.count world.start world.moves
+    → text ≡ line_text (First n start) → HasTraced n start [] world text
+traced_none n start world text count is run text_is =
+    let opened : WorldState = record { count = n; start = start; moves = [] } in
+    subst (λ w. HasTraced n start [] w text) (sym is) (record {
+      made = record { number = count; count = refl; start_is = refl; made = refl; run = subst (λ (w : WorldState). IsRun w.count w.start w.moves) is run };
+      text_is = text_is ∙ sym (append-nil (line_text (First n start)));
+      fit = All-nil MoveFits;
+    })
+
+marked : (marks : List Mark) → flat_map line_text (map Marked marks) ≡ flat_map mark_line marks
+marked [] = refl
+marked (mark ∷ marks) = ap (λ (xs : List ℕ). mark_line mark ++ xs) (marked marks)
+
+-- the lines of one more move
+front_more : (n start : ℕ) (moves : List Move) (move : Move) → front_text n start (moves ++ move ∷ []) ≡ (front_text n start moves ++ step_line move.step) ++ flat_map mark_line move.marks
+front_more n start moves move =
+    let first = line_text (First n start) in
+    let before = flat_map line_text (flat_map move_lines moves) in
+    let lines : flat_map move_lines (moves ++ move ∷ []) ≡ flat_map move_lines moves ++ move_lines move =
+    flat_map-append move_lines moves (move ∷ []) ∙ ap (λ (xs : List Line). flat_map move_lines moves ++ xs) (append-nil (move_lines move)) in
+    let texts : flat_map line_text (flat_map move_lines (moves ++ move ∷ [])) ≡ before ++ (step_line move.step ++ flat_map mark_line move.marks) =
+    ap (flat_map line_text) lines ∙ (flat_map-append line_text (flat_map move_lines moves) (move_lines move) ∙ ap (λ (xs : List ℕ). before ++ (step_line move.step ++ xs)) (marked move.marks)) in
+    ap (λ (xs : List ℕ). first ++ xs) texts
+    ∙ (sym (append_assoc first before (step_line move.step ++ flat_map mark_line move.marks))
+    ∙ sym (append_assoc (first ++ before) (step_line move.step) (flat_map mark_line move.marks)))
+
+pub traced_more : (n start place : ℕ) (steps : List Step) (step : Step) (world next : WorldState) (sends : List Message) (marks : List Mark) (text longer : List ℕ)
+    → HasTraced n start (take place steps) world text → place < length steps → step ≡ get_or steps place step → next ≡ with_move world step sends marks
+    → IsRun next.count next.start next.moves → longer ≡ (text ++ step_line step) ++ flat_map mark_line marks → StepFits step × All MarkFits marks
+    → HasTraced n start (take (place + 1) steps) next longer
+traced_more n start place steps step world next sends marks text longer traced inside is next_is run longer_is fits =
+    let move : Move = record { step = step; sends = sends; marks = marks } in
+    let made = traced.made in
+    let run' : IsRun world.count world.start (world.moves ++ move ∷ []) = subst (λ (w : WorldState). IsRun w.count w.start w.moves) next_is run in
+    let run'' : IsRun n start (world.moves ++ move ∷ []) =
+    subst (λ (s : ℕ). IsRun n s (world.moves ++ move ∷ [])) made.start_is (subst (λ (k : ℕ). IsRun k world.start (world.moves ++ move ∷ [])) made.count run') in
+    subst (λ (w : WorldState). HasTraced n start (take (place + 1) steps) w longer) (sym next_is) (record {
+      made = record {
+        number = made.number;
+        count = made.count;
+        start_is = made.start_is;
+        made = map-append (λ (m : Move). m.step) world.moves (move ∷ [])
+            ∙ (ap (λ (front : List Step). front ++ step ∷ []) made.made
+            ∙ (ap (λ (s : Step). take place steps ++ s ∷ []) is ∙ sym (take_more steps place step inside)));
+        run = run'';
+      };
+      text_is = longer_is ∙ (ap (λ (front : List ℕ). (front ++ step_line step) ++ flat_map mark_line marks) traced.text_is ∙ sym (front_more n start world.moves move));
+      fit = All-push MoveFits world.moves move traced.fit fits;
+    })
+
+-- each part of a list
+All-parts : {A : Type 0} (P : A → Type 0) (xs ys : List A) → All P (xs ++ ys) → All P xs × All P ys
+All-parts P [] ys all = (All-nil P, all)
+All-parts P (x ∷ xs) ys all =
+    let rest = All-parts P xs ys (All-tail P x (xs ++ ys) all) in
+    (All-cons P x xs (All-head P x (xs ++ ys) all) rest.0, rest.1)
+
+step_line_fits : (step : Step) → StepFits step → All IsNumbered (taken_in step) → IsStepLine step
+step_line_fits (Ask node client name mode) fits numbered = fits
+step_line_fits (Leave node client name) fits numbered = fits
+step_line_fits (Deliver message) fits numbered = fits (All-head IsNumbered message [] numbered)
+step_line_fits (Lose message) fits numbered = fits (All-head IsNumbered message [] numbered)
+
+mark_line_fits : (mark : Mark) → MarkFits mark → HasNumber mark → IsMarkLine mark
+mark_line_fits (Requested entry) fits number = fits number
+mark_line_fits (Entered entry) fits number = fits number
+mark_line_fits (Left entry) fits number = fits number
+
+marks_fit : (marks : List Mark) → All MarkFits marks → All HasNumber marks → All IsLine (map Marked marks)
+marks_fit [] fits numbers = All-nil IsLine
+marks_fit (mark ∷ marks) fits numbers =
+    All-cons IsLine (Marked mark) (map Marked marks) (mark_line_fits mark (All-head MarkFits mark marks fits) (All-head HasNumber mark marks numbers))
+    (marks_fit marks (All-tail MarkFits mark marks fits) (All-tail HasNumber mark marks numbers))
+
+lines_fit : (moves : List Move) → All MoveFits moves → All HasNumber (marks_of moves) → All IsNumbered (taken_by moves) → All IsLine (flat_map move_lines moves)
+lines_fit [] fits numbers numbered = All-nil IsLine
+lines_fit (move ∷ moves) fits numbers numbered =
+    let here = All-head MoveFits move moves fits in
+    let marks = All-parts HasNumber move.marks (marks_of moves) numbers in
+    let taken = All-parts IsNumbered (taken_in move.step) (taken_by moves) numbered in
+    All-append IsLine (move_lines move) (flat_map move_lines moves)
+    (All-cons IsLine (Stepped move.step) (map Marked move.marks) (step_line_fits move.step here.0 taken.0) (marks_fit move.marks here.1 marks.0))
+    (lines_fit moves (All-tail MoveFits move moves fits) marks.1 taken.1)
+
+pub traced_all : (n start : ℕ) (steps : List Step) (world : WorldState) (text : List ℕ) → HasTraced n start steps world text → start < 2 ^ 64
+    → All HasNumber (marks_of world.moves) → All IsNumbered (taken_by world.moves) → IsTrace n start world.moves (text ++ codes "end\n")
+traced_all n start steps world text traced small numbers numbered =
+    let lines = flat_map move_lines world.moves in
+    record {
+      count = traced.made.number;
+      run = traced.made.run;
+      lines = All-cons IsLine (First n start) (lines ++ Last ∷ []) (traced.made.number, small)
+          (All-append IsLine lines (Last ∷ []) (lines_fit world.moves traced.fit numbers numbered) (All-cons IsLine Last [] tt (All-nil IsLine)));
+      text_is = ap (λ (front : List ℕ). front ++ codes "end\n") traced.text_is
+          ∙ (append_assoc (line_text (First n start)) (flat_map line_text lines) (codes "end\n")
+          ∙ ap (λ (xs : List ℕ). line_text (First n start) ++ xs) (sym (flat_map-append line_text lines (Last ∷ []))));
+    }

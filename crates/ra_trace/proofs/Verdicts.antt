@@ -1,0 +1,414 @@
+-- Each text has one verdict.
+use Rattle.std.proofs.Common.{◌≡◌, ◌≢◌, ◌⊎◌, ℕ, ◌+◌, List, [], ◌∷◌, ◌++◌, length, map, refl, sym, ap, ◌∙◌, subst, inl, inr, append_assoc}
+use Rattle.std.specs.Prelude.{All, flat_map}
+use Rattle.std.proofs.lemmas.List.{append-nil}
+use Rattle.std.proofs.lemmas.List.Elements.{All-head, All-tail, All-nil}
+use Rattle.ra_stamp.specs.declared.entry.Mark.{Mark}
+use Rattle.ra_stamp.specs.declared.entry.Mark.TheVariants.{Requested, Entered, Left}
+use Rattle.ra_world.specs.Lines.{mark_line}
+use Rattle.ra_world.specs.declared.step.Step.{Step}
+use Rattle.ra_world.specs.declared.step.Step.TheVariants.{Ask, Leave, Deliver, Lose}
+use Rattle.ra_world.specs.Traffic.{Move, sent_by}
+use Rattle.ra_world.specs.Run.{GoesOn, marks_of}
+use Rattle.ra_world.specs.Quiet.{requests_in}
+use Rattle.ra_trace.specs.declared.line.Line.{Line}
+use Rattle.ra_trace.specs.declared.line.Line.TheVariants.{First, Stepped, Marked, Last}
+use Rattle.ra_trace.specs.declared.verdict.Cause.{Cause}
+use Rattle.ra_trace.specs.declared.verdict.Cause.TheVariants as cause
+use Rattle.ra_trace.specs.declared.verdict.Verdict.{Verdict}
+use Rattle.ra_trace.specs.declared.verdict.Verdict.TheVariants.{Valid, Invalid}
+use Rattle.ra_trace.specs.TraceText.{IsLine, IsTrace, BeginsWith, step_line, line_text, trace_lines}
+use Rattle.ra_trace.specs.Verdict.{IsFront, TableGoesOn, IsOfClient, TakesMessage, IsFirst, HasNoLine, IsUndue, IsWrong, IsVerdict, marks_in}
+use Rattle.ra_trace.specs.Below.{LawsBelow}
+use Rattle.ra_trace.proofs.Lines.{begins_once}
+use Rattle.ra_trace.proofs.Fronts.{IsNext, not_empty, one_front, in_front, next_in_trace, no_trace, one_trace}
+
+-- ---- What is wrong with a line that is there
+
+-- the line has its form and its place, but is wrong for this cause
+abbrev pub Blame : ℕ → ℕ → List Move → List Mark → List Line → Line → Cause → Type 0
+Blame n start moves due front (First nodes from) why = ⊥
+Blame n start moves due front (Stepped step) why =
+    ((due ≢ []) × (why ≡ cause.Marks))
+    ⊎ ((due ≡ []) × (GoesOn n start moves step → ⊥) × IsOfClient step × (why ≡ cause.Refused))
+    ⊎ ((due ≡ []) × (GoesOn n start moves step → ⊥) × TakesMessage step × (why ≡ cause.NotUnderWay))
+Blame n start moves due front (Marked mark) why =
+    ((TableGoesOn (marks_in front) mark → ⊥) × (why ≡ cause.Table))
+    ⊎ (TableGoesOn (marks_in front) mark × ((others : List Mark) → due ≢ mark ∷ others) × (why ≡ cause.Marks))
+Blame n start moves due front Last why = (due ≢ []) × (why ≡ cause.Marks)
+
+record Blamed (front : List Line) (text : List ℕ) (why : Cause) : Type 0 where
+  n : ℕ
+  start : ℕ
+  moves : List Move
+  due : List Mark
+  behind : IsFront n start moves due front
+  line : Line
+  rest : List ℕ
+  begins : BeginsWith text line rest
+  blame : Blame n start moves due front line why
+
+undue : (n start : ℕ) (moves : List Move) (due : List Mark) (front : List Line) (line : Line) → IsUndue (marks_in front) due line
+    → Blame n start moves due front line cause.Marks
+undue n start moves due front (First nodes from) u = u
+undue n start moves due front (Stepped step) u = inl (u, refl)
+undue n start moves due front (Marked mark) u = inr (u.0, u.1, refl)
+undue n start moves due front Last u = (u, refl)
+
+blamed : (front : List Line) (text : List ℕ) (why : Cause) → IsWrong front text why
+    → ((why ≡ cause.Line) × HasNoLine front text) ⊎ Blamed front text why
+blamed front text cause.Line w = inl (refl, w)
+blamed front text cause.Table (n, start, moves, due, behind, mark, rest, begins, refused) =
+    inr (record { n = n; start = start; moves = moves; due = due; behind = behind; line = Marked mark; rest = rest; begins = begins; blame = inl (refused, refl) })
+blamed front text cause.Marks (n, start, moves, due, behind, line, rest, begins, u) =
+    inr (record {
+      n = n;
+      start = start;
+      moves = moves;
+      due = due;
+      behind = behind;
+      line = line;
+      rest = rest;
+      begins = begins;
+      blame = undue n start moves due front line u;
+    })
+blamed front text cause.Refused (n, start, moves, behind, step, rest, begins, of_client, stops) =
+    inr (record {
+      n = n;
+      start = start;
+      moves = moves;
+      due = [];
+      behind = behind;
+      line = Stepped step;
+      rest = rest;
+      begins = begins;
+      blame = inr (inl (refl, stops, of_client, refl));
+    })
+blamed front text cause.NotUnderWay (n, start, moves, behind, step, rest, begins, takes, stops) =
+    inr (record {
+      n = n;
+      start = start;
+      moves = moves;
+      due = [];
+      behind = behind;
+      line = Stepped step;
+      rest = rest;
+      begins = begins;
+      blame = inr (inr (refl, stops, takes, refl));
+    })
+
+not_both : (step : Step) → IsOfClient step → TakesMessage step → ⊥
+not_both (Ask node client name mode) a b = b
+not_both (Leave node client name) a b = b
+not_both (Deliver message) a b = a
+not_both (Lose message) a b = a
+
+first_is_not_blamed : (n start : ℕ) (moves : List Move) (due : List Mark) (front : List Line) (line : Line) (why : Cause) → IsFirst line
+    → Blame n start moves due front line why → ⊥
+first_is_not_blamed n start moves due front (First nodes from) why first b = b
+first_is_not_blamed n start moves due front (Stepped step) why first b = first
+first_is_not_blamed n start moves due front (Marked mark) why first b = first
+first_is_not_blamed n start moves due front Last why first b = first
+
+step_blamed_once : (n start : ℕ) (moves : List Move) (due : List Mark) (front : List Line) (step : Step) (why other : Cause)
+    → Blame n start moves due front (Stepped step) why → Blame n start moves due front (Stepped step) other → why ≡ other
+step_blamed_once n start moves due front step why other (inl a) (inl b) = a.1 ∙ sym b.1
+step_blamed_once n start moves due front step why other (inl a) (inr (inl b)) = absurd (a.0 b.0)
+step_blamed_once n start moves due front step why other (inl a) (inr (inr b)) = absurd (a.0 b.0)
+step_blamed_once n start moves due front step why other (inr (inl a)) (inl b) = absurd (b.0 a.0)
+step_blamed_once n start moves due front step why other (inr (inl a)) (inr (inl b)) = a.3 ∙ sym b.3
+step_blamed_once n start moves due front step why other (inr (inl a)) (inr (inr b)) = absurd (not_both step a.2 b.2)
+step_blamed_once n start moves due front step why other (inr (inr a)) (inl b) = absurd (b.0 a.0)
+step_blamed_once n start moves due front step why other (inr (inr a)) (inr (inl b)) = absurd (not_both step b.2 a.2)
+step_blamed_once n start moves due front step why other (inr (inr a)) (inr (inr b)) = a.3 ∙ sym b.3
+
+mark_blamed_once : (n start : ℕ) (moves : List Move) (due : List Mark) (front : List Line) (mark : Mark) (why other : Cause)
+    → Blame n start moves due front (Marked mark) why → Blame n start moves due front (Marked mark) other → why ≡ other
+mark_blamed_once n start moves due front mark why other (inl a) (inl b) = a.1 ∙ sym b.1
+mark_blamed_once n start moves due front mark why other (inl a) (inr b) = absurd (a.0 b.0)
+mark_blamed_once n start moves due front mark why other (inr a) (inl b) = absurd (b.0 a.0)
+mark_blamed_once n start moves due front mark why other (inr a) (inr b) = a.2 ∙ sym b.2
+
+blamed_once : (n start : ℕ) (moves : List Move) (due : List Mark) (front : List Line) (line : Line) (why other : Cause)
+    → Blame n start moves due front line why → Blame n start moves due front line other → why ≡ other
+blamed_once n start moves due front (First nodes from) why other a b = absurd a
+blamed_once n start moves due front (Stepped step) why other a b = step_blamed_once n start moves due front step why other a b
+blamed_once n start moves due front (Marked mark) why other a b = mark_blamed_once n start moves due front mark why other a b
+blamed_once n start moves due front Last why other a b = a.1 ∙ sym b.1
+
+-- ---- One cause
+
+no_line_is_not_blamed : LawsBelow → (front : List Line) (text : List ℕ) (why : Cause) → HasNoLine front text → Blamed front text why → ⊥
+no_line_is_not_blamed laws front text why (inl none) b = not_empty b.n b.start b.moves b.due front b.behind none.0
+no_line_is_not_blamed laws front text why (inr (inl any)) b =
+    first_is_not_blamed b.n b.start b.moves b.due front b.line why (any.1 b.line b.rest b.begins) b.blame
+no_line_is_not_blamed laws front text why (inr (inr ((n, start, moves, trace, whole), some))) b =
+    no_trace laws b.n b.start b.moves b.due n start moves front b.behind whole
+
+one_blame : LawsBelow → (front : List Line) (text : List ℕ) (why other : Cause) → Blamed front text why → Blamed front text other → why ≡ other
+one_blame laws front text why other a b =
+    let same = one_front laws b.n b.start b.moves b.due a.n a.start a.moves a.due front b.behind a.behind in
+    let line = (begins_once text b.line a.line b.rest a.rest b.begins a.begins).0 in
+    let there : Blame a.n a.start a.moves a.due front a.line other =
+    subst (λ (l : Line). Blame a.n a.start a.moves a.due front l other) line
+    (subst (λ (ms : List Mark). Blame a.n a.start a.moves ms front b.line other) same.left
+    (subst (λ (ms : List Move). Blame a.n a.start ms b.due front b.line other) same.run
+    (subst (λ (s : ℕ). Blame a.n s b.moves b.due front b.line other) same.from
+    (subst (λ (m : ℕ). Blame m b.start b.moves b.due front b.line other) same.count b.blame)))) in
+    blamed_once a.n a.start a.moves a.due front a.line why other a.blame there
+
+one_cause : LawsBelow → (front : List Line) (text : List ℕ) (why other : Cause) → IsWrong front text why → IsWrong front text other → why ≡ other
+one_cause laws front text why other p q =
+    elim (blamed front text why p) [
+      | inl a ↦ elim (blamed front text other q) [
+        | inl b ↦ a.0 ∙ sym b.0
+        | inr b ↦ absurd (no_line_is_not_blamed laws front text other a.1 b)
+      ]
+      | inr a ↦ elim (blamed front text other q) [
+        | inl b ↦ absurd (no_line_is_not_blamed laws front text why b.1 a)
+        | inr b ↦ one_blame laws front text why other a b
+      ]
+    ]
+
+-- ---- A line that may come next is not wrong
+
+-- what is behind a line that may come next
+behind_next : (front : List Line) (line : Line) → IsNext front line
+    → (IsFirst line × (front ≡ [])) ⊎ ((n start : ℕ) × (moves : List Move) × (due : List Mark) × IsFront n start moves due front)
+behind_next front (First nodes from) next = inl (tt, next)
+behind_next front (Stepped step) (n, start, moves, behind, goes) = inr (n, start, moves, [], behind)
+behind_next front (Marked mark) (n, start, moves, others, behind, goes) = inr (n, start, moves, mark ∷ others, behind)
+behind_next front Last (n, start, moves, behind) = inr (n, start, moves, [], behind)
+
+-- a first line stands at the front only
+first_at_front : (front : List Line) (line : Line) → IsNext front line → IsFirst line → front ≡ []
+first_at_front front (First nodes from) next first = next
+first_at_front front (Stepped step) next first = absurd first
+first_at_front front (Marked mark) next first = absurd first
+first_at_front front Last next first = absurd first
+
+goes_on_too : (n start : ℕ) (moves : List Move) (n' start' : ℕ) (moves' : List Move) (step : Step) → n ≡ n' → start ≡ start' → moves ≡ moves'
+    → GoesOn n start moves step → GoesOn n' start' moves' step
+goes_on_too n start moves n' start' moves' step p q r g =
+    subst (λ (ms : List Move). GoesOn n' start' ms step) r (subst (λ (s : ℕ). GoesOn n' s moves step) q (subst (λ (m : ℕ). GoesOn m start moves step) p g))
+
+next_is_not_blamed : LawsBelow → (n start : ℕ) (moves : List Move) (due : List Mark) (front : List Line) (line : Line) (why : Cause)
+    → IsFront n start moves due front → IsNext front line → Blame n start moves due front line why → ⊥
+next_is_not_blamed laws n start moves due front (First nodes from) why behind next b = b
+next_is_not_blamed laws n start moves due front (Stepped step) why behind (n', start', moves', there, goes) b =
+    let same = one_front laws n' start' moves' [] n start moves due front there behind in
+    let on = goes_on_too n' start' moves' n start moves step same.count same.from same.run goes in
+    elim b [
+      | inl marks ↦ marks.0 (sym same.left)
+      | inr other ↦ elim other [ inl refused ↦ refused.1 on | inr gone ↦ gone.1 on ]
+    ]
+next_is_not_blamed laws n start moves due front (Marked mark) why behind (n', start', moves', others, there, goes) b =
+    elim b [
+      | inl table ↦ table.0 goes
+      | inr marks ↦ marks.1 others (sym (one_front laws n' start' moves' (mark ∷ others) n start moves due front there behind).left)
+    ]
+next_is_not_blamed laws n start moves due front Last why behind (n', start', moves', there) b =
+    b.0 (sym (one_front laws n' start' moves' [] n start moves due front there behind).left)
+
+next_has_line : LawsBelow → (front : List Line) (line : Line) (text rest : List ℕ) → IsNext front line → BeginsWith text line rest
+    → HasNoLine front text → ⊥
+next_has_line laws front line text rest next begins (inl (none, no_first)) =
+    elim (behind_next front line next) [
+      | inl first ↦ no_first line rest begins first.0
+      | inr (n, start, moves, due, behind) ↦ not_empty n start moves due front behind none
+    ]
+next_has_line laws front line text rest next begins (inr (inl ((n, start, moves, due, behind), any))) =
+    not_empty n start moves due front behind (first_at_front front line next (any line rest begins))
+next_has_line laws front line text rest next begins (inr (inr ((n, start, moves, trace, whole), some))) =
+    elim (behind_next front line next) [
+      | inl (first, none) ↦ let empty : [] ≡ trace_lines n start moves = sym none ∙ whole in cc
+      | inr (n', start', moves', due, behind) ↦ no_trace laws n' start' moves' due n start moves front behind whole
+    ]
+
+next_is_not_wrong : LawsBelow → (front : List Line) (line : Line) (text rest : List ℕ) (why : Cause) → IsNext front line
+    → BeginsWith text line rest → IsWrong front text why → ⊥
+next_is_not_wrong laws front line text rest why next begins w =
+    elim (blamed front text why w) [
+      | inl none ↦ next_has_line laws front line text rest next begins none.1
+      | inr b ↦
+          let same = (begins_once text b.line line b.rest rest b.begins begins).0 in
+          next_is_not_blamed laws b.n b.start b.moves b.due front line why b.behind next
+          (subst (λ (l : Line). Blame b.n b.start b.moves b.due front l why) same b.blame)
+    ]
+
+-- ---- Two fronts of one text
+
+-- the lines in front of a wrong one, and those of a trace
+abbrev pub AreRight : List Line → Type 0
+AreRight lines =
+    (lines ≡ [])
+    ⊎ ((n start : ℕ) × (moves : List Move) × (due : List Mark) × IsFront n start moves due lines)
+    ⊎ ((n start : ℕ) × (moves : List Move) × (text : List ℕ) × IsTrace n start moves text × (lines ≡ trace_lines n start moves))
+
+wrong_behind_right : (front : List Line) (text : List ℕ) (why : Cause) → IsWrong front text why → AreRight front
+wrong_behind_right front text cause.Line (inl none) = inl none.0
+wrong_behind_right front text cause.Line (inr (inl any)) = inr (inl any.0)
+wrong_behind_right front text cause.Line (inr (inr ((n, start, moves, trace, whole), some))) =
+    inr (inr (n, start, moves, flat_map line_text front, trace, whole))
+wrong_behind_right front text cause.Table w = inr (inl (w.0, w.1, w.2, w.3, w.4))
+wrong_behind_right front text cause.Marks w = inr (inl (w.0, w.1, w.2, w.3, w.4))
+wrong_behind_right front text cause.Refused w = inr (inl (w.0, w.1, w.2, [], w.3))
+wrong_behind_right front text cause.NotUnderWay w = inr (inl (w.0, w.1, w.2, [], w.3))
+
+right_lines : (lines : List Line) → AreRight lines → All IsLine lines
+right_lines lines (inl none) = subst (All IsLine) (sym none) (All-nil IsLine)
+right_lines lines (inr (inl (n, start, moves, due, behind))) = behind.each
+right_lines lines (inr (inr (n, start, moves, text, trace, are))) = subst (All IsLine) (sym are) trace.lines
+
+next_in_right : LawsBelow → (front : List Line) (line : Line) (rest : List Line) → AreRight (front ++ line ∷ rest) → IsNext front line
+next_in_right laws front line rest (inl none) = absurd (something front none)
+  where
+    something : (front : List Line) → front ++ line ∷ rest ≡ [] → ⊥
+    something [] e = cc
+    something (x ∷ front) e = cc
+next_in_right laws front line rest (inr (inl (n, start, moves, due, behind))) = (in_front laws n start moves due front line rest behind).next
+next_in_right laws front line rest (inr (inr (n, start, moves, text, trace, are))) =
+    next_in_trace laws n start moves text front line rest trace are
+
+-- of two lists of lines that begin a text, one begins the other
+record Longer (shorter longer : List Line) (left right : List ℕ) : Type 0 where
+  more : List Line
+  longer_is : longer ≡ shorter ++ more
+  left_is : left ≡ flat_map line_text more ++ right
+
+longer_or_not : (a b : List Line) (r s : List ℕ) → All IsLine a → All IsLine b → flat_map line_text a ++ r ≡ flat_map line_text b ++ s
+    → Longer a b r s ⊎ Longer b a s r
+longer_or_not [] b r s p q e = inl (record { more = b; longer_is = refl; left_is = e })
+longer_or_not (x ∷ a) [] r s p q e = inr (record { more = x ∷ a; longer_is = refl; left_is = sym e })
+longer_or_not (x ∷ a) (y ∷ b) r s p q e =
+    let here : BeginsWith (flat_map line_text (x ∷ a) ++ r) x (flat_map line_text a ++ r) =
+    (All-head IsLine x a p, append_assoc (line_text x) (flat_map line_text a) r) in
+    let there : BeginsWith (flat_map line_text (x ∷ a) ++ r) y (flat_map line_text b ++ s) =
+    (All-head IsLine y b q, e ∙ append_assoc (line_text y) (flat_map line_text b) s) in
+    let same = begins_once (flat_map line_text (x ∷ a) ++ r) x y (flat_map line_text a ++ r) (flat_map line_text b ++ s) here there in
+    let first : x ≡ y = same.0 in
+    elim (longer_or_not a b r s (All-tail IsLine x a p) (All-tail IsLine y b q) same.1) [
+      | inl h ↦ inl (record { more = h.more; longer_is = let is = h.longer_is in cc; left_is = h.left_is })
+      | inr h ↦ inr (record { more = h.more; longer_is = let is = h.longer_is in cc; left_is = h.left_is })
+    ]
+
+All-back : (front : List Line) (rest : List Line) → All IsLine (front ++ rest) → All IsLine rest
+All-back [] rest h = h
+All-back (line ∷ front) rest h = All-back front rest (All-tail IsLine line (front ++ rest) h)
+
+-- right lines end where a line is wrong
+record SameEnd (a b : List Line) (r s : List ℕ) : Type 0 where
+  lines : a ≡ b
+  rest : r ≡ s
+
+no_more : LawsBelow → (front lines : List Line) (r s : List ℕ) (why : Cause) → IsWrong front r why → AreRight lines → Longer front lines r s
+    → SameEnd front lines r s
+no_more laws front lines r s why w right h = at h.more h.longer_is h.left_is
+  where
+    at : (more : List Line) → lines ≡ front ++ more → r ≡ flat_map line_text more ++ s → SameEnd front lines r s
+    at [] is left = record { lines = sym (is ∙ append-nil front); rest = left }
+    at (x ∷ more) is left =
+        let behind : AreRight (front ++ x ∷ more) = subst AreRight is right in
+        let within : All IsLine (x ∷ more) = All-back front (x ∷ more) (right_lines (front ++ x ∷ more) behind) in
+        absurd (next_is_not_wrong laws front x r (flat_map line_text more ++ s) why (next_in_right laws front x more behind)
+        (All-head IsLine x more within, left ∙ append_assoc (line_text x) (flat_map line_text more) s) w)
+
+-- ---- A whole trace
+
+mark_has_bytes : (mark : Mark) (rest : List ℕ) → [] ≡ mark_line mark ++ rest → ⊥
+mark_has_bytes (Requested entry) rest e = cc
+mark_has_bytes (Entered entry) rest e = cc
+mark_has_bytes (Left entry) rest e = cc
+
+step_has_bytes : (step : Step) (rest : List ℕ) → [] ≡ step_line step ++ rest → ⊥
+step_has_bytes (Ask node client name mode) rest e = cc
+step_has_bytes (Leave node client name) rest e = cc
+step_has_bytes (Deliver message) rest e = cc
+step_has_bytes (Lose message) rest e = cc
+
+pub line_has_bytes : (line : Line) (rest : List ℕ) → [] ≡ line_text line ++ rest → ⊥
+line_has_bytes (First nodes start) rest e = cc
+line_has_bytes (Stepped step) rest e = step_has_bytes step rest e
+line_has_bytes (Marked mark) rest e = mark_has_bytes mark rest e
+line_has_bytes Last rest e = cc
+
+-- where nothing is left there are no more lines
+nothing_left : (front lines : List Line) (s : List ℕ) → Longer front lines [] s → SameEnd front lines [] s
+nothing_left front lines s h = at h.more h.longer_is h.left_is
+  where
+    at : (more : List Line) → lines ≡ front ++ more → [] ≡ flat_map line_text more ++ s → SameEnd front lines [] s
+    at [] is left = record { lines = sym (is ∙ append-nil front); rest = left }
+    at (x ∷ more) is left =
+        absurd (line_has_bytes x (flat_map line_text more ++ s) (left ∙ append_assoc (line_text x) (flat_map line_text more) s))
+
+trace_is_right : (n start : ℕ) (moves : List Move) (text : List ℕ) → IsTrace n start moves text → AreRight (trace_lines n start moves)
+trace_is_right n start moves text trace = inr (inr (n, start, moves, text, trace, refl))
+
+trace_is_not_wrong : LawsBelow → (n start : ℕ) (moves : List Move) (rest : List ℕ) (why : Cause)
+    → rest ≡ [] → IsWrong (trace_lines n start moves) rest why → ⊥
+trace_is_not_wrong laws n start moves rest why nothing w =
+    elim (blamed (trace_lines n start moves) rest why w) [
+      | inl (is, none) ↦ elim none [
+        | inl (empty, no_first) ↦ cc
+        | inr other ↦ elim other [
+          | inl ((m, from, others, due, behind), any) ↦ no_trace laws m from others due n start moves (trace_lines n start moves) behind refl
+          | inr (trace, some) ↦ some nothing
+        ]
+      ]
+      | inr b ↦ no_trace laws b.n b.start b.moves b.due n start moves (trace_lines n start moves) b.behind refl
+    ]
+
+-- ---- One verdict
+
+both_valid : LawsBelow → (text : List ℕ) (requests messages requests' messages' : ℕ) → IsVerdict text (Valid requests messages)
+    → IsVerdict text (Valid requests' messages') → Valid requests messages ≡ Valid requests' messages'
+both_valid laws text requests messages requests' messages' (n, start, moves, a, r, m) (n', start', moves', b, r', m') =
+    let p = trace_lines n start moves in
+    let q = trace_lines n' start' moves' in
+    let texts : flat_map line_text p ++ [] ≡ flat_map line_text q ++ [] =
+    append-nil (flat_map line_text p) ∙ sym a.text_is ∙ b.text_is ∙ sym (append-nil (flat_map line_text q)) in
+    let lines : p ≡ q =
+    elim (longer_or_not p q [] [] a.lines b.lines texts) [
+      | inl h ↦ (nothing_left p q [] h).lines
+      | inr h ↦ sym (nothing_left q p [] h).lines
+    ] in
+    let same = (one_trace laws n start moves text n' start' moves' text a b lines).run in
+    let requests_are : requests ≡ requests' = r ∙ ap (λ (ms : List Move). requests_in (marks_of ms)) same ∙ sym r' in
+    let messages_are : messages ≡ messages' = m ∙ ap (λ (ms : List Move). length (sent_by ms)) same ∙ sym m' in
+    cc
+
+not_valid_and_invalid : LawsBelow → (text : List ℕ) (requests messages line : ℕ) (why : Cause) → IsVerdict text (Valid requests messages)
+    → IsVerdict text (Invalid line why) → ⊥
+not_valid_and_invalid laws text requests messages line why (n, start, moves, a, r, m) (front, rest, is, at, w) =
+    let p = trace_lines n start moves in
+    let texts : flat_map line_text p ++ [] ≡ flat_map line_text front ++ rest = append-nil (flat_map line_text p) ∙ sym a.text_is ∙ is in
+    let same : SameEnd p front [] rest =
+    elim (longer_or_not p front [] rest a.lines (right_lines front (wrong_behind_right front rest why w)) texts) [
+      | inl h ↦ nothing_left p front rest h
+      | inr h ↦
+          let end = no_more laws front p rest [] why w (trace_is_right n start moves text a) h in
+          record { lines = sym end.lines; rest = sym end.rest }
+    ] in
+    trace_is_not_wrong laws n start moves rest why (sym same.rest) (subst (λ (ls : List Line). IsWrong ls rest why) (sym same.lines) w)
+
+both_invalid : LawsBelow → (text : List ℕ) (line : ℕ) (why : Cause) (line' : ℕ) (why' : Cause) → IsVerdict text (Invalid line why)
+    → IsVerdict text (Invalid line' why') → Invalid line why ≡ Invalid line' why'
+both_invalid laws text line why line' why' (front, rest, is, at, w) (front', rest', is', at', w') =
+    let right = wrong_behind_right front rest why w in
+    let right' = wrong_behind_right front' rest' why' w' in
+    let same : SameEnd front front' rest rest' =
+    elim (longer_or_not front front' rest rest' (right_lines front right) (right_lines front' right') (sym is ∙ is')) [
+      | inl h ↦ no_more laws front front' rest rest' why w right' h
+      | inr h ↦ let end = no_more laws front' front rest' rest why' w' right h in record { lines = sym end.lines; rest = sym end.rest }
+    ] in
+    let there : IsWrong front rest why' =
+    subst (λ (ls : List Line). IsWrong ls rest why') (sym same.lines) (subst (λ (bs : List ℕ). IsWrong front' bs why') (sym same.rest) w') in
+    let causes : why ≡ why' = one_cause laws front rest why why' w there in
+    let lines : line ≡ line' = at ∙ ap (λ (ls : List Line). length ls + 1) same.lines ∙ sym at' in
+    cc
+
+pub one_verdict : LawsBelow → (text : List ℕ) (a b : Verdict) → IsVerdict text a → IsVerdict text b → a ≡ b
+one_verdict laws text (Valid r m) (Valid r' m') p q = both_valid laws text r m r' m' p q
+one_verdict laws text (Valid r m) (Invalid line why) p q = absurd (not_valid_and_invalid laws text r m line why p q)
+one_verdict laws text (Invalid line why) (Valid r m) p q = absurd (not_valid_and_invalid laws text r m line why q p)
+one_verdict laws text (Invalid line why) (Invalid line' why') p q = both_invalid laws text line why line' why' p q

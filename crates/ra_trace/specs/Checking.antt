@@ -1,0 +1,33 @@
+-- Where a checker stands behind the lines that it took. No public contract speaks of it.
+use Rattle.std.specs.Prelude.{◌≡◌, ℕ, List, [], ◌∷◌, ◌++◌, drop}
+use Rattle.ra_stamp.specs.declared.entry.Mark.{Mark}
+use Rattle.ra_table.specs.Table.{TableRun}
+use Rattle.ra_trace.specs.declared.line.Line.{Line}
+use Rattle.ra_trace.specs.declared.line.Line.TheVariants.{First, Stepped, Marked, Last}
+use Rattle.ra_trace.specs.declared.verdict.Cause.{Cause}
+use Rattle.ra_trace.specs.declared.checker.Checker.{Checker}
+use Rattle.ra_trace.specs.TraceText.{IsLine, BeginsWith}
+use Rattle.ra_trace.specs.Verdict.{IsFront, marks_in, IsWrong}
+
+-- the marks of the last step that have not come yet
+abbrev pub due_of : Checker → List Mark
+due_of checker = drop checker.come checker.marks.items
+
+-- the lines are a front of a trace, the world has made its steps, and the lock table its marks
+pub record StandsBehind (checker : Checker) (lines : List Line) : Type 0 where
+  pub front : IsFront checker.world.count checker.world.start checker.world.moves (due_of checker) lines
+  pub table : TableRun (marks_in lines) checker.table
+
+-- a line that is right is the next one of the front, or the last one where no mark is due
+abbrev pub Takes : Checker → Line → Checker → Type 0
+Takes old (First nodes start) new = ⊥
+Takes old (Stepped step) new =
+    (lines : List Line) → IsLine (Stepped step) → StandsBehind old lines → StandsBehind new (lines ++ Stepped step ∷ [])
+Takes old (Marked mark) new =
+    (lines : List Line) → IsLine (Marked mark) → StandsBehind old lines → StandsBehind new (lines ++ Marked mark ∷ [])
+Takes old Last new = (new ≡ old) × (due_of old ≡ [])
+
+-- the line is wrong for this cause, behind any lines behind which the checker may stand
+abbrev pub Refuses : Checker → Line → Cause → Type 0
+Refuses checker line why =
+    (lines : List Line) (text rest : List ℕ) → StandsBehind checker lines → BeginsWith text line rest → IsWrong lines text why

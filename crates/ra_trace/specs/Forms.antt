@@ -1,0 +1,133 @@
+-- How a line is read: at a word or two that say which one it is, and then field by field. It is what the code computes; the
+-- contract of `split_line` says what it comes to.
+use Rattle.std.specs.Prelude.{ℕ, ◌^◌, ◌-◌, Bool, not, ◌&&◌, ◌||◌, ◌==◌, nat_le, if◌then◌else◌, List, [], ◌∷◌, length, slice_index, Option, Some, None, option_map, option_and_then, codes}
+use Rattle.std.specs.Char.{is_ascii_digit}
+use Rattle.std.specs.List.{list_all}
+use Rattle.std.specs.Str.{bytes_eq}
+use Rattle.std.specs.Str.Parse.{digits_value}
+use Rattle.ra_stamp.specs.Name.{is_name_byte}
+use Rattle.ra_stamp.specs.declared.mode.Mode.{Mode}
+use Rattle.ra_stamp.specs.declared.mode.Mode.TheVariants.{Shared, Exclusive}
+use Rattle.ra_stamp.specs.declared.entry.Entry.{Entry}
+use Rattle.ra_stamp.specs.declared.entry.Mark.TheVariants.{Requested, Entered, Left}
+use Rattle.ra_stamp.specs.declared.message.Message.{Message}
+use Rattle.ra_stamp.specs.declared.message.Message.TheVariants.{Request, Reply}
+use Rattle.ra_world.specs.declared.step.Step.{Step}
+use Rattle.ra_world.specs.declared.step.Step.TheVariants.{Ask, Leave, Deliver, Lose}
+use Rattle.ra_trace.specs.declared.line.Line.{Line}
+use Rattle.ra_trace.specs.declared.line.Line.TheVariants.{First, Stepped, Marked, Last}
+
+-- digits, of which the first of two or more is not `0`
+abbrev pub is_decimal : List ℕ → Bool
+is_decimal digits =
+    (nat_le 1 (length digits) && list_all is_ascii_digit digits) && (length digits == 1 || not (slice_index digits 0 == 48))
+
+-- a decimal whose number is within these two
+abbrev pub number_within : ℕ → ℕ → List ℕ → Option ℕ
+number_within low high digits =
+    if is_decimal digits && (nat_le low (digits_value 10 digits) && nat_le (digits_value 10 digits) high)
+    then Some (digits_value 10 digits) else None
+
+abbrev pub node_of : List ℕ → Option ℕ
+node_of = number_within 1 16
+
+abbrev pub client_of : List ℕ → Option ℕ
+client_of = number_within 0 (2 ^ 32 - 1)
+
+abbrev pub start_of : List ℕ → Option ℕ
+start_of = number_within 0 (2 ^ 64 - 1)
+
+abbrev pub seq_of : List ℕ → Option ℕ
+seq_of = number_within 1 (2 ^ 64 - 1)
+
+abbrev pub is_name : List ℕ → Bool
+is_name bytes = nat_le 1 (length bytes) && (nat_le (length bytes) 32 && list_all is_name_byte bytes)
+
+abbrev pub name_of : List ℕ → Option (List ℕ)
+name_of bytes = if is_name bytes then Some bytes else None
+
+abbrev pub mode_of : List ℕ → Option Mode
+mode_of letter =
+    if bytes_eq letter (codes "X") then Some Exclusive
+    else if bytes_eq letter (codes "S") then Some Shared
+    else None
+
+-- what stands before and behind the first such byte
+abbrev pub cut : ℕ → List ℕ → Option (List ℕ × List ℕ)
+cut byte [] = None
+cut byte (b ∷ bs) = if b == byte then Some ([], bs) else option_map (λ parts. (b ∷ parts.0, parts.1)) (cut byte bs)
+
+-- what stands behind these bytes, where the text begins with them
+abbrev pub behind : List ℕ → List ℕ → Option (List ℕ)
+behind [] text = Some text
+behind (w ∷ words) [] = None
+behind (w ∷ words) (b ∷ text) = if w == b then behind words text else None
+
+-- the field before the first space, and the others behind it
+abbrev pub fields : {A B : Type 0} → (List ℕ → Option A) → (List ℕ → Option B) → List ℕ → Option (A × B)
+fields read others text =
+    option_and_then (λ parts. option_and_then (λ field. option_map (λ rest. (field, rest)) (others parts.1)) (read parts.0)) (cut 32 text)
+
+abbrev pub first_in : List ℕ → Option Line
+first_in text = option_map (λ f. First f.0 f.1) (fields node_of start_of text)
+
+abbrev pub ask_in : List ℕ → Option Step
+ask_in text =
+    option_map (λ f. Ask f.0 f.1.0 f.1.1.0 f.1.1.1) (fields node_of (fields client_of (fields name_of mode_of)) text)
+
+abbrev pub leave_in : List ℕ → Option Step
+leave_in text = option_map (λ f. Leave f.0 f.1.0 f.1.1) (fields node_of (fields client_of name_of) text)
+
+abbrev pub request_in : List ℕ → Option Message
+request_in text =
+    option_map (λ f. Request f.0 f.1.0 f.1.1.0 f.1.1.1.0 f.1.1.1.1)
+    (fields node_of (fields node_of (fields name_of (fields mode_of seq_of))) text)
+
+abbrev pub reply_in : List ℕ → Option Message
+reply_in text =
+    option_map (λ f. Reply f.0 f.1.0 f.1.1.0 f.1.1.1) (fields node_of (fields node_of (fields name_of seq_of)) text)
+
+abbrev pub entry_in : List ℕ → Option Entry
+entry_in text =
+    option_map (λ f. record {
+      name = f.1.1.0;
+      stamp = record { seq = f.1.1.1.1; node = f.0 };
+      client = f.1.0;
+      mode = f.1.1.1.0;
+    }) (fields node_of (fields client_of (fields name_of (fields mode_of seq_of))) text)
+
+abbrev pub last_in : List ℕ → Option Line
+last_in [] = Some Last
+last_in (b ∷ text) = None
+
+-- a form of lines: how they begin, and how the rest is read
+pub record Form : Type 0 where
+  pub words : List ℕ
+  pub read : List ℕ → Option Line
+
+-- the eleven forms, no two of which begin alike
+abbrev pub forms : List Form
+forms =
+    record { words = codes "trace 1 "; read = first_in } ∷
+    record { words = codes "ask "; read = λ rest. option_map Stepped (ask_in rest) } ∷
+    record { words = codes "release "; read = λ rest. option_map Stepped (leave_in rest) } ∷
+    record { words = codes "deliver request "; read = λ rest. option_map (λ message. Stepped (Deliver message)) (request_in rest) } ∷
+    record { words = codes "deliver reply "; read = λ rest. option_map (λ message. Stepped (Deliver message)) (reply_in rest) } ∷
+    record { words = codes "lose request "; read = λ rest. option_map (λ message. Stepped (Lose message)) (request_in rest) } ∷
+    record { words = codes "lose reply "; read = λ rest. option_map (λ message. Stepped (Lose message)) (reply_in rest) } ∷
+    record { words = codes "request "; read = λ rest. option_map (λ entry. Marked (Requested entry)) (entry_in rest) } ∷
+    record { words = codes "enter "; read = λ rest. option_map (λ entry. Marked (Entered entry)) (entry_in rest) } ∷
+    record { words = codes "leave "; read = λ rest. option_map (λ entry. Marked (Left entry)) (entry_in rest) } ∷
+    record { words = codes "end"; read = last_in } ∷ []
+
+abbrev pub line_at : Option (List ℕ) → (List ℕ → Option Line) → Option Line → Option Line
+line_at None read other = other
+line_at (Some rest) read other = read rest
+
+-- the line of the first form that the text begins like
+abbrev pub line_by : List Form → List ℕ → Option Line
+line_by [] text = None
+line_by (form ∷ others) text = line_at (behind form.words text) form.read (line_by others text)
+
+abbrev pub line_in : List ℕ → Option Line
+line_in text = line_by forms text

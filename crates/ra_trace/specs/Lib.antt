@@ -1,0 +1,7 @@
+pub mod Forms
+pub mod Ranges
+pub mod TraceText
+pub mod Verdict
+pub mod Below
+pub mod Checking
+pub mod Faults

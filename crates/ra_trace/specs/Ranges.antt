@@ -1,0 +1,27 @@
+-- What the types of messages, entries, marks and steps say of the ranges of their fields: all but that numbers are 1 or more.
+use Rattle.std.specs.Prelude.{◌≤◌}
+use Rattle.ra_stamp.specs.Message.{seq_of}
+use Rattle.ra_stamp.specs.declared.entry.Entry.{Entry}
+use Rattle.ra_stamp.specs.declared.entry.Mark.{Mark}
+use Rattle.ra_stamp.specs.declared.entry.Mark.TheVariants.{Requested, Entered, Left}
+use Rattle.ra_stamp.specs.declared.message.Message.{Message}
+use Rattle.ra_world.specs.declared.step.Step.{Step}
+use Rattle.ra_world.specs.declared.step.Step.TheVariants.{Ask, Leave, Deliver, Lose}
+use Rattle.ra_trace.specs.TraceText.{IsEntryLine, IsMessageLine, IsStepLine}
+
+abbrev pub EntryFits : Entry → Type 0
+EntryFits entry = 1 ≤ entry.stamp.seq → IsEntryLine entry
+
+abbrev pub MarkFits : Mark → Type 0
+MarkFits (Requested entry) = EntryFits entry
+MarkFits (Entered entry) = EntryFits entry
+MarkFits (Left entry) = EntryFits entry
+
+abbrev pub MessageFits : Message → Type 0
+MessageFits message = 1 ≤ seq_of message → IsMessageLine message
+
+abbrev pub StepFits : Step → Type 0
+StepFits (Ask node client name mode) = IsStepLine (Ask node client name mode)
+StepFits (Leave node client name) = IsStepLine (Leave node client name)
+StepFits (Deliver message) = MessageFits message
+StepFits (Lose message) = MessageFits message

@@ -1,0 +1,168 @@
+ghost use Rattle.std.specs.Prelude.{◌≡◌, ◌≢◌, ◌<◌, ◌+◌, List, ◌∷◌, [], false, drop, length, IfOk, IfErr, IfSome, IsNone, IsTrue};
+ghost use Rattle.ra_stamp.specs.declared.entry.Mark.{Mark};
+ghost use Rattle.ra_world.specs.Quiet.{requests_in};
+ghost use Rattle.ra_world.specs.Run.{marks_of};
+ghost use Rattle.ra_world.specs.Traffic.{sent_by};
+ghost use Rattle.ra_trace.specs.TraceText.{IsLine};
+ghost use Rattle.ra_trace.specs.Verdict.{IsFirst};
+
+use crate::laws::traces_rest_on_runs;
+use crate::line::Line;
+use crate::tables::step_table;
+use crate::{Cause, TraceError, Verdict};
+use ra_stamp::{Mark, Marks, equal_is_same};
+use ra_table::Table;
+use ra_world::{Step, StepError, World};
+use std::alloc::Global;
+
+/// What a checker knows behind the lines that it took: the world after their steps, the lock table after their marks, and
+/// which marks of the last step have not come yet. It keeps nothing of the text.
+#[derive(Debug, Drop)]
+pub struct Checker {
+    world: World,
+    table: Table,
+    /// The marks of the last step.
+    marks: Marks,
+    /// How many of them have come.
+    come: u64,
+}
+
+impl Checker {
+    ghost use Rattle.ra_trace.specs.Checking.{due_of, StandsBehind, Takes, Refuses};
+
+    /// Makes the checker that stands behind this line, or answers `None` where it is no first line.
+    ///
+    /// # Errors
+    ///
+    /// `Memory`.
+    pub fn behind_first(alloc: Global, line: &Line) -> Result<Option<Checker>, TraceError>
+        ensures some { IfOk result (λ opened.
+            IfSome opened (λ checker. IsLine line.now → StandsBehind checker (line.now ∷ []))) }
+        ensures none { IfOk result (λ opened. IsNone opened → IsFirst line.now → ⊥) }
+        ensures err { IfErr result (λ fault. fault ≡ TraceError.Memory) }
+    {
+        traces_rest_on_runs();
+        let Line::First { nodes, start } = line else {
+            return Ok(None);
+        };
+        // There are 1 to 16 nodes, so only memory can be wanting.
+        let Ok(world) = World::new(alloc, nodes.get(), *start) else {
+            return Err(TraceError::Memory);
+        };
+        Ok(Some(Checker {
+            world,
+            table: Table::new(alloc)?,
+            marks: Marks::new(alloc),
+            come: 0,
+        }))
+    }
+
+    /// Takes the next line, and answers why it is wrong, or `None` where it is right. It steps the world and the lock table
+    /// itself, and believes neither steps nor marks. After a wrong line, or without memory, nothing is promised of the checker.
+    /// The cost is that of one step of the world or of the lock table.
+    ///
+    /// # Errors
+    ///
+    /// `Memory`.
+    pub fn take(&mut self, alloc: Global, line: &Line) -> Result<Option<Cause>, TraceError>
+        ensures right { IfOk result (λ cause. IsNone cause → Takes self.old line.now self.new) }
+        ensures wrong { IfOk result (λ cause. IfSome cause (Refuses self.old line.now)) }
+        ensures err { IfErr result (λ fault. fault ≡ TraceError.Memory) }
+    {
+        match line {
+            Line::First { .. } => Ok(Some(Cause::Line)),
+            Line::Stepped(step) => self.take_step(alloc, step),
+            Line::Marked(mark) => self.take_mark(mark),
+            Line::Last if self.has_due() => Ok(Some(Cause::Marks)),
+            Line::Last => Ok(None),
+        }
+    }
+
+    /// Returns the verdict of a text of which nothing is left behind the last line.
+    ///
+    /// # Errors
+    ///
+    /// `Memory`.
+    pub fn totals(&self, alloc: Global) -> Result<Verdict, TraceError>
+        ensures ok { IfOk result (λ verdict. verdict
+            ≡ Verdict.Valid (requests_in (marks_of self.now.world.moves)) (length (sent_by self.now.world.moves))) }
+        ensures err { IfErr result (λ fault. fault ≡ TraceError.Memory) }
+    {
+        let report = self.world.report(alloc)?;
+        Ok(Verdict::Valid {
+            requests: report.requests,
+            messages: report.sent,
+        })
+    }
+
+    /// Returns whether a mark of the last step has not come yet.
+    fn has_due(&self) -> bool
+        ensures some { IsTrue result → due_of self.now ≢ [] }
+        ensures none { result ≡ false → due_of self.now ≡ [] }
+    {
+        self.come < self.marks.len()
+    }
+
+    /// Returns whether this is the next mark that is due.
+    fn is_due(&self, mark: &Mark) -> bool
+        ensures within { IsTrue result → self.now.come < length self.now.marks.items }
+        ensures next { IsTrue result
+            → due_of self.now ≡ mark.now ∷ drop (self.now.come + 1) self.now.marks.items }
+        ensures other { result ≡ false → (others : List Mark) → due_of self.now ≢ mark.now ∷ others }
+    {
+        equal_is_same();
+        match self.marks.at(self.come) {
+            Some(due) => due == *mark,
+            None => false,
+        }
+    }
+
+    /// Takes a step's line.
+    ///
+    /// # Errors
+    ///
+    /// `Memory`.
+    fn take_step(&mut self, alloc: Global, step: &Step) -> Result<Option<Cause>, TraceError>
+        ensures right { IfOk result (λ cause. IsNone cause → Takes self.old (Line.Stepped step.now) self.new) }
+        ensures wrong { IfOk result (λ cause. IfSome cause (Refuses self.old (Line.Stepped step.now))) }
+        ensures err { IfErr result (λ fault. fault ≡ TraceError.Memory) }
+    {
+        if self.has_due() {
+            return Ok(Some(Cause::Marks));
+        }
+        match self.world.step(alloc, step) {
+            Ok(outcome) => {
+                self.marks = outcome.marks;
+                self.come = 0;
+                Ok(None)
+            }
+            Err(StepError::Memory) => Err(TraceError::Memory),
+            Err(StepError::NotUnderWay) => Ok(Some(Cause::NotUnderWay)),
+            Err(StepError::NoNode) => Ok(Some(Cause::Refused)),
+            Err(StepError::Node(_)) => Ok(Some(Cause::Refused)),
+        }
+    }
+
+    /// Takes a mark's line. What the lock table says of it comes first.
+    ///
+    /// # Errors
+    ///
+    /// `Memory`.
+    fn take_mark(&mut self, mark: &Mark) -> Result<Option<Cause>, TraceError>
+        ensures right { IfOk result (λ cause. IsNone cause → Takes self.old (Line.Marked mark.now) self.new) }
+        ensures wrong { IfOk result (λ cause. IfSome cause (Refuses self.old (Line.Marked mark.now))) }
+        ensures err { IfErr result (λ fault. fault ≡ TraceError.Memory) }
+    {
+        traces_rest_on_runs();
+        if !step_table(&mut self.table, mark)? {
+            return Ok(Some(Cause::Table));
+        }
+        if !self.is_due(mark) {
+            return Ok(Some(Cause::Marks));
+        }
+        // The count fits, since there are no more than these.
+        let _all = self.marks.len();
+        self.come += 1;
+        Ok(None)
+    }
+}

@@ -1,0 +1,81 @@
+ghost use Rattle.std.specs.Prelude.{◌≡◌};
+ghost use Rattle.ra_trace.specs.declared.error.TraceError.TheVariants as trace;
+ghost use Rattle.ra_trace.specs.declared.error.WriteTraceError.TheVariants as write;
+
+use ra_stamp::Memory;
+use ra_world::{ReadFault, RunError, WriteFault};
+use std::alloc::AllocError;
+use thiserror::Error;
+
+/// Why a text was not checked.
+#[derive(Clone, Copy, Debug, PartialEq, Eq, Error)]
+pub enum TraceError {
+    /// The reader failed.
+    #[error("Read")]
+    Read,
+    /// The text has more than 16,777,216 bytes.
+    #[error("Limit")]
+    Limit,
+    /// Memory ran out.
+    #[error("Memory")]
+    Memory,
+}
+
+/// Why a trace was not written.
+#[derive(Clone, Copy, Debug, PartialEq, Eq, Error)]
+pub enum WriteTraceError {
+    /// The steps are no run: the number of nodes is not 1 to 16, or a step is refused. Never want of memory.
+    #[error(transparent)]
+    Run(RunError),
+    /// Memory ran out.
+    #[error("Memory")]
+    Memory,
+    /// The writer failed or took nothing, with bytes left to write.
+    #[error("Write")]
+    Write,
+}
+
+impl From<ReadFault> for TraceError {
+    ghost use Rattle.ra_trace.specs.Faults.{of_read};
+
+    ghost from_gives = { λ fault e. e ≡ of_read fault };
+
+    fn from(fault: ReadFault) -> TraceError {
+        match fault {
+            ReadFault::Read => TraceError::Read,
+            ReadFault::Memory => TraceError::Memory,
+        }
+    }
+}
+
+impl From<Memory> for TraceError {
+    ghost from_gives = { λ _ e. e ≡ trace.Memory };
+
+    fn from(_refused: Memory) -> TraceError {
+        TraceError::Memory
+    }
+}
+
+impl From<AllocError> for WriteTraceError {
+    ghost from_gives = { λ _ e. e ≡ write.Memory };
+
+    fn from(_refused: AllocError) -> WriteTraceError {
+        WriteTraceError::Memory
+    }
+}
+
+impl From<Memory> for WriteTraceError {
+    ghost from_gives = { λ _ e. e ≡ write.Memory };
+
+    fn from(_refused: Memory) -> WriteTraceError {
+        WriteTraceError::Memory
+    }
+}
+
+impl From<WriteFault> for WriteTraceError {
+    ghost from_gives = { λ _ e. e ≡ write.Write };
+
+    fn from(_fault: WriteFault) -> WriteTraceError {
+        WriteTraceError::Write
+    }
+}

@@ -1,0 +1,97 @@
+//! The fields of a line.
+ghost use Rattle.std.specs.Prelude.{◌≡◌, Some, None, MatchOption};
+ghost use Rattle.std.specs.Char.{is_ascii_digit};
+ghost use Rattle.std.specs.List.{list_all};
+ghost use Rattle.ra_trace.specs.Forms as spec;
+
+use ra_stamp::{Mode, Name, NodeId};
+
+/// Returns what stands before and behind the first such byte, or `None` where there is none. It does not allocate.
+pub fn cut(byte: u8, text: &[u8]) -> Option<(&[u8], &[u8])>
+    ensures { MatchOption result (spec.cut byte text.now ≡ None)
+        (λ parts. spec.cut byte text.now ≡ Some (parts.0.now, parts.1.now)) }
+{
+    let end = text.iter().position(|other| *other == byte)?;
+    Some((&text[..end], &text[end + 1..]))
+}
+
+/// Returns whether each byte is a digit. It does not allocate.
+fn are_digits(bytes: &[u8]) -> bool
+    ensures { result ≡ list_all is_ascii_digit bytes.now }
+{
+    bytes.iter().all(|byte| byte.is_ascii_digit())
+}
+
+/// Returns whether these are digits, of which the first of two or more is not `0`. It does not allocate.
+fn is_decimal(digits: &[u8]) -> bool
+    ensures { result ≡ spec.is_decimal digits.now }
+{
+    if digits.is_empty() || !are_digits(digits) {
+        return false;
+    }
+    digits.len() == 1 || digits[0] != b'0'
+}
+
+/// Returns the number of a decimal with no zeros in front, where it is one of a range, whose ends count. It does not allocate.
+#[tactic(auto, using(crate::proofs::Decimals::decimal_is_utf8))]
+fn number_within(low: u64, high: u64, digits: &[u8]) -> Option<u64>
+    ensures { result ≡ spec.number_within low high digits.now }
+{
+    if !is_decimal(digits) {
+        return None;
+    }
+    let number = str::from_utf8(digits).unwrap().parse::<u64>().ok()?;
+    if low <= number && number <= high {
+        Some(number)
+    } else {
+        None
+    }
+}
+
+/// Returns the node of a field, 1 to 16. It does not allocate.
+pub fn node_of(field: &[u8]) -> Option<NodeId>
+    ensures { result ≡ spec.node_of field.now }
+{
+    let number = number_within(1, 16, field)?;
+    NodeId::new(number as u16)
+}
+
+/// Returns the client of a field, 0 to 2^32 - 1. It does not allocate.
+pub fn client_of(field: &[u8]) -> Option<u32>
+    ensures { result ≡ spec.client_of field.now }
+{
+    let number = number_within(0, u64::from(u32::MAX), field)?;
+    Some(number as u32)
+}
+
+/// Returns the number of a field, 0 to 2^64 - 1. It does not allocate.
+pub fn start_of(field: &[u8]) -> Option<u64>
+    ensures { result ≡ spec.start_of field.now }
+{
+    number_within(0, u64::MAX, field)
+}
+
+/// Returns the sequence number of a field, 1 to 2^64 - 1. It does not allocate.
+pub fn seq_of(field: &[u8]) -> Option<u64>
+    ensures { result ≡ spec.seq_of field.now }
+{
+    number_within(1, u64::MAX, field)
+}
+
+/// Returns the name of a field. It does not allocate.
+pub fn name_of(field: &[u8]) -> Option<Name>
+    ensures { result ≡ spec.name_of field.now }
+{
+    Name::new(field).ok()
+}
+
+/// Returns the mode of a field, `X` or `S`. It does not allocate.
+pub fn mode_of(field: &[u8]) -> Option<Mode>
+    ensures { result ≡ spec.mode_of field.now }
+{
+    match field {
+        b"X" => Some(Mode::Exclusive),
+        b"S" => Some(Mode::Shared),
+        _ => None,
+    }
+}

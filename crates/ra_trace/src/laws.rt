@@ -1,0 +1,41 @@
+//! What is true of every trace and of every text of one: a function does nothing, and its contract is the law.
+ghost use Rattle.std.specs.Prelude.{◌≡◌, ℕ, List};
+ghost use Rattle.ra_world.specs.Traffic.{Move};
+ghost use Rattle.ra_trace.specs.declared.verdict.Verdict.{Verdict};
+ghost use Rattle.ra_trace.specs.Below.{LawsBelow};
+ghost use Rattle.ra_trace.specs.TraceText.{IsTrace};
+ghost use Rattle.ra_trace.specs.Verdict.{IsVerdict};
+
+use ra_table::runs_go_on_by_steps;
+use ra_world::{
+    fronts_of_runs_are_runs, marks_of_runs_are_table_runs, runs_are_determined,
+    runs_go_on_where_steps_are_allowed,
+};
+
+/// What the proofs on traces take from those on runs and on the lock table, in one place.
+pub fn traces_rest_on_runs()
+    ensures { LawsBelow }
+{
+    fronts_of_runs_are_runs();
+    marks_of_runs_are_table_runs();
+    runs_are_determined();
+    runs_go_on_by_steps();
+    runs_go_on_where_steps_are_allowed();
+}
+
+/// Each text has one verdict: it is the trace of one run, or one line is the first wrong one, for one cause.
+pub fn each_text_has_one_verdict()
+    ensures { (text : List ℕ) (a b : Verdict) → IsVerdict text a → IsVerdict text b → a ≡ b }
+{
+    traces_rest_on_runs();
+}
+
+/// No text is the trace of two runs: it tells how many nodes there are, the number that each resource begins with, each step
+/// and what came of it.
+pub fn traces_tell_their_runs()
+    ensures { (n m start other : ℕ) (moves others : List Move) (text : List ℕ)
+        → IsTrace n start moves text → IsTrace m other others text
+        → (n ≡ m) × (start ≡ other) × (moves ≡ others) }
+{
+    runs_are_determined();
+}

@@ -1,0 +1,26 @@
+//! Traces: a run of the cluster written down line by line, and a checker that says of any text whether it is one.
+#![tactic(auto)]
+
+mod checker;
+mod checking;
+mod error;
+mod fields;
+mod forms;
+mod laws;
+mod line;
+mod ranges;
+mod reading;
+mod tables;
+mod verdict;
+mod writing;
+
+pub use checking::check;
+pub use error::{TraceError, WriteTraceError};
+pub use laws::{each_text_has_one_verdict, traces_tell_their_runs};
+pub use verdict::{Cause, Verdict};
+pub use writing::write_trace;
+
+#[cfg(test)]
+mod check_tests;
+#[cfg(test)]
+mod tests;

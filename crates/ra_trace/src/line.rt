@@ -1,0 +1,15 @@
+use ra_stamp::{Mark, NodeId};
+use ra_world::Step;
+
+/// A line of a trace.
+#[derive(Clone, Copy, Debug, PartialEq, Eq)]
+pub enum Line {
+    /// The first one: how many nodes there are, and the number that each resource begins with.
+    First { nodes: NodeId, start: u64 },
+    /// A step.
+    Stepped(Step),
+    /// A mark of the step before.
+    Marked(Mark),
+    /// The last one.
+    Last,
+}

@@ -1,0 +1,41 @@
+use thiserror::Error;
+
+/// Why a line of a trace is wrong.
+#[derive(Clone, Copy, Debug, PartialEq, Eq, Error)]
+pub enum Cause {
+    /// It has none of the forms of a line, or no line feed, or stands where it may not: the first line is another one or
+    /// stands again, or something is left behind the last one.
+    #[error("Line")]
+    Line,
+    /// The world refuses an ask or a release.
+    #[error("Refused")]
+    Refused,
+    /// A message that is delivered or lost is not under way.
+    #[error("NotUnderWay")]
+    NotUnderWay,
+    /// It is not the mark that comes next, or a mark of the step before has not come.
+    #[error("Marks")]
+    Marks,
+    /// The lock table refuses the mark.
+    #[error("Table")]
+    Table,
+}
+
+/// What a checker says of a text.
+#[derive(Clone, Copy, Debug, PartialEq, Eq)]
+pub enum Verdict {
+    /// It is the trace of a run.
+    Valid {
+        /// How many requests were made.
+        requests: u128,
+        /// How many messages were sent.
+        messages: u128,
+    },
+    /// A line is wrong, the first one that is.
+    Invalid {
+        /// Which, counted from 1.
+        line: u64,
+        /// Why.
+        cause: Cause,
+    },
+}

@@ -1,0 +1,222 @@
+ghost use Rattle.std.specs.Prelude.{◌≡◌, ◌≢◌, ◌↔◌, ◌⊎◌, ◌++◌, ℕ, List, [], ◌∷◌, map, flat_map, codes, decimal, string_bytes, OnOk, IfOk, IfErr, IsErrOf, IsOkUnless, All};
+ghost use Rattle.std.specs.Io.KnownBytes.{Appends};
+ghost use Rattle.ra_stamp.specs.NodeId.{IsNodeNumber};
+ghost use Rattle.ra_world.specs.Traffic.{Move};
+ghost use Rattle.ra_world.specs.Run.{WorldRun};
+ghost use Rattle.ra_world.specs.Refused.{IsRefusedAt};
+ghost use Rattle.ra_world.specs.Lines.{mark_line};
+ghost use Rattle.ra_trace.specs.declared.line.Line.{Line};
+ghost use Rattle.ra_trace.specs.TraceText as spec;
+ghost use Rattle.ra_trace.specs.TraceText.{IsTrace};
+ghost use Rattle.ra_trace.specs.Ranges.{StepFits, MarkFits};
+
+use crate::WriteTraceError;
+use crate::line::Line;
+use crate::ranges::{mark_fits, step_fits};
+use ra_stamp::{Marks, Memory, Message};
+use ra_world::{
+    NewError, RunError, Step, StepError, Steps, World, fronts_of_runs_are_runs, letter_of,
+    marks_of_runs_are_numbered, push_field, push_mark_line, push_number, text_of, write_out,
+};
+use std::alloc::Global;
+use std::io::Write;
+
+/// Adds the first line of a trace.
+fn push_first_line(text: &mut String, nodes: u16, start: u64) -> Result<(), Memory>
+    ensures { OnOk result (string_bytes text.new ≡ string_bytes text.old ++ spec.line_text (Line.First nodes start)) }
+{
+    text.push_str("trace 1")?;
+    push_number(text, nodes)?;
+    push_number(text, start)?;
+    text.push_str("\n")?;
+    Ok(())
+}
+
+/// Adds the fields of a message.
+fn push_message(text: &mut String, message: &Message) -> Result<(), Memory>
+    ensures { OnOk result (string_bytes text.new ≡ string_bytes text.old ++ spec.message_fields message.now) }
+{
+    match message {
+        Message::Request {
+            from,
+            to,
+            name,
+            mode,
+            seq,
+        } => {
+            push_field(text, "request")?;
+            push_number(text, from.get())?;
+            push_number(text, to.get())?;
+            push_field(text, text_of(name))?;
+            push_field(text, letter_of(*mode))?;
+            push_number(text, *seq)
+        }
+        Message::Reply {
+            from,
+            to,
+            name,
+            seq,
+        } => {
+            push_field(text, "reply")?;
+            push_number(text, from.get())?;
+            push_number(text, to.get())?;
+            push_field(text, text_of(name))?;
+            push_number(text, *seq)
+        }
+    }
+}
+
+/// Adds the line of a step.
+fn push_step_line(text: &mut String, step: &Step) -> Result<(), Memory>
+    ensures { OnOk result (string_bytes text.new ≡ string_bytes text.old ++ spec.step_line step.now) }
+{
+    match step {
+        Step::Ask {
+            node,
+            client,
+            name,
+            mode,
+        } => {
+            text.push_str("ask")?;
+            push_number(text, node.get())?;
+            push_number(text, *client)?;
+            push_field(text, text_of(name))?;
+            push_field(text, letter_of(*mode))?;
+        }
+        Step::Leave { node, client, name } => {
+            text.push_str("release")?;
+            push_number(text, node.get())?;
+            push_number(text, *client)?;
+            push_field(text, text_of(name))?;
+        }
+        Step::Deliver(message) => {
+            text.push_str("deliver")?;
+            push_message(text, message)?;
+        }
+        Step::Lose(message) => {
+            text.push_str("lose")?;
+            push_message(text, message)?;
+        }
+    }
+    text.push_str("\n")?;
+    Ok(())
+}
+
+/// Adds the lines of marks.
+fn push_marks(text: &mut String, marks: &Marks) -> Result<(), Memory>
+    ensures text { OnOk result (string_bytes text.new ≡ string_bytes text.old ++ flat_map mark_line marks.now.items) }
+    ensures fit { OnOk result (All MarkFits marks.now.items) }
+{
+    for mark in marks.as_slice() {
+        mark_fits(mark);
+        push_mark_line(text, mark)?;
+    }
+    Ok(())
+}
+
+/// Adds the lines of a step and of its marks.
+fn push_move(text: &mut String, step: &Step, marks: &Marks) -> Result<(), Memory>
+    ensures text { OnOk result
+        (string_bytes text.new ≡ (string_bytes text.old ++ spec.step_line step.now) ++ flat_map mark_line marks.now.items) }
+    ensures fit { OnOk result (StepFits step.now × All MarkFits marks.now.items) }
+{
+    step_fits(step);
+    push_step_line(text, step)?;
+    push_marks(text, marks)
+}
+
+/// Returns why no trace is written where the step of this place is refused for this cause.
+fn refused_at(place: u64, cause: StepError) -> WriteTraceError
+    ensures memory { cause ≡ StepError.Memory → result ≡ WriteTraceError.Memory }
+    ensures refused { cause ≢ StepError.Memory → result ≡ WriteTraceError.Run (RunError.Refused place cause) }
+{
+    match cause {
+        StepError::Memory => WriteTraceError::Memory,
+        cause => WriteTraceError::Run(RunError::Refused { place, cause }),
+    }
+}
+
+/// Returns the trace of a run.
+///
+/// # Errors
+///
+/// The first that holds, but that `Memory` may come before a later step is refused:
+///
+/// 1. `Run`: the number of nodes is not 1 to 16, or a step is refused.
+/// 2. `Memory`.
+fn trace_of(alloc: Global, nodes: u16, start: u64, steps: &Steps) -> Result<String, WriteTraceError>
+    ensures ok { IfOk result (λ text. (moves : List Move)
+        × (map (λ move. move.step) moves ≡ steps.now.items) × IsTrace nodes start moves (string_bytes text)) }
+    ensures bad_count { IsErrOf result (WriteTraceError.Run RunError.BadCount) ↔ (IsNodeNumber nodes → ⊥) }
+    ensures refused { (place : ℕ) (cause : StepError)
+        → IsErrOf result (WriteTraceError.Run (RunError.Refused place cause))
+        → IsNodeNumber nodes × IsRefusedAt nodes start steps.now.items place cause }
+    ensures never { ¬ IsErrOf result (WriteTraceError.Run RunError.Memory) }
+    ensures allowed { IsNodeNumber nodes → WorldRun nodes start steps.now.items
+        → IsOkUnless result WriteTraceError.Memory }
+    ensures early { IfErr result (λ fault. fault ≢ WriteTraceError.Write) }
+{
+    fronts_of_runs_are_runs();
+    marks_of_runs_are_numbered();
+    let mut world = match World::new(alloc, nodes, start) {
+        Ok(world) => world,
+        Err(NewError::BadCount) => return Err(WriteTraceError::Run(RunError::BadCount)),
+        Err(NewError::Memory) => return Err(WriteTraceError::Memory),
+    };
+    let mut text = String::new(alloc);
+    push_first_line(&mut text, nodes, start)?;
+    for (place, step) in steps.as_slice().iter().enumerate() {
+        match world.step(alloc, step) {
+            Ok(outcome) => push_move(&mut text, step, &outcome.marks)?,
+            Err(cause) => return Err(refused_at(place as u64 + 1, cause)),
+        }
+    }
+    text.push_str("end\n")?;
+    Ok(text)
+}
+
+/// Makes a run of this many nodes, all of whose numbers begin at `start`, through a list of steps, and writes its trace. The
+/// whole run is made first, and its text is kept until then. The cost is that of the steps, each as `World::step` says, and
+/// linear in the text. No write that failed is tried again.
+///
+/// # Errors
+///
+/// The first that holds, but that `Memory` may come before a later step is refused:
+///
+/// 1. `Run`: the number of nodes is not 1 to 16, or a step is refused, the first such one, with its place, counted from 1, and
+///    the cause. It is never want of memory.
+/// 2. `Memory`: memory ran out.
+/// 3. `Write`: the writer failed or took nothing, with bytes left to write. A front of the text was written.
+///
+/// After the first two the writer is as before.
+pub fn write_trace<W: Write>(
+    alloc: Global,
+    nodes: u16,
+    start: u64,
+    steps: &Steps,
+    writer: &mut W,
+) -> Result<(), WriteTraceError>
+    // What is written is the trace of these steps and nothing else.
+    ensures ok { OnOk result ((moves : List Move) × (text : List ℕ)
+        × (map (λ move. move.step) moves ≡ steps.now.items) × IsTrace nodes start moves text
+        × Appends (W.contents writer.old) (W.contents writer.new) text) }
+
+    ensures bad_count { IsErrOf result (WriteTraceError.Run RunError.BadCount) ↔ (IsNodeNumber nodes → ⊥) }
+    ensures refused { (place : ℕ) (cause : StepError)
+        → IsErrOf result (WriteTraceError.Run (RunError.Refused place cause))
+        → IsNodeNumber nodes × IsRefusedAt nodes start steps.now.items place cause }
+    // Want of memory in the run is want of memory here.
+    ensures never { ¬ IsErrOf result (WriteTraceError.Run RunError.Memory) }
+    ensures allowed { IsNodeNumber nodes → WorldRun nodes start steps.now.items
+        → IfErr result (λ fault. (fault ≡ WriteTraceError.Memory) ⊎ (fault ≡ WriteTraceError.Write)) }
+
+    ensures unwritten { IfErr result (λ fault. fault ≢ WriteTraceError.Write → writer.new ≡ writer.old) }
+    // A fault of the writer comes only with something left to write.
+    ensures front { IsErrOf result WriteTraceError.Write → (moves : List Move) × (front back : List ℕ)
+        × (map (λ move. move.step) moves ≡ steps.now.items) × IsTrace nodes start moves (front ++ back) × (back ≢ [])
+        × Appends (W.contents writer.old) (W.contents writer.new) front }
+{
+    let text = trace_of(alloc, nodes, start, steps)?;
+    write_out(writer, text.as_bytes())?;
+    Ok(())
+}

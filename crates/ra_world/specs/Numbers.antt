@@ -1,0 +1,14 @@
+-- That a mark's request has a number, and a message too.
+use Rattle.std.specs.Prelude.{◌≤◌}
+use Rattle.ra_stamp.specs.declared.entry.Mark.{Mark}
+use Rattle.ra_stamp.specs.declared.entry.Mark.TheVariants.{Requested, Entered, Left}
+use Rattle.ra_stamp.specs.declared.message.Message.{Message}
+use Rattle.ra_stamp.specs.Message.{seq_of}
+
+abbrev pub HasNumber : Mark → Type 0
+HasNumber (Requested entry) = 1 ≤ entry.stamp.seq
+HasNumber (Entered entry) = 1 ≤ entry.stamp.seq
+HasNumber (Left entry) = 1 ≤ entry.stamp.seq
+
+abbrev pub IsNumbered : Message → Type 0
+IsNumbered message = 1 ≤ seq_of message
