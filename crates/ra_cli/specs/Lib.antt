@@ -2,3 +2,4 @@ pub mod Line
 pub mod Answer
 pub mod Words
 pub mod Performs
+pub mod Checks

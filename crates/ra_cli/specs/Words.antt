@@ -3,7 +3,7 @@ use Rattle.std.specs.Prelude.{◌≡◌, ℕ, ◌⊎◌, ⊤, List, [], ◌∷�
 use Rattle.ra_cli.specs.declared.command_line.CommandFault.{CommandFault}
 use Rattle.ra_cli.specs.declared.command_line.CommandFault.TheVariants.{Usage, Memory}
 use Rattle.ra_cli.specs.declared.command_line.Task.{Task}
-use Rattle.ra_cli.specs.declared.command_line.Task.TheVariants.{Answer, Sim, Help}
+use Rattle.ra_cli.specs.declared.command_line.Task.TheVariants.{Answer, Sim, Check, Help}
 
 -- the word is `--help` or `-h`
 abbrev pub IsHelpWord : List ℕ → Type 0
@@ -12,7 +12,8 @@ IsHelpWord word = (word ≡ codes "--help") ⊎ (word ≡ codes "-h")
 -- a fact for a text of help
 abbrev pub OnHelp : Task → Type 0 → Type 0
 OnHelp (Answer node nodes) P = ⊤
-OnHelp (Sim policy choices) P = ⊤
+OnHelp (Sim policy choices trace) P = ⊤
+OnHelp Check P = ⊤
 OnHelp (Help text) P = P
 
 -- what is printed where the words are refused

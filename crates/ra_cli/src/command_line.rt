@@ -32,13 +32,34 @@ Policies:
   listed  the words of --choices, one after the other: cK the next operation of client K, mI delivers and lI loses the
           message at place I of those under way, counted from 0 in the order of sending, as in --choices \"c1 m0 m0 c1\"
 
+With --trace the steps of the run and their marks are printed in place of this, as `ra check` reads them:
+  ra sim --trace < script.toml | ra check
+
 Status 0: each operation is done, and nothing waits, is queued or under way. Status 3: the run ended before that.
 Status 2: the words or the script are refused. Status 1: the input or the output failed.";
+
+/// What is said of the command `check` below its options.
+const CHECK_HELP: &str = "\
+A trace, read from standard input, is the steps of a run, each on a line with its marks on the lines below it:
+  trace 1 2 0
+  ask 1 1 r X
+  request 1 1 r X 1
+  deliver request 1 2 r X 1
+  deliver reply 2 1 r 1
+  enter 1 1 r X 1
+  end
+The first line says how many nodes there are, and the number that each resource begins with. It prints `valid`, and how many
+requests and messages there were; or `invalid`, the first line that is wrong, and why: Line (it is none, or out of place), Refused (the
+client may not ask or leave), NotUnderWay (nobody sent the message, or it was taken), Marks (not what came of the step), Table (a lock
+table does not allow it).
+
+Status 0: it is a run. Status 3: it is not. Status 2: the words are refused, or it has more than 16777216 bytes. Status 1: the
+input or the output failed.";
 
 /// What is said of the program below its commands.
 const STATUS_HELP: &str = "\
 Status 0: done. Status 1: the input or the output failed. Status 2: refused, by one line with the word that says why.
-Status 3: a run that ended with something left to do.";
+Status 3: a run that ended with something left to do, or a trace that is none.";
 
 /// Which policy the words name.
 #[derive(Clone, Copy, Debug)]
@@ -58,11 +79,14 @@ pub enum Task<'a> {
         node: u16,
         nodes: u16,
     },
-    /// The command `sim`, with its policy and the text of the choices.
+    /// The command `sim`, with its policy, the text of the choices, and whether the trace is to be printed.
     Sim {
         policy: PolicyName,
         choices: &'a str,
+        trace: bool,
     },
+    /// The command `check`.
+    Check,
     /// A text of help.
     Help(String),
 }
@@ -118,6 +142,10 @@ fn sim_command<'a>(alloc: Global) -> Result<Command<'a>, ParseError> {
         .action(ArgAction::Set)
         .default_value("")
         .hide_default_value(true);
+    let trace = Arg::new(alloc, "trace")
+        .long("trace")
+        .help("Print the trace of the run")
+        .action(ArgAction::SetTrue);
     let sim = Command::new(alloc, "sim")
         .about(
             "Drive a cluster through a script, and print who asked, entered and left, and what it cost",
@@ -125,8 +153,16 @@ fn sim_command<'a>(alloc: Global) -> Result<Command<'a>, ParseError> {
         .after_help(SIM_HELP)
         .arg(policy)?
         .arg(seed)?
-        .arg(choices)?;
+        .arg(choices)?
+        .arg(trace)?;
     Ok(sim)
+}
+
+/// Makes the command `check`.
+fn check_command<'a>(alloc: Global) -> Command<'a> {
+    Command::new(alloc, "check")
+        .about("Check the trace of a run, line by line")
+        .after_help(CHECK_HELP)
 }
 
 /// Makes the command line that `ra` understands.
@@ -139,7 +175,8 @@ fn command<'a>(alloc: Global) -> Result<Command<'a>, ParseError> {
         .disable_help_subcommand(true)
         .subcommand_required(true)
         .subcommand(answer)?
-        .subcommand(sim)?;
+        .subcommand(sim)?
+        .subcommand(check_command(alloc))?;
     Ok(ra)
 }
 
@@ -153,6 +190,9 @@ fn task_of<'a>(matches: &ArgMatches<'a>) -> Option<Task<'a>>
             nodes: answer.get_one("nodes")?,
         });
     }
+    if matches.subcommand_matches("check").is_some() {
+        return Some(Task::Check);
+    }
     let sim = matches.subcommand_matches("sim")?;
     let policy = match sim.get_str("policy")? {
         "newest" => PolicyName::Newest,
@@ -163,6 +203,7 @@ fn task_of<'a>(matches: &ArgMatches<'a>) -> Option<Task<'a>>
     Some(Task::Sim {
         policy,
         choices: sim.get_str("choices")?,
+        trace: sim.get_flag("trace"),
     })
 }
 

@@ -6,12 +6,15 @@ mod command_line;
 mod error;
 mod input;
 mod serving;
+mod verdict;
 
 pub use answering::answer;
 pub use command_line::CommandFault;
 pub use error::AnswerError;
 pub use serving::{refuse_words, serve};
 
+#[cfg(test)]
+mod check_tests;
 #[cfg(test)]
 mod seed_tests;
 #[cfg(test)]

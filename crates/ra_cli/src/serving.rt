@@ -4,14 +4,17 @@ ghost use Rattle.ra_cli.specs.Answer.{IsAnswered};
 ghost use Rattle.ra_cli.specs.Words.{IsHelpWord};
 ghost use Rattle.ra_cli.specs.Words as spec;
 ghost use Rattle.ra_cli.specs.Performs.{IsNamed, PerformsBy, Performs};
+ghost use Rattle.ra_cli.specs.Checks.{Checks, is_valid};
 ghost use Rattle.ra_script.specs.ChoicesText.{choices_of};
 ghost use Rattle.ra_schedule.specs.declared.choice.Policy.{Policy};
 ghost use Rattle.ra_cli.specs.declared.serving.Refusal.{Refusal};
 
 use crate::command_line::{PolicyName, Task, parse};
+use crate::verdict::verdict_text;
 use crate::{AnswerError, CommandFault, answer};
 use ra_schedule::Policy;
-use ra_script::{ChoicesError, PerformError, perform, read_choices};
+use ra_script::{ChoicesError, PerformError, perform, perform_trace, read_choices};
+use ra_trace::{TraceError, Verdict, check};
 use ra_world::write_out;
 use std::alloc::Global;
 use std::io::{Read, Write};
@@ -26,7 +29,7 @@ const BROKEN: u8 = 1;
 /// The words or the input were refused, or memory ran out.
 const REFUSED: u8 = 2;
 
-/// The run ended with something left to do.
+/// The run ended with something left to do, or the trace is none.
 const UNFINISHED: u8 = 3;
 
 /// Why a command was not done. Its `Display` is the word that is printed.
@@ -40,12 +43,14 @@ enum Refusal {
     Choices(ChoicesError),
     #[error(transparent)]
     Perform(PerformError),
+    #[error(transparent)]
+    Check(TraceError),
 }
 
 /// Writes a text and returns the status, or that of a fault where the writer fails. It does not allocate.
 fn written<W: Write>(writer: &mut W, text: &[u8], status: u8) -> u8
-    requires { status ≤ 2 }
-    ensures range { result ≤ 2 }
+    requires { status ≤ 3 }
+    ensures range { result ≤ 3 }
     ensures value { ((result ≡ status) × Appends (W.contents writer.old) (W.contents writer.new) text.now)
         ⊎ ((result ≡ 1) × (front : List ℕ) × (back : List ℕ) × (text.now ≡ front ++ back) × (back ≢ [])
         × Appends (W.contents writer.old) (W.contents writer.new) front) }
@@ -67,7 +72,9 @@ fn refuse<W: Write>(alloc: Global, writer: &mut W, refusal: Refusal) -> u8
         Refusal::Answer(AnswerError::Write) | Refusal::Perform(PerformError::Write) => {
             return BROKEN;
         }
-        Refusal::Answer(AnswerError::Read) | Refusal::Perform(PerformError::Read) => BROKEN,
+        Refusal::Answer(AnswerError::Read)
+        | Refusal::Perform(PerformError::Read)
+        | Refusal::Check(TraceError::Read) => BROKEN,
         _ => REFUSED,
     };
     match format!(in alloc; "refused {refusal}\n") {
@@ -120,20 +127,43 @@ fn policy_of(alloc: Global, name: PolicyName, choices: &str) -> Result<Policy, C
     })
 }
 
+/// Performs the script of the reader, and writes the lines of its report or its trace.
+///
+/// # Errors
+///
+/// Those of `perform`.
+fn perform_as<R: Read, W: Write>(
+    alloc: Global,
+    reader: &mut R,
+    writer: &mut W,
+    policy: &Policy,
+    trace: bool,
+) -> Result<bool, PerformError>
+    ensures { IfOk result (PerformsBy policy.now trace (R.remaining reader.old) (R.remaining reader.new)
+        (W.contents writer.old) (W.contents writer.new)) }
+{
+    if trace {
+        perform_trace(alloc, reader, writer, policy)
+    } else {
+        perform(alloc, reader, writer, policy)
+    }
+}
+
 /// Reads the choices, and drives a cluster through the script of the reader.
 fn simulate<R: Read, W: Write>(
     alloc: Global,
     name: PolicyName,
     choices: &str,
+    trace: bool,
     reader: &mut R,
     writer: &mut W,
 ) -> u8
     ensures range { result ≤ 3 }
     ensures done { result ≡ 0 → (policy : Policy) × IsNamed name choices.now policy
-        × PerformsBy policy (R.remaining reader.old) (R.remaining reader.new)
+        × PerformsBy policy trace (R.remaining reader.old) (R.remaining reader.new)
         (W.contents writer.old) (W.contents writer.new) true }
     ensures unfinished { result ≡ 3 → (policy : Policy) × IsNamed name choices.now policy
-        × PerformsBy policy (R.remaining reader.old) (R.remaining reader.new)
+        × PerformsBy policy trace (R.remaining reader.old) (R.remaining reader.new)
         (W.contents writer.old) (W.contents writer.new) false }
     // Choices that are none are refused before anything is read.
     ensures choices_first { choices_of choices.now ≡ None → (1 ≤ result) × (reader.new ≡ reader.old) }
@@ -142,15 +172,43 @@ fn simulate<R: Read, W: Write>(
         Ok(policy) => policy,
         Err(fault) => return refuse(alloc, writer, Refusal::Choices(fault)),
     };
-    match perform(alloc, reader, writer, &policy) {
+    match perform_as(alloc, reader, writer, &policy, trace) {
         Ok(true) => DONE,
         Ok(false) => UNFINISHED,
         Err(fault) => refuse(alloc, writer, Refusal::Perform(fault)),
     }
 }
 
+/// Returns the status of a verdict.
+fn status_of(verdict: &Verdict) -> u8
+    ensures { ((result ≡ 0) × (is_valid verdict.now ≡ true)) ⊎ ((result ≡ 3) × (is_valid verdict.now ≡ false)) }
+{
+    match verdict {
+        Verdict::Valid { .. } => DONE,
+        Verdict::Invalid { .. } => UNFINISHED,
+    }
+}
+
+/// Checks the text of the reader, and writes the lines of its verdict.
+fn judge<R: Read, W: Write>(alloc: Global, reader: &mut R, writer: &mut W) -> u8
+    ensures range { result ≤ 3 }
+    ensures valid { result ≡ 0 → Checks (R.remaining reader.old) (R.remaining reader.new)
+        (W.contents writer.old) (W.contents writer.new) true }
+    ensures invalid { result ≡ 3 → Checks (R.remaining reader.old) (R.remaining reader.new)
+        (W.contents writer.old) (W.contents writer.new) false }
+{
+    let verdict = match check(alloc, reader) {
+        Ok(verdict) => verdict,
+        Err(fault) => return refuse(alloc, writer, Refusal::Check(fault)),
+    };
+    match verdict_text(alloc, &verdict) {
+        Ok(text) => written(writer, text.as_bytes(), status_of(&verdict)),
+        Err(_) => refuse(alloc, writer, Refusal::Check(TraceError::Memory)),
+    }
+}
+
 /// Does what the words ask for, of which the first is the program's name, and returns the exit status: 0 done, 1 a fault of
-/// the input or the output, 2 refused, 3 a run that ended with something left to do. A refusal is printed as one line,
+/// the input or the output, 2 refused, 3 a run that ended with something left to do, or a trace that is none. A refusal is printed as one line,
 /// `refused` and its word. No read or write that failed is tried again, and after a fault of the output nothing more is
 /// written. It waits for nobody but the reader and the writer.
 pub fn serve<T, R: Read, W: Write>(
@@ -161,24 +219,34 @@ pub fn serve<T, R: Read, W: Write>(
     writer: &mut W,
 ) -> u8
     ensures range { result ≤ 3 }
-    // Status 0 comes only where the input was answered or performed to its end, or where a word asks for a text of help and
-    // nothing was read; and status 3 only where the input was performed and something is left to do.
+    // Status 0 comes only where the input was answered or performed to its end, or is the trace of a run, or where a word asks for
+    // a text of help and nothing was read; and status 3 only where the input was performed and something is left to do, or is
+    // the trace of no run.
     ensures done { result ≡ 0
         → ((reader.new ≡ reader.old) × Any (λ word. IsHelpWord (string_bytes word)) words.now)
         ⊎ ((node : ℕ) × (nodes : ℕ) × IfSome (R.remaining reader.old) (λ input. (output : List ℕ)
         × IsAnswered node nodes input output
         × Consumes (R.remaining reader.old) (R.remaining reader.new) input
         × Appends (W.contents writer.old) (W.contents writer.new) output))
-        ⊎ Performs (R.remaining reader.old) (R.remaining reader.new) (W.contents writer.old) (W.contents writer.new) true }
+        ⊎ Performs (R.remaining reader.old) (R.remaining reader.new) (W.contents writer.old) (W.contents writer.new) true
+        ⊎ Checks (R.remaining reader.old) (R.remaining reader.new) (W.contents writer.old) (W.contents writer.new) true }
     ensures unfinished { result ≡ 3
-        → Performs (R.remaining reader.old) (R.remaining reader.new) (W.contents writer.old) (W.contents writer.new) false }
+        → Performs (R.remaining reader.old) (R.remaining reader.new) (W.contents writer.old) (W.contents writer.new) false
+        ⊎ Checks (R.remaining reader.old) (R.remaining reader.new) (W.contents writer.old) (W.contents writer.new) false }
 {
     match parse(alloc, words) {
         Ok(Task::Answer { node, nodes }) => match answer(alloc, node, nodes, reader, writer) {
             Ok(()) => DONE,
             Err(fault) => refuse(alloc, writer, Refusal::Answer(fault)),
         },
-        Ok(Task::Sim { policy, choices }) => simulate(alloc, policy, choices, reader, writer),
+        Ok(
+            Task::Sim {
+                policy,
+                choices,
+                trace,
+            },
+        ) => simulate(alloc, policy, choices, trace, reader, writer),
+        Ok(Task::Check) => judge(alloc, reader, writer),
         Ok(Task::Help(text)) => written(writer, text.as_bytes(), DONE),
         Err(fault) => refuse(alloc, writer, Refusal::Command(fault)),
     }

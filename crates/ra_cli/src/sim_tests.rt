@@ -12,7 +12,7 @@ client = [{ node = 1, ops = ["X r", "U r"] }]
 "#;
 
 /// The same with a second node.
-const ONE_CLIENT: &str = r#"nodes = 2
+pub const ONE_CLIENT: &str = r#"nodes = 2
 
 [[client]]
 node = 1
@@ -58,12 +58,12 @@ client = [{ node = 1, ops = ["S r", "U r"] }, { node = 2, ops = ["S r", "U r"] }
 "#;
 
 /// Two clients of one node.
-const A_QUEUE: &str = r#"nodes = 2
+pub const A_QUEUE: &str = r#"nodes = 2
 client = [{ node = 1, ops = ["X r", "U r"] }, { node = 1, ops = ["X r", "U r"] }]
 "#;
 
 /// Two clients that lock two names in opposite orders.
-const A_DEADLOCK: &str = r#"nodes = 2
+pub const A_DEADLOCK: &str = r#"nodes = 2
 client = [
     { node = 1, ops = ["X a", "X b", "U b", "U a"] },
     { node = 2, ops = ["X b", "X a", "U a", "U b"] },
@@ -362,7 +362,7 @@ fn words_that_are_no_simulation_are_refused(rt: HostRuntime) -> Result<(), Fail>
         "ra sim --seed x",
         "ra sim --seed -1",
         "ra sim --seed 18446744073709551616",
-        "ra sim --trace",
+        "ra sim --trace --trace",
         "ra sim script.toml",
         "ra sim --policy oldest --policy newest",
     ] {
@@ -385,6 +385,7 @@ Options:
       --policy <policy>    Who chooses what comes next [default: oldest] [possible values: oldest, newest, seeded, listed]
       --seed <seed>        The seed of the policy seeded [default: 0]
       --choices <choices>  The choices of the policy listed
+      --trace              Print the trace of the run
   -h, --help               Print help
 
 A script, read from standard input, is a TOML document: how many nodes there are, and for each client its node and what it
@@ -400,6 +401,9 @@ Policies:
           generator PCG XSL RR 128/64 of --seed. A script and a seed have one run, the same on each machine
   listed  the words of --choices, one after the other: cK the next operation of client K, mI delivers and lI loses the
           message at place I of those under way, counted from 0 in the order of sending, as in --choices \"c1 m0 m0 c1\"
+
+With --trace the steps of the run and their marks are printed in place of this, as `ra check` reads them:
+  ra sim --trace < script.toml | ra check
 
 Status 0: each operation is done, and nothing waits, is queued or under way. Status 3: the run ended before that.
 Status 2: the words or the script are refused. Status 1: the input or the output failed.

@@ -10,13 +10,14 @@ use Rattle.toml.specs.Parse.{parse_document}
 use Rattle.ra_world.specs.Input.{Reads}
 use Rattle.ra_schedule.specs.declared.choice.Policy.{Policy}
 use Rattle.ra_schedule.specs.Script.{ScriptState}
+use Rattle.ra_script.specs.declared.form.Form.{Form}
 use Rattle.ra_script.specs.declared.error.ScriptError.{ScriptError}
 use Rattle.ra_script.specs.declared.error.ScriptError.TheVariants.{Limit, Toml, Shape}
 use Rattle.ra_script.specs.declared.error.PerformError.{PerformError}
 use Rattle.ra_script.specs.declared.error.PerformError.TheVariants as fault
 use Rattle.ra_script.specs.Document.{document_of}
 use Rattle.ra_script.specs.ScriptText.{result_and_then, script_in, tree_of, script_of}
-use Rattle.ra_script.specs.Performed.{IsPerformed, Refuses}
+use Rattle.ra_script.specs.Performed.{IsPerformedAs, RefusesAs}
 
 long_is_refused : (text : List ℕ) → 65537 ≤ length text → script_of text ≡ Err Limit
 long_is_refused text long =
@@ -40,34 +41,34 @@ is_read input rest taken h =
       | inr long ↦ record { how = inr (long, omega (arith, ap length h.taken, length-append taken rest)) }
     ]
 
-too_long : (policy : Policy) (taken input : List ℕ) (why : PerformError) → why ≢ fault.Write → 65537 ≤ length taken → 65537 ≤ length input
-    → Refuses policy taken why → Refuses policy input why
-too_long policy taken input fault.Read early t i h = h
-too_long policy taken input (fault.Script why) early t i h = (h.0, long_is_refused input i ∙ sym (long_is_refused taken t) ∙ h.1)
-too_long policy taken input (fault.Drive cause) early t i (script, moves, is, follows, stops) = absurd (no_long_script taken script t is)
-too_long policy taken input fault.Memory early t i h = h
-too_long policy taken input fault.Write early t i h = absurd (early refl)
+too_long : (form : Form) (policy : Policy) (taken input : List ℕ) (why : PerformError) → why ≢ fault.Write → 65537 ≤ length taken → 65537 ≤ length input
+    → RefusesAs form policy taken why → RefusesAs form policy input why
+too_long form policy taken input fault.Read early t i h = h
+too_long form policy taken input (fault.Script why) early t i h = (h.0, long_is_refused input i ∙ sym (long_is_refused taken t) ∙ h.1)
+too_long form policy taken input (fault.Drive cause) early t i (script, moves, is, follows, stops) = absurd (no_long_script taken script t is)
+too_long form policy taken input fault.Memory early t i h = h
+too_long form policy taken input fault.Write early t i h = absurd (early refl)
 
 -- a refusal of what was read is one of the input
-pub refuses_input : (old new : Option (List ℕ)) (policy : Policy) (taken : List ℕ) (why : PerformError) → why ≢ fault.Write
-    → Reads old new 65537 taken → Refuses policy taken why → IfSome old (λ input. Refuses policy input why)
-refuses_input None new policy taken why early h r = tt
-refuses_input (Some input) None policy taken why early h r = absurd h.taken
-refuses_input (Some input) (Some rest) policy taken why early h r =
+pub refuses_input : (old new : Option (List ℕ)) (form : Form) (policy : Policy) (taken : List ℕ) (why : PerformError) → why ≢ fault.Write
+    → Reads old new 65537 taken → RefusesAs form policy taken why → IfSome old (λ input. RefusesAs form policy input why)
+refuses_input None new form policy taken why early h r = tt
+refuses_input (Some input) None form policy taken why early h r = absurd h.taken
+refuses_input (Some input) (Some rest) form policy taken why early h r =
     elim (is_read input rest taken h).how [
-      | inl whole ↦ subst (λ (xs : List ℕ). Refuses policy xs why) (sym whole.0) r
-      | inr long ↦ too_long policy taken input why early long.0 long.1 r
+      | inl whole ↦ subst (λ (xs : List ℕ). RefusesAs form policy xs why) (sym whole.0) r
+      | inr long ↦ too_long form policy taken input why early long.0 long.1 r
     ]
 
 -- what comes of what was read comes of the input, and nothing of it is left
-pub performs_input : (old new : Option (List ℕ)) (policy : Policy) (taken output : List ℕ) (finished : Bool) → Reads old new 65537 taken
-    → IsPerformed policy taken output finished → IfSome old (λ input. IsPerformed policy input output finished × Consumes old new input)
-performs_input None new policy taken output finished h r = tt
-performs_input (Some input) None policy taken output finished h r = absurd h.taken
-performs_input (Some input) (Some rest) policy taken output finished h r =
+pub performs_input : (old new : Option (List ℕ)) (form : Form) (policy : Policy) (taken output : List ℕ) (finished : Bool) → Reads old new 65537 taken
+    → IsPerformedAs form policy taken output finished → IfSome old (λ input. IsPerformedAs form policy input output finished × Consumes old new input)
+performs_input None new form policy taken output finished h r = tt
+performs_input (Some input) None form policy taken output finished h r = absurd h.taken
+performs_input (Some input) (Some rest) form policy taken output finished h r =
     elim (is_read input rest taken h).how [
       | inl whole ↦ (
-        subst (λ (xs : List ℕ). IsPerformed policy xs output finished) (sym whole.0) r,
+        subst (λ (xs : List ℕ). IsPerformedAs form policy xs output finished) (sym whole.0) r,
         subst (λ (xs : List ℕ). Consumes (Some input) (Some rest) xs) (sym whole.0) h.taken,
       )
       | inr long ↦ absurd (no_long_script taken r.script long.0 r.script_is)

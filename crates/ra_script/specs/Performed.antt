@@ -1,4 +1,4 @@
--- What `perform` makes of its input.
+-- What `perform` and `perform_trace` make of their input.
 use Rattle.std.specs.Prelude.{◌≡◌, ◌≢◌, ◌↔◌, ℕ, ◌≤◌, List, [], Bool, IsTrue, length, Ok, Err}
 use Rattle.ra_world.specs.declared.report.Report.{Report}
 use Rattle.ra_world.specs.Traffic.{Move}
@@ -8,6 +8,9 @@ use Rattle.ra_world.specs.Lines.{report_text}
 use Rattle.ra_schedule.specs.declared.choice.Policy.{Policy}
 use Rattle.ra_schedule.specs.Script.{ScriptState}
 use Rattle.ra_schedule.specs.Schedule.{steps_of, Follows, Ends, Stops, IsFinished}
+use Rattle.ra_trace.specs.TraceText.{IsTrace}
+use Rattle.ra_script.specs.declared.form.Form.{Form}
+use Rattle.ra_script.specs.declared.form.Form.TheVariants.{Lines, Trace}
 use Rattle.ra_script.specs.declared.error.ScriptError.TheVariants as script_fault
 use Rattle.ra_script.specs.declared.error.PerformError.{PerformError}
 use Rattle.ra_script.specs.declared.error.PerformError.TheVariants as fault
@@ -17,9 +20,14 @@ use Rattle.ra_script.specs.ScriptText.{script_of}
 abbrev pub turn_limit : ℕ
 turn_limit = 16777216
 
--- The input is the text of a script. The policy was followed through it to its end, and the output is the lines of the report
--- of this run, for which the main theorem holds.
-pub record IsPerformed (policy : Policy) (input output : List ℕ) (finished : Bool) : Type 0 where
+-- the output says this of a run of so many nodes: the lines of its report, or its trace
+abbrev pub Says : Form → ℕ → List Move → Report → List ℕ → Type 0
+Says Lines nodes moves report output = output ≡ report_text report
+Says Trace nodes moves report output = IsTrace nodes 0 moves output
+
+-- The input is the text of a script. The policy was followed through it to its end, and the output says in this form what came
+-- of it. For the report of this run the main theorem holds.
+pub record IsPerformedAs (form : Form) (policy : Policy) (input output : List ℕ) (finished : Bool) : Type 0 where
   pub script : ScriptState
   pub script_is : script_of input ≡ Ok script
   pub moves : List Move
@@ -30,15 +38,26 @@ pub record IsPerformed (policy : Policy) (input output : List ℕ) (finished : B
   pub reports : Reports script.nodes 0 moves report
   pub main_theorem : MainTheorem script.nodes report
   pub finished_is : IsTrue finished ↔ IsFinished script (steps_of moves) report
-  pub lines : output ≡ report_text report
+  pub says : Says form script.nodes moves report output
+
+-- the output is the lines of the report
+abbrev pub IsPerformed : Policy → List ℕ → List ℕ → Bool → Type 0
+IsPerformed policy input output finished = IsPerformedAs Lines policy input output finished
+
+-- the output is the trace
+abbrev pub IsTraced : Policy → List ℕ → List ℕ → Bool → Type 0
+IsTraced policy input output finished = IsPerformedAs Trace policy input output finished
 
 -- where each refusal may come: its cause stands. Want of memory and faults of the reader and the writer come from outside, but
 -- the writer fails only where there is something to write.
-abbrev pub Refuses : Policy → List ℕ → PerformError → Type 0
-Refuses policy input fault.Read = Unit {0}
-Refuses policy input (fault.Script why) = (why ≢ script_fault.Memory) × (script_of input ≡ Err why)
-Refuses policy input (fault.Drive cause) = (script : ScriptState) × (moves : List Move) × (script_of input ≡ Ok script)
+abbrev pub RefusesAs : Form → Policy → List ℕ → PerformError → Type 0
+RefusesAs form policy input fault.Read = Unit {0}
+RefusesAs form policy input (fault.Script why) = (why ≢ script_fault.Memory) × (script_of input ≡ Err why)
+RefusesAs form policy input (fault.Drive cause) = (script : ScriptState) × (moves : List Move) × (script_of input ≡ Ok script)
     × Follows script policy moves × Stops script policy turn_limit moves cause
-Refuses policy input fault.Memory = Unit {0}
-Refuses policy input fault.Write = (output : List ℕ) × (finished : Bool) × IsPerformed policy input output finished
-    × (output ≢ [])
+RefusesAs form policy input fault.Memory = Unit {0}
+RefusesAs form policy input fault.Write = (output : List ℕ) × (finished : Bool)
+    × IsPerformedAs form policy input output finished × (output ≢ [])
+
+abbrev pub Refuses : Policy → List ℕ → PerformError → Type 0
+Refuses policy input why = RefusesAs Lines policy input why

@@ -1,16 +1,18 @@
-//! The texts of scripts and of lists of choices, and a script performed from its text to the lines of its report.
+//! The texts of scripts and of lists of choices, and a script performed from its text to the lines of its report or
+//! to its trace.
 #![tactic(auto)]
 
 mod choices;
 mod document;
 mod error;
+mod form;
 mod operation;
 mod performing;
 mod reading;
 
 pub use choices::read_choices;
 pub use error::{ChoicesError, PerformError, ScriptError};
-pub use performing::perform;
+pub use performing::{perform, perform_trace};
 pub use reading::read_script;
 
 #[cfg(test)]

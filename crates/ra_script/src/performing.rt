@@ -1,10 +1,17 @@
 ghost use Rattle.std.specs.Prelude.{◌≡◌, ◌≢◌, ◌≤◌, ◌<◌, List, ℕ, [], ◌++◌, Bool, length, string_bytes, IfOk, IfErr, IfSome, IsErrOf};
 ghost use Rattle.std.specs.Io.KnownBytes.{Consumes, Appends};
-ghost use Rattle.ra_script.specs.Performed.{IsPerformed, Refuses};
+ghost use Rattle.ra_world.specs.Traffic.{Move};
+ghost use Rattle.ra_world.specs.Run.{IsRun};
+ghost use Rattle.ra_schedule.specs.Schedule.{steps_of};
+ghost use Rattle.ra_script.specs.declared.form.Form.{Form};
+ghost use Rattle.ra_script.specs.Performed.{Says, IsPerformed, IsPerformedAs, IsTraced, Refuses, RefusesAs};
 
+use crate::form::Form;
 use crate::{PerformError, read_script};
-use ra_schedule::{Policy, drive};
-use ra_world::{read_up_to, report_text, write_out};
+use ra_schedule::{Policy, Recording, drive};
+use ra_stamp::Memory;
+use ra_trace::trace_text;
+use ra_world::{read_up_to, report_text, runs_are_determined, write_out};
 use std::alloc::Global;
 use std::io::{Read, Write};
 
@@ -14,14 +21,34 @@ const MAX_INPUT: usize = 65_537;
 /// The most turns that a script may take.
 const MAX_TURNS: u64 = 16_777_216;
 
-/// The lines of what came of a script, and whether it is finished.
+/// What is written of a script's run, and whether the run is finished.
 #[derive(Debug, Drop)]
 struct Printed {
     text: String,
     finished: bool,
 }
 
-/// Returns the lines of what comes of a script.
+/// Returns what is written of a run from numbers that begin at 0.
+///
+/// # Errors
+///
+/// `Memory`: there is none for the text.
+fn text_of(alloc: Global, form: Form, nodes: u16, recording: &Recording) -> Result<String, Memory>
+    ensures { (moves : List Move) → IsRun nodes 0 moves → steps_of moves ≡ recording.now.steps.items
+        → IfOk result (λ text. Says form nodes moves recording.now.report (string_bytes text)) }
+{
+    runs_are_determined();
+    match form {
+        Form::Lines => report_text(alloc, &recording.report),
+        // The steps are a run, so only memory can be wanting.
+        Form::Trace => match trace_text(alloc, nodes, 0, &recording.steps) {
+            Ok(text) => Ok(text),
+            Err(_) => Err(Memory),
+        },
+    }
+}
+
+/// Returns what is written of what comes of a script.
 ///
 /// # Errors
 ///
@@ -30,19 +57,68 @@ struct Printed {
 /// 1. `Script`: the input is no script.
 /// 2. `Drive`: the policy can't go on.
 /// 3. `Memory`.
-fn lines_of(alloc: Global, policy: &Policy, input: &[u8]) -> Result<Printed, PerformError>
-    ensures ok { IfOk result (λ p. IsPerformed policy.now input.now (string_bytes p.text) p.finished) }
-    ensures err { IfErr result (Refuses policy.now input.now) }
+fn make_printed(
+    alloc: Global,
+    form: Form,
+    policy: &Policy,
+    input: &[u8],
+) -> Result<Printed, PerformError>
+    ensures ok { IfOk result (λ p. IsPerformedAs form policy.now input.now (string_bytes p.text) p.finished) }
+    ensures err { IfErr result (RefusesAs form policy.now input.now) }
     ensures early { IfErr result (λ fault. fault ≢ PerformError.Write) }
     ensures unread { ¬ IsErrOf result PerformError.Read }
 {
     let script = read_script(alloc, input)?;
     let recording = drive(alloc, &script, policy, MAX_TURNS)?;
-    let text = report_text(alloc, &recording.report)?;
+    let text = text_of(alloc, form, script.nodes(), &recording)?;
     Ok(Printed {
         text,
         finished: recording.finished,
     })
+}
+
+/// Reads the text of a script, drives a cluster through it by a policy, and writes what came of it in a form. Returns whether
+/// the run is finished.
+///
+/// # Errors
+///
+/// Those of `perform`.
+fn perform_as<R: Read, W: Write>(
+    alloc: Global,
+    reader: &mut R,
+    writer: &mut W,
+    form: Form,
+    policy: &Policy,
+) -> Result<bool, PerformError>
+    // What is read is a script to its end, and what is written is what comes of it and nothing else.
+    ensures ok { IfOk result (λ finished. IfSome (R.remaining reader.old) (λ input. (output : List ℕ)
+        × IsPerformedAs form policy.now input output finished
+        × Consumes (R.remaining reader.old) (R.remaining reader.new) input
+        × Appends (W.contents writer.old) (W.contents writer.new) output)) }
+
+    ensures refused { IfErr result (λ fault.
+        IfSome (R.remaining reader.old) (λ input. RefusesAs form policy.now input fault)) }
+    // Where the reader tells nothing of its input, there still is one of which this holds.
+    ensures performed { IfOk result (λ finished. (input output : List ℕ)
+        × IsPerformedAs form policy.now input output finished
+        × Appends (W.contents writer.old) (W.contents writer.new) output) }
+    ensures cause { IfErr result (λ fault. (input : List ℕ) × RefusesAs form policy.now input fault) }
+
+    ensures unwritten { IfErr result (λ fault. fault ≢ PerformError.Write → writer.new ≡ writer.old) }
+    // A fault of the writer comes only with something left to write.
+    ensures front { IsErrOf result PerformError.Write → IfSome (R.remaining reader.old) (λ input.
+        (front back : List ℕ) × (finished : Bool) × IsPerformedAs form policy.now input (front ++ back) finished × (back ≢ [])
+        × Appends (W.contents writer.old) (W.contents writer.new) front) }
+
+    ensures failed { IsErrOf result PerformError.Read → (taken : List ℕ) × (length taken < 65537)
+        × Consumes (R.remaining reader.old) (R.remaining reader.new) taken }
+    ensures at_most { (taken : List ℕ) × (length taken ≤ 65537)
+        × Consumes (R.remaining reader.old) (R.remaining reader.new) taken }
+{
+    let input = read_up_to(alloc, reader, MAX_INPUT)?;
+    let done = make_printed(alloc, form, policy, &input)?;
+    write_out(writer, done.text.as_bytes())?;
+    Ok(done.finished)
 }
 
 /// Reads the text of a script, drives a cluster through it by a policy, in at most 16,777,216 turns, and writes the lines of
@@ -91,8 +167,44 @@ pub fn perform<R: Read, W: Write>(
     ensures at_most { (taken : List ℕ) × (length taken ≤ 65537)
         × Consumes (R.remaining reader.old) (R.remaining reader.new) taken }
 {
-    let input = read_up_to(alloc, reader, MAX_INPUT)?;
-    let done = lines_of(alloc, policy, &input)?;
-    write_out(writer, done.text.as_bytes())?;
-    Ok(done.finished)
+    perform_as(alloc, reader, writer, Form::Lines, policy)
+}
+
+/// Does as [`perform`], and writes the trace of the run in place of the lines of its report.
+///
+/// # Errors
+///
+/// As of [`perform`].
+pub fn perform_trace<R: Read, W: Write>(
+    alloc: Global,
+    reader: &mut R,
+    writer: &mut W,
+    policy: &Policy,
+) -> Result<bool, PerformError>
+    // What is read is a script to its end, and what is written is what comes of it and nothing else.
+    ensures ok { IfOk result (λ finished. IfSome (R.remaining reader.old) (λ input. (output : List ℕ)
+        × IsTraced policy.now input output finished
+        × Consumes (R.remaining reader.old) (R.remaining reader.new) input
+        × Appends (W.contents writer.old) (W.contents writer.new) output)) }
+
+    ensures refused { IfErr result (λ fault.
+        IfSome (R.remaining reader.old) (λ input. RefusesAs Form.Trace policy.now input fault)) }
+    // Where the reader tells nothing of its input, there still is one of which this holds.
+    ensures performed { IfOk result (λ finished. (input output : List ℕ)
+        × IsTraced policy.now input output finished
+        × Appends (W.contents writer.old) (W.contents writer.new) output) }
+    ensures cause { IfErr result (λ fault. (input : List ℕ) × RefusesAs Form.Trace policy.now input fault) }
+
+    ensures unwritten { IfErr result (λ fault. fault ≢ PerformError.Write → writer.new ≡ writer.old) }
+    // A fault of the writer comes only with something left to write.
+    ensures front { IsErrOf result PerformError.Write → IfSome (R.remaining reader.old) (λ input.
+        (front back : List ℕ) × (finished : Bool) × IsTraced policy.now input (front ++ back) finished × (back ≢ [])
+        × Appends (W.contents writer.old) (W.contents writer.new) front) }
+
+    ensures failed { IsErrOf result PerformError.Read → (taken : List ℕ) × (length taken < 65537)
+        × Consumes (R.remaining reader.old) (R.remaining reader.new) taken }
+    ensures at_most { (taken : List ℕ) × (length taken ≤ 65537)
+        × Consumes (R.remaining reader.old) (R.remaining reader.new) taken }
+{
+    perform_as(alloc, reader, writer, Form::Trace, policy)
 }

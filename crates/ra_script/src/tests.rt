@@ -1,5 +1,5 @@
-use crate::{ChoicesError, PerformError, ScriptError, read_choices, read_script};
-use ra_schedule::{Choice, Choices, DriveError, Op, Script};
+use crate::{ChoicesError, PerformError, ScriptError, perform_trace, read_choices, read_script};
+use ra_schedule::{Choice, Choices, DriveError, Op, Policy, Script};
 use ra_stamp::{Mode, Name, NodeId};
 use std::alloc::Global;
 use std::process::Abort;
@@ -356,5 +356,27 @@ fn refusals_print_as_their_words(rt: HostRuntime) -> Result<(), Fail> {
     ] {
         assert_eq!(rt; format!(in alloc; "{fault}")?.as_str(), word);
     }
+    Ok(())
+}
+
+#[test]
+fn a_run_is_written_as_its_trace(rt: HostRuntime) -> Result<(), Fail> {
+    let alloc = rt.alloc();
+    let mut reader = "nodes = 2\nclient = [{ node = 1, ops = [\"X r\", \"U r\"] }]\n".as_bytes();
+    let mut output = Vec::new(alloc);
+    let finished = perform_trace(alloc, &mut reader, &mut output, &Policy::Oldest)?;
+    let trace = "trace 1 2 0
+ask 1 1 r X
+request 1 1 r X 1
+deliver request 1 2 r X 1
+deliver reply 2 1 r 1
+enter 1 1 r X 1
+release 1 1 r
+leave 1 1 r X 1
+end
+";
+    assert!(rt; finished);
+    assert_eq!(rt; output.as_slice(), trace.as_bytes());
+    assert_eq!(rt; output.len(), 140);
     Ok(())
 }

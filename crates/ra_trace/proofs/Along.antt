@@ -1,5 +1,5 @@
 -- How far a checker has come in a text.
-use Rattle.std.proofs.Common.{◌≡◌, ◌≢◌, ◌⊎◌, ℕ, zero, suc, ◌+◌, ◌*◌, ◌<◌, ◌≤◌, List, [], ◌∷◌, ◌++◌, length, drop, refl, sym, ap, ◌∙◌, subst, inl, inr, arith, append_assoc, length-append}
+use Rattle.std.proofs.Common.{◌≡◌, ◌≢◌, ℕ, ◌+◌, ◌<◌, List, [], ◌∷◌, ◌++◌, length, refl, sym, ap, ◌∙◌, subst, inl, inr, arith, append_assoc, length-append}
 use Rattle.std.specs.Prelude.{flat_map, Result, Ok, IfOk}
 use Rattle.std.proofs.lemmas.Result.{IfOk-weaker}
 use Rattle.ra_trace.specs.declared.error.TraceError.{TraceError}
@@ -7,7 +7,7 @@ use Rattle.std.proofs.lemmas.List.{append-nil}
 use Rattle.std.proofs.lemmas.Grind.{flat_map-append}
 use Rattle.ra_world.specs.Run.{marks_of}
 use Rattle.ra_world.specs.Quiet.{requests_in}
-use Rattle.ra_world.specs.Traffic.{Move, sent_by}
+use Rattle.ra_world.specs.Traffic.{sent_by}
 use Rattle.ra_trace.specs.declared.line.Line.{Line}
 use Rattle.ra_trace.specs.declared.line.Line.TheVariants.{First, Stepped, Marked, Last}
 use Rattle.ra_trace.specs.declared.verdict.Cause.{Cause}
@@ -15,8 +15,8 @@ use Rattle.ra_trace.specs.declared.verdict.Cause.TheVariants as cause
 use Rattle.ra_trace.specs.declared.verdict.Verdict.{Verdict}
 use Rattle.ra_trace.specs.declared.verdict.Verdict.TheVariants.{Valid, Invalid}
 use Rattle.ra_trace.specs.declared.checker.Checker.{Checker}
-use Rattle.ra_trace.specs.TraceText.{IsLine, IsTrace, BeginsWith, line_text, trace_lines}
-use Rattle.ra_trace.specs.Verdict.{IsFront, IsFirst, IsWrong, IsVerdict}
+use Rattle.ra_trace.specs.TraceText.{IsLine, IsTrace, BeginsWith, line_text}
+use Rattle.ra_trace.specs.Verdict.{IsFront, IsFirst, IsVerdict}
 use Rattle.ra_trace.specs.Checking.{due_of, StandsBehind, Takes, Refuses}
 use Rattle.ra_trace.proofs.Lines.{begins_once}
 use Rattle.ra_trace.proofs.Fronts.{front_and_last}

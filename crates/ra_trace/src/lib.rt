@@ -18,7 +18,7 @@ pub use checking::check;
 pub use error::{TraceError, WriteTraceError};
 pub use laws::{each_text_has_one_verdict, traces_tell_their_runs};
 pub use verdict::{Cause, Verdict};
-pub use writing::write_trace;
+pub use writing::{trace_text, write_trace};
 
 #[cfg(test)]
 mod check_tests;

@@ -136,15 +136,22 @@ fn refused_at(place: u64, cause: StepError) -> WriteTraceError
     }
 }
 
-/// Returns the trace of a run.
+/// Makes a run of this many nodes, all of whose numbers begin at `start`, through a list of steps, and returns its trace. The
+/// cost is that of the steps, each as `World::step` says, and linear in the text.
 ///
 /// # Errors
 ///
 /// The first that holds, but that `Memory` may come before a later step is refused:
 ///
-/// 1. `Run`: the number of nodes is not 1 to 16, or a step is refused.
-/// 2. `Memory`.
-fn trace_of(alloc: Global, nodes: u16, start: u64, steps: &Steps) -> Result<String, WriteTraceError>
+/// 1. `Run`: the number of nodes is not 1 to 16, or a step is refused, the first such one, with its place, counted from 1, and
+///    the cause. It is never want of memory.
+/// 2. `Memory`: memory ran out.
+pub fn trace_text(
+    alloc: Global,
+    nodes: u16,
+    start: u64,
+    steps: &Steps,
+) -> Result<String, WriteTraceError>
     ensures ok { IfOk result (λ text. (moves : List Move)
         × (map (λ move. move.step) moves ≡ steps.now.items) × IsTrace nodes start moves (string_bytes text)) }
     ensures bad_count { IsErrOf result (WriteTraceError.Run RunError.BadCount) ↔ (IsNodeNumber nodes → ⊥) }
@@ -175,9 +182,7 @@ fn trace_of(alloc: Global, nodes: u16, start: u64, steps: &Steps) -> Result<Stri
     Ok(text)
 }
 
-/// Makes a run of this many nodes, all of whose numbers begin at `start`, through a list of steps, and writes its trace. The
-/// whole run is made first, and its text is kept until then. The cost is that of the steps, each as `World::step` says, and
-/// linear in the text. No write that failed is tried again.
+/// Writes the trace of a run, as [`trace_text`] gives it: the whole run is made first. No write that failed is tried again.
 ///
 /// # Errors
 ///
@@ -216,7 +221,7 @@ pub fn write_trace<W: Write>(
         × (map (λ move. move.step) moves ≡ steps.now.items) × IsTrace nodes start moves (front ++ back) × (back ≢ [])
         × Appends (W.contents writer.old) (W.contents writer.new) front }
 {
-    let text = trace_of(alloc, nodes, start, steps)?;
+    let text = trace_text(alloc, nodes, start, steps)?;
     write_out(writer, text.as_bytes())?;
     Ok(())
 }

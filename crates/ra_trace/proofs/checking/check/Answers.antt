@@ -1,6 +1,5 @@
-use Rattle.std.proofs.Common.{ℕ, ◌≤◌, List, length, subst, arith}
+use Rattle.std.proofs.Common.{ℕ, List, subst, arith}
 use Rattle.std.proofs.lemmas.Result.{IfOk-weaker}
-use Rattle.ra_trace.specs.declared.verdict.Verdict.{Verdict}
 use Rattle.ra_trace.specs.Verdict.{IsVerdict}
 use Rattle.ra_trace.proofs.Inputs.{trace_of_input}
 use Rattle.ra_trace.proofs.checking.check.Goals as goal

@@ -1,4 +1,4 @@
-use Rattle.std.proofs.Common.{◌≡◌, ◌≢◌, ◌+◌, ◌≤◌, ℕ, [], length, sym, ap, subst, arith}
+use Rattle.std.proofs.Common.{◌≡◌, [], sym, ap, subst, arith}
 use Rattle.std.specs.Option.{is_some}
 use Rattle.ra_trace.specs.Checking.{due_of, Takes}
 use Rattle.ra_trace.specs.declared.line.Line.{Line}

@@ -1,4 +1,4 @@
-use Rattle.std.proofs.Common.{◌≡◌, ◌<◌, length, ◌∙◌, arith}
+use Rattle.std.proofs.Common.{arith}
 use Rattle.std.proofs.lemmas.Bool.{ltb-true}
 use Rattle.ra_trace.proofs.Due.{some_left}
 use Rattle.ra_trace.proofs.checker.Checker.has_due.Goals as goal

@@ -1,6 +1,5 @@
-use Rattle.std.proofs.Common.{◌≡◌, ◌∙◌, sym, ap, Some, None, true, false}
+use Rattle.std.proofs.Common.{◌≡◌, ◌∙◌, sym, ap, Some, None}
 use Rattle.std.proofs.lemmas.Bool.{false≢true}
-use Rattle.ra_stamp.specs.declared.entry.Mark.{Mark}
 use Rattle.ra_trace.proofs.Due.{next_left, first_left}
 use Rattle.ra_trace.proofs.checker.Checker.is_due.Goals as goal
 

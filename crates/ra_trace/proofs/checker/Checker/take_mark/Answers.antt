@@ -1,4 +1,4 @@
-use Rattle.std.proofs.Common.{◌≡◌, refl, sym, ap, ◌∙◌, arith}
+use Rattle.std.proofs.Common.{arith}
 use Rattle.ra_trace.proofs.Taking.{mark_is_taken, table_refuses, mark_is_not_due}
 use Rattle.ra_trace.proofs.checker.Checker.take_mark.Goals as goal
 

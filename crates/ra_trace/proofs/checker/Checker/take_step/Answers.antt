@@ -1,5 +1,4 @@
-use Rattle.std.proofs.Common.{◌≡◌, ◌≢◌, Err, refl, sym, ap, ◌∙◌}
-use Rattle.ra_world.specs.declared.error.StepError.{StepError}
+use Rattle.std.proofs.Common.{◌≢◌, Err, sym, ap, ◌∙◌}
 use Rattle.ra_world.specs.declared.error.StepError.TheVariants.{NoNode, NotUnderWay, Node, Memory}
 use Rattle.ra_trace.proofs.Taking.{step_is_taken, step_comes_early, step_is_refused, step_is_not_under_way, no_node_is_of_client, node_is_of_client, not_under_way_takes}
 use Rattle.ra_trace.proofs.checker.Checker.take_step.Goals as goal
