@@ -1,1 +1,1 @@
-mod Taken
+pub mod Taken

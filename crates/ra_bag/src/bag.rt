@@ -65,6 +65,21 @@ impl Bag {
         is_last(&self.messages, message) || place_of(&self.messages, message).is_some()
     }
 
+    /// Returns a place where a message that is equal to this one stands: the place `near` where one does, else the first one,
+    /// or `None` where there is none. The cost is constant in the first case, and else linear in the number of messages. It does
+    /// not allocate.
+    pub fn find(&self, message: &Message, near: u64) -> Option<u64>
+        ensures found { IfSome result (λ place. (place < length self.now.items)
+            × (slice_index_or self.now.items place message.now ≡ message.now)) }
+        ensures none { IsNone result ↔ ¬ Contains self.now.items message.now }
+    {
+        if is_at(&self.messages, near, message) {
+            return Some(near);
+        }
+        let first = place_of(&self.messages, message)?;
+        Some(first as u64)
+    }
+
     /// Makes room for this many more messages, in time linear in the number of messages. The messages stay, and
     /// the spare is no smaller, whatever comes.
     ///
@@ -109,6 +124,28 @@ impl Bag {
     {
         let place = place_of(&self.messages, message)?;
         self.messages.remove(place)
+    }
+
+    /// Takes the message at this place, counted from 0, or returns `None` past the end and leaves the bag. The cost is linear in
+    /// the distance from the nearer end. It does not allocate.
+    pub fn take_at(&mut self, place: u64) -> Option<Message>
+        ensures taken { result ≡ slice_get self.old.items place }
+        ensures left { place < length self.old.items → self.new.items ≡ remove self.old.items place }
+        ensures none { IsNone result → self.new ≡ self.old }
+        ensures spare { self.old.spare ≤ self.new.spare }
+    {
+        self.messages.remove(place as usize)
+    }
+}
+
+/// Returns whether the message at this place is equal to this one.
+fn is_at(messages: &VecDeque<Message>, place: u64, message: &Message) -> bool
+    ensures { IsTrue result → (place < length messages.now.items)
+        × (slice_index_or messages.now.items place message.now ≡ message.now) }
+{
+    match messages.get(place as usize) {
+        Some(other) => is_same(other, message),
+        None => false,
     }
 }
 

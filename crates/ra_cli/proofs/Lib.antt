@@ -1,2 +1,5 @@
+mod Inputs
 mod Replies
 mod Refusals
+mod Scripts
+mod ClusterRuns

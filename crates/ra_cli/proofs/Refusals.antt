@@ -1,14 +1,14 @@
 -- What holds of the bytes that were read holds of the whole input: an input of which 258 bytes were read has no line.
-use Rattle.std.proofs.Common.{◌≡◌, ◌≢◌, ◌⊎◌, ℕ, ◌≤◌, List, [], ◌∷◌, ◌++◌, length, Option, Some, None, refl, sym, ap, subst, ◌∙◌, arith, inl, inr}
+use Rattle.std.proofs.Common.{◌≡◌, ◌≢◌, ℕ, ◌≤◌, List, [], ◌∷◌, ◌++◌, length, Option, Some, None, refl, sym, ap, subst, ◌∙◌, arith, inl, inr}
 use Rattle.std.specs.Prelude.{IfSome}
 use Rattle.std.specs.Io.KnownBytes.{Consumes}
-use Rattle.std.proofs.lemmas.Bool.{cases_lt}
-use Rattle.std.proofs.lemmas.List.{append-nil, length-append}
+use Rattle.std.proofs.lemmas.List.{length-append}
 use Rattle.ra_cli.specs.declared.error.AnswerError.{AnswerError}
 use Rattle.ra_cli.specs.declared.error.AnswerError.TheVariants as fault
 use Rattle.ra_cli.specs.Line.{IsLine}
 use Rattle.ra_world.specs.Input.{Reads}
 use Rattle.ra_cli.specs.Answer.{IsAnswered, Refuses}
+use Rattle.ra_cli.proofs.Inputs.{is_read}
 
 no_long_line : (input line : List ℕ) → 258 ≤ length input → IsLine input line → ⊥
 no_long_line input line long h =
@@ -31,25 +31,12 @@ too_long node nodes taken input fault.ClockFull early t i h = absurd (no_long_li
 too_long node nodes taken input fault.Memory early t i h = h
 too_long node nodes taken input fault.Write early t i h = absurd (early refl)
 
--- all of the input was read, or 258 bytes of it
-pub record IsRead (input taken : List ℕ) (new : Option (List ℕ)) : Type 0 where
-  pub how : ((input ≡ taken) × (new ≡ Some [])) ⊎ ((258 ≤ length taken) × (258 ≤ length input))
-
-is_read : (input rest taken : List ℕ) → Reads (Some input) (Some rest) 258 taken → IsRead input taken (Some rest)
-is_read input rest taken h =
-    elim (cases_lt (length taken) 258) [
-      | inl short ↦
-          let nothing : rest ≡ [] = h.ended short in
-          record { how = inl (h.taken ∙ (ap (λ (xs : List ℕ). taken ++ xs) nothing ∙ append-nil taken), ap Some nothing) }
-      | inr long ↦ record { how = inr (long, omega (arith, ap length h.taken, length-append taken rest)) }
-    ]
-
 -- a refusal of what was read is one of the input
 pub refuses_input : (old new : Option (List ℕ)) (node nodes : ℕ) (taken : List ℕ) (why : AnswerError) → why ≢ fault.Write → Reads old new 258 taken → Refuses node nodes taken why → IfSome old (λ input. Refuses node nodes input why)
 refuses_input None new node nodes taken why early h r = tt
 refuses_input (Some input) None node nodes taken why early h r = absurd h.taken
 refuses_input (Some input) (Some rest) node nodes taken why early h r =
-    elim (is_read input rest taken h).how [
+    elim (is_read 258 input rest taken h).how [
       | inl whole ↦ subst (λ (xs : List ℕ). Refuses node nodes xs why) (sym whole.0) r
       | inr long ↦ too_long node nodes taken input why early long.0 long.1 r
     ]
@@ -62,7 +49,7 @@ pub answers_input : (old new : Option (List ℕ)) (node nodes : ℕ) (taken outp
 answers_input None new node nodes taken output h r = tt
 answers_input (Some input) None node nodes taken output h r = absurd h.taken
 answers_input (Some input) (Some rest) node nodes taken output h r =
-    elim (is_read input rest taken h).how [
+    elim (is_read 258 input rest taken h).how [
       | inl whole ↦ (subst (λ (xs : List ℕ). IsAnswered node nodes xs output) (sym whole.0) r, subst (λ (xs : List ℕ). Consumes (Some input) (Some rest) xs) (sym whole.0) h.taken)
       | inr long ↦ absurd (answered_short node nodes taken output long.0 r)
     ]

@@ -3,3 +3,5 @@ pub mod Answer
 pub mod Words
 pub mod Performs
 pub mod Checks
+pub mod Statuses
+pub mod ClusterRun

@@ -5,7 +5,9 @@ use std::alloc::Global;
 use std::io;
 use std::io::Read;
 use std::process::Abort;
+use std::sync::Wait;
 use std::test::Fail;
+use std::thread::Threads;
 
 /// The trace of a client that locks and unlocks a name, at the first of two nodes.
 const ALONE: &str = "trace 1 2 0
@@ -51,7 +53,7 @@ end
 ";
 
 /// Asserts what a command line prints for an input, and its status.
-fn assert_prints<T: Abort + AllocGlobal>(
+pub fn assert_prints<T: Abort + AllocGlobal + Threads + Wait + Sync>(
     rt: &T,
     line: &str,
     input: &[u8],
@@ -218,10 +220,16 @@ A trace, read from standard input, is the steps of a run, each on a line with it
   deliver reply 2 1 r 1
   enter 1 1 r X 1
   end
-The first line says how many nodes there are, and the number that each resource begins with. It prints `valid`, and how many
-requests and messages there were; or `invalid`, the first line that is wrong, and why: Line (it is none, or out of place), Refused (the
-client may not ask or leave), NotUnderWay (nobody sent the message, or it was taken), Marks (not what came of the step), Table (a lock
-table does not allow it).
+The first line says how many nodes there are, and the number that each resource begins with.
+
+It prints `valid`, and how many requests and messages there were; or `invalid`, the first line that is wrong, and why:
+  Line         it is none, or stands where it may not
+  Refused      the client may not ask or leave
+  NotUnderWay  nobody sent the message, or it was taken already
+  Marks        the marks are not what came of the step
+  Table        a lock table does not allow the mark
+
+Example: ra sim --trace < script.toml | ra check
 
 Status 0: it is a run. Status 3: it is not. Status 2: the words are refused, or it has more than 16777216 bytes. Status 1: the
 input or the output failed.

@@ -32,7 +32,7 @@ Policies:
   listed  the words of --choices, one after the other: cK the next operation of client K, mI delivers and lI loses the
           message at place I of those under way, counted from 0 in the order of sending, as in --choices \"c1 m0 m0 c1\"
 
-With --trace the steps of the run and their marks are printed in place of this, as `ra check` reads them:
+With --trace it prints the steps of the run, each with its marks, in place of the marks and totals, as `ra check` reads them:
   ra sim --trace < script.toml | ra check
 
 Status 0: each operation is done, and nothing waits, is queued or under way. Status 3: the run ended before that.
@@ -48,13 +48,44 @@ A trace, read from standard input, is the steps of a run, each on a line with it
   deliver reply 2 1 r 1
   enter 1 1 r X 1
   end
-The first line says how many nodes there are, and the number that each resource begins with. It prints `valid`, and how many
-requests and messages there were; or `invalid`, the first line that is wrong, and why: Line (it is none, or out of place), Refused (the
-client may not ask or leave), NotUnderWay (nobody sent the message, or it was taken), Marks (not what came of the step), Table (a lock
-table does not allow it).
+The first line says how many nodes there are, and the number that each resource begins with.
+
+It prints `valid`, and how many requests and messages there were; or `invalid`, the first line that is wrong, and why:
+  Line         it is none, or stands where it may not
+  Refused      the client may not ask or leave
+  NotUnderWay  nobody sent the message, or it was taken already
+  Marks        the marks are not what came of the step
+  Table        a lock table does not allow the mark
+
+Example: ra sim --trace < script.toml | ra check
 
 Status 0: it is a run. Status 3: it is not. Status 2: the words are refused, or it has more than 16777216 bytes. Status 1: the
 input or the output failed.";
+
+/// What is said of the command `cluster` below its options.
+const CLUSTER_HELP: &str = "\
+A script is read from standard input; `ra sim --help` says what it is. This one has two clients that want the same name:
+  nodes = 3
+  client = [{ node = 1, ops = [\"X r\", \"U r\"] },
+            { node = 2, ops = [\"X r\", \"U r\"] }]
+
+Example: ra cluster < script.toml
+
+Each node and each client has a thread of its own. What happens first is up to the threads, so the marks may come in another
+order, and with other numbers, each time. When the threads have ended, what the nodes wrote down is put together into one run
+of the cluster, whose marks and totals are printed.
+
+Two conditions on the script are checked before any thread starts, since a client that waits in vain keeps its thread, and
+so the program, waiting for ever:
+  OutOfOrder  a client locks a name that is not above, byte by byte, each name that it holds then. If one client locks b while
+              it holds a, and another locks a while it holds b, each waits for the other
+  Unreleased  a client holds a name at its end. Whoever asks for that name later waits for a client that is gone
+
+Nothing bounds how long a run takes. `ra sim` takes any script, and says who waits at the end.
+
+Status 0: each operation is done, and nothing waits, is queued, lost or under way. Status 1: the input or the output failed.
+Status 2: the words or the script are refused, or the run failed: Fault where a node was stopped, as for want of memory or of
+threads, and Settle, PlanUnmet, Lost or UnderWay where what the nodes wrote down is no run, or not that of the whole script.";
 
 /// What is said of the program below its commands.
 const STATUS_HELP: &str = "\
@@ -87,6 +118,8 @@ pub enum Task<'a> {
     },
     /// The command `check`.
     Check,
+    /// The command `cluster`.
+    Cluster,
     /// A text of help.
     Help(String),
 }
@@ -165,6 +198,13 @@ fn check_command<'a>(alloc: Global) -> Command<'a> {
         .after_help(CHECK_HELP)
 }
 
+/// Makes the command `cluster`.
+fn cluster_command<'a>(alloc: Global) -> Command<'a> {
+    Command::new(alloc, "cluster")
+        .about("Run a script by threads, and print who asked, entered and left, and what it cost")
+        .after_help(CLUSTER_HELP)
+}
+
 /// Makes the command line that `ra` understands.
 fn command<'a>(alloc: Global) -> Result<Command<'a>, ParseError> {
     let answer = answer_command(alloc)?;
@@ -176,6 +216,7 @@ fn command<'a>(alloc: Global) -> Result<Command<'a>, ParseError> {
         .subcommand_required(true)
         .subcommand(answer)?
         .subcommand(sim)?
+        .subcommand(cluster_command(alloc))?
         .subcommand(check_command(alloc))?;
     Ok(ra)
 }
@@ -192,6 +233,9 @@ fn task_of<'a>(matches: &ArgMatches<'a>) -> Option<Task<'a>>
     }
     if matches.subcommand_matches("check").is_some() {
         return Some(Task::Check);
+    }
+    if matches.subcommand_matches("cluster").is_some() {
+        return Some(Task::Cluster);
     }
     let sim = matches.subcommand_matches("sim")?;
     let policy = match sim.get_str("policy")? {

@@ -1,8 +1,12 @@
 ghost use Rattle.std.specs.Prelude.{◌≡◌};
 ghost use Rattle.ra_cli.specs.declared.error.AnswerError.TheVariants.{Read, Frame, Memory, Write};
+ghost use Rattle.ra_cli.specs.declared.error.RunScriptError.TheVariants as run;
+ghost use Rattle.ra_cli.specs.ClusterRun.{of_read, of_script, of_cluster};
 ghost use Rattle.ra_world.specs.declared.error.ReadFault.{ReadFault};
 
+use ra_cluster::ClusterError;
 use ra_frame::FrameError;
+use ra_script::ScriptError;
 use ra_stamp::Memory;
 use ra_world::{ReadFault, WriteFault};
 use thiserror::Error;
@@ -37,6 +41,26 @@ pub enum AnswerError {
     /// The node's clock would pass 2^62.
     #[error("ClockFull")]
     ClockFull,
+    /// Memory ran out.
+    #[error("Memory")]
+    Memory,
+    /// The writer failed.
+    #[error("Write")]
+    Write,
+}
+
+/// Why a script was not run by threads to its end, in the order in which the causes are looked for.
+#[derive(Clone, Copy, Debug, PartialEq, Eq, Error)]
+pub enum RunScriptError {
+    /// The reader failed.
+    #[error("Read")]
+    Read,
+    /// What was read is no script. It is never want of memory.
+    #[error(transparent)]
+    Script(ScriptError),
+    /// Threads may not run it, or did not bring it to its end. It is never want of memory.
+    #[error(transparent)]
+    Cluster(ClusterError),
     /// Memory ran out.
     #[error("Memory")]
     Memory,
@@ -81,5 +105,59 @@ impl From<WriteFault> for AnswerError {
     /// Says that the writer failed.
     fn from(_fault: WriteFault) -> AnswerError {
         AnswerError::Write
+    }
+}
+
+impl From<ReadFault> for RunScriptError {
+    ghost from_gives = { λ fault e. e ≡ of_read fault };
+
+    /// Returns the refusal of the same word.
+    fn from(fault: ReadFault) -> RunScriptError {
+        match fault {
+            ReadFault::Read => RunScriptError::Read,
+            ReadFault::Memory => RunScriptError::Memory,
+        }
+    }
+}
+
+impl From<ScriptError> for RunScriptError {
+    ghost from_gives = { λ fault e. e ≡ of_script fault };
+
+    /// Names why the text is no script.
+    fn from(fault: ScriptError) -> RunScriptError {
+        match fault {
+            ScriptError::Memory => RunScriptError::Memory,
+            fault => RunScriptError::Script(fault),
+        }
+    }
+}
+
+impl From<ClusterError> for RunScriptError {
+    ghost from_gives = { λ fault e. e ≡ of_cluster fault };
+
+    /// Names why the threads did not bring the script to its end.
+    fn from(fault: ClusterError) -> RunScriptError {
+        match fault {
+            ClusterError::Memory => RunScriptError::Memory,
+            fault => RunScriptError::Cluster(fault),
+        }
+    }
+}
+
+impl From<Memory> for RunScriptError {
+    ghost from_gives = { λ _ e. e ≡ run.Memory };
+
+    /// Says that memory ran out.
+    fn from(_refused: Memory) -> RunScriptError {
+        RunScriptError::Memory
+    }
+}
+
+impl From<WriteFault> for RunScriptError {
+    ghost from_gives = { λ _ e. e ≡ run.Write };
+
+    /// Says that the writer failed.
+    fn from(_fault: WriteFault) -> RunScriptError {
+        RunScriptError::Write
     }
 }

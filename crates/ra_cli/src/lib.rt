@@ -5,6 +5,7 @@ mod answering;
 mod command_line;
 mod error;
 mod input;
+mod running;
 mod serving;
 mod verdict;
 
@@ -15,6 +16,8 @@ pub use serving::{refuse_words, serve};
 
 #[cfg(test)]
 mod check_tests;
+#[cfg(test)]
+mod cluster_tests;
 #[cfg(test)]
 mod seed_tests;
 #[cfg(test)]

@@ -1,15 +1,18 @@
-ghost use Rattle.std.specs.Prelude.{true, false, [], ◌++◌, None, ◌≢◌, IsErr, IfOk, IfErr, ◌≡◌, ◌≤◌, ◌⊎◌, List, ℕ, Any, IfSome, string_bytes};
+ghost use Rattle.std.specs.Prelude.{true, false, [], ◌++◌, None, ◌≢◌, IsErr, IfOk, IfErr, IfNone, ◌≡◌, ◌≤◌, ◌⊎◌, List, ℕ, Any, IfSome, string_bytes};
 ghost use Rattle.std.specs.Io.KnownBytes.{Consumes, Appends};
-ghost use Rattle.ra_cli.specs.Answer.{IsAnswered};
 ghost use Rattle.ra_cli.specs.Words.{IsHelpWord};
 ghost use Rattle.ra_cli.specs.Words as spec;
-ghost use Rattle.ra_cli.specs.Performs.{IsNamed, PerformsBy, Performs};
+ghost use Rattle.ra_cli.specs.Performs.{IsNamed, PerformsBy};
 ghost use Rattle.ra_cli.specs.Checks.{Checks, is_valid};
+ghost use Rattle.ra_cli.specs.Statuses.{IsDone, IsUnfinished};
+ghost use Rattle.ra_cli.specs.ClusterRun.{RunsCluster};
 ghost use Rattle.ra_script.specs.ChoicesText.{choices_of};
 ghost use Rattle.ra_schedule.specs.declared.choice.Policy.{Policy};
 ghost use Rattle.ra_cli.specs.declared.serving.Refusal.{Refusal};
 
 use crate::command_line::{PolicyName, Task, parse};
+use crate::error::RunScriptError;
+use crate::running::run_script;
 use crate::verdict::verdict_text;
 use crate::{AnswerError, CommandFault, answer};
 use ra_schedule::Policy;
@@ -18,6 +21,8 @@ use ra_trace::{TraceError, Verdict, check};
 use ra_world::write_out;
 use std::alloc::Global;
 use std::io::{Read, Write};
+use std::sync::Wait;
+use std::thread::Threads;
 use thiserror::Error;
 
 /// The command did what it was asked.
@@ -34,7 +39,7 @@ const UNFINISHED: u8 = 3;
 
 /// Why a command was not done. Its `Display` is the word that is printed.
 #[derive(Clone, Copy, Debug, Error)]
-enum Refusal {
+pub enum Refusal {
     #[error(transparent)]
     Command(CommandFault),
     #[error(transparent)]
@@ -45,6 +50,8 @@ enum Refusal {
     Perform(PerformError),
     #[error(transparent)]
     Check(TraceError),
+    #[error(transparent)]
+    Cluster(RunScriptError),
 }
 
 /// Writes a text and returns the status, or that of a fault where the writer fails. It does not allocate.
@@ -62,19 +69,20 @@ fn written<W: Write>(writer: &mut W, text: &[u8], status: u8) -> u8
 }
 
 /// Prints a refusal and returns its status. After a fault of the writer it prints nothing.
-fn refuse<W: Write>(alloc: Global, writer: &mut W, refusal: Refusal) -> u8
+pub fn refuse<W: Write>(alloc: Global, writer: &mut W, refusal: Refusal) -> u8
     ensures range { result ≤ 2 }
     ensures not_done { 1 ≤ result }
     ensures unwritten { (refusal ≡ Refusal.Answer AnswerError.Write) ⊎ (refusal ≡ Refusal.Perform PerformError.Write)
-        → (result ≡ 1) × (writer.new ≡ writer.old) }
+        ⊎ (refusal ≡ Refusal.Cluster RunScriptError.Write) → (result ≡ 1) × (writer.new ≡ writer.old) }
 {
     let status = match refusal {
-        Refusal::Answer(AnswerError::Write) | Refusal::Perform(PerformError::Write) => {
-            return BROKEN;
-        }
+        Refusal::Answer(AnswerError::Write)
+        | Refusal::Perform(PerformError::Write)
+        | Refusal::Cluster(RunScriptError::Write) => return BROKEN,
         Refusal::Answer(AnswerError::Read)
         | Refusal::Perform(PerformError::Read)
-        | Refusal::Check(TraceError::Read) => BROKEN,
+        | Refusal::Check(TraceError::Read)
+        | Refusal::Cluster(RunScriptError::Read) => BROKEN,
         _ => REFUSED,
     };
     match format!(in alloc; "refused {refusal}\n") {
@@ -207,34 +215,23 @@ fn judge<R: Read, W: Write>(alloc: Global, reader: &mut R, writer: &mut W) -> u8
     }
 }
 
-/// Does what the words ask for, of which the first is the program's name, and returns the exit status: 0 done, 1 a fault of
-/// the input or the output, 2 refused, 3 a run that ended with something left to do, or a trace that is none. A refusal is printed as one line,
-/// `refused` and its word. No read or write that failed is tried again, and after a fault of the output nothing more is
-/// written. It waits for nobody but the reader and the writer.
-pub fn serve<T, R: Read, W: Write>(
-    _rt: &T,
+/// Does what the words ask for but the command `cluster`, and returns the exit status. Where they ask for that it does nothing,
+/// and returns `None`. It waits for nobody but the reader and the writer.
+fn serve_alone<R: Read, W: Write>(
     alloc: Global,
     words: &[String],
     reader: &mut R,
     writer: &mut W,
-) -> u8
-    ensures range { result ≤ 3 }
-    // Status 0 comes only where the input was answered or performed to its end, or is the trace of a run, or where a word asks for
-    // a text of help and nothing was read; and status 3 only where the input was performed and something is left to do, or is
-    // the trace of no run.
-    ensures done { result ≡ 0
+) -> Option<u8>
+    ensures range { IfSome result (λ status. status ≤ 3) }
+    ensures done { IfSome result (λ status. status ≡ 0
         → ((reader.new ≡ reader.old) × Any (λ word. IsHelpWord (string_bytes word)) words.now)
-        ⊎ ((node : ℕ) × (nodes : ℕ) × IfSome (R.remaining reader.old) (λ input. (output : List ℕ)
-        × IsAnswered node nodes input output
-        × Consumes (R.remaining reader.old) (R.remaining reader.new) input
-        × Appends (W.contents writer.old) (W.contents writer.new) output))
-        ⊎ Performs (R.remaining reader.old) (R.remaining reader.new) (W.contents writer.old) (W.contents writer.new) true
-        ⊎ Checks (R.remaining reader.old) (R.remaining reader.new) (W.contents writer.old) (W.contents writer.new) true }
-    ensures unfinished { result ≡ 3
-        → Performs (R.remaining reader.old) (R.remaining reader.new) (W.contents writer.old) (W.contents writer.new) false
-        ⊎ Checks (R.remaining reader.old) (R.remaining reader.new) (W.contents writer.old) (W.contents writer.new) false }
+        ⊎ IsDone (R.remaining reader.old) (R.remaining reader.new) (W.contents writer.old) (W.contents writer.new)) }
+    ensures unfinished { IfSome result (λ status. status ≡ 3
+        → IsUnfinished (R.remaining reader.old) (R.remaining reader.new) (W.contents writer.old) (W.contents writer.new)) }
+    ensures untouched { IfNone result ((reader.new ≡ reader.old) × (writer.new ≡ writer.old)) }
 {
-    match parse(alloc, words) {
+    let status = match parse(alloc, words) {
         Ok(Task::Answer { node, nodes }) => match answer(alloc, node, nodes, reader, writer) {
             Ok(()) => DONE,
             Err(fault) => refuse(alloc, writer, Refusal::Answer(fault)),
@@ -247,7 +244,41 @@ pub fn serve<T, R: Read, W: Write>(
             },
         ) => simulate(alloc, policy, choices, trace, reader, writer),
         Ok(Task::Check) => judge(alloc, reader, writer),
+        Ok(Task::Cluster) => return None,
         Ok(Task::Help(text)) => written(writer, text.as_bytes(), DONE),
         Err(fault) => refuse(alloc, writer, Refusal::Command(fault)),
+    };
+    Some(status)
+}
+
+/// Does what the words ask for, of which the first is the program's name, and returns the exit status: 0 done, 1 a fault of
+/// the input or the output, 2 refused, 3 a run that ended with something left to do, or a trace that is none. A refusal is
+/// printed as one line, `refused` and its word. No read or write that failed is tried again, and after a fault of the output
+/// nothing more is written. It waits for nobody but the reader and the writer, and with the command `cluster` for the threads
+/// that it starts.
+pub fn serve<T: Threads + Wait + Sync, R: Read, W: Write>(
+    rt: &T,
+    alloc: Global,
+    words: &[String],
+    reader: &mut R,
+    writer: &mut W,
+) -> u8
+    ensures range { result ≤ 3 }
+    // Status 0 comes only where the input was answered, or performed or run by threads to its end, or is the trace of a run, or where a
+    // word asks for a text of help and nothing was read; and status 3 only where the input was performed and something is left to do, or
+    // is the trace of no run.
+    ensures done { result ≡ 0
+        → ((reader.new ≡ reader.old) × Any (λ word. IsHelpWord (string_bytes word)) words.now)
+        ⊎ IsDone (R.remaining reader.old) (R.remaining reader.new) (W.contents writer.old) (W.contents writer.new)
+        ⊎ RunsCluster (R.remaining reader.old) (R.remaining reader.new) (W.contents writer.old) (W.contents writer.new) }
+    ensures unfinished { result ≡ 3
+        → IsUnfinished (R.remaining reader.old) (R.remaining reader.new) (W.contents writer.old) (W.contents writer.new) }
+{
+    if let Some(status) = serve_alone(alloc, words, reader, writer) {
+        return status;
+    }
+    match run_script(rt, alloc, reader, writer) {
+        Ok(()) => DONE,
+        Err(fault) => refuse(alloc, writer, Refusal::Cluster(fault)),
     }
 }

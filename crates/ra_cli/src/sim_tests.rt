@@ -3,10 +3,12 @@ use crate::{CommandFault, refuse_words, serve};
 use std::alloc::Global;
 use std::io;
 use std::process::Abort;
+use std::sync::Wait;
 use std::test::Fail;
+use std::thread::Threads;
 
 /// One client of one node locks and unlocks a name.
-const ALONE: &str = r#"
+pub const ALONE: &str = r#"
 nodes = 1
 client = [{ node = 1, ops = ["X r", "U r"] }]
 "#;
@@ -20,7 +22,7 @@ ops = ["X r", "U r"]
 "#;
 
 /// What it prints.
-const ONE_CLIENT_PRINTED: &str = "request 1 1 r X 1
+pub const ONE_CLIENT_PRINTED: &str = "request 1 1 r X 1
 enter 1 1 r X 1
 leave 1 1 r X 1
 requests 1
@@ -52,7 +54,7 @@ client = [
 "#;
 
 /// Two readers.
-const TWO_READERS: &str = r#"
+pub const TWO_READERS: &str = r#"
 nodes = 2
 client = [{ node = 1, ops = ["S r", "U r"] }, { node = 2, ops = ["S r", "U r"] }]
 "#;
@@ -71,31 +73,39 @@ client = [
 "#;
 
 /// Two clients, each with a name of its own.
-const APART: &str = r#"
+pub const APART: &str = r#"
 nodes = 2
 client = [{ node = 1, ops = ["X a", "U a"] }, { node = 2, ops = ["X b", "U b"] }]
 "#;
 
+/// Two clients that lock two names in one order.
+pub const ONE_ORDER: &str = r#"nodes = 2
+client = [
+    { node = 1, ops = ["X a", "X b", "U b", "U a"] },
+    { node = 2, ops = ["X a", "X b", "U b", "U a"] },
+]
+"#;
+
 /// One client with two names.
-const TWO_NAMES: &str = r#"
+pub const TWO_NAMES: &str = r#"
 nodes = 1
 client = [{ node = 1, ops = ["X b", "X a", "U a", "U b"] }]
 "#;
 
 /// One client that keeps its name.
-const A_KEEPER: &str = r#"
+pub const A_KEEPER: &str = r#"
 nodes = 1
 client = [{ node = 1, ops = ["X r"] }]
 "#;
 
 /// One client of sixteen nodes.
-const SIXTEEN_NODES: &str = r#"
+pub const SIXTEEN_NODES: &str = r#"
 nodes = 16
 client = [{ node = 1, ops = ["X r", "U r"] }]
 "#;
 
 /// The lines of marks, of which ` / ` stands between two, and of the totals.
-fn printed(alloc: Global, marks: &str, totals: [u32; 6]) -> Result<String, Fail> {
+pub fn printed(alloc: Global, marks: &str, totals: [u32; 6]) -> Result<String, Fail> {
     let mut text = String::new(alloc);
     for mark in marks.split(" / ") {
         text.push_str(mark)?;
@@ -110,7 +120,7 @@ fn printed(alloc: Global, marks: &str, totals: [u32; 6]) -> Result<String, Fail>
 }
 
 /// Asserts what `ra sim` with these words makes of a script.
-fn assert_printed<T: Abort + AllocGlobal>(
+fn assert_printed<T: Abort + AllocGlobal + Threads + Wait + Sync>(
     rt: &T,
     words: &[&str],
     script: &str,
@@ -185,6 +195,14 @@ fn scripts_print_their_marks_and_totals(rt: HostRuntime) -> Result<(), Fail> {
 }
 
 #[test]
+fn names_that_are_locked_in_one_order_are_held_in_turn(rt: HostRuntime) -> Result<(), Fail> {
+    let marks =
+        "request 1 1 a X 1 / request 2 2 a X 1 / enter 1 1 a X 1 / request 1 1 b X 1 / enter 1 1 b X 1 / leave 1 1 b X 1 / leave 1 1 a X 1 / enter 2 2 a X 1 / request 2 2 b X 2 / enter 2 2 b X 2 / leave 2 2 b X 2 / leave 2 2 a X 1";
+    let text = printed(rt.alloc(), marks, [4, 8, 0, 0, 0, 0])?;
+    assert_printed(&rt, &[], ONE_ORDER, text.as_str(), 0)
+}
+
+#[test]
 fn listed_choices_are_made_one_after_the_other(rt: HostRuntime) -> Result<(), Fail> {
     let alloc = rt.alloc();
     let readers =
@@ -253,7 +271,11 @@ fn choices_that_cannot_be_made_are_refused(rt: HostRuntime) -> Result<(), Fail> 
 }
 
 /// Asserts what is answered where the first read would fail, and that nothing is read.
-fn assert_unread<T: Abort + AllocGlobal>(rt: &T, line: &str, text: &str) -> Result<(), Fail> {
+fn assert_unread<T: Abort + AllocGlobal + Threads + Wait + Sync>(
+    rt: &T,
+    line: &str,
+    text: &str,
+) -> Result<(), Fail> {
     let alloc = rt.alloc();
     let words = words_of(alloc, line)?;
     let mut reader = FailingReader {
@@ -277,13 +299,13 @@ fn words_and_choices_are_refused_before_anything_is_read(rt: HostRuntime) -> Res
     assert_unread(&rt, "ra sim --seed x", "refused Usage\n")
 }
 
-/// After 65,537 bytes the reader is not asked again.
-#[test]
-fn a_text_that_is_too_long_is_refused_before_a_fault_behind_it(
-    rt: HostRuntime,
+/// Asserts that after 65,537 bytes the reader is not asked again.
+fn assert_limit<T: Abort + AllocGlobal + Threads + Wait + Sync>(
+    rt: &T,
+    line: &str,
 ) -> Result<(), Fail> {
     let alloc = rt.alloc();
-    let words = words_of(alloc, "ra sim")?;
+    let words = words_of(alloc, line)?;
     let mut spaces = Vec::new(alloc);
     for _ in 0..65_540 {
         spaces.push(b' ')?;
@@ -294,11 +316,19 @@ fn a_text_that_is_too_long_is_refused_before_a_fault_behind_it(
         fault: io::ErrorKind::BrokenPipe,
     };
     let mut output = Vec::new(alloc);
-    let status = serve(&rt, alloc, words.as_slice(), &mut reader, &mut output);
-    assert_eq!(rt; output.as_slice(), b"refused Limit\n".as_slice());
-    assert_eq!(rt; status, 2);
-    assert_eq!(rt; reader.bytes.len(), 3);
+    let status = serve(rt, alloc, words.as_slice(), &mut reader, &mut output);
+    assert_eq!(rt; output.as_slice(), b"refused Limit\n".as_slice(), "{line}");
+    assert_eq!(rt; status, 2, "{line}");
+    assert_eq!(rt; reader.bytes.len(), 3, "{line}");
     Ok(())
+}
+
+#[test]
+fn a_text_that_is_too_long_is_refused_before_a_fault_behind_it(
+    rt: HostRuntime,
+) -> Result<(), Fail> {
+    assert_limit(&rt, "ra sim")?;
+    assert_limit(&rt, "ra cluster")
 }
 
 #[test]
@@ -402,7 +432,7 @@ Policies:
   listed  the words of --choices, one after the other: cK the next operation of client K, mI delivers and lI loses the
           message at place I of those under way, counted from 0 in the order of sending, as in --choices \"c1 m0 m0 c1\"
 
-With --trace the steps of the run and their marks are printed in place of this, as `ra check` reads them:
+With --trace it prints the steps of the run, each with its marks, in place of the marks and totals, as `ra check` reads them:
   ra sim --trace < script.toml | ra check
 
 Status 0: each operation is done, and nothing waits, is queued or under way. Status 3: the run ended before that.
@@ -413,10 +443,13 @@ Status 2: the words or the script are refused. Status 1: the input or the output
     Ok(())
 }
 
-#[test]
-fn a_reader_that_fails_behind_any_byte_of_a_script_is_a_fault(rt: HostRuntime) -> Result<(), Fail> {
+/// Asserts that a reader that fails once, behind any byte of a script, is a fault, and that nothing is read after it.
+fn assert_read_faults<T: Abort + AllocGlobal + Threads + Wait + Sync>(
+    rt: &T,
+    line: &str,
+) -> Result<(), Fail> {
     let alloc = rt.alloc();
-    let words = words_of(alloc, "ra sim")?;
+    let words = words_of(alloc, line)?;
     for before_fault in 0..=ONE_CLIENT.len() {
         let mut reader = FailingReader {
             bytes: ONE_CLIENT.as_bytes(),
@@ -424,7 +457,7 @@ fn a_reader_that_fails_behind_any_byte_of_a_script_is_a_fault(rt: HostRuntime) -
             fault: io::ErrorKind::Interrupted,
         };
         let mut output = Vec::new(alloc);
-        let status = serve(&rt, alloc, words.as_slice(), &mut reader, &mut output);
+        let status = serve(rt, alloc, words.as_slice(), &mut reader, &mut output);
         assert_eq!(rt; status, 1, "after {before_fault} bytes");
         assert_eq!(rt;
             Some(reader.bytes),
@@ -438,6 +471,12 @@ fn a_reader_that_fails_behind_any_byte_of_a_script_is_a_fault(rt: HostRuntime) -
         );
     }
     Ok(())
+}
+
+#[test]
+fn a_reader_that_fails_behind_any_byte_of_a_script_is_a_fault(rt: HostRuntime) -> Result<(), Fail> {
+    assert_read_faults(&rt, "ra sim")?;
+    assert_read_faults(&rt, "ra cluster")
 }
 
 /// Asserts that a writer that fails once, or takes nothing once, behind each byte of what `ra sim` prints has those bytes and no

@@ -3,7 +3,9 @@ use std::alloc::Global;
 use std::io;
 use std::io::{Read, Write};
 use std::process::Abort;
+use std::sync::Wait;
 use std::test::Fail;
+use std::thread::Threads;
 
 /// A REQUEST of node 1 for node 2: exclusively, the name r, number 1, clock 1.
 const REQUEST: &str = "0101010201000000000000000100000000000000010172";
@@ -97,7 +99,11 @@ pub fn words_of(alloc: Global, line: &str) -> Result<Vec<String>, Fail> {
 }
 
 /// What `ra` answers and prints, with the line of its words and an input.
-pub fn run<T: AllocGlobal>(rt: &T, line: &str, input: &str) -> Result<(u8, Vec<u8>), Fail> {
+pub fn run<T: AllocGlobal + Threads + Wait + Sync>(
+    rt: &T,
+    line: &str,
+    input: &str,
+) -> Result<(u8, Vec<u8>), Fail> {
     let alloc = rt.alloc();
     let words = words_of(alloc, line)?;
     let mut reader = input.as_bytes();
@@ -106,7 +112,11 @@ pub fn run<T: AllocGlobal>(rt: &T, line: &str, input: &str) -> Result<(u8, Vec<u
     Ok((status, output))
 }
 
-fn assert_answered<T: Abort + AllocGlobal>(rt: &T, request: &str, reply: &str) -> Result<(), Fail> {
+fn assert_answered<T: Abort + AllocGlobal + Threads + Wait + Sync>(
+    rt: &T,
+    request: &str,
+    reply: &str,
+) -> Result<(), Fail> {
     let alloc = rt.alloc();
     let printed = format!(in alloc; "{reply}\n")?;
     let (status, output) = run(rt, "ra answer --node 2 --nodes 3", request)?;
@@ -331,7 +341,7 @@ fn words_that_are_no_command_are_refused(rt: HostRuntime) -> Result<(), Fail> {
 }
 
 #[test]
-fn help_prints_its_text(rt: HostRuntime) -> Result<(), Fail> {
+fn help_on_answer_prints_a_frame(rt: HostRuntime) -> Result<(), Fail> {
     let (status, output) = run(&rt, "ra answer --help", "")?;
     let text = "Answer one frame, a line of hexadecimal digits, as an idle node does
 
@@ -349,15 +359,20 @@ Example, a REQUEST of node 1 for the name r, answered by node 2 of 3:
 ";
     assert_eq!(rt; status, 0);
     assert_eq!(rt; output.as_slice(), text.as_bytes());
+    Ok(())
+}
 
+#[test]
+fn help_lists_the_commands(rt: HostRuntime) -> Result<(), Fail> {
     let text = "Lock named resources by messages alone
 
 Usage: ra <COMMAND>
 
 Commands:
-  answer  Answer one frame, a line of hexadecimal digits, as an idle node does
-  sim     Drive a cluster through a script, and print who asked, entered and left, and what it cost
-  check   Check the trace of a run, line by line
+  answer   Answer one frame, a line of hexadecimal digits, as an idle node does
+  sim      Drive a cluster through a script, and print who asked, entered and left, and what it cost
+  cluster  Run a script by threads, and print who asked, entered and left, and what it cost
+  check    Check the trace of a run, line by line
 
 Options:
   -h, --help  Print help
@@ -375,7 +390,7 @@ Status 3: a run that ended with something left to do, or a trace that is none.
 
 /// Asserts that the fault of a reader that fails once, behind so many of its bytes, is the answer, that no byte is
 /// read after it, and that `serve` prints it.
-fn assert_read_fault<T: Abort + AllocGlobal>(
+fn assert_read_fault<T: Abort + AllocGlobal + Threads + Wait + Sync>(
     rt: &T,
     bytes: &[u8],
     before_fault: usize,
@@ -469,7 +484,7 @@ fn a_fault_of_the_reader_comes_before_what_is_wrong_with_the_line(
 
 /// Asserts that where `serve` prints these bytes, the fault of a writer that fails once, or takes nothing once, after
 /// any of them is the status, and that the writer has those before it and no more.
-fn assert_write_fault<T: Abort + AllocGlobal>(
+pub fn assert_write_fault<T: Abort + AllocGlobal + Threads + Wait + Sync>(
     rt: &T,
     line: &str,
     input: &str,

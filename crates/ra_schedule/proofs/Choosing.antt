@@ -14,7 +14,7 @@ use Rattle.ra_schedule.specs.declared.choice.Policy.TheVariants.{Oldest, Newest,
 use Rattle.ra_schedule.specs.Script.{ScriptClient, ScriptState}
 use Rattle.ra_schedule.specs.Seeds.{word_of}
 use Rattle.ra_schedule.specs.Schedule.{steps_of, steps_by, IsNext, IsEnabled, IsAtPlace, StandsFor, IsBadPlace, IsNotEnabled, IsFirstEnabled, LeavesMessages, Picks, Ends}
-use Rattle.ra_schedule.proofs.Enabled.{nobody_is_zero}
+use Rattle.ra_schedule.proofs.EnabledLists.{nobody_is_zero}
 use Rattle.ra_schedule.proofs.Naming.{choices_are_one}
 
 -- the messages under way are one list

@@ -4,9 +4,13 @@ mod Last
 mod Lists
 mod Waiting
 mod Rising
-mod Enabled
+mod EnabledLists
 mod Naming
 mod Choosing
 mod Seeded
 mod Following
 mod Turns
+mod EnabledFlags
+mod Elsewhere
+mod LookingAgain
+mod NodesOfClients

@@ -9,7 +9,7 @@ use Rattle.ra_schedule.specs.declared.choice.Choice.{Choice}
 use Rattle.ra_schedule.specs.declared.choice.Choice.TheVariants.{Client, Message}
 use Rattle.ra_schedule.specs.Script.{ScriptState}
 use Rattle.ra_schedule.specs.Schedule.{AreEnabled, AreChoices}
-use Rattle.ra_schedule.proofs.Enabled.{enabled_are_one}
+use Rattle.ra_schedule.proofs.EnabledLists.{enabled_are_one}
 
 -- the choices of so many clients and so many messages
 abbrev choices : List ℕ → ℕ → List Choice

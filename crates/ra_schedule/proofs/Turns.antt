@@ -1,8 +1,9 @@
 -- What the driver keeps from turn to turn, and how its end is read off.
-use Rattle.std.proofs.Common.{◌≡◌, ℕ, zero, suc, ◌+◌, ◌<◌, ◌≤◌, ◌^◌, Bool, true, false, Some, None, List, [], ◌∷◌, ◌++◌, All, length, take, replicate, slice_get, slice_index_or, refl, sym, ap, ◌∙◌, subst, arith, inl, inr}
-use Rattle.std.specs.Prelude.{◌==◌, if◌then◌else◌, option_map, option_and_then, Contains}
+use Rattle.std.proofs.Common.{◌≡◌, ℕ, zero, suc, ◌+◌, ◌<◌, ◌≤◌, ◌^◌, Bool, true, false, Option, Some, None, List, [], ◌∷◌, ◌++◌, All, length, take, replicate, slice_get, slice_index_or, refl, sym, ap, ◌∙◌, subst, arith, inl, inr}
+use Rattle.std.specs.Prelude.{IsSome, ◌==◌, if◌then◌else◌, option_map, option_and_then, Contains}
 use Rattle.std.proofs.lemmas.List as lists
 use Rattle.std.proofs.lemmas.List.Elements.{All-replicate}
+use Rattle.rand_pcg.specs.Lcg.{Lcg}
 use Rattle.ra_stamp.specs.NodeId.{IsNodeNumber}
 use Rattle.ra_stamp.specs.declared.message.Message.{Message as Sent}
 use Rattle.ra_world.specs.declared.step.Step.{Step}
@@ -17,6 +18,7 @@ use Rattle.ra_schedule.specs.declared.choice.Policy.{Policy}
 use Rattle.ra_schedule.specs.Script.{ScriptClient, ScriptState, client_at, op_at}
 use Rattle.ra_schedule.specs.Schedule.{steps_of, steps_in, steps_by, Enters, IsEnabled, IsAtPlace, StandsFor, Picks, Follows}
 use Rattle.ra_schedule.specs.Progress.{IsProgress, Tracks, OfEach, IsProgressAfter, AreCountable, AreDone, IsStuck, AreStuck, NoneEnters}
+use Rattle.ra_schedule.specs.Enabled.{AreFlags, AreRosters, numbers_from}
 use Rattle.ra_schedule.specs.Below.{LawsBelow}
 use Rattle.ra_schedule.proofs.Waiting.{nobody_waits, goes_on}
 use Rattle.ra_schedule.proofs.Following.{follows_none, follows_more}
@@ -28,6 +30,13 @@ pub record IsDriven (script : ScriptState) (policy : Policy) (world : WorldState
   pub follows : Follows script policy world.moves
   pub stuck : AreStuck script clients first
   pub turns_are : length world.moves ≡ turns
+
+-- what is kept of who is enabled, where there is a generator
+pub record KeepsEnabled (script : ScriptState) (moves : List Move) (generator : Option Lcg) (rosters : List (List ℕ)) (flags : List Bool) (count : ℕ) : Type 0 where
+  pub rosters_are : AreRosters script rosters
+  pub alike : length flags ≡ length script.clients
+  pub count_is : count ≡ length (numbers_from 1 flags)
+  pub flags_are : IsSome generator → AreFlags script moves flags
 
 abbrev pub opening_progress : Progress
 opening_progress = record { done = 0; waiting = false }
@@ -60,7 +69,7 @@ driven_none script policy world clients is run are =
       turns_are = ap length no_moves;
     }
 
-tracks_on : (script : ScriptState) (world next : WorldState) (clients new : List Progress) (move : Move) → Tracks script world clients
+pub tracks_on : (script : ScriptState) (world next : WorldState) (clients new : List Progress) (move : Move) → Tracks script world clients
     → next ≡ record world { moves = world.moves ++ move ∷ [] } → length new ≡ length clients → OfEach (IsProgressAfter move) clients new
     → Tracks script next new
 tracks_on script world next clients new move tracks is len after =

@@ -1,11 +1,12 @@
 -- What the laws of runs say, as far as schedules rest on it.
-use Rattle.std.specs.Prelude.{◌≡◌, ◌↔◌, ℕ, List, ◌++◌, map}
+use Rattle.std.specs.Prelude.{◌≡◌, ◌↔◌, ℕ, List, [], ◌∷◌, ◌++◌, map}
 use Rattle.ra_stamp.specs.declared.message.Message.{Message}
 use Rattle.ra_stamp.specs.NodeId.{IsNodeNumber}
+use Rattle.ra_stamp.specs.declared.mode.Mode.{Mode}
 use Rattle.ra_world.specs.declared.step.Step.{Step}
-use Rattle.ra_world.specs.declared.step.Step.TheVariants.{Deliver, Lose}
+use Rattle.ra_world.specs.declared.step.Step.TheVariants.{Ask, Leave, Deliver, Lose}
 use Rattle.ra_world.specs.Traffic.{Move, LeavesUnderWay, IsUnderWay}
-use Rattle.ra_world.specs.Run.{IsRun, GoesOn}
+use Rattle.ra_world.specs.Run.{IsRun, GoesOn, events_at}
 
 pub record LawsBelow : Type 0 where
   pub fronts : (n start : ℕ) (front back : List Move) → IsRun n start (front ++ back) → IsRun n start front
@@ -19,3 +20,9 @@ pub record LawsBelow : Type 0 where
       → (message : Message) → GoesOn n start moves (Deliver message) ↔ IsUnderWay moves message
   pub lose : (n start : ℕ) (moves : List Move) → IsNodeNumber n → IsRun n start moves
       → (message : Message) → GoesOn n start moves (Lose message) ↔ IsUnderWay moves message
+  pub ask_stays : (n start : ℕ) (moves : List Move) (move : Move) → IsNodeNumber n → IsRun n start (moves ++ move ∷ [])
+      → (node client : ℕ) (name : List ℕ) (mode : Mode) → events_at node move.step ≡ []
+      → GoesOn n start moves (Ask node client name mode) ↔ GoesOn n start (moves ++ move ∷ []) (Ask node client name mode)
+  pub leave_stays : (n start : ℕ) (moves : List Move) (move : Move) → IsNodeNumber n → IsRun n start (moves ++ move ∷ [])
+      → (node client : ℕ) (name : List ℕ) → events_at node move.step ≡ []
+      → GoesOn n start moves (Leave node client name) ↔ GoesOn n start (moves ++ move ∷ []) (Leave node client name)

@@ -3,4 +3,5 @@ pub mod Seeds
 pub mod Schedule
 pub mod Progress
 pub mod Drawing
+pub mod Enabled
 pub mod Below

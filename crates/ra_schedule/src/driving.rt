@@ -3,8 +3,9 @@ ghost use Rattle.ra_world.specs.Traffic.{Move};
 ghost use Rattle.ra_world.specs.World.{Reports};
 ghost use Rattle.ra_world.specs.MainTheorem.{MainTheorem};
 ghost use Rattle.ra_schedule.specs.Schedule.{steps_of, Follows, Ends, Stops, IsFinished};
-ghost use Rattle.ra_schedule.specs.Progress.{Tracks, OfEach, IsProgressAfter, AreCountable, AreDone, NoneEnters};
+ghost use Rattle.ra_schedule.specs.Progress.{Tracks, OfEach, IsProgressAfter, AreCountable, AreDone};
 ghost use Rattle.ra_world.specs.Run.{IsRun, GoesOn};
+ghost use Rattle.ra_schedule.specs.declared.choice.Choice.{Choice};
 ghost use Rattle.ra_schedule.specs.declared.error.DriveError.{DriveError};
 
 use crate::draws::Draws;
@@ -13,7 +14,8 @@ use crate::picking::{meaning, pick};
 use crate::progress::{
     Progress, first_entered, first_free, note_marks, note_step, opening_progress,
 };
-use crate::{DriveError, Policy, Script};
+use crate::{Choice, DriveError, Policy, Script};
+use ra_stamp::Marks;
 use ra_world::{Report, Step, Steps, World};
 use std::alloc::Global;
 
@@ -68,7 +70,7 @@ pub fn drive(
         return Err(DriveError::Memory);
     };
     let mut clients = opening_progress(alloc, script.clients())?;
-    let mut draws = Draws::of(policy);
+    let mut draws = Draws::of(alloc, policy, script, &world, &clients)?;
     // Each client before this place waits or has nothing left to do, so that most turns need not look at all clients.
     let mut first = 0;
     for _turn in 0..limit {
@@ -77,7 +79,10 @@ pub fn drive(
             return recording_of(alloc, script, world, &clients);
         };
         let step = meaning(script, &world, &clients, choice)?;
-        first = make(alloc, &mut world, &mut clients, first, step)?;
+        let made = make(alloc, &mut world, &mut clients, &step, place_in(choice))?;
+        let marks = made.as_slice();
+        first = first_entered(marks, first);
+        draws.note(script, &world, &clients, &step, marks);
     }
     match pick(script, policy, &mut draws, &world, &clients, first) {
         None => recording_of(alloc, script, world, &clients),
@@ -85,8 +90,18 @@ pub fn drive(
     }
 }
 
-/// Makes a step that the run goes on with, and notes it and what came of it. Returns the place `first`, or the one of a client
-/// before it that entered, such that nobody before it did.
+/// Returns the place of the message that a choice names, or 0 where it names a client.
+fn place_in(choice: Choice) -> u64
+    ensures { (place : ℕ) → (choice ≡ Choice.Message place) ⊎ (choice ≡ Choice.Lost place) → result ≡ place }
+{
+    match choice {
+        Choice::Message(place) | Choice::Lost(place) => place,
+        Choice::Client(_) => 0,
+    }
+}
+
+/// Makes a step that the run goes on with, notes where the clients stand then, and returns its marks. A message that it takes is
+/// looked for at the place `near` first.
 ///
 /// # Errors
 ///
@@ -95,25 +110,23 @@ fn make(
     alloc: Global,
     world: &mut World,
     clients: &mut [Progress],
-    first: u32,
-    step: Step,
-) -> Result<u32, DriveError>
-    requires allowed { GoesOn world.old.count world.old.start world.old.moves step }
+    step: &Step,
+    near: u64,
+) -> Result<Marks, DriveError>
+    requires allowed { GoesOn world.old.count world.old.start world.old.moves step.now }
     requires countable { AreCountable clients.old }
-    ensures ok { IfOk result (λ place. (move : Move) × (move.step ≡ step)
+    ensures ok { IfOk result (λ marks. (move : Move) × (move.step ≡ step.now) × (move.marks ≡ marks.items)
         × (world.new ≡ record world.old { moves = world.old.moves ++ move ∷ [] })
-        × OfEach (IsProgressAfter move) clients.old clients.new
-        × (place ≤ first) × NoneEnters place move.marks) }
+        × OfEach (IsProgressAfter move) clients.old clients.new) }
     ensures run { OnOk result (IsRun world.new.count world.new.start world.new.moves) }
     ensures err { IfErr result (λ fault. fault ≡ DriveError.Memory) }
 {
-    let Ok(outcome) = world.step(alloc, &step) else {
+    let Ok(outcome) = world.step_near(alloc, step, near) else {
         return Err(DriveError::Memory);
     };
-    note_step(clients, &step);
-    let marks = outcome.marks.as_slice();
-    note_marks(clients, marks);
-    Ok(first_entered(marks, first))
+    note_step(clients, step);
+    note_marks(clients, outcome.marks.as_slice());
+    Ok(outcome.marks)
 }
 
 /// Reports what a policy made of a script.

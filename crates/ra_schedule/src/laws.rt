@@ -9,7 +9,7 @@ ghost use Rattle.ra_schedule.specs.Below.{LawsBelow};
 
 use ra_world::{
     fronts_of_runs_are_runs, messages_under_way_are_between_nodes, runs_are_determined,
-    runs_go_on_where_steps_are_allowed,
+    runs_go_on_where_steps_are_allowed, steps_elsewhere_leave_a_node,
 };
 
 /// What the proofs on schedules take from those on runs, in one place.
@@ -20,6 +20,7 @@ pub fn schedules_rest_on_runs()
     messages_under_way_are_between_nodes();
     runs_are_determined();
     runs_go_on_where_steps_are_allowed();
+    steps_elsewhere_leave_a_node();
 }
 
 /// A policy leads through a script in one way: two lists of moves that follow it to its end are one.

@@ -5,10 +5,12 @@ mod choice;
 mod drawing;
 mod draws;
 mod driving;
+mod enabled;
 mod error;
 mod laws;
 mod picking;
 mod progress;
+mod rosters;
 mod script;
 
 pub use choice::{Choice, Choices, Policy};

@@ -7,6 +7,7 @@ ghost use Rattle.ra_schedule.specs.Script.{client_at, op_at};
 ghost use Rattle.ra_schedule.specs.Schedule.{Enables, IsEnabled, IsFirstEnabled, IsNext, StandsFor, IsBadPlace, IsNotEnabled, Picks, Ends, step_of};
 ghost use Rattle.ra_schedule.specs.Progress.{Tracks, IsProgress, AreStuck};
 ghost use Rattle.ra_schedule.specs.Drawing.{generator_at};
+ghost use Rattle.ra_schedule.specs.Enabled.{AreFlags, numbers_from};
 
 use crate::drawing::draw;
 use crate::draws::Draws;
@@ -80,17 +81,21 @@ pub fn pick(
 ) -> Option<Choice>
     requires tracked { Tracks script.now world.now clients.now }
     requires stuck { AreStuck script.now clients.now first }
+    requires flags { IsSome draws.old.generator → AreFlags script.now world.now.moves draws.old.enabled.flags.items }
+    requires count { draws.old.enabled.count ≡ length (numbers_from 1 draws.old.enabled.flags.items) }
     requires drawn { draws.old.generator ≡ generator_at policy.now (length world.now.moves) }
     ensures some { IfSome result (Picks script.now policy.now world.now.moves) }
     ensures none { IsNone result → Ends script.now policy.now world.now.moves }
     ensures drawn { IsSome result → draws.new.generator ≡ generator_at policy.now (length world.now.moves + 1) }
+    ensures rosters { draws.new.rosters.items ≡ draws.old.rosters.items }
+    ensures enabled { draws.new.enabled ≡ draws.old.enabled }
 {
     schedules_rest_on_runs();
     if let Policy::Listed(choices) = policy {
         return choices.at(world.steps());
     }
     if let Some(generator) = &mut draws.generator {
-        return draw(generator, script, world, clients);
+        return draw(generator, script, world, &draws.enabled);
     }
     if let Some(client) = first_enabled(script, world, clients, first) {
         return Some(Choice::Client(client));

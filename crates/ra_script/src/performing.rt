@@ -63,7 +63,7 @@ fn make_printed(
     policy: &Policy,
     input: &[u8],
 ) -> Result<Printed, PerformError>
-    ensures ok { IfOk result (λ p. IsPerformedAs form policy.now input.now (string_bytes p.text) p.finished) }
+    ensures ok { IfOk result (λ printed. IsPerformedAs form policy.now input.now (string_bytes printed.text) printed.finished) }
     ensures err { IfErr result (RefusesAs form policy.now input.now) }
     ensures early { IfErr result (λ fault. fault ≢ PerformError.Write) }
     ensures unread { ¬ IsErrOf result PerformError.Read }
@@ -170,11 +170,20 @@ pub fn perform<R: Read, W: Write>(
     perform_as(alloc, reader, writer, Form::Lines, policy)
 }
 
-/// Does as [`perform`], and writes the trace of the run in place of the lines of its report.
+/// Does as [`perform`], and writes the trace of the run in place of the lines of its report. The steps are made a second time,
+/// for their marks, so that it costs about twice as much, and beside that time linear in the trace.
 ///
 /// # Errors
 ///
-/// As of [`perform`].
+/// The first that holds, but that `Memory` may come before any:
+///
+/// 1. `Read`: the reader failed, before its end and before it gave 65,537 bytes.
+/// 2. `Script`: the input is no script.
+/// 3. `Drive`: a choice is left after the last turn, or can't be made.
+/// 4. `Memory`: memory ran out.
+/// 5. `Write`: the writer failed or took nothing, with bytes left to write. A front of the trace was written.
+///
+/// After each of the others the writer is as before.
 pub fn perform_trace<R: Read, W: Write>(
     alloc: Global,
     reader: &mut R,

@@ -1,5 +1,5 @@
 -- The text of a trace tells its run.
-use Rattle.std.proofs.Common.{◌≡◌, ℕ, List, [], ◌∷◌, ◌++◌, map, flat_map, length, codes, All, refl, sym, ap, subst, ◌∙◌, arith}
+use Rattle.std.proofs.Common.{◌≡◌, ℕ, List, [], ◌∷◌, ◌++◌, map, flat_map, length, codes, All, refl, sym, ap, subst, ◌∙◌, arith, append_assoc}
 use Rattle.std.proofs.lemmas.Grind.{flat_map-append}
 use Rattle.std.proofs.lemmas.List.{length-append, append-nil}
 use Rattle.std.proofs.lemmas.List.Elements.{All-head, All-tail}
@@ -10,7 +10,7 @@ use Rattle.ra_world.specs.Run.{IsRun}
 use Rattle.ra_world.specs.Traffic.{Move}
 use Rattle.ra_trace.specs.declared.line.Line.{Line}
 use Rattle.ra_trace.specs.declared.line.Line.TheVariants.{First, Stepped, Marked, Last}
-use Rattle.ra_trace.specs.TraceText.{line_text, move_lines, trace_lines, IsLine, IsTrace}
+use Rattle.ra_trace.specs.TraceText.{line_text, move_lines, trace_lines, trace_text, IsLine, IsTrace}
 use Rattle.ra_trace.proofs.Lines.{begins_once}
 use Rattle.ra_trace.proofs.Rows.{body, has_body}
 
@@ -63,12 +63,42 @@ start_of (Stepped step ∷ lines) = 0
 start_of (Marked mark ∷ lines) = 0
 start_of (Last ∷ lines) = 0
 
+-- the marks before the first step of the lines, and those of each step
+abbrev marks_by_step : List Line → List Mark × List (List Mark)
+marks_by_step [] = ([], [])
+marks_by_step (First nodes start ∷ lines) = marks_by_step lines
+marks_by_step (Stepped step ∷ lines) = ([], (marks_by_step lines).0 ∷ (marks_by_step lines).1)
+marks_by_step (Marked mark ∷ lines) = (mark ∷ (marks_by_step lines).0, (marks_by_step lines).1)
+marks_by_step (Last ∷ lines) = ([], [])
+
+marks_before : (marks : List Mark) (lines : List Line)
+    → marks_by_step (map Marked marks ++ lines) ≡ (marks ++ (marks_by_step lines).0, (marks_by_step lines).1)
+marks_before [] lines = refl
+marks_before (mark ∷ marks) lines =
+    ap (λ (told : List Mark × List (List Mark)). (mark ∷ told.0, told.1)) (marks_before marks lines)
+
+marks_told : (moves : List Move) → marks_by_step (flat_map move_lines moves ++ Last ∷ []) ≡ ([], map (λ move. move.marks) moves)
+marks_told [] = refl
+marks_told (move ∷ moves) =
+    let others = flat_map move_lines moves in
+    let lines = ap marks_by_step (append_assoc (map Marked move.marks) others (Last ∷ [])) in
+    let told = lines ∙ (marks_before move.marks (others ++ Last ∷ [])
+    ∙ ap (λ (t : List Mark × List (List Mark)). (move.marks ++ t.0, t.1)) (marks_told moves)) in
+    let whole = told ∙ ap (λ (marks : List Mark). (marks, map (λ move. move.marks) moves)) (append-nil move.marks) in
+    ap (λ (t : List Mark × List (List Mark)). ([], t.0 ∷ t.1)) whole
+
+pub told_lines : (n m start other : ℕ) (moves others : List Move) → All IsLine (trace_lines n start moves) → All IsLine (trace_lines m other others)
+    → trace_text n start moves ≡ trace_text m other others
+    → (n ≡ m) × (start ≡ other) × (map (λ move. move.step) moves ≡ map (λ move. move.step) others) × (map (λ move. move.marks) moves ≡ map (λ move. move.marks) others)
+told_lines n m start other moves others g h text =
+    let lines = same_lines (trace_lines n start moves) (trace_lines m other others) g h text in
+    let steps = sym (steps_told n start moves) ∙ (ap (flat_map steps_in) lines ∙ steps_told m other others) in
+    let marks = ap (λ (t : List Mark × List (List Mark)). t.1) (sym (marks_told moves) ∙ (ap marks_by_step lines ∙ marks_told others)) in
+    (ap nodes_of lines, ap start_of lines, steps, marks)
+
 pub told : ((n start : ℕ) (a b : List Move) → IsNodeNumber n → IsRun n start a → IsRun n start b → map (λ move. move.step) a ≡ map (λ move. move.step) b → a ≡ b)
     → (n m start other : ℕ) (moves others : List Move) (text : List ℕ) → IsTrace n start moves text → IsTrace m other others text → (n ≡ m) × (start ≡ other) × (moves ≡ others)
 told determined n m start other moves others text g h =
-    let lines = same_lines (trace_lines n start moves) (trace_lines m other others) g.lines h.lines (sym g.text_is ∙ h.text_is) in
-    let nodes : n ≡ m = ap nodes_of lines in
-    let first : start ≡ other = ap start_of lines in
-    let steps = sym (steps_told n start moves) ∙ (ap (flat_map steps_in) lines ∙ steps_told m other others) in
+    let (nodes, first, steps, marks) = told_lines n m start other moves others g.lines h.lines (sym g.text_is ∙ h.text_is) in
     let run : IsRun n start others = subst (λ (k : ℕ). IsRun k start others) (sym nodes) (subst (λ (s : ℕ). IsRun m s others) (sym first) h.run) in
     (nodes, first, determined n start moves others g.count g.run run steps)

@@ -258,6 +258,26 @@ fn no_front_of_a_trace_is_valid(rt: HostRuntime) -> Result<(), Fail> {
         let verdict = check(rt.alloc(), &mut reader)?;
         assert!(rt; matches!(verdict, Verdict::Invalid { .. }), "at {length}");
     }
+    let without_line_feed = &ONE_LOCK[..ONE_LOCK.len() - 1];
+    assert_invalid(&rt, without_line_feed, 9, Cause::Line)
+}
+
+#[test]
+fn a_line_that_is_none_is_wrong_where_it_stands(rt: HostRuntime) -> Result<(), Fail> {
+    for line in [
+        "\n",
+        "deliver request 1 2 r X 1\r\n",
+        "deliver\trequest 1 2 r X 1\n",
+        "deliver  request 1 2 r X 1\n",
+        "deliver request 1 2 r X 1 \n",
+        "deliver request 1 2 r\0 X 1\n",
+        "deliver request 1 2 \u{e9} X 1\n",
+        "deliver request 1 2 r X 01\n",
+        "deliver request 1 17 r X 1\n",
+        "deliver request 1 2 r X 18446744073709551616\n",
+    ] {
+        assert_wrong(&rt, ONE_LOCK, Replace(4, line), 4, Cause::Line)?;
+    }
     Ok(())
 }
 

@@ -1,9 +1,9 @@
 //! What is true of every trace and of every text of one: a function does nothing, and its contract is the law.
-ghost use Rattle.std.specs.Prelude.{◌≡◌, ℕ, List};
+ghost use Rattle.std.specs.Prelude.{◌≡◌, ℕ, List, All, map};
 ghost use Rattle.ra_world.specs.Traffic.{Move};
 ghost use Rattle.ra_trace.specs.declared.verdict.Verdict.{Verdict};
 ghost use Rattle.ra_trace.specs.Below.{LawsBelow};
-ghost use Rattle.ra_trace.specs.TraceText.{IsTrace};
+ghost use Rattle.ra_trace.specs.TraceText.{IsLine, IsTrace, trace_lines, trace_text};
 ghost use Rattle.ra_trace.specs.Verdict.{IsVerdict};
 
 use ra_table::runs_go_on_by_steps;
@@ -29,6 +29,17 @@ pub fn each_text_has_one_verdict()
 {
     traces_rest_on_runs();
 }
+
+/// No two lists of moves have one text, whether they are runs or not: it tells how many nodes there are, the number that each
+/// resource begins with, each step and its marks.
+pub fn texts_tell_their_steps()
+    ensures { (n m start other : ℕ) (moves others : List Move)
+        → All IsLine (trace_lines n start moves) → All IsLine (trace_lines m other others)
+        → trace_text n start moves ≡ trace_text m other others
+        → (n ≡ m) × (start ≡ other)
+        × (map (λ move. move.step) moves ≡ map (λ move. move.step) others)
+        × (map (λ move. move.marks) moves ≡ map (λ move. move.marks) others) }
+{}
 
 /// No text is the trace of two runs: it tells how many nodes there are, the number that each resource begins with, each step
 /// and what came of it.

@@ -16,7 +16,7 @@ mod writing;
 
 pub use checking::check;
 pub use error::{TraceError, WriteTraceError};
-pub use laws::{each_text_has_one_verdict, traces_tell_their_runs};
+pub use laws::{each_text_has_one_verdict, texts_tell_their_steps, traces_tell_their_runs};
 pub use verdict::{Cause, Verdict};
 pub use writing::{trace_text, write_trace};
 

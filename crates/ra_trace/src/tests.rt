@@ -289,10 +289,43 @@ fn assert_begins<T: Abort>(rt: &T, text: &str, line: Line, left: &str) {
 }
 
 #[test]
-fn each_form_is_read(rt: HostRuntime) -> Result<(), Fail> {
-    let name = Name::new(b"a-B_9.z")?;
+fn the_first_line_and_the_last_are_read(rt: HostRuntime) -> Result<(), Fail> {
+    let first = Line::First {
+        nodes: id(16)?,
+        start: u64::MAX,
+    };
+    assert_begins(&rt, "trace 1 16 18446744073709551615\n", first, "");
+    assert_begins(&rt, "end\n", Line::Last, "");
+    assert_begins(&rt, "end\nend\nx", Line::Last, "end\nx");
+    assert_begins(&rt, "end\n\n", Line::Last, "\n");
+    Ok(())
+}
+
+#[test]
+fn each_step_is_read(rt: HostRuntime) -> Result<(), Fail> {
+    let asked = Step::Ask {
+        node: id(16)?,
+        client: 0,
+        name: Name::new(b"a-B_9.z")?,
+        mode: Mode::Shared,
+    };
+    for (text, step) in [
+        ("ask 16 0 a-B_9.z S\n", asked),
+        ("release 1 1 r\n", leave(1, 1)?),
+        ("deliver request 1 2 r X 1\n", Step::Deliver(request(1, 2)?)),
+        ("deliver reply 2 1 r 1\n", Step::Deliver(reply(2, 1)?)),
+        ("lose request 1 2 r X 1\n", Step::Lose(request(1, 2)?)),
+        ("lose reply 2 1 r 1\n", Step::Lose(reply(2, 1)?)),
+    ] {
+        assert_begins(&rt, text, Line::Stepped(step), "");
+    }
+    Ok(())
+}
+
+#[test]
+fn each_mark_is_read(rt: HostRuntime) -> Result<(), Fail> {
     let entry = Entry {
-        name,
+        name: Name::new(b"a-B_9.z")?,
         stamp: Stamp {
             seq: u64::MAX,
             node: id(16)?,
@@ -300,133 +333,128 @@ fn each_form_is_read(rt: HostRuntime) -> Result<(), Fail> {
         client: u32::MAX,
         mode: Mode::Shared,
     };
-    let asked = Step::Ask {
-        node: id(16)?,
-        client: 0,
-        name,
-        mode: Mode::Shared,
-    };
-    let first = Line::First {
-        nodes: id(16)?,
-        start: u64::MAX,
-    };
-    let lines = [
-        ("trace 1 16 18446744073709551615\n", first),
-        ("ask 16 0 a-B_9.z S\n", Line::Stepped(asked)),
-        ("release 1 1 r\n", Line::Stepped(leave(1, 1)?)),
-        (
-            "deliver request 1 2 r X 1\n",
-            Line::Stepped(Step::Deliver(request(1, 2)?)),
-        ),
-        (
-            "deliver reply 2 1 r 1\n",
-            Line::Stepped(Step::Deliver(reply(2, 1)?)),
-        ),
-        (
-            "lose request 1 2 r X 1\n",
-            Line::Stepped(Step::Lose(request(1, 2)?)),
-        ),
-        (
-            "lose reply 2 1 r 1\n",
-            Line::Stepped(Step::Lose(reply(2, 1)?)),
-        ),
-        (
-            "request 16 4294967295 a-B_9.z S 18446744073709551615\n",
-            Line::Marked(Mark::Requested(entry)),
-        ),
-        (
-            "enter 16 4294967295 a-B_9.z S 18446744073709551615\n",
-            Line::Marked(Mark::Entered(entry)),
-        ),
-        (
-            "leave 16 4294967295 a-B_9.z S 18446744073709551615\n",
-            Line::Marked(Mark::Left(entry)),
-        ),
-        ("end\n", Line::Last),
-    ];
-    for (text, line) in lines {
-        assert_begins(&rt, text, line, "");
+    for (word, mark) in [
+        ("request", Mark::Requested(entry)),
+        ("enter", Mark::Entered(entry)),
+        ("leave", Mark::Left(entry)),
+    ] {
+        let text = format!(in rt.alloc(); "{word} 16 4294967295 a-B_9.z S 18446744073709551615\n")?;
+        assert_begins(&rt, text.as_str(), Line::Marked(mark), "");
     }
-    assert_begins(&rt, "end\nend\nx", Line::Last, "end\nx");
-    assert_begins(&rt, "end\n\n", Line::Last, "\n");
     Ok(())
 }
 
-#[test]
-fn nothing_else_is_read(rt: HostRuntime) {
-    let texts: [&[u8]; 63] = [
-        // The line feed is missing, or comes too early.
-        b"",
-        b"end",
-        b"\n",
-        b"\nend\n",
-        b"ask 1 1 r\n X\n",
-        // What is no word, or the wrong one.
-        b"End\n",
-        b"en\n",
-        b"ends\n",
-        b"end \n",
-        b" end\n",
-        b"end\r\n",
-        b"end\0\n",
-        b"\xffend\n",
-        b"trace 2 2 0\n",
-        b"trace 01 2 0\n",
-        b"trace\t1 2 0\n",
-        b"trace 2 0\n",
-        b"asks 1 1 r X\n",
-        b"deliver 1 2 r X 1\n",
-        b"deliver answer 1 2 r X 1\n",
-        b"drop reply 2 1 r 1\n",
-        b"reply 2 1 r 1\n",
-        // Fields are missing, left over, or not one space apart.
-        b"ask 1 1 r\n",
-        b"ask 1 1 r X 1\n",
-        b"ask 1 1 r X \n",
-        b"ask  1 1 r X\n",
-        b"ask 1  1 r X\n",
-        b"ask 1\t1 r X\n",
-        b"ask 1 1 r X\r\n",
-        b"ask 1 1  X\n",
-        b"release 1 1 r X\n",
-        b"deliver request 1 2 r 1\n",
-        b"deliver reply 2 1 r X 1\n",
-        b"enter 1 1 r X\n",
-        b"enter 1 1 r X 1 1\n",
-        b"trace 1 2\n",
-        b"trace 1 2 0 0\n",
-        // Numbers out of their ranges, or not as they are written.
-        b"ask 0 1 r X\n",
-        b"ask 17 1 r X\n",
-        b"ask 01 1 r X\n",
-        b"ask +1 1 r X\n",
-        b"ask -1 1 r X\n",
-        b"ask 1 4294967296 r X\n",
-        b"ask 1 00 r X\n",
-        b"ask 1 1x r X\n",
-        b"ask 1 18446744073709551617 r X\n",
-        b"trace 1 0 0\n",
-        b"trace 1 17 0\n",
-        b"trace 1 2 18446744073709551616\n",
-        b"trace 1 2 36893488147419103232\n",
-        b"deliver reply 2 0 r 1\n",
-        b"deliver reply 2 17 r 1\n",
-        b"deliver reply 2 1 r 0\n",
-        b"deliver reply 2 1 r 18446744073709551616\n",
-        b"enter 1 1 r X 0\n",
-        b"enter 1 1 r X 18446744073709551616\n",
-        // Names and modes.
-        b"ask 1 1 r/s X\n",
-        b"ask 1 1 r\0 X\n",
-        b"ask 1 1 \xc3\xa9 X\n",
-        b"ask 1 1 abcdefghijklmnopqrstuvwxyz0123456 X\n",
-        b"ask 1 1 r x\n",
-        b"ask 1 1 r IX\n",
-        b"ask 1 1 r XS\n",
-    ];
+/// The line feed is missing, or comes too early.
+const TORN: [&[u8]; 5] = [b"", b"end", b"\n", b"\nend\n", b"ask 1 1 r\n X\n"];
+
+/// What is no word, or the wrong one.
+const WORDS: [&[u8]; 17] = [
+    b"End\n",
+    b"en\n",
+    b"ends\n",
+    b"end \n",
+    b" end\n",
+    b"end\r\n",
+    b"end\0\n",
+    b"\xffend\n",
+    b"trace 2 2 0\n",
+    b"trace 01 2 0\n",
+    b"trace\t1 2 0\n",
+    b"trace 2 0\n",
+    b"asks 1 1 r X\n",
+    b"deliver 1 2 r X 1\n",
+    b"deliver answer 1 2 r X 1\n",
+    b"drop reply 2 1 r 1\n",
+    b"reply 2 1 r 1\n",
+];
+
+/// Fields are missing, left over, or not one space apart.
+const FIELDS: [&[u8]; 15] = [
+    b"ask 1 1 r\n",
+    b"ask 1 1 r X 1\n",
+    b"ask 1 1 r X \n",
+    b"ask  1 1 r X\n",
+    b"ask 1  1 r X\n",
+    b"ask 1\t1 r X\n",
+    b"ask 1 1 r X\r\n",
+    b"ask 1 1  X\n",
+    b"release 1 1 r X\n",
+    b"deliver request 1 2 r 1\n",
+    b"deliver reply 2 1 r X 1\n",
+    b"enter 1 1 r X\n",
+    b"enter 1 1 r X 1 1\n",
+    b"trace 1 2\n",
+    b"trace 1 2 0 0\n",
+];
+
+/// Numbers out of their ranges, or not as they are written.
+const NUMBERS: [&[u8]; 23] = [
+    b"ask 0 1 r X\n",
+    b"ask 17 1 r X\n",
+    b"ask 01 1 r X\n",
+    b"ask +1 1 r X\n",
+    b"ask -1 1 r X\n",
+    b"ask 1 4294967296 r X\n",
+    b"ask 1 00 r X\n",
+    b"ask 1 1x r X\n",
+    b"ask 1 18446744073709551617 r X\n",
+    b"trace 1 0 0\n",
+    b"trace 1 17 0\n",
+    b"trace 1 2 18446744073709551616\n",
+    b"trace 1 2 36893488147419103232\n",
+    b"deliver reply 2 0 r 1\n",
+    b"deliver reply 2 17 r 1\n",
+    b"deliver reply 2 1 r 0\n",
+    b"deliver reply 2 1 r 18446744073709551616\n",
+    b"enter 1 1 r X 0\n",
+    b"enter 1 1 r X 18446744073709551616\n",
+    b"trace 1 2 00\n",
+    b"deliver request 0 1 r X 1\n",
+    b"deliver request 17 1 r X 1\n",
+    b"deliver reply 2 1 r 01\n",
+];
+
+/// No names, and no modes.
+const NAMES: [&[u8]; 7] = [
+    b"ask 1 1 r/s X\n",
+    b"ask 1 1 r\0 X\n",
+    b"ask 1 1 \xc3\xa9 X\n",
+    b"ask 1 1 abcdefghijklmnopqrstuvwxyz0123456 X\n",
+    b"ask 1 1 r x\n",
+    b"ask 1 1 r IX\n",
+    b"ask 1 1 r XS\n",
+];
+
+/// Asserts that none of the texts begins with a line.
+fn assert_not_read<T: Abort>(rt: &T, texts: &[&[u8]]) {
     for text in texts {
         assert!(rt; split_line(text).is_none(), "{text:?}");
     }
+}
+
+#[test]
+fn texts_without_their_line_feed_are_not_read(rt: HostRuntime) {
+    assert_not_read(&rt, &TORN);
+}
+
+#[test]
+fn lines_begin_with_their_words(rt: HostRuntime) {
+    assert_not_read(&rt, &WORDS);
+}
+
+#[test]
+fn fields_are_one_space_apart(rt: HostRuntime) {
+    assert_not_read(&rt, &FIELDS);
+}
+
+#[test]
+fn numbers_are_in_their_ranges_and_have_one_spelling(rt: HostRuntime) {
+    assert_not_read(&rt, &NUMBERS);
+}
+
+#[test]
+fn names_and_modes_are_as_they_are_written(rt: HostRuntime) {
+    assert_not_read(&rt, &NAMES);
 }
 
 #[test]

@@ -146,6 +146,8 @@ fn refused_at(place: u64, cause: StepError) -> WriteTraceError
 /// 1. `Run`: the number of nodes is not 1 to 16, or a step is refused, the first such one, with its place, counted from 1, and
 ///    the cause. It is never want of memory.
 /// 2. `Memory`: memory ran out.
+///
+/// Never `Write`, as nothing is written.
 pub fn trace_text(
     alloc: Global,
     nodes: u16,

@@ -1,10 +1,5 @@
 -- What holds of a cluster at any moment, and that each event of a node keeps it.
-use Rattle.std.proofs.Common.{◌≡◌, ◌≢◌, ℕ, ◌≤◌, Bool, true, false, cond, List, ◌∷◌, ◌++◌, All, Option, Some, refl, sym, ap, ◌∙◌, subst, append_assoc, arith, nat_eq, inl, inr}
-use Rattle.std.specs.Prelude.{unwrap_or}
-use Rattle.std.specs.Ordering.{nat_cmp, eq_by_cmp, is_eq}
-use Rattle.std.specs.Cmp.{tied_itself}
-use Rattle.std.specs.Cmp.Lexicographic.{slice_cmp, nat_list_cmp_total}
-use Rattle.std.specs.FinMap as finmap
+use Rattle.std.proofs.Common.{◌≡◌, ◌≢◌, ℕ, ◌≤◌, Bool, true, false, cond, List, ◌∷◌, ◌++◌, All, refl, sym, ap, ◌∙◌, subst, append_assoc, arith, nat_eq, inl, inr}
 use Rattle.std.proofs.lemmas.List.{append-nil}
 use Rattle.std.proofs.lemmas.List.Elements.{All-append, All-weaker}
 use Rattle.std.proofs.lemmas.Bool.{eq-eqb, ne_eqb}
@@ -19,15 +14,15 @@ use Rattle.ra_stamp.specs.Mode.{Conflict}
 use Rattle.ra_automaton.specs.State.{State, IsOtherNode, IsForNode, IsConsistent}
 use Rattle.ra_automaton.specs.Steps.{RequestStep, ReceiveStep, LeaveStep, LeaveAndRequestStep}
 use Rattle.ra_bag.specs.Bag.{TakesFirst}
-use Rattle.ra_node.specs.Resource.{Resource, unmet, Use, use_of}
+use Rattle.ra_node.specs.Resource.{Resource, Use, use_of}
 use Rattle.ra_node.specs.Resource.Use.{Nobody, HoldsBy}
 use Rattle.ra_node.proofs.Handed.{handed_step, handed_marks}
 use Rattle.ra_node.specs.Turns.{request_marks, next_entry, EntersBy, AskTurn, LeaveTurn, ReceiveTurn}
-use Rattle.ra_node.specs.Node.{NodeState, resource_at, with_resource, IsConsistentNode}
+use Rattle.ra_node.specs.Node.{NodeState, resource_at, IsConsistentNode}
 use Rattle.ra_node.specs.Carried.{IsSend, MarksLead}
 use Rattle.ra_table.specs.Table.{LockTable, TableSteps}
 use Rattle.ra_automaton.proofs.SlotLemmas.{cases_same}
-use Rattle.ra_node.proofs.Lookups.{same_or_apart, resource_changed}
+use Rattle.ra_node.proofs.Lookups.{same_or_apart}
 use Rattle.ra_world.proofs.Lists.{filter_left, All-taken}
 use Rattle.ra_world.proofs.Dialogs.{belongs, between, IsOf, belongs_not, between_none}
 use Rattle.ra_world.proofs.Protocol.{IsNode, IsPlaced, Protocol, Changes}

@@ -1,12 +1,15 @@
 -- Lists whose messages are all different.
-use Rattle.std.proofs.Common.{◌≡◌, ◌≢◌, suc, Bool, true, false, cond, List, [], ◌∷◌, ◌++◌, All, filter, refl, sym, ap, ◌∙◌, subst, arith}
+use Rattle.std.proofs.Common.{◌≡◌, ◌≢◌, ◌<◌, ℕ, suc, length, get_or, Bool, true, false, cond, List, [], ◌∷◌, ◌++◌, All, filter, refl, sym, ap, ◌∙◌, subst, arith}
 use Rattle.std.specs.Prelude.{AllPairs}
 use Rattle.std.proofs.lemmas.Bool.{false≢true}
 use Rattle.std.proofs.lemmas.List.Elements.{All-nil, All-cons, All-head, All-tail, All-weaker}
 use Rattle.std.proofs.lemmas.List.Kept.{AllPairs-cons}
 use Rattle.std.proofs.lemmas.List.Quantifiers.{all_pairs_push}
 use Rattle.ra_stamp.specs.declared.message.Message.{Message}
+use Rattle.std.specs.List.{remove}
 use Rattle.ra_bag.specs.Bag.{TakesFirst}
+use Rattle.ra_bag.proofs.Taken.{takes_at}
+use Rattle.ra_world.specs.Traffic.{TakesEach}
 use Rattle.ra_world.proofs.Lists.{filter_hit, filter_miss}
 
 -- all are different
@@ -83,3 +86,29 @@ nothing_left ms m rest x takes one = go takes.front takes.back (sym takes.old_is
     go [] back e is = cc
     go (y ∷ []) back e is = absurd cc
     go (y ∷ z ∷ front) back e is = absurd cc
+
+-- ---- Lists of which some messages are taken
+
+all_but_one : (P : Message → Type 0) (front back : List Message) (m : Message) → All P (front ++ m ∷ back) → All P (front ++ back)
+all_but_one P [] back m all = All-tail P m back all
+all_but_one P (x ∷ front) back m all =
+    All-cons P x (front ++ back) (All-head P x (front ++ m ∷ back) all) (all_but_one P front back m (All-tail P x (front ++ m ∷ back) all))
+
+different_but_one : (front back : List Message) (m : Message) → AreDifferent (front ++ m ∷ back) → AreDifferent (front ++ back)
+different_but_one [] back m different = rest_different m back different
+different_but_one (x ∷ front) back m different =
+    AllPairs-cons (λ a b. a ≢ b) x (front ++ back)
+    (all_but_one (λ y. x ≢ y) front back m (first_once x (front ++ m ∷ back) different))
+    (different_but_one front back m (rest_different x (front ++ m ∷ back) different))
+
+-- what is left of different messages are different ones
+pub left_different : (old taken new : List Message) → TakesEach old taken new → AreDifferent old → AreDifferent new
+left_different old [] new same different = subst AreDifferent (sym same) different
+left_different old (m ∷ taken) new (next, takes, rest) different =
+    let whole : AreDifferent (takes.front ++ m ∷ takes.back) = subst AreDifferent takes.old_is different in
+    left_different next taken new rest (subst AreDifferent (sym takes.new_is) (different_but_one takes.front takes.back m whole))
+
+-- of different messages the one at a place is the first of its kind
+pub first_at : (ms : List Message) (place : ℕ) (m : Message) → AreDifferent ms → place < length ms → get_or ms place m ≡ m
+    → TakesFirst ms m (remove ms place)
+first_at ms place m different within is = takes_at ms place m within is (λ k less same. different k place m less within (same ∙ sym is))

@@ -1,5 +1,5 @@
 -- What a world keeps of its run, at the beginning and after one more step.
-use Rattle.std.proofs.Common.{eq-eqb, ◌≡◌, ◌≢◌, ◌⊎◌, ◌↔◌, ℕ, ◌+◌, ◌-◌, ◌<◌, ◌≤◌, cond, List, [], ◌∷◌, ◌++◌, map, length, set, get_or, Contains, refl, sym, ap, ◌∙◌, subst, arith, inl, inr}
+use Rattle.std.proofs.Common.{eq-eqb, ◌≡◌, ◌≢◌, ℕ, ◌+◌, ◌-◌, ◌<◌, ◌≤◌, cond, List, [], ◌∷◌, ◌++◌, map, length, set, get_or, Contains, refl, sym, ap, ◌∙◌, subst, arith, inl, inr}
 use Rattle.std.specs.List.{range_with_len}
 use Rattle.std.proofs.lemmas.List.{append-nil, length-append, length-set, get_or-set_same, get_or-set_other, get_or_at}
 use Rattle.std.proofs.lemmas.List.FromFn.{length-map-range_with_len, get_or-map-range_with_len}
@@ -10,13 +10,15 @@ use Rattle.ra_bag.specs.Bag.{TakesFirst}
 use Rattle.ra_automaton.specs.State.{IsForNode, IsOtherNode}
 use Rattle.ra_node.specs.Node.{NodeState, opening_node}
 use Rattle.ra_node.specs.Events.{Event, Happening, NodeEvent, NodeEvents}
-use Rattle.ra_world.specs.declared.step.Step.{Step}
-use Rattle.ra_world.specs.declared.step.Step.TheVariants.{Ask, Leave, Deliver, Lose}
-use Rattle.ra_world.specs.Traffic.{Move, TakesEach, LeavesUnderWay, IsUnderWay, taken_in}
+use Rattle.ra_world.specs.declared.step.Step.TheVariants.{Lose}
+use Rattle.ra_world.specs.Traffic.{Move, TakesEach, LeavesUnderWay, IsUnderWay, taken_in, taken_by, sent_by}
 use Rattle.ra_world.specs.Run.{IsRun, IsFit, EndsWith, events_at, happened_at, with_node}
 use Rattle.ra_world.specs.Keeping.{nodes_of, Keeps}
 use Rattle.std.proofs.lemmas.Bool.{ne_eqb}
 use Rattle.ra_automaton.proofs.SlotLemmas.{cases_same}
+use Rattle.std.specs.List.{remove}
+use Rattle.std.specs.Prelude.{AllPairs}
+use Rattle.ra_world.proofs.DifferentLists.{left_different, first_at}
 
 -- ---- The beginning
 
@@ -139,3 +141,12 @@ module _
                 (subst (λ (k : ℕ). IsOtherNode to k (from_of message)) (sym own.1) at.1);
           },
         )
+
+-- ---- What is taken
+
+pub taken_at : ((n start : ℕ) (moves : List Move) → IsNodeNumber n → IsRun n start moves → AllPairs (λ a b. a ≢ b) (sent_by moves))
+    → (start : ℕ) (nodes : List NodeState) (left : List Message) (moves : List Move) (message : Message) (place : ℕ)
+    → Keeps start nodes left moves → place < length left → get_or left place message ≡ message → TakesFirst left message (remove left place)
+taken_at differ start nodes left moves message place keeps within is =
+    first_at left place message
+    (left_different (sent_by moves) (taken_by moves) left keeps.under_way (differ (length nodes) start moves keeps.count keeps.run)) within is

@@ -28,7 +28,8 @@ mod DifferentDialogs
 mod DifferentTurns
 mod DifferentEvents
 mod DifferentRuns
-mod Cuts
+mod Walks
+mod Counts
 mod KeptRuns
 mod Queues
 mod Causes
@@ -39,3 +40,4 @@ mod Worlds
 pub mod Refusing
 mod NameText
 mod Written
+mod Elsewhere

@@ -1,15 +1,11 @@
 -- Who is awaited.
-use Rattle.std.proofs.Common.{◌≡◌, ◌≢◌, ℕ, zero, suc, ◌+◌, ◌<◌, ◌≤◌, Bool, true, false, cond, not, ◌&&◌, ◌∷◌, filter, refl, sym, ap, ◌∙◌, arith, nat_eq, inl, inr}
-use Rattle.std.specs.Prelude.{◌==◌, IsTrue}
-use Rattle.std.specs.List.{list_any, range_with_len}
+use Rattle.std.proofs.Common.{◌≡◌, ◌≢◌, ℕ, not, ◌&&◌, refl, sym, ap, ◌∙◌}
+use Rattle.std.specs.Prelude.{IsTrue}
 use Rattle.std.specs.Ordering.{nat_cmp}
 use Rattle.std.specs.Cmp.{nat_cmp_total}
 use Rattle.std.specs.FinSet as set
-use Rattle.std.proofs.lemmas.Bool.Decides.{nat_tests}
-use Rattle.std.proofs.lemmas.Bool.{eq-eqb, false≢true, ne_eqb}
-use Rattle.ra_automaton.proofs.Consistent.{other_is_asked}
-use Rattle.ra_automaton.specs.Steps.{others_of}
-use Rattle.ra_automaton.proofs.SlotLemmas.{cases_same, tied, untied}
+use Rattle.std.proofs.lemmas.Bool.{false≢true}
+use Rattle.ra_automaton.proofs.SlotLemmas.{tied, untied}
 
 -- another one is awaited as before
 pub remains : (s : set.FinSet nat_cmp) (other node : ℕ) → node ≢ other → set.contains (set.remove s other) node ≡ set.contains s node

@@ -1,5 +1,5 @@
 -- What holds at the end of every run: who holds, who waits, what is under way, and that no REPLY is a stray.
-use Rattle.std.proofs.Common.{◌≡◌, ◌≢◌, ℕ, List, [], ◌∷◌, ◌++◌, Contains, length, Option, Some, None, refl, sym, ap, ◌∙◌, subst, arith}
+use Rattle.std.proofs.Common.{◌≡◌, ◌≢◌, ℕ, List, [], ◌∷◌, ◌++◌, Contains, length, Some, refl, sym, ap, ◌∙◌, subst, arith}
 use Rattle.std.specs.Prelude.{◌↔◌}
 use Rattle.ra_stamp.specs.declared.mode.Mode.{Mode}
 use Rattle.ra_stamp.specs.declared.message.Message.{Message}
@@ -7,9 +7,6 @@ use Rattle.ra_stamp.specs.declared.message.Message.TheVariants.{Reply}
 use Rattle.ra_stamp.specs.declared.entry.Entry.{Entry}
 use Rattle.ra_stamp.specs.Mode.{Conflict}
 use Rattle.ra_stamp.specs.NodeId.{IsNodeNumber}
-use Rattle.ra_automaton.specs.declared.phase.Phase.{Phase}
-use Rattle.ra_automaton.specs.declared.phase.Phase.TheVariants.{Idle, Waiting, Inside}
-use Rattle.ra_automaton.specs.State.{State}
 use Rattle.ra_automaton.specs.Steps.{Awaits}
 use Rattle.ra_node.specs.Resource.{Resource, Use, use_of, held_entry, holder_of, waiting_at}
 use Rattle.ra_node.specs.Resource.Use.{Nobody, WaitsBy, HoldsBy}

@@ -1,9 +1,8 @@
 -- What is reached at the end of a run: its nodes, what is under way, and its lock table, and all that holds of them. An
 -- event of a node leads on.
-use Rattle.std.proofs.Common.{◌≡◌, ℕ, ◌≤◌, List, [], ◌∷◌, ◌++◌, All, Contains, length, Option, refl, sym, ap, ◌∙◌, subst, arith, inl, ◌+◌, ◌-◌, ◌*◌, mul-add}
-use Rattle.std.specs.Prelude.{unwrap_or, IsTrue}
+use Rattle.std.proofs.Common.{◌≡◌, ℕ, ◌≤◌, List, [], ◌∷◌, ◌++◌, All, Contains, length, refl, sym, ap, ◌∙◌, subst, arith, inl, ◌+◌, ◌-◌, ◌*◌, mul-add}
+use Rattle.std.specs.Prelude.{IsTrue}
 use Rattle.std.specs.Ordering.{nat_cmp}
-use Rattle.std.specs.Cmp.Lexicographic.{slice_cmp}
 use Rattle.std.specs.FinSet as set
 use Rattle.std.specs.FinMap as finmap
 use Rattle.std.proofs.lemmas.List.{length-append}

@@ -1,5 +1,5 @@
 -- The report of a run meets the main theorem.
-use Rattle.std.proofs.Common.{◌≡◌, ℕ, zero, suc, ◌+◌, ◌-◌, ◌*◌, ◌<◌, ◌≤◌, List, [], length, get_or, All, Contains, refl, sym, ap, ◌∙◌, subst, arith}
+use Rattle.std.proofs.Common.{◌≡◌, ℕ, ◌-◌, ◌*◌, ◌<◌, List, [], length, get_or, All, Contains, sym, ap, ◌∙◌, subst}
 use Rattle.std.proofs.lemmas.List.{nil_from_length, get_or_default}
 use Rattle.ra_stamp.specs.declared.entry.Entry.{Entry}
 use Rattle.ra_stamp.specs.declared.entry.Mark.{Mark}
@@ -11,9 +11,9 @@ use Rattle.ra_node.specs.Node.{NodeState}
 use Rattle.ra_table.specs.Table.{LockTable, TableRun, MayEnter, Excludes}
 use Rattle.ra_table.specs.Laws.{IsConflictFree, IsAt}
 use Rattle.ra_world.specs.declared.report.Report.{Report}
-use Rattle.ra_world.specs.Traffic.{Move, LeavesUnderWay, sent_by, lost_by}
+use Rattle.ra_world.specs.Traffic.{Move, LeavesUnderWay, lost_by}
 use Rattle.ra_world.specs.Run.{IsRun, EndsWith, marks_of, waiting_at_all}
-use Rattle.ra_world.specs.Quiet.{IsQuiet, IsBlocked, MeetsMessageCount, requests_in}
+use Rattle.ra_world.specs.Quiet.{IsQuiet, IsBlocked, MeetsMessageCount}
 use Rattle.ra_world.specs.World.{Reports}
 use Rattle.ra_world.specs.MainTheorem.{IsQuietReport, MainTheorem}
 

@@ -1,5 +1,5 @@
 -- What comes of a step that is tried, said exactly.
-use Rattle.std.proofs.Common.{◌≡◌, ◌≢◌, ◌⊎◌, ◌↔◌, ℕ, List, Result, Ok, Err, refl, sym, ap, ◌∙◌, subst, inl, inr}
+use Rattle.std.proofs.Common.{◌≡◌, ◌≢◌, ◌↔◌, ℕ, List, Result, Ok, Err, sym, ap, ◌∙◌, subst, inl, inr}
 use Rattle.std.specs.Prelude.{IsErrOf, IsOkUnless}
 use Rattle.ra_stamp.specs.declared.message.Message.{Message}
 use Rattle.ra_stamp.specs.NodeId.{IsNodeNumber}
@@ -11,7 +11,7 @@ use Rattle.ra_world.specs.declared.error.StepError.{StepError}
 use Rattle.ra_world.specs.declared.error.StepError.TheVariants.{Memory}
 use Rattle.ra_world.specs.Traffic.{Move}
 use Rattle.ra_world.specs.Run.{IsRun, GoesOn}
-use Rattle.ra_world.specs.World.{WorldState, with_move, HasCause}
+use Rattle.ra_world.specs.World.{WorldState, HasCause}
 use Rattle.ra_world.specs.Keeping.{Keeps, Tries}
 use Rattle.ra_world.proofs.Trying.{shown}
 

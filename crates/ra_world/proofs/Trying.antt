@@ -1,6 +1,7 @@
 -- What is said of a step that is tried, from what a world keeps.
-use Rattle.std.proofs.Common.{eq-eqb, ◌≡◌, ◌⊎◌, ◌↔◌, ℕ, ◌+◌, ◌*◌, ◌<◌, ◌≤◌, Bool, true, false, List, ◌++◌, ◌∷◌, [], length, set, get_or, Contains, Option, Some, None, rules, Result, Ok, Err, refl, sym, ap, ◌∙◌, subst, inl, inr, arith}
-use Rattle.std.specs.Prelude.{IsErrAnd, IfSome, IsNone, ◌==◌, if◌then◌else◌}
+use Rattle.std.proofs.Common.{eq-eqb, ◌≡◌, ◌⊎◌, ◌↔◌, ℕ, ◌+◌, ◌*◌, ◌<◌, ◌≤◌, List, ◌++◌, ◌∷◌, [], length, set, get_or, Result, Ok, Err, refl, sym, ap, ◌∙◌, subst, inl, inr, arith}
+use Rattle.std.specs.Prelude.{IsErrAnd, ◌==◌, if◌then◌else◌}
+use Rattle.std.specs.List.{remove}
 use Rattle.std.proofs.lemmas.List.{set-get_or, length-set, get_or_default}
 use Rattle.ra_stamp.specs.declared.message.Message.{Message}
 use Rattle.ra_stamp.specs.declared.entry.Mark.{Mark}
@@ -59,12 +60,13 @@ same_nodes start nodes moves moves' place old new at same is =
     let nodes_are : set nodes place new ≡ nodes = ap (set nodes place) (same ∙ at) ∙ set-get_or nodes place old in
     λ i. shown start (nodes_are i) (is i)
 
--- a message that is there is taken
-pub taken_there : (o : Option Message) (before left new : List Message) (message : Message) → before ≡ left
-    → IfSome o (λ t. (t ≡ message) × TakesFirst before message new) → (IsNone o → Contains before message → ⊥) → Contains left message
+-- a message is taken at its place
+pub took_at : (before left new : List Message) (place : ℕ) (message : Message) → before ≡ left → place < length left
+    → (place < length before → new ≡ remove before place) → TakesFirst left message (remove left place)
     → TakesFirst left message new
-taken_there None before left new message same some none there = absurd (none (search rules) (subst (λ (ms : List Message). Contains ms message) (sym same) there))
-taken_there (Some t) before left new message same some none there = subst (λ (ms : List Message). TakesFirst ms message new) same some.1
+took_at before left new place message same within is takes =
+    let inside : place < length before = subst (λ (ms : List Message). place < length ms) (sym same) within in
+    subst (λ (ms : List Message). TakesFirst left message ms) (sym (is inside ∙ ap (λ (ms : List Message). remove ms place) same)) takes
 
 -- one more move, of lists that are equal to these
 pub one_more : (moves before after : List Move) (step : Step) (sends sends' : List Message) (marks marks' : List Mark)
@@ -198,13 +200,5 @@ few_carried law nodes place first old new event sends marks within at_first at c
     (omega (arith, few.0, same.count.1), few.1)
 
 -- room for the most is room for fewer
-pub room_for : (log : LogState) (sends marks : ℕ) → HasRoom log 32 3 → sends ≤ 32 → marks ≤ 3 → HasRoom log sends marks
-room_for log sends marks has few_sends few_marks =
-    record {
-      few_sends = omega (arith, few_sends);
-      few_marks = omega (arith, few_marks);
-      for_step = has.for_step;
-      for_counts = has.for_counts;
-      for_sends = omega (arith, few_sends, has.for_sends);
-      for_marks = omega (arith, few_marks, has.for_marks);
-    }
+pub room_for : (log : LogState) (marks : ℕ) → HasRoom log 3 → marks ≤ 3 → HasRoom log marks
+room_for log marks has few = record { for_step = has.for_step; for_marks = omega (arith, few, has.for_marks) }

@@ -1,6 +1,6 @@
 //! What a world keeps of its run at each step.
-ghost use Rattle.std.specs.Prelude.{◌≡◌, ◌+◌, ◌≤◌, ◌<◌, ◌↔◌, ◌∷◌, ◌++◌, [], ℕ, List, Contains, length, map, slice_set, sum_by, IfOk, OnOk};
-ghost use Rattle.std.specs.List.{range_with_len};
+ghost use Rattle.std.specs.Prelude.{◌≡◌, ◌+◌, ◌≤◌, ◌<◌, ◌↔◌, ◌∷◌, ◌++◌, [], ℕ, List, Contains, length, map, slice_set, slice_index_or, sum_by, IfOk, OnOk};
+ghost use Rattle.std.specs.List.{range_with_len, remove};
 ghost use Rattle.ra_stamp.specs.declared.message.Message.{Message};
 ghost use Rattle.ra_stamp.specs.Message.{to_of};
 ghost use Rattle.ra_stamp.specs.NodeId.{IsNodeNumber};
@@ -20,7 +20,8 @@ ghost use Rattle.ra_world.specs.Keeping.{nodes_of, Keeps};
 
 use crate::log::Log;
 use crate::{
-    Report, Step, StepError, marks_of_runs_are_table_runs, messages_under_way_are_between_nodes,
+    Report, Step, StepError, marks_of_runs_are_table_runs, messages_of_runs_are_different,
+    messages_under_way_are_between_nodes,
     quiet_runs_sent_two_messages_for_each_request_and_other_node, runs_go_on_by_events,
     runs_go_on_where_steps_are_allowed, waiting_requests_are_blocked_in_quiet_runs,
 };
@@ -38,21 +39,20 @@ pub const MAX_MARKS: u64 = 3;
 
 /// Makes room for a step with at most this many messages and marks.
 pub fn make_room(under_way: &mut Bag, log: &mut Log, sends: u64, marks: u64) -> Result<(), Memory>
-    requires few { (sends < 256) × (marks < 256) }
     ensures messages { under_way.new.items ≡ under_way.old.items }
     ensures moves { log.new.moves ≡ log.old.moves }
     ensures bag_room { OnOk result (sends ≤ under_way.new.spare) }
-    ensures log_room { OnOk result (HasRoom log.new sends marks) }
+    ensures log_room { OnOk result (HasRoom log.new marks) }
 {
     under_way.reserve(sends)?;
-    log.reserve(sends, marks)?;
+    log.reserve(marks)?;
     Ok(())
 }
 
 /// Puts what a step sent under way and logs the step, where there is room for it.
 pub fn keep(under_way: &mut Bag, log: &mut Log, step: Step, outcome: &Outcome)
     requires bag_room { length outcome.now.sends.items ≤ under_way.old.spare }
-    requires log_room { HasRoom log.old (length outcome.now.sends.items) (length outcome.now.marks.items) }
+    requires log_room { HasRoom log.old (length outcome.now.marks.items) }
     ensures messages { under_way.new.items ≡ under_way.old.items ++ outcome.now.sends.items }
     ensures moves { log.new.moves ≡ log.old.moves
         ++ record { step = step; sends = outcome.now.sends.items; marks = outcome.now.marks.items } ∷ [] }
@@ -107,6 +107,11 @@ pub fn kept_runs_go_on()
         (message : Message)
         → Keeps start nodes left moves → Contains left message → (to_of message ≤ length nodes)
         × IsForNode (nodes_of nodes (to_of message)).me (nodes_of nodes (to_of message)).nodes message }
+    // All messages under way are different, so the one at a place is the first of its kind.
+    ensures taken_at { (start : ℕ) (nodes : List NodeState) (left : List Message) (moves : List Move)
+        (message : Message) (place : ℕ)
+        → Keeps start nodes left moves → place < length left → slice_index_or left place message ≡ message
+        → TakesFirst left message (remove left place) }
     // At most one client more is queued after each step.
     ensures queued { (start : ℕ) (nodes : List NodeState) (left : List Message) (moves : List Move)
         → Keeps start nodes left moves → sum_by queued_count nodes ≤ length moves }
@@ -115,6 +120,7 @@ pub fn kept_runs_go_on()
 {
     runs_go_on_by_events();
     messages_under_way_are_between_nodes();
+    messages_of_runs_are_different();
     events_leave_other_names();
 }
 

@@ -81,6 +81,22 @@ pub fn runs_go_on_where_steps_are_allowed()
     laws_below();
 }
 
+/// A node changes by its own steps alone: behind a move at another one a run goes on with an ask or a leave at the node where it
+/// did before.
+pub fn steps_elsewhere_leave_a_node()
+    ensures ask { (n start : ℕ) (moves : List Move) (move : Move) → IsNodeNumber n → IsRun n start (moves ++ move ∷ [])
+        → (node client : ℕ) (name : List ℕ) (mode : Mode) → events_at node move.step ≡ []
+        → GoesOn n start moves (Step.Ask node client name mode)
+        ↔ GoesOn n start (moves ++ move ∷ []) (Step.Ask node client name mode) }
+    ensures leave { (n start : ℕ) (moves : List Move) (move : Move) → IsNodeNumber n → IsRun n start (moves ++ move ∷ [])
+        → (node client : ℕ) (name : List ℕ) → events_at node move.step ≡ []
+        → GoesOn n start moves (Step.Leave node client name)
+        ↔ GoesOn n start (moves ++ move ∷ []) (Step.Leave node client name) }
+{
+    fronts_of_runs_are_runs();
+    runs_go_on_where_steps_are_allowed();
+}
+
 /// The marks of a run are a run of the lock table. So no two conflicting entries on one name hold at once, and
 /// conflicting entries on one name are granted in the order of their stamps. As many requests wait in the table as at
 /// the nodes.

@@ -3,6 +3,7 @@
 #![tactic(auto)]
 
 mod error;
+mod history;
 mod input;
 mod keeping;
 mod laws;
@@ -22,7 +23,8 @@ pub use laws::{
     messages_of_runs_are_different, messages_under_way_are_between_nodes,
     no_delivered_reply_is_a_stray, quiet_runs_sent_two_messages_for_each_request_and_other_node,
     runs_are_determined, runs_go_on_by_events, runs_go_on_where_steps_are_allowed,
-    two_nodes_never_hold_in_conflict, waiting_requests_are_blocked_in_quiet_runs,
+    steps_elsewhere_leave_a_node, two_nodes_never_hold_in_conflict,
+    waiting_requests_are_blocked_in_quiet_runs,
 };
 pub use lines::{
     letter_of, mark_line, push_field, push_mark_line, push_number, report_text, text_of,

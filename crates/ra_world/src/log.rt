@@ -1,53 +1,58 @@
 //! The steps of a world so far, with what came of them.
-ghost use Rattle.std.specs.Prelude.{◌≡◌, ◌+◌, ◌<◌, ◌≤◌, [], ◌∷◌, ◌++◌, length, map, OnOk};
+ghost use Rattle.std.specs.Prelude.{◌≡◌, ◌+◌, ◌≤◌, [], ◌∷◌, ◌++◌, length, map, OnOk};
 ghost use Rattle.ra_stamp.specs.declared.entry.Mark.{Mark};
 ghost use Rattle.ra_world.specs.Traffic.{lost_in};
 ghost use Rattle.ra_world.specs.Quiet.{requests_in};
 
+use crate::history::History;
 use crate::{Step, Steps};
 use ra_node::Outcome;
-use ra_stamp::{Mark, Marks, Memory, Message, Messages, Sequence};
+use ra_stamp::{Mark, Marks, Memory, Sequence};
 use std::alloc::Global;
+use std::fmt;
 use std::marker::Model;
 
-/// How many messages a step sent and marks it made. A log is long, so each count takes one byte.
-#[derive(Clone, Copy, Debug)]
-pub struct Counts {
-    sends: u8,
-    marks: u8,
-}
-
 /// The steps so far with what came of them. Contracts see the moves, and the room for more.
-#[derive(Debug, Drop)]
+#[derive(Drop)]
 pub struct Log {
     steps: Steps,
-    /// What came of each of them.
-    counts: Sequence<Counts>,
-    /// All messages that the steps sent, in order.
-    sent: Messages,
     /// All marks of the steps, in order.
     marks: Marks,
+    /// How many messages the steps sent.
+    sent: u128,
     /// How many of the marks are Requested.
     requests: u64,
     /// How many of the steps are losses.
     lost: u64,
+    /// Each step with what came of it, for proofs alone.
+    made: History<Step, Outcome>,
 }
 
 impl Model for Log {
-    ghost use Rattle.ra_world.specs.Log.{LogState, logged, cut, AreCounted};
+    ghost use Rattle.ra_world.specs.Log.{LogState, moves_of, AreCounted};
 
     ghost Value = { LogState };
 
     ghost view = { λ l. record {
-      moves = cut (logged l.steps.items l.counts.items) l.sent.items l.marks.items;
+      moves = moves_of l.made.items;
       steps_room = l.steps.spare;
-      counts_room = l.counts.spare;
-      sends_room = l.sent.spare;
       marks_room = l.marks.spare;
     } };
 
     ghost invariant = { λ l.
-        AreCounted l.steps.items l.counts.items l.sent.items l.marks.items l.requests l.lost };
+        AreCounted (moves_of l.made.items) l.steps.items l.marks.items l.sent l.requests l.lost };
+}
+
+impl fmt::Debug for Log {
+    fn fmt<W: fmt::Write>(&self, f: &mut fmt::Formatter<W>) -> fmt::Result {
+        f.debug_struct("Log")
+            .field("steps", &self.steps)
+            .field("marks", &self.marks)
+            .field("sent", &self.sent)
+            .field("requests", &self.requests)
+            .field("lost", &self.lost)
+            .finish()
+    }
 }
 
 impl Log {
@@ -61,11 +66,11 @@ impl Log {
     {
         Log {
             steps: Steps::new(alloc),
-            counts: Sequence::new(alloc),
-            sent: Messages::new(alloc),
             marks: Marks::new(alloc),
+            sent: 0,
             requests: 0,
             lost: 0,
+            made: History::new(),
         }
     }
 
@@ -77,10 +82,10 @@ impl Log {
     }
 
     /// Returns how many messages the steps sent.
-    pub fn sent(&self) -> u64
+    pub fn sent(&self) -> u128
         ensures { result ≡ length (sent_by self.now.moves) }
     {
-        self.sent.len()
+        self.sent
     }
 
     /// Returns how many requests the steps made.
@@ -112,38 +117,36 @@ impl Log {
         &self.marks
     }
 
-    /// Makes room for one step with this many messages and marks. The cost is linear in what is kept where the room has to
+    /// Makes room for one step with this many marks. The cost is linear in what is kept where the room has to
     /// grow, which, as it doubles, is amortized constant for each item added.
     ///
     /// # Errors
     ///
     /// `Memory`: the steps are as before.
-    pub fn reserve(&mut self, sends: u64, marks: u64) -> Result<(), Memory>
-        requires few { (sends < 256) × (marks < 256) }
+    pub fn reserve(&mut self, marks: u64) -> Result<(), Memory>
         ensures same { self.new.moves ≡ self.old.moves }
-        ensures ok { OnOk result (HasRoom self.new sends marks) }
+        ensures ok { OnOk result (HasRoom self.new marks) }
     {
         self.steps.reserve(1)?;
-        self.counts.reserve(1)?;
-        self.sent.reserve(sends)?;
         self.marks.reserve(marks)?;
         Ok(())
     }
 
     /// Adds a step with what came of it, for which there is room.
     pub fn push(&mut self, step: Step, outcome: &Outcome)
-        requires { HasRoom self.old (length outcome.now.sends.items) (length outcome.now.marks.items) }
+        requires { HasRoom self.old (length outcome.now.marks.items) }
         ensures { self.new.moves ≡ self.old.moves
             ++ record { step = step; sends = outcome.now.sends.items; marks = outcome.now.marks.items } ∷ [] }
     {
-        push_step(&mut self.steps, &mut self.counts, step, outcome);
-        append(&mut self.sent, outcome.sends.as_slice());
+        self.steps.push(step).unwrap();
         append(&mut self.marks, outcome.marks.as_slice());
-        // The counts fit, since there are no more of either than marks and steps.
+        // The counts fit: no list has 2^64 items, and there are no more requests than marks and no more losses than steps.
+        let _all_steps = self.steps.len();
+        self.sent += u128::from(outcome.sends.len());
         let _all_marks = self.marks.len();
         self.requests += requests_of(outcome.marks.as_slice());
-        let _all_steps = self.steps.len();
         self.lost += losses_of(&step);
+        self.made = self.made.and(&step, outcome);
     }
 }
 
@@ -154,36 +157,6 @@ fn losses_of(step: &Step) -> u64
     match step {
         Step::Lose(_) => 1,
         Step::Ask { .. } | Step::Leave { .. } | Step::Deliver(_) => 0,
-    }
-}
-
-/// Adds a step with the numbers of what it sent and marked, where there is room for them.
-fn push_step(steps: &mut Steps, counts: &mut Sequence<Counts>, step: Step, outcome: &Outcome)
-    requires room { (1 ≤ steps.old.spare) × (1 ≤ counts.old.spare) }
-    requires sends { length outcome.now.sends.items < 256 }
-    requires marks { length outcome.now.marks.items < 256 }
-    ensures step { steps.new.items ≡ steps.old.items ++ step ∷ [] }
-    ensures counts { counts.new.items ≡ counts.old.items ++ record {
-      sends = length outcome.now.sends.items;
-      marks = length outcome.now.marks.items;
-    } ∷ [] }
-{
-    steps.push(step).unwrap();
-    counts.push(counts_of(outcome)).unwrap();
-}
-
-/// Returns how many messages and marks came of a step.
-fn counts_of(outcome: &Outcome) -> Counts
-    requires sends { length outcome.now.sends.items < 256 }
-    requires marks { length outcome.now.marks.items < 256 }
-    ensures { result ≡ record {
-      sends = length outcome.now.sends.items;
-      marks = length outcome.now.marks.items;
-    } }
-{
-    Counts {
-        sends: outcome.sends.len() as u8,
-        marks: outcome.marks.len() as u8,
     }
 }
 

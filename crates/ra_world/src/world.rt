@@ -19,7 +19,7 @@ use std::marker::Model;
 /// A cluster of nodes in one thread, with the messages under way between them. Contracts see how many nodes there are, the
 /// start value and the steps so far with what came of them, which are a run.
 ///
-/// A world keeps its steps, all messages that they sent and their marks.
+/// A world keeps its steps and their marks, and of the messages that they sent those under way and how many there were.
 #[derive(Debug, Drop)]
 pub struct World {
     start: u64,
@@ -101,6 +101,27 @@ impl World {
             ↔ GoesOn self.old.count self.old.start self.old.moves step.now }
         ensures err { OnErr result (self.new ≡ self.old) }
     {
+        self.step_near(alloc, step, 0)
+    }
+
+    /// Makes a step as `step` does. A message that is to be delivered or lost is looked for at the place `near` first, counted
+    /// from 0 in the order of sending, where it costs no search.
+    ///
+    /// # Errors
+    ///
+    /// Those of `step`.
+    pub fn step_near(&mut self, alloc: Global, step: &Step, near: u64) -> Result<Outcome, StepError>
+        ensures ok { IfOk result (λ outcome.
+            self.new ≡ with_move self.old step.now outcome.sends.items outcome.marks.items) }
+        ensures run { IsRun self.new.count self.new.start self.new.moves }
+        ensures count { IsNodeNumber self.new.count }
+        ensures refused { (cause : StepError) → cause ≢ StepError.Memory
+            → IsErrOf result cause ↔ HasCause self.old.count self.old.start self.old.moves step.now cause }
+        // Memory is the one other error.
+        ensures allowed { IsOkUnless result StepError.Memory
+            ↔ GoesOn self.old.count self.old.start self.old.moves step.now }
+        ensures err { OnErr result (self.new ≡ self.old) }
+    {
         steps_have_one_cause();
         // What holds before the step is that the steps so far are a run.
         let _ = &self.start;
@@ -112,8 +133,8 @@ impl World {
                 mode,
             } => self.ask(alloc, node, client, name, mode),
             Step::Leave { node, client, name } => self.leave(alloc, node, client, name),
-            Step::Deliver(message) => self.deliver(alloc, message),
-            Step::Lose(message) => self.lose(alloc, message),
+            Step::Deliver(message) => self.deliver(alloc, message, near),
+            Step::Lose(message) => self.lose(alloc, message, near),
         }
     }
 
@@ -193,7 +214,7 @@ impl World {
         let _steps = self.log.len();
         Ok(Report {
             marks,
-            sent: u128::from(self.log.sent()),
+            sent: self.log.sent(),
             requests: u128::from(self.log.requests()),
             under_way: u128::from(self.under_way.len()),
             lost: u128::from(self.log.lost()),
@@ -271,7 +292,7 @@ impl World {
     }
 
     /// A message under way reaches its node.
-    fn deliver(&mut self, alloc: Global, message: Message) -> Result<Outcome, StepError>
+    fn deliver(&mut self, alloc: Global, message: Message, near: u64) -> Result<Outcome, StepError>
         ensures tried { Tries self.old (Step.Deliver message) result self.new }
         ensures run { IsRun self.new.count self.new.start self.new.moves }
         ensures count { IsNodeNumber self.new.count }
@@ -279,9 +300,9 @@ impl World {
         kept_runs_go_on();
         runs_go_on_where_steps_are_allowed();
         events_keep_a_node_consistent();
-        if !self.under_way.contains(&message) {
+        let Some(at) = self.under_way.find(&message, near) else {
             return Err(StepError::NotUnderWay);
-        }
+        };
         // What is under way is for one of the nodes, so there is always a place.
         let Some(place) = place_of(&self.nodes, message.to()) else {
             return Err(StepError::NotUnderWay);
@@ -293,7 +314,7 @@ impl World {
             Ok(outcome) => outcome,
             Err(_) => return Err(StepError::Memory),
         };
-        self.under_way.take(&message);
+        self.under_way.take_at(at);
         keep(
             &mut self.under_way,
             &mut self.log,
@@ -304,7 +325,7 @@ impl World {
     }
 
     /// A message under way is lost.
-    fn lose(&mut self, alloc: Global, message: Message) -> Result<Outcome, StepError>
+    fn lose(&mut self, alloc: Global, message: Message, near: u64) -> Result<Outcome, StepError>
         ensures tried { Tries self.old (Step.Lose message) result self.new }
         ensures run { IsRun self.new.count self.new.start self.new.moves }
         ensures count { IsNodeNumber self.new.count }
@@ -312,12 +333,12 @@ impl World {
         kept_runs_go_on();
         runs_go_on_where_steps_are_allowed();
         events_keep_a_node_consistent();
-        if !self.under_way.contains(&message) {
+        let Some(at) = self.under_way.find(&message, near) else {
             return Err(StepError::NotUnderWay);
-        }
+        };
         make_room(&mut self.under_way, &mut self.log, 0, 0)?;
         let outcome = nothing(alloc);
-        self.under_way.take(&message);
+        self.under_way.take_at(at);
         keep(
             &mut self.under_way,
             &mut self.log,

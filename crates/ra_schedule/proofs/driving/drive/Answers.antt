@@ -1,12 +1,18 @@
 use Rattle.std.proofs.Common.{rules, ◌≡◌, ◌≤◌, ◌+◌, ◌++◌, ℕ, List, [], Some, None, Err, IsErrOf, take, drop, length, replicate, refl, sym, ap, ◌∙◌, subst, arith, inl}
-use Rattle.ra_world.specs.Run.{GoesOn}
+use Rattle.ra_stamp.specs.declared.entry.Mark.{Mark}
+use Rattle.ra_world.specs.declared.step.Step.{Step}
+use Rattle.ra_world.specs.Run.{IsRun, GoesOn}
 use Rattle.ra_world.specs.World.{WorldState}
+use Rattle.ra_schedule.specs.declared.enabled.Enabled.{Enabled}
 use Rattle.ra_schedule.specs.declared.progress.Progress.{Progress}
 use Rattle.ra_schedule.specs.declared.error.DriveError.TheVariants.{TurnLimit}
-use Rattle.ra_schedule.specs.Schedule.{Stops}
+use Rattle.ra_schedule.specs.Schedule.{StandsFor, Stops}
 use Rattle.ra_schedule.specs.Drawing.{generator_at}
-use Rattle.ra_schedule.specs.Progress.{AreCountable, OfEach, IsProgressAfter, AreStuck}
-use Rattle.ra_schedule.proofs.Turns.{IsDriven, driven_none, driven_more, countable, can_be_done, opening_progress, whole}
+use Rattle.ra_schedule.specs.Enabled.{AreFlagsElsewhere, AreRosters}
+use Rattle.ra_schedule.specs.Progress.{Tracks, AreCountable, OfEach, IsProgressAfter, AreStuck, NoneEnters}
+use Rattle.ra_schedule.proofs.Elsewhere.{flags_elsewhere}
+use Rattle.ra_schedule.proofs.Seeded.{had_one}
+use Rattle.ra_schedule.proofs.Turns.{IsDriven, tracks_on, driven_none, driven_more, countable, can_be_done, opening_progress, whole}
 use Rattle.ra_schedule.proofs.Following.{one_ending, refused_here}
 use Rattle.ra_schedule.proofs.driving.drive.Goals as goal
 
@@ -22,7 +28,13 @@ loop-turn-init c = (
       (c.in-Ok.ensures.ok ∙ ap (λ (n : ℕ). let w : WorldState = record { count = n; start = 0; moves = [] } in w) c.nodes.ensures.value)
       c.in-Ok.ensures.run
       (c.in_ok-clients.ensures ∙ ap (λ (n : ℕ). replicate n opening_progress) c.clients.ensures.value),
-  c.of-draws.ensures,
+  c.in_ok-draws.ensures.generator,
+  record {
+    rosters_are = c.in_ok-draws.ensures.rosters;
+    alike = c.in_ok-draws.ensures.flags.length_is;
+    count_is = c.in_ok-draws.ensures.count;
+    flags_are = λ some. c.in_ok-draws.ensures.flags;
+  },
 )
 
 pub returns-in_default-pick-clause-exact : goal.returns-in_default-pick-clause-exact
@@ -53,23 +65,72 @@ make-requires-clause-countable c =
     subst AreCountable (sym c.deref_mut.ensures.value)
     (countable c.args.script.now c.loop-turn.world c.loop-turn.clients.items c.loop-turn._turn c.args.limit driven.tracks driven.turns_are c.loop-turn-test.true c.ranges.limit.fits)
 
+pub note-requires-clause-tracked : goal.note-requires-clause-tracked
+note-requires-clause-tracked c =
+    let clients = c.loop-turn.clients.items in
+    let driven = c.loop-turn.invariant.0 in
+    let (move, this, marks, next, after) = c.in_ok-made.ensures.ok in
+    let len : length c.make.new.clients ≡ c.loop-turn.clients.len =
+    let same = c.make.auto.clients in let lent = c.deref_mut.ensures.len in omega arith in
+    let back : take c.loop-turn.clients.len (c.make.new.clients ++ drop (length c.make.new.clients) clients) ≡ c.make.new.clients =
+    whole c.make.new.clients (drop (length c.make.new.clients) clients) c.loop-turn.clients.len (sym len) in
+    subst (λ (list : List Progress). Tracks c.args.script.now c.make.new.world list) (sym (c.deref-in-loop-turn-4.ensures.value ∙ back))
+    (tracks_on c.args.script.now c.loop-turn.world c.make.new.world clients c.make.new.clients move driven.tracks next
+    (c.make.auto.clients ∙ ap length c.deref_mut.ensures.value)
+    (subst (λ (list : List Progress). OfEach (IsProgressAfter move) list c.make.new.clients) c.deref_mut.ensures.value after))
+
+pub note-requires-clause-rosters : goal.note-requires-clause-rosters
+note-requires-clause-rosters c =
+    subst (AreRosters c.args.script.now) (sym c.in-Some.ensures.rosters) c.loop-turn.invariant.2.rosters_are
+
+pub note-requires-clause-elsewhere : goal.note-requires-clause-elsewhere
+note-requires-clause-elsewhere c some =
+    let script = c.args.script.now in
+    let moves = c.loop-turn.world.moves in
+    let now = c.make.new.world.moves in
+    let flags = c.loop-turn.draws.enabled.flags.items in
+    let driven = c.loop-turn.invariant.0 in
+    let (move, this, marks, next, after) = c.in_ok-made.ensures.ok in
+    let had = had_one c.args.policy.now c.loop-turn._turn (length moves + 1) c.loop-turn.draws.generator c.pick.new.draws.generator
+    c.loop-turn.invariant.1 (c.in-Some.ensures.drawn refl) some in
+    let told : c.as_slice-marks.result.now ≡ move.marks = c.as_slice-marks.ensures ∙ sym marks in
+    let count : c.make.new.world.count ≡ script.nodes = ap (λ (w : WorldState). w.count) next ∙ driven.tracks.count in
+    let start : c.make.new.world.start ≡ 0 = ap (λ (w : WorldState). w.start) next ∙ driven.tracks.start in
+    let run : IsRun script.nodes 0 now =
+    subst (λ (s : ℕ). IsRun script.nodes s now) start (subst (λ (n : ℕ). IsRun n c.make.new.world.start now) count c.in_ok-made.ensures.run) in
+    let kept : AreFlagsElsewhere move.step move.marks script now flags =
+    flags_elsewhere c.schedules_rest_on_runs.ensures script moves now move c.in-Some.choice flags c.nodes.ensures.script.count
+    (ap (λ (w : WorldState). w.moves) next) run (subst (StandsFor script moves c.in-Some.choice) (sym this) c.in_ok-step.ensures.ok)
+    (c.loop-turn.invariant.2.flags_are had) in
+    subst (λ (e : Enabled). AreFlagsElsewhere c.in_ok-step.step c.as_slice-marks.result.now script now e.flags.items) (sym c.in-Some.ensures.enabled)
+    (subst (λ (ms : List Mark). AreFlagsElsewhere c.in_ok-step.step ms script now flags) (sym told)
+    (subst (λ (s : Step). AreFlagsElsewhere s move.marks script now flags) this kept))
+
 pub loop-turn-preserved : goal.loop-turn-preserved
 loop-turn-preserved c =
     let script = c.args.script.now in
     let clients = c.loop-turn.clients.items in
     let driven = c.loop-turn.invariant.0 in
-    let (move, this, next, after, less, none) = c.in_ok-first.ensures.ok in
+    let (move, this, marks, next, after) = c.in_ok-made.ensures.ok in
     let len : length c.make.new.clients ≡ c.loop-turn.clients.len =
     let same = c.make.auto.clients in let lent = c.deref_mut.ensures.len in omega arith in
     let back : take c.loop-turn.clients.len (c.make.new.clients ++ drop (length c.make.new.clients) clients) ≡ c.make.new.clients =
-    whole c.make.new.clients (drop (length c.make.new.clients) clients) c.loop-turn.clients.len (sym len) in (
-      subst (λ (list : List Progress). IsDriven script c.args.policy.now c.make.new.world list c.in_ok-first.first (c.loop-turn._turn + 1)) (sym back)
-          (driven_more script c.args.policy.now c.loop-turn.world c.make.new.world clients c.make.new.clients c.loop-turn.first c.first_free-first.result c.in_ok-first.first
+    whole c.make.new.clients (drop (length c.make.new.clients) clients) c.loop-turn.clients.len (sym len) in
+    let told : c.as_slice-marks.result.now ≡ move.marks = c.as_slice-marks.ensures ∙ sym marks in (
+      subst (λ (list : List Progress). IsDriven script c.args.policy.now c.make.new.world list c.first_entered-first.result (c.loop-turn._turn + 1)) (sym back)
+          (driven_more script c.args.policy.now c.loop-turn.world c.make.new.world clients c.make.new.clients c.loop-turn.first c.first_free-first.result c.first_entered-first.result
           c.loop-turn._turn c.in-Some.choice c.in_ok-step.step move driven
-          (subst (λ (list : List Progress). AreStuck script list c.first_free-first.result) c.deref.ensures.value c.first_free-first.ensures) c.in-Some.ensures.some c.in_ok-step.ensures.ok this next c.in_ok-first.ensures.run
+          (subst (λ (list : List Progress). AreStuck script list c.first_free-first.result) c.deref-in-loop-turn.ensures.value c.first_free-first.ensures) c.in-Some.ensures.some c.in_ok-step.ensures.ok this next c.in_ok-made.ensures.run
           (c.make.auto.clients ∙ ap length c.deref_mut.ensures.value)
-          (subst (λ (list : List Progress). OfEach (IsProgressAfter move) list c.make.new.clients) c.deref_mut.ensures.value after) less none),
-      c.in-Some.ensures.drawn refl ∙ ap (λ (n : ℕ). generator_at c.args.policy.now (n + 1)) driven.turns_are,
+          (subst (λ (list : List Progress). OfEach (IsProgressAfter move) list c.make.new.clients) c.deref_mut.ensures.value after)
+          c.first_entered-first.ensures.not_past (subst (NoneEnters c.first_entered-first.result) told c.first_entered-first.ensures.none)),
+      c.note.ensures.generator ∙ c.in-Some.ensures.drawn refl ∙ ap (λ (n : ℕ). generator_at c.args.policy.now (n + 1)) driven.turns_are,
+      record {
+        rosters_are = c.note.ensures.rosters;
+        alike = c.note.ensures.alike;
+        count_is = c.note.ensures.count;
+        flags_are = c.note.ensures.flags;
+      },
     )
 
 pub returns-in_err-step-clause-exact : goal.returns-in_err-step-clause-exact

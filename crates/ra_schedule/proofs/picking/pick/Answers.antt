@@ -15,6 +15,8 @@ returns-in-Some c =
       some = IfSome_then c.draw.result c.draw.ensures.some (λ choice named. drawn_is_picked script policy moves generator choice has named);
       none = λ e. nothing_is_picked script policy moves generator (c.schedules_rest_on_runs.ensures.one_list moves) has (c.draw.ensures.none e);
       drawn = λ e. goes_on policy (length moves) generator c.draw.new.generator has (c.draw.ensures.drawn e);
+      rosters = refl;
+      enabled = refl;
     }
 
 pub returns-then-messages-eq0 : goal.returns-then-messages-eq0
@@ -27,6 +29,8 @@ returns-then-messages-eq0 c =
           c.in_default.not-Listed (no_seed c.args.policy.now (length c.args.world.now.moves) (sym c.in_default-generator.is ∙ c.requires.drawn))
           (none, (left, leaves, sym is ∙ c.if-messages-eq0.true));
       drawn = λ e. absurd cc;
+      rosters = refl;
+      enabled = refl;
     }
 
 pub returns-in-Newest : goal.returns-in-Newest
@@ -38,6 +42,8 @@ returns-in-Newest c =
           (λ zero. c.if-messages-eq0.false zero) (none, (left, leaves, sym is));
       none = λ e. absurd cc;
       drawn = λ e. c.in_default-generator.is ∙ none_goes_on c.args.policy.now (length c.args.world.now.moves) (sym c.in_default-generator.is ∙ c.requires.drawn);
+      rosters = refl;
+      enabled = refl;
     }
 
 pub returns-in_default-policy : goal.returns-in_default-policy
@@ -51,4 +57,6 @@ returns-in_default-policy c =
           (λ zero. c.if-messages-eq0.false zero) (none, (left, leaves, sym is));
       none = λ e. absurd cc;
       drawn = λ e. c.in_default-generator.is ∙ none_goes_on c.args.policy.now (length c.args.world.now.moves) has;
+      rosters = refl;
+      enabled = refl;
     }

@@ -25,3 +25,6 @@ returns-clause-queued c = few_queued
 
 pub returns-clause-at_all : goal.returns-clause-at_all
 returns-clause-at_all c = at_all
+
+pub returns-clause-taken_at : goal.returns-clause-taken_at
+returns-clause-taken_at c = kept.taken_at c.messages_of_runs_are_different.ensures

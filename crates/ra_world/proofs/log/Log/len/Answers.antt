@@ -1,12 +1,10 @@
-use Rattle.std.proofs.Common.{ap, sym, ◌∙◌, length}
-use Rattle.ra_world.specs.Traffic.{sent_by}
-use Rattle.ra_world.specs.Run.{marks_of}
-use Rattle.ra_world.specs.Quiet.{requests_in}
-use Rattle.ra_world.specs.Log.{logged}
-use Rattle.ra_world.proofs.Cuts.{length-logged, length-cut, sent_by-cut, marks_of-cut}
+use Rattle.std.proofs.Common.{ap, ◌∙◌, length}
+use Rattle.ra_world.specs.Log.{LogState, moves_of}
+use Rattle.ra_world.proofs.Counts.{same_length}
 use Rattle.ra_world.proofs.log.Log.len.Goals as goal
 
 pub returns : goal.returns
 returns c =
     let l = c.self.inside in
-    c.len.ensures ∙ sym (length-logged l.steps.items l.counts.items c.self.invariant.each) ∙ sym (length-cut (logged l.steps.items l.counts.items) l.sent.items l.marks.items) ∙ ap (λ s. length s.moves) c.self.view_is
+    c.len.ensures ∙ same_length (moves_of l.made.items) l.steps.items l.marks.items l.sent l.requests l.lost c.self.invariant
+    ∙ ap (λ (s : LogState). length s.moves) c.self.view_is

@@ -1,4 +1,4 @@
-use Rattle.std.proofs.Common.{rules, ◌≡◌, ◌≢◌, ◌+◌, ◌<◌, ◌≤◌, ◌++◌, List, length, get_or, Err, refl, sym, ap, ◌∙◌, subst, arith}
+use Rattle.std.proofs.Common.{rules, ◌≡◌, ◌+◌, ◌<◌, ◌++◌, List, length, get_or, Err, refl, sym, ap, ◌∙◌, subst, arith}
 use Rattle.ra_stamp.specs.declared.message.Message.{Message}
 use Rattle.ra_node.specs.Events.Event.{Ask as AskedFor}
 use Rattle.ra_node.specs.Turns.{MayAsk}
@@ -116,4 +116,4 @@ keep-requires-clause-log_room c =
     let at : old ≡ get_or w.nodes.items place old = search rules in
     let few = few_carried c.events_keep_a_node_consistent.ensures.room w.nodes.items place first old c.ask.new.self (AskedFor c.args.client c.args.name c.args.mode)
     outcome.sends.items outcome.marks.items within at_first at c.may_ask.ensures.consistent c.in_ok-outcome.ensures.ok in
-    room_for c.make_room.new.log (length outcome.sends.items) (length outcome.marks.items) c.in_ok-make_room.ensures.log_room few.0 few.1
+    room_for c.make_room.new.log (length outcome.marks.items) c.in_ok-make_room.ensures.log_room few.1

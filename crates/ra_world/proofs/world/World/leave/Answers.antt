@@ -1,4 +1,4 @@
-use Rattle.std.proofs.Common.{rules, ◌≡◌, ◌≢◌, ◌+◌, ◌<◌, ◌≤◌, ◌++◌, List, length, get_or, Err, refl, sym, ap, ◌∙◌, subst, arith}
+use Rattle.std.proofs.Common.{rules, ◌≡◌, ◌+◌, ◌<◌, ◌++◌, List, length, get_or, refl, sym, ap, ◌∙◌, subst, arith}
 use Rattle.std.proofs.lemmas.Bool.{false≢true}
 use Rattle.ra_stamp.specs.declared.message.Message.{Message}
 use Rattle.ra_node.specs.Events.Event.{Leave as GivenBack}
@@ -9,10 +9,7 @@ use Rattle.ra_node.specs.declared.error.LeaveError.TheVariants as refused
 use Rattle.ra_world.specs.declared.step.Step.TheVariants.{Leave}
 use Rattle.ra_world.specs.declared.error.StepError.TheVariants.{Node}
 use Rattle.ra_world.specs.declared.error.NodeRefusal.TheVariants.{NotHeld}
-use Rattle.ra_world.specs.World.{HasCause}
-use Rattle.ra_world.specs.Keeping.{Tries}
-use Rattle.ra_world.specs.Refused.{refusal_of_leave}
-use Rattle.ra_world.proofs.Trying.{shown, with_cause, at_err, short, same_nodes, at_node, leave_on, reads_same, memory_of_leave, few_carried, room_for, kept_by, here, run_of}
+use Rattle.ra_world.proofs.Trying.{shown, with_cause, short, same_nodes, at_node, leave_on, reads_same, memory_of_leave, few_carried, room_for, kept_by, here, run_of}
 use Rattle.ra_world.proofs.world.World.leave.Goals as goal
 
 pub returns-then-not-is_held_by-clause-tried : goal.returns-then-not-is_held_by-clause-tried
@@ -116,4 +113,4 @@ keep-requires-clause-log_room c =
     let at : old ≡ get_or w.nodes.items place old = search rules in
     let few = few_carried c.events_keep_a_node_consistent.ensures.room w.nodes.items place first old c.leave.new.self (GivenBack c.args.client c.args.name)
     outcome.sends.items outcome.marks.items within at_first at c.is_held_by.ensures.consistent c.in_ok-outcome.ensures.ok in
-    room_for c.make_room.new.log (length outcome.sends.items) (length outcome.marks.items) c.in_ok-make_room.ensures.log_room few.0 few.1
+    room_for c.make_room.new.log (length outcome.marks.items) c.in_ok-make_room.ensures.log_room few.1

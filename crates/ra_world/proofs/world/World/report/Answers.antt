@@ -21,17 +21,17 @@ returns-clause-ok c =
     let w = c.self.inside in
     let report : Report = record {
       marks = c.in_ok-marks.marks;
-      sent = c.from.result;
-      requests = c.from-2.result;
-      under_way = c.from-3.result;
-      lost = c.from-4.result;
+      sent = c.sent.result;
+      requests = c.from.result;
+      under_way = c.from-2.result;
+      lost = c.from-3.result;
       waiting = c.waiting_at.result;
       queued = c.queued_at.result;
     } in
     subst (λ (s : WorldState). Reports s.count s.start s.moves report) c.self.view_is
     (reported w.start w.nodes.items w.under_way.items w.log.moves report c.self.invariant c.kept_runs_go_on.ensures.at_all
-    (c.in_ok-marks.ensures ∙ c.marks.ensures) (c.from.ensures ∙ c.sent.ensures) (c.from-2.ensures ∙ c.requests.ensures)
-    (c.from-3.ensures ∙ c.len.ensures) (c.from-4.ensures ∙ c.lost.ensures)
+    (c.in_ok-marks.ensures ∙ c.marks.ensures) c.sent.ensures (c.from.ensures ∙ c.requests.ensures)
+    (c.from-2.ensures ∙ c.len.ensures) (c.from-3.ensures ∙ c.lost.ensures)
     (c.waiting_at.ensures ∙ ap (sum_by waiting_count) c.deref.ensures.value)
     (c.queued_at.ensures ∙ ap (sum_by queued_count) c.deref-2.ensures.value))
 

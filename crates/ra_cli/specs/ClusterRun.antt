@@ -1,0 +1,96 @@
+-- What `ra cluster` does.
+use Rattle.std.specs.Prelude.{◌≡◌, ◌≢◌, ℕ, List, Option, IfSome, Ok, Err}
+use Rattle.std.specs.Io.KnownBytes.{Consumes, Appends}
+use Rattle.ra_world.specs.declared.error.ReadFault.{ReadFault}
+use Rattle.ra_world.specs.declared.error.ReadFault.TheVariants as read
+use Rattle.ra_world.specs.declared.report.Report.{Report}
+use Rattle.ra_world.specs.Lines.{report_text}
+use Rattle.ra_world.specs.Run.{IsRun}
+use Rattle.ra_world.specs.Traffic.{Move}
+use Rattle.ra_world.specs.World.{Reports}
+use Rattle.ra_schedule.specs.Script.{ScriptState}
+use Rattle.ra_script.specs.declared.error.ScriptError.{ScriptError}
+use Rattle.ra_script.specs.declared.error.ScriptError.TheVariants as text
+use Rattle.ra_script.specs.ScriptText.{script_of}
+use Rattle.ra_cluster.specs.declared.cluster.ClusterError.{ClusterError}
+use Rattle.ra_cluster.specs.declared.cluster.ClusterError.TheVariants as cluster
+use Rattle.ra_cluster.specs.Order.{IsOutOfOrder, IsUnreleased}
+use Rattle.ra_cluster.specs.Plan.{MeetsPlan, IsQuietEnd}
+use Rattle.ra_cli.specs.declared.error.RunScriptError.{RunScriptError}
+use Rattle.ra_cli.specs.declared.error.RunScriptError.TheVariants as fault
+
+-- The input is the text of a script, and the output is the lines of the report of a run of its nodes, from numbers that begin at
+-- 0: the marks of each client are those of its operations, in order, and nobody is queued and no message is lost or under way.
+pub record IsClusterRun (input output : List ℕ) : Type 0 where
+  pub script : ScriptState
+  pub script_is : script_of input ≡ Ok script
+  pub moves : List Move
+  pub run : IsRun script.nodes 0 moves
+  pub report : Report
+  pub reports : Reports script.nodes 0 moves report
+  pub plan : MeetsPlan script report.marks.items
+  pub ended : IsQuietEnd report
+  pub output_is : output ≡ report_text report
+
+-- What was to be read, where it is known, is a script that a cluster of threads brought to its end; it was read to its end, and
+-- the lines of the report were written and nothing else. Where it is not known, there still is such a script.
+abbrev pub RunsCluster : (old new before after : Option (List ℕ)) → Type 0
+RunsCluster old new before after =
+    IfSome old (λ input. (output : List ℕ) × IsClusterRun input output × Consumes old new input × Appends before after output)
+    × ((input output : List ℕ) × IsClusterRun input output × Appends before after output)
+
+-- ---- Refusals
+
+-- threads may run the script: each client takes its names in ascending order, and gives them all back
+abbrev pub MayRun : ScriptState → Type 0
+MayRun script = (IsOutOfOrder script → ⊥) × (IsUnreleased script → ⊥)
+
+-- which scripts each refusal is for; want of memory is named elsewhere
+abbrev pub StopsAt : ScriptState → ClusterError → Type 0
+StopsAt script cluster.OutOfOrder = IsOutOfOrder script
+StopsAt script cluster.Unreleased = (IsOutOfOrder script → ⊥) × IsUnreleased script
+StopsAt script (cluster.Fault stop) = MayRun script
+StopsAt script cluster.Settle = MayRun script
+StopsAt script cluster.PlanUnmet = MayRun script
+StopsAt script cluster.Lost = MayRun script
+StopsAt script cluster.UnderWay = MayRun script
+StopsAt script cluster.Memory = ⊥
+
+-- where each refusal may come: its cause stands, and none before it. Want of memory and faults of the reader and the writer come
+-- from outside.
+abbrev pub RefusesRun : List ℕ → RunScriptError → Type 0
+RefusesRun input fault.Read = Unit {0}
+RefusesRun input (fault.Script why) = (why ≢ text.Memory) × (script_of input ≡ Err why)
+RefusesRun input (fault.Cluster why) = (script : ScriptState) × (script_of input ≡ Ok script) × StopsAt script why
+RefusesRun input fault.Memory = Unit {0}
+RefusesRun input fault.Write = (output : List ℕ) × IsClusterRun input output
+
+-- ---- As which refusal one of a part is named
+
+-- of an input that was not read
+abbrev pub of_read : ReadFault → RunScriptError
+of_read read.Read = fault.Read
+of_read read.Memory = fault.Memory
+
+-- of a text that is no script
+abbrev pub of_script : ScriptError → RunScriptError
+of_script text.Toml = fault.Script text.Toml
+of_script text.Shape = fault.Script text.Shape
+of_script text.Nodes = fault.Script text.Nodes
+of_script text.Clients = fault.Script text.Clients
+of_script text.Op = fault.Script text.Op
+of_script text.NotHeld = fault.Script text.NotHeld
+of_script text.AlreadyHeld = fault.Script text.AlreadyHeld
+of_script text.Limit = fault.Script text.Limit
+of_script text.Memory = fault.Memory
+
+-- of a script that threads did not bring to its end
+abbrev pub of_cluster : ClusterError → RunScriptError
+of_cluster cluster.OutOfOrder = fault.Cluster cluster.OutOfOrder
+of_cluster cluster.Unreleased = fault.Cluster cluster.Unreleased
+of_cluster (cluster.Fault stop) = fault.Cluster (cluster.Fault stop)
+of_cluster cluster.Settle = fault.Cluster cluster.Settle
+of_cluster cluster.PlanUnmet = fault.Cluster cluster.PlanUnmet
+of_cluster cluster.Lost = fault.Cluster cluster.Lost
+of_cluster cluster.UnderWay = fault.Cluster cluster.UnderWay
+of_cluster cluster.Memory = fault.Memory

@@ -1,0 +1,26 @@
+mod Histories
+mod Kept
+mod Running
+mod Adding
+mod Hearing
+mod Losing
+mod KeyOrders
+mod Parts
+mod KeySets
+mod Granted
+mod Received
+mod WasSent
+mod LostSteps
+mod Taking
+pub mod Merging
+mod Projections
+mod NodeMarks
+mod NodeSends
+mod Grants
+mod Clusters
+mod SettledReport
+mod Holding
+mod Ordered
+mod Planned
+mod Faults
+mod Truth

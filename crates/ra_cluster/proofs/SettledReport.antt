@@ -1,0 +1,78 @@
+-- A run of the settled steps is the settled run of the books, and what it grants was granted.
+use Rattle.std.proofs.Common.{◌≡◌, ℕ, ◌≤◌, List, [], ◌∷◌, length, map, get_or, sym, ap, ◌∙◌, subst, arith}
+use Rattle.std.specs.Prelude.{◌↔◌, All, Contains}
+use Rattle.std.specs.List.{Any}
+use Rattle.std.proofs.lemmas.List.Elements.{All-weaker}
+use Rattle.ra_stamp.specs.declared.entry.Entry.{Entry}
+use Rattle.ra_stamp.specs.declared.entry.Mark.{Mark}
+use Rattle.ra_stamp.specs.declared.entry.Mark.TheVariants.{Entered}
+use Rattle.ra_world.specs.declared.step.Step.{Step}
+use Rattle.ra_world.specs.declared.report.Report.{Report}
+use Rattle.ra_world.specs.Traffic.{Move}
+use Rattle.ra_world.specs.Run.{IsRun, marks_of}
+use Rattle.ra_world.specs.World.{Reports}
+use Rattle.ra_cluster.specs.declared.grant.Grant.{Grant}
+use Rattle.ra_cluster.specs.Book.{BookState, HasHistory}
+use Rattle.ra_cluster.specs.Settled.{IsCluster, IsSettledOrder, IsSettledRun, IsGranted, Placed, settled_steps, start_of}
+
+-- a run of these steps
+abbrev pub HasRun : ℕ → ℕ → List Step → Report → Type 0
+HasRun n start steps report = (moves : List Move) × (map (λ move. move.step) moves ≡ steps) × IsRun n start moves × Reports n start moves report
+
+-- the same, with the number of the books and their start
+pub run_of_all : (books : List BookState) (b : BookState) (n start : ℕ) (steps : List Step) (report : Report) → IsCluster books → b ≡ get_or books 0 b → n ≡ b.nodes → start ≡ b.start
+    → HasRun n start steps report → HasRun (length books) (start_of books) steps report
+run_of_all books b n start steps report cluster is nodes starts has =
+    let some : 1 ≤ length books = cluster.some in
+    let count : n ≡ length books = nodes ∙ ap (λ (x : BookState). x.nodes) is ∙ cluster.one_count 0 b (omega arith) in
+    let first : start ≡ start_of books = starts ∙ ap (λ (x : BookState). x.start) is ∙ cluster.one_start 0 b (omega arith) in
+    subst (λ (n : ℕ). HasRun n (start_of books) steps report) count (subst (λ (s : ℕ). HasRun n s steps report) first has)
+
+-- where all books start at 0, so does the cluster
+pub from_zero : (books : List BookState) → 1 ≤ length books → All (λ b. b.start ≡ 0) books → start_of books ≡ 0
+from_zero [] some all = absurd (omega (arith, some))
+from_zero (b ∷ books) some all = all 0 b (omega arith)
+
+-- a settled run of so many books from 0 is a run of so many nodes from 0
+pub run_from_zero : (books : List BookState) (nodes : ℕ) (steps : List Step) (report : Report) → IsCluster books → length books ≡ nodes → All (λ b. b.start ≡ 0) books
+    → (moves : List Move) × (map (λ move. move.step) moves ≡ steps) × IsSettledRun books moves × Reports (length books) (start_of books) moves report → HasRun nodes 0 steps report
+run_from_zero books nodes steps report cluster count zero (moves, steps_are, settled, reports) =
+    subst (λ (n : ℕ). HasRun n 0 steps report) count
+    (subst (λ (s : ℕ). HasRun (length books) s steps report) (from_zero books cluster.some zero) (moves, steps_are, settled.run, reports))
+
+-- what settling a run says
+pub record Settles (books : List BookState) (steps : List Step) (report : Report) : Type 0 where
+  pub moves : List Move
+  pub steps_are : map (λ move. move.step) moves ≡ steps
+  pub settled : IsSettledRun books moves
+  pub reports : Reports (length books) (start_of books) moves report
+
+module _ (make : (books : List BookState) (placed : List Placed) (moves : List Move) → IsCluster books → All HasHistory books → IsSettledOrder books placed → IsRun (length books) (start_of books) moves
+    → map (λ move. move.step) moves ≡ settled_steps books placed → IsSettledRun books moves)
+    (grant : (books : List BookState) (moves : List Move) (entry : Entry) → IsCluster books → All HasHistory books → IsSettledRun books moves → Contains (marks_of moves) (Entered entry) ↔ IsGranted books entry)
+    (books : List BookState) (cluster : IsCluster books) (histories : All HasHistory books) where
+  pub settles : (placed : List Placed) (steps : List Step) (report : Report) → IsSettledOrder books placed → steps ≡ settled_steps books placed → HasRun (length books) (start_of books) steps report → Settles books steps report
+  settles placed steps report order are has =
+      record {
+        moves = has.0;
+        steps_are = has.1;
+        settled = make books placed has.0 cluster histories order has.2 (has.1 ∙ are);
+        reports = has.3;
+      }
+
+  pub all_granted : (steps : List Step) (report : Report) (grants : List Grant) → Settles books steps report → All (λ g. Contains report.marks.items (Entered g.entry)) grants → All (λ g. IsGranted books g.entry) grants
+  all_granted steps report grants settled marked =
+      All-weaker (λ g. Contains report.marks.items (Entered g.entry)) (λ g. IsGranted books g.entry)
+      (λ g is. (grant books settled.moves g.entry cluster histories settled.settled).0 (subst (λ (ms : List Mark). Contains ms (Entered g.entry)) settled.reports.marks is))
+      grants marked
+
+  -- an entry with no Entered mark was not granted
+  pub some_missing : (steps : List Step) (report : Report) (grants : List Grant) → Settles books steps report → Any (λ g. Contains report.marks.items (Entered g.entry) → ⊥) grants
+      → Any (λ g. IsGranted books g.entry → ⊥) grants
+  some_missing steps report grants settled (k, g, low, at, none) = (
+    k,
+    g,
+    low,
+    at,
+    λ is. none (subst (λ (ms : List Mark). Contains ms (Entered g.entry)) (sym settled.reports.marks) ((grant books settled.moves g.entry cluster histories settled.settled).1 is)),
+  )

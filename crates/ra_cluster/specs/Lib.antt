@@ -1,0 +1,11 @@
+pub mod History
+pub mod Book
+pub mod Keeping
+pub mod Refused
+pub mod Settled
+pub mod Ordering
+pub mod Keys
+pub mod Stopping
+pub mod Order
+pub mod Plan
+pub mod Outcome

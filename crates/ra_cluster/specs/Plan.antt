@@ -1,0 +1,69 @@
+-- What the marks of a run are to be where clients did the operations of a script.
+use Rattle.std.specs.Prelude.{◌≡◌, ℕ, ◌==◌, Bool, true, false, List, [], ◌∷◌, Option, Some, None}
+use Rattle.std.specs.List.{filter}
+use Rattle.ra_stamp.specs.declared.entry.Entry.{Entry}
+use Rattle.ra_stamp.specs.declared.entry.Mark.{Mark}
+use Rattle.ra_stamp.specs.declared.entry.Mark.TheVariants.{Requested, Entered, Left}
+use Rattle.ra_schedule.specs.declared.script.Op.{Op}
+use Rattle.ra_schedule.specs.declared.script.Op.TheVariants.{Lock, Unlock}
+use Rattle.ra_schedule.specs.Script.{ScriptState, ScriptClient, client_at}
+use Rattle.ra_world.specs.declared.report.Report.{Report}
+
+-- the request that a mark is about
+abbrev pub entry_of_mark : Mark → Entry
+entry_of_mark (Requested entry) = entry
+entry_of_mark (Entered entry) = entry
+entry_of_mark (Left entry) = entry
+
+abbrev pub client_of_mark : Mark → ℕ
+client_of_mark mark = (entry_of_mark mark).client
+
+-- the marks that name a client, in order
+abbrev pub marks_of_client : ℕ → List Mark → List Mark
+marks_of_client client marks = filter (λ mark. client_of_mark mark == client) marks
+
+-- a request is at this node, for this name
+abbrev pub IsAt : ℕ → List ℕ → Entry → Type 0
+IsAt node name entry = (entry.stamp.node ≡ node) × (entry.name ≡ name)
+
+-- A mark is the next one of an operation at a node: a lock is requested and then entered, and an unlock leaves. `requested`
+-- says whether it is requested already.
+abbrev pub IsNext : ℕ → Op → Bool → Mark → Type 0
+IsNext node (Lock name mode) false (Requested entry) = IsAt node name entry × (entry.mode ≡ mode)
+IsNext node (Lock name mode) true (Entered entry) = IsAt node name entry × (entry.mode ≡ mode)
+IsNext node (Unlock name) false (Left entry) = IsAt node name entry
+IsNext node op requested mark = ⊥
+
+-- the marks are those of these operations at a node, in order
+abbrev pub FollowsOps : ℕ → List Op → List Mark → Type 0
+FollowsOps node [] [] = Unit {0}
+FollowsOps node (Lock name mode ∷ ops) (first ∷ second ∷ marks) =
+    IsNext node (Lock name mode) false first × IsNext node (Lock name mode) true second × FollowsOps node ops marks
+FollowsOps node (Unlock name ∷ ops) (first ∷ marks) = IsNext node (Unlock name) false first × FollowsOps node ops marks
+FollowsOps node ops marks = ⊥
+
+-- there is this client, and the marks that name it are those of its operations
+abbrev pub IsFollowed : ScriptState → ℕ → List Mark → Type 0
+IsFollowed script client marks = (c : ScriptClient) × (client_at script client ≡ Some c)
+    × FollowsOps c.node c.ops (marks_of_client client marks)
+
+-- the marks that name a client that there is are those of its operations, and none names one that there is not
+abbrev pub MeetsPlanOf : Option ScriptClient → List Mark → Type 0
+MeetsPlanOf (Some c) marks = FollowsOps c.node c.ops marks
+MeetsPlanOf None marks = marks ≡ []
+
+-- the plan is met
+abbrev pub MeetsPlan : ScriptState → List Mark → Type 0
+MeetsPlan script marks = (client : ℕ) → MeetsPlanOf (client_at script client) (marks_of_client client marks)
+
+-- whether a mark is that of a request that is made
+abbrev pub is_request : Mark → Bool
+is_request (Requested entry) = true
+is_request (Entered entry) = false
+is_request (Left entry) = false
+
+-- nobody is queued, and no message is lost or under way
+pub record IsQuietEnd (report : Report) : Type 0 where
+  pub queued : report.queued ≡ 0
+  pub lost : report.lost ≡ 0
+  pub under_way : report.under_way ≡ 0

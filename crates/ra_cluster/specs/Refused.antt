@@ -1,0 +1,10 @@
+-- Which refusal of a book a refusal of its node is.
+use Rattle.ra_node.specs.declared.error.AskError.{AskError}
+use Rattle.ra_node.specs.declared.error.AskError.TheVariants as ask
+use Rattle.ra_cluster.specs.declared.error.BookError.{BookError}
+use Rattle.ra_cluster.specs.declared.error.BookError.TheVariants.{Busy, Exhausted, Memory}
+
+abbrev pub refusal_of_ask : AskError → BookError
+refusal_of_ask ask.Busy = Busy
+refusal_of_ask ask.Exhausted = Exhausted
+refusal_of_ask ask.Memory = Memory

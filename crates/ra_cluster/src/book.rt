@@ -1,0 +1,474 @@
+ghost use Rattle.std.specs.Prelude.{◌≡◌, ◌≢◌, ℕ, ◌<◌, ◌≤◌, ◌⊎◌, ◌↔◌, ◌^◌, All, length, slice_get, unwrap_or, IsErrOf, IsOk, IsOkUnless, IsSome, IfOk, OnErr, OnOk, IsTrue, true, false};
+ghost use Rattle.ra_stamp.specs.declared.entry.Entry.{Entry};
+ghost use Rattle.ra_frame.specs.declared.error.FrameError.{FrameError};
+ghost use Rattle.ra_node.specs.Resource.{Holds};
+ghost use Rattle.ra_node.specs.Node.{resource_at};
+
+use crate::keeping::{clock_after, keep, kept_histories_go_on, make_room, place_of};
+use crate::{BookError, BookEvent, BookKind, Events, MarkLostError, NewError, Posted, Sent, Stop};
+use ra_frame::{Frame, decode};
+use ra_node::Node;
+use ra_stamp::{Entry, Mode, Name, NodeId};
+use std::alloc::Global;
+use std::marker::Model;
+
+/// The book of a node: the node, its events with their clocks, the frames that it sent, each with a flag whether it was lost,
+/// and its fault, if it has one. Contracts see all of it but the node, which the events decide: a book is at all times the
+/// history of its node.
+///
+/// A book keeps its events and the frames that it sent. Each of `ask`, `leave` and `receive` costs what the call of the node
+/// costs, and beside that amortized time linear in the number of nodes.
+#[derive(Debug, Drop)]
+pub struct Book {
+    me: NodeId,
+    nodes: u16,
+    start: u64,
+    node: Node,
+    events: Events,
+    /// In order of sending.
+    sent: Vec<Sent>,
+    fault: Option<Stop>,
+}
+
+impl Model for Book {
+    ghost use Rattle.ra_cluster.specs.Book.{BookState};
+    ghost use Rattle.ra_cluster.specs.Keeping.{book_of, IsKept};
+
+    ghost Value = { BookState };
+
+    ghost view = { book_of };
+
+    ghost invariant = { IsKept };
+}
+
+impl Book {
+    ghost use Rattle.ra_stamp.specs.NodeId.{IsNodeNumber};
+    ghost use Rattle.ra_stamp.specs.Message.{from_of, to_of};
+    ghost use Rattle.ra_automaton.specs.State.{IsForNode};
+    ghost use Rattle.ra_automaton.specs.Steps.{greatest_number};
+    ghost use Rattle.ra_frame.specs.Fits.{Fits};
+    ghost use Rattle.ra_frame.specs.FrameText.{IsFrameText};
+    ghost use Rattle.ra_frame.specs.Faults.{first_fault};
+    ghost use Rattle.ra_node.specs.Resource.{IsBusy, holder_of};
+    ghost use Rattle.ra_node.specs.Turns.{MayAsk};
+    ghost use Rattle.ra_node.specs.Node.{NodeState};
+    ghost use Rattle.ra_cluster.specs.History.{clock_of};
+    ghost use Rattle.ra_cluster.specs.Book.{opening_book, LeadsTo, HasHistory, HasClock, next_clock, Adds, Runs, Hears, IsFirst, Loses};
+
+    /// Makes the book of node `me` of `nodes`, in which nothing has happened yet. The highest number of each resource begins
+    /// at `start`, 0 to 2^64-1, which is to be the same at all nodes. It does not allocate until the first event comes.
+    ///
+    /// # Errors
+    ///
+    /// The first that holds:
+    ///
+    /// 1. `BadCount`: `nodes` is not 1 to 16.
+    /// 2. `BadNode`: `me` is above `nodes`.
+    pub fn new(alloc: Global, me: NodeId, nodes: u16, start: u64) -> Result<Book, NewError>
+        ensures ok { IfOk result (λ book. book ≡ opening_book me nodes start) }
+        ensures history { IfOk result HasHistory }
+        ensures bad_count { IsErrOf result NewError.BadCount ↔ (IsNodeNumber nodes → ⊥) }
+        ensures bad_node { IsErrOf result NewError.BadNode ↔ (IsNodeNumber nodes × (nodes < me)) }
+        ensures no_memory { IsErrOf result NewError.Memory → ⊥ }
+    {
+        kept_histories_go_on();
+        let node = Node::new(alloc, me, nodes, start)?;
+        Ok(Book {
+            me,
+            nodes,
+            start,
+            node,
+            events: Events::new(alloc),
+            sent: Vec::new(alloc),
+            fault: None,
+        })
+    }
+
+    /// A client of the node asks for a name. The clock is one more than before, and the frames and marks are those of the
+    /// node's event, as [`Node::ask`] says.
+    ///
+    /// # Errors
+    ///
+    /// The first that holds, and the book is as before:
+    ///
+    /// 1. `Failed`: the book has a fault.
+    /// 2. `Busy`: the client waits, is queued or holds on that name here.
+    /// 3. `Exhausted`: the highest number of the name is 2^64-1.
+    /// 4. `ClockFull`: the clock would pass 2^62.
+    /// 5. `Memory`: nothing has changed, and the call can be made again.
+    pub fn ask(
+        &mut self,
+        alloc: Global,
+        client: u32,
+        name: Name,
+        mode: Mode,
+    ) -> Result<Posted, BookError>
+        ensures ok { IfOk result (λ posted. Adds self.old (BookKind.Asked client name mode)
+            posted.frames.items posted.marks.items self.new) }
+        ensures history { HasHistory self.new }
+        ensures fits { IfOk result (λ posted. All Fits posted.frames.items) }
+        ensures failed { IsErrOf result BookError.Failed ↔ IsSome self.old.fault }
+        ensures busy { IsErrOf result BookError.Busy
+            ↔ Runs self.old (λ node. IsBusy (resource_at node name) client) }
+        ensures exhausted { IsErrOf result BookError.Exhausted
+            ↔ Runs self.old (λ node. (IsBusy (resource_at node name) client → ⊥)
+            × ((resource_at node name).state.highest ≡ greatest_number)) }
+        ensures clock_full { IsErrOf result BookError.ClockFull
+            ↔ Runs self.old (λ node. MayAsk (resource_at node name) client
+            × (HasClock self.old (BookKind.Asked client name mode) → ⊥)) }
+        // Memory is the one other error.
+        ensures allowed { IsOkUnless result BookError.Memory
+            ↔ Runs self.old (λ node. MayAsk (resource_at node name) client
+            × HasClock self.old (BookKind.Asked client name mode)) }
+        ensures err { OnErr result (self.new ≡ self.old) }
+    {
+        kept_histories_go_on();
+        let clock = self.check_ask(client, name, mode)?;
+        let sends = u64::from(self.nodes);
+        let frames = make_room(alloc, &mut self.events, &mut self.sent, sends)?;
+        // The client may ask, so only memory can be wanting.
+        let Ok(outcome) = self.node.ask(alloc, client, name, mode) else {
+            return Err(BookError::Memory);
+        };
+        let kind = BookKind::Asked { client, name, mode };
+        let event = BookEvent { clock, kind };
+        Ok(keep(&mut self.events, &mut self.sent, frames, event, outcome))
+    }
+
+    /// The client that holds a name leaves it. The clock is one more than before, and the frames and marks are those of the
+    /// node's event, as [`Node::leave`] says.
+    ///
+    /// # Errors
+    ///
+    /// The first that holds, and the book is as before:
+    ///
+    /// 1. `Failed`: the book has a fault.
+    /// 2. `NotHeld`: the client does not hold the name here.
+    /// 3. `ClockFull`: the clock would pass 2^62.
+    /// 4. `Memory`: nothing has changed, and the call can be made again.
+    pub fn leave(&mut self, alloc: Global, client: u32, name: Name) -> Result<Posted, BookError>
+        ensures ok { IfOk result (λ posted. Adds self.old (BookKind.Gave client name)
+            posted.frames.items posted.marks.items self.new) }
+        ensures history { HasHistory self.new }
+        ensures fits { IfOk result (λ posted. All Fits posted.frames.items) }
+        ensures failed { IsErrOf result BookError.Failed ↔ IsSome self.old.fault }
+        ensures not_held { IsErrOf result BookError.NotHeld
+            ↔ Runs self.old (λ node. (entry : Entry) → Holds (resource_at node name) client entry → ⊥) }
+        ensures clock_full { IsErrOf result BookError.ClockFull
+            ↔ Runs self.old (λ node. ((entry : Entry) × Holds (resource_at node name) client entry)
+            × (HasClock self.old (BookKind.Gave client name) → ⊥)) }
+        // Memory is the one other error.
+        ensures allowed { IsOkUnless result BookError.Memory
+            ↔ Runs self.old (λ node. ((entry : Entry) × Holds (resource_at node name) client entry)
+            × HasClock self.old (BookKind.Gave client name)) }
+        ensures err { OnErr result (self.new ≡ self.old) }
+    {
+        kept_histories_go_on();
+        let clock = self.check_leave(client, name)?;
+        let sends = 2 * u64::from(self.nodes);
+        let frames = make_room(alloc, &mut self.events, &mut self.sent, sends)?;
+        // The client holds the name, so only memory can be wanting.
+        let Ok(outcome) = self.node.leave(alloc, client, name) else {
+            return Err(BookError::Memory);
+        };
+        let kind = BookKind::Gave { client, name };
+        let event = BookEvent { clock, kind };
+        Ok(keep(&mut self.events, &mut self.sent, frames, event, outcome))
+    }
+
+    /// The bytes of a frame come. The clock is one more than the greater of the clock before and the frame's, and the frames
+    /// and marks are those of the node's event, as [`Node::receive`] says.
+    ///
+    /// # Errors
+    ///
+    /// The first that holds, and the book is as before:
+    ///
+    /// 1. `Failed`: the book has a fault.
+    /// 2. `Frame`: the bytes are no frame, with the fault that [`decode`] names.
+    /// 3. `WrongNode`: the frame is for another node.
+    /// 4. `Stranger`: its sender is this node or above the number of nodes.
+    /// 5. `ClockFull`: the clock would pass 2^62.
+    /// 6. `Memory`: nothing has changed, and the call can be made again.
+    pub fn receive(&mut self, alloc: Global, bytes: &[u8]) -> Result<Posted, BookError>
+        ensures ok { IfOk result (λ posted. (frame : Frame) × IsFrameText bytes.now frame
+            × Adds self.old (BookKind.Got frame) posted.frames.items posted.marks.items self.new) }
+        ensures history { HasHistory self.new }
+        ensures fits { IfOk result (λ posted. All Fits posted.frames.items) }
+        ensures failed { IsErrOf result BookError.Failed ↔ IsSome self.old.fault }
+        ensures frame { (fault : FrameError) → IsErrOf result (BookError.Frame fault)
+            ↔ ((self.old.fault ≡ None) × (first_fault bytes.now ≡ Some fault)) }
+        ensures wrong_node { IsErrOf result BookError.WrongNode
+            ↔ Hears self.old bytes.now (λ frame. to_of frame.message ≢ self.old.me) }
+        ensures stranger { IsErrOf result BookError.Stranger
+            ↔ Hears self.old bytes.now (λ frame. (to_of frame.message ≡ self.old.me)
+            × ((from_of frame.message ≡ self.old.me) ⊎ (self.old.nodes < from_of frame.message))) }
+        ensures clock_full { IsErrOf result BookError.ClockFull
+            ↔ Hears self.old bytes.now (λ frame. IsForNode self.old.me self.old.nodes frame.message
+            × (HasClock self.old (BookKind.Got frame) → ⊥)) }
+        // Memory is the one other error.
+        ensures allowed { IsOkUnless result BookError.Memory
+            ↔ Hears self.old bytes.now (λ frame. IsForNode self.old.me self.old.nodes frame.message
+            × HasClock self.old (BookKind.Got frame)) }
+        ensures err { OnErr result (self.new ≡ self.old) }
+    {
+        kept_histories_go_on();
+        let (frame, clock) = self.check_receive(bytes)?;
+        let frames = make_room(alloc, &mut self.events, &mut self.sent, 1)?;
+        // The message is for this node and from another one, so only memory can be wanting.
+        let Ok(outcome) = self.node.receive(alloc, &frame.message) else {
+            return Err(BookError::Memory);
+        };
+        let kind = BookKind::Got(frame);
+        let event = BookEvent { clock, kind };
+        Ok(keep(&mut self.events, &mut self.sent, frames, event, outcome))
+    }
+
+    /// Flags the sent frame that is equal to this one as lost; were there equal ones, the first. It does not allocate. The
+    /// cost is linear in the number of the sent frames.
+    ///
+    /// # Errors
+    ///
+    /// The first that holds, and the book is as before:
+    ///
+    /// 1. `NotSent`: it is not among the sent frames.
+    /// 2. `AlreadyLost`: it was flagged before.
+    pub fn mark_lost(&mut self, frame: &Frame) -> Result<(), MarkLostError>
+        ensures ok { OnOk result ((self.new ≡ record self.old { sent = self.new.sent })
+            × Loses self.old.sent frame.now self.new.sent) }
+        ensures history { HasHistory self.new }
+        ensures not_sent { IsErrOf result MarkLostError.NotSent
+            ↔ All (λ s. s.frame ≢ frame.now) self.old.sent }
+        ensures already_lost { IsErrOf result MarkLostError.AlreadyLost
+            ↔ IsFirst self.old.sent frame.now true }
+        ensures allowed { IsOk result ↔ IsFirst self.old.sent frame.now false }
+        ensures err { OnErr result (self.new ≡ self.old) }
+    {
+        kept_histories_go_on();
+        let Some(place) = place_of(&self.sent, frame) else {
+            return Err(MarkLostError::NotSent);
+        };
+        if self.sent[place].lost {
+            return Err(MarkLostError::AlreadyLost);
+        }
+        self.sent[place].lost = true;
+        Ok(())
+    }
+
+    /// Gives the book a fault, if it has none. From then on `ask`, `leave` and `receive` answer `Failed`. It does not
+    /// allocate.
+    pub fn fail(&mut self, stop: Stop)
+        ensures value { self.new ≡ record self.old { fault = Some (unwrap_or self.old.fault stop) } }
+        ensures history { HasHistory self.new }
+    {
+        if self.fault.is_none() {
+            self.fault = Some(stop);
+        }
+    }
+
+    /// Returns the node's number. It does not allocate.
+    pub fn me(&self) -> NodeId
+        ensures value { result ≡ self.now.me }
+        ensures history { HasHistory self.now }
+    {
+        self.me
+    }
+
+    /// Returns how many nodes there are, 1 to 16. It does not allocate.
+    pub fn nodes(&self) -> u16
+        ensures value { result ≡ self.now.nodes }
+        ensures history { HasHistory self.now }
+    {
+        self.nodes
+    }
+
+    /// Returns the highest number that each resource began with, 0 to 2^64-1. It does not allocate.
+    pub fn start(&self) -> u64
+        ensures value { result ≡ self.now.start }
+        ensures history { HasHistory self.now }
+    {
+        self.start
+    }
+
+    /// Returns the clock of the last event, or 0 where there was none. It does not allocate.
+    pub fn clock(&self) -> u64
+        ensures value { result ≡ clock_of self.now.events }
+        ensures history { HasHistory self.now }
+    {
+        match self.events.as_slice().last() {
+            Some(event) => event.clock,
+            None => 0,
+        }
+    }
+
+    /// Returns the node as it is after the events. It does not allocate.
+    pub fn node(&self) -> &Node
+        ensures value { LeadsTo self.now result.now }
+        ensures history { HasHistory self.now }
+    {
+        &self.node
+    }
+
+    /// Returns the events so far, in order. It does not allocate.
+    pub fn events(&self) -> &Events
+        ensures value { result.now.items ≡ self.now.events }
+        ensures history { HasHistory self.now }
+    {
+        &self.events
+    }
+
+    /// Returns the sent frame at this place, counted from 0 in order of sending, with its flag, or `None` past the end. It
+    /// does not allocate.
+    pub fn sent(&self, place: u64) -> Option<Sent>
+        ensures value { result ≡ slice_get self.now.sent place }
+        ensures history { HasHistory self.now }
+    {
+        self.sent.get(place as usize).copied()
+    }
+
+    /// Returns how many frames were sent. It does not allocate.
+    pub fn sent_len(&self) -> u64
+        ensures value { result ≡ length self.now.sent }
+        ensures history { HasHistory self.now }
+    {
+        self.sent.len() as u64
+    }
+
+    /// Returns the fault, or `None` where there is none. It does not allocate.
+    pub fn fault(&self) -> Option<Stop>
+        ensures value { result ≡ self.now.fault }
+        ensures history { HasHistory self.now }
+    {
+        self.fault
+    }
+
+    /// Returns the request that is granted at this node on a name, or `None`, as [`Node::holder`] does. It does not allocate.
+    pub fn holder(&self, name: &Name) -> Option<Entry>
+        ensures value { (node : NodeState) × LeadsTo self.now node
+            × (result ≡ holder_of (resource_at node name.now)) }
+        ensures history { HasHistory self.now }
+    {
+        self.node.holder(name)
+    }
+
+    /// Returns the clock that the ask of a client has.
+    ///
+    /// # Errors
+    ///
+    /// Those of `ask`, but for `Memory`.
+    fn check_ask(&self, client: u32, name: Name, mode: Mode) -> Result<u64, BookError>
+        ensures ok { IfOk result (λ clock. clock ≡ next_clock self.now (BookKind.Asked client name mode)) }
+        ensures failed { IsErrOf result BookError.Failed ↔ IsSome self.now.fault }
+        ensures busy { IsErrOf result BookError.Busy
+            ↔ Runs self.now (λ node. IsBusy (resource_at node name) client) }
+        ensures exhausted { IsErrOf result BookError.Exhausted
+            ↔ Runs self.now (λ node. (IsBusy (resource_at node name) client → ⊥)
+            × ((resource_at node name).state.highest ≡ greatest_number)) }
+        ensures clock_full { IsErrOf result BookError.ClockFull
+            ↔ Runs self.now (λ node. MayAsk (resource_at node name) client
+            × (HasClock self.now (BookKind.Asked client name mode) → ⊥)) }
+        ensures no_memory { IsErrOf result BookError.Memory → ⊥ }
+        ensures allowed { IsOk result ↔ Runs self.now (λ node. MayAsk (resource_at node name) client
+            × HasClock self.now (BookKind.Asked client name mode)) }
+    {
+        kept_histories_go_on();
+        if self.fault.is_some() {
+            return Err(BookError::Failed);
+        }
+        self.node.may_ask(client, &name)?;
+        let kind = BookKind::Asked { client, name, mode };
+        let Some(clock) = clock_after(self.clock(), &kind) else {
+            return Err(BookError::ClockFull);
+        };
+        Ok(clock)
+    }
+
+    /// Returns the clock that the leave of a client has.
+    ///
+    /// # Errors
+    ///
+    /// Those of `leave`, but for `Memory`.
+    fn check_leave(&self, client: u32, name: Name) -> Result<u64, BookError>
+        ensures ok { IfOk result (λ clock. clock ≡ next_clock self.now (BookKind.Gave client name)) }
+        ensures failed { IsErrOf result BookError.Failed ↔ IsSome self.now.fault }
+        ensures not_held { IsErrOf result BookError.NotHeld
+            ↔ Runs self.now (λ node. (entry : Entry) → Holds (resource_at node name) client entry → ⊥) }
+        ensures clock_full { IsErrOf result BookError.ClockFull
+            ↔ Runs self.now (λ node. ((entry : Entry) × Holds (resource_at node name) client entry)
+            × (HasClock self.now (BookKind.Gave client name) → ⊥)) }
+        ensures no_memory { IsErrOf result BookError.Memory → ⊥ }
+        ensures allowed { IsOk result
+            ↔ Runs self.now (λ node. ((entry : Entry) × Holds (resource_at node name) client entry)
+            × HasClock self.now (BookKind.Gave client name)) }
+    {
+        kept_histories_go_on();
+        if self.fault.is_some() {
+            return Err(BookError::Failed);
+        }
+        if !is_held_by(&self.node, client, &name) {
+            return Err(BookError::NotHeld);
+        }
+        let kind = BookKind::Gave { client, name };
+        let Some(clock) = clock_after(self.clock(), &kind) else {
+            return Err(BookError::ClockFull);
+        };
+        Ok(clock)
+    }
+
+    /// Returns the frame that the bytes are the text of, and the clock that its coming has.
+    ///
+    /// # Errors
+    ///
+    /// Those of `receive`, but for `Memory`.
+    fn check_receive(&self, bytes: &[u8]) -> Result<(Frame, u64), BookError>
+        ensures text { IfOk result (λ heard. IsFrameText bytes.now heard.0) }
+        ensures clock { IfOk result (λ heard. heard.1 ≡ next_clock self.now (BookKind.Got heard.0)) }
+        ensures fits { IfOk result (λ heard. Fits heard.0) }
+        ensures for_this_node { IfOk result (λ heard. IsForNode self.now.me self.now.nodes heard.0.message) }
+        ensures has_clock { IfOk result (λ heard. HasClock self.now (BookKind.Got heard.0)) }
+        ensures failed { IsErrOf result BookError.Failed ↔ IsSome self.now.fault }
+        ensures frame { (fault : FrameError) → IsErrOf result (BookError.Frame fault)
+            ↔ ((self.now.fault ≡ None) × (first_fault bytes.now ≡ Some fault)) }
+        ensures wrong_node { IsErrOf result BookError.WrongNode
+            ↔ Hears self.now bytes.now (λ frame. to_of frame.message ≢ self.now.me) }
+        ensures stranger { IsErrOf result BookError.Stranger
+            ↔ Hears self.now bytes.now (λ frame. (to_of frame.message ≡ self.now.me)
+            × ((from_of frame.message ≡ self.now.me) ⊎ (self.now.nodes < from_of frame.message))) }
+        ensures clock_full { IsErrOf result BookError.ClockFull
+            ↔ Hears self.now bytes.now (λ frame. IsForNode self.now.me self.now.nodes frame.message
+            × (HasClock self.now (BookKind.Got frame) → ⊥)) }
+        ensures no_memory { IsErrOf result BookError.Memory → ⊥ }
+        ensures allowed { IsOk result
+            ↔ Hears self.now bytes.now (λ frame. IsForNode self.now.me self.now.nodes frame.message
+            × HasClock self.now (BookKind.Got frame)) }
+    {
+        if self.fault.is_some() {
+            return Err(BookError::Failed);
+        }
+        let frame = match decode(bytes) {
+            Ok(frame) => frame,
+            Err(fault) => return Err(BookError::Frame(fault)),
+        };
+        if frame.message.to() != self.me {
+            return Err(BookError::WrongNode);
+        }
+        let sender = frame.message.from();
+        if sender == self.me || sender.get() > self.nodes {
+            return Err(BookError::Stranger);
+        }
+        let kind = BookKind::Got(frame);
+        let Some(clock) = clock_after(self.clock(), &kind) else {
+            return Err(BookError::ClockFull);
+        };
+        Ok((frame, clock))
+    }
+}
+
+/// Returns whether a client holds a name at a node.
+fn is_held_by(node: &Node, client: u32, name: &Name) -> bool
+    ensures { IsTrue result ↔ ((entry : Entry) × Holds (resource_at node.now name.now) client entry) }
+{
+    match node.holder(name) {
+        Some(entry) => entry.client == client,
+        None => false,
+    }
+}

@@ -1,0 +1,140 @@
+ghost use Rattle.std.specs.Prelude.{◌≡◌, ◌↔◌, ℕ, ◌≤◌, ◌<◌, ◌+◌, List, map, IsErrOf, IfOk, IfSome, vec_len, length};
+ghost use Rattle.ra_world.specs.Traffic.{Move};
+ghost use Rattle.ra_world.specs.Run.{IsRun};
+ghost use Rattle.ra_world.specs.World.{Reports};
+ghost use Rattle.ra_world.specs.MainTheorem.{MainTheorem};
+ghost use Rattle.ra_cluster.specs.Order.{IsOutOfOrder, IsUnreleased};
+ghost use Rattle.ra_cluster.specs.Plan.{MeetsPlan, IsQuietEnd};
+
+use crate::order::check_script;
+use crate::outcome::settle_script;
+use crate::threads::{Shared, run_threads};
+use crate::{Book, Gate, Grant, Post, Settled, Site, Stop};
+use ra_schedule::Script;
+use ra_stamp::{Memory, NodeId};
+use std::alloc::{AllocError, AllocFailed, Global};
+use std::sync::{Mutex, Wait};
+use std::thread::Threads;
+use thiserror::Error;
+
+/// Why threads did not bring a script to its end. It prints as its name.
+#[derive(Clone, Copy, Debug, PartialEq, Eq, Error)]
+pub enum ClusterError {
+    /// A client locks a name that is not above each name that it holds then.
+    #[error("OutOfOrder")]
+    OutOfOrder,
+    /// A client holds a name at its end.
+    #[error("Unreleased")]
+    Unreleased,
+    /// A node was stopped, for this cause.
+    #[error("Fault")]
+    Fault(Stop),
+    /// What the nodes wrote down is no run of the cluster.
+    #[error("Settle")]
+    Settle,
+    /// What became of the clients' requests is not what the script says.
+    #[error("PlanUnmet")]
+    PlanUnmet,
+    /// A message was lost.
+    #[error("Lost")]
+    Lost,
+    /// A message is still under way.
+    #[error("UnderWay")]
+    UnderWay,
+    /// Memory ran out.
+    #[error("Memory")]
+    Memory,
+}
+
+impl From<Memory> for ClusterError {
+    ghost use Rattle.ra_cluster.specs.declared.cluster.ClusterError.TheVariants.{Memory};
+
+    ghost from_gives = { λ _ fault. fault ≡ Memory };
+
+    fn from(_refused: Memory) -> ClusterError {
+        ClusterError::Memory
+    }
+}
+
+/// Runs a script by threads: one for each node and one for each client, whose operations it does one after the other at the
+/// client's site. Once the threads of the clients have ended, the post is closed; once those of the nodes have ended, the books
+/// settle. The numbers begin at 0.
+///
+/// Nothing bounds how long the threads wait. Each client takes its names in ascending order and holds none at its end, since
+/// clients that take names in different orders can wait for each other for ever.
+///
+/// # Errors
+///
+/// The first that holds, but that `Memory` may come before any but the first two:
+///
+/// 1. `OutOfOrder`: a client locks a name that is not above, by bytes, each name that it holds then. No thread was started.
+/// 2. `Unreleased`: a client holds a name at its end. No thread was started.
+/// 3. `Fault`: a node was stopped, with the cause at the lowest such node.
+/// 4. `Settle`: the books do not settle.
+/// 5. `PlanUnmet`: the marks of a client are not those of its operations in order, or a client is queued.
+/// 6. `Lost`: a message was lost.
+/// 7. `UnderWay`: a message is under way.
+/// 8. `Memory`.
+pub fn run_cluster<R: Threads + Wait + Sync, G: Gate>(
+    rt: &R,
+    alloc: Global,
+    script: &Script,
+    gate: &G,
+) -> Result<Settled, ClusterError>
+    ensures out_of_order { IsErrOf result ClusterError.OutOfOrder ↔ IsOutOfOrder script.now }
+    ensures unreleased { IsErrOf result ClusterError.Unreleased
+        ↔ ((IsOutOfOrder script.now → ⊥) × IsUnreleased script.now) }
+    // The report is that of a run of the steps at the script's nodes, from numbers that begin at 0.
+    ensures run { IfOk result (λ settled. (moves : List Move)
+        × (map (λ move. move.step) moves ≡ settled.steps.items)
+        × IsRun script.now.nodes 0 moves × Reports script.now.nodes 0 moves settled.report) }
+    ensures main_theorem { IfOk result (λ settled. MainTheorem script.now.nodes settled.report) }
+    ensures plan { IfOk result (λ settled. MeetsPlan script.now settled.report.marks.items) }
+    ensures ended { IfOk result (λ settled. IsQuietEnd settled.report) }
+{
+    check_script(script)?;
+    let sites = make_sites(alloc, script.nodes())?;
+    // The nodes of a script are 1 to 16, so only memory can be wanting.
+    let Ok((post, inboxes)) = Post::new(alloc, script.nodes()) else {
+        return Err(ClusterError::Memory);
+    };
+    let grants = Mutex::new(Vec::new(alloc));
+    let shared = Shared {
+        script,
+        sites: &sites,
+        post: &post,
+        grants: &grants,
+        gate,
+    };
+    run_threads(rt, alloc, &shared, &inboxes);
+    let books = close_all(alloc, sites)?;
+    let grants = grants.into_inner();
+    settle_script(alloc, script, &books, &grants)
+}
+
+/// Makes the sites of a cluster of this many nodes, in the order of the nodes.
+fn make_sites(alloc: Global, nodes: u16) -> Result<Vec<Site>, Memory>
+    ensures { IfOk result (λ sites. vec_len sites ≡ nodes) }
+{
+    let mut sites = Vec::new(alloc);
+    for place in 0..nodes {
+        // The numbers are those of nodes, so only memory can be wanting.
+        let Some(me) = NodeId::new(place + 1) else {
+            return Err(Memory);
+        };
+        let Ok(site) = Site::new(alloc, me, nodes, 0) else {
+            return Err(Memory);
+        };
+        sites.push(site)?;
+    }
+    Ok(sites)
+}
+
+/// Gives up the locks of all sites, and returns their books in order.
+fn close_all(alloc: Global, sites: Vec<Site>) -> Result<Vec<Book>, Memory> {
+    let mut books = Vec::new(alloc);
+    for site in sites {
+        books.push(site.close())?;
+    }
+    Ok(books)
+}

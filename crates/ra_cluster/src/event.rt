@@ -1,0 +1,25 @@
+use ra_frame::Frame;
+use ra_stamp::{Mode, Name, Sequence};
+
+/// What happens at a node.
+#[derive(Clone, Copy, Debug, PartialEq, Eq)]
+pub enum BookKind {
+    /// A client of the node asked for a name.
+    Asked { client: u32, name: Name, mode: Mode },
+    /// A client of the node left a name.
+    Gave { client: u32, name: Name },
+    /// A frame came.
+    Got(Frame),
+}
+
+/// An event of a node, and its clock (L. Lamport, CACM 21(7), 1978).
+#[derive(Clone, Copy, Debug, PartialEq, Eq)]
+pub struct BookEvent {
+    /// 1 to 2^62, and above that of each earlier event of the node.
+    pub clock: u64,
+    /// What happened.
+    pub kind: BookKind,
+}
+
+/// A list of events.
+pub type Events = Sequence<BookEvent>;

@@ -1,0 +1,32 @@
+use ra_stamp::{Entry, NodeId};
+
+/// What watches a cluster, and may stop it. The threads of the cluster share it.
+pub trait Gate: Sync {
+    /// Is called under the lock of this node, just before each call of its book. The answer `false` stops the cluster, and the
+    /// call is not made. It must call no site of the cluster, since that would wait for a lock that its own thread has.
+    fn step(&self, node: NodeId) -> bool;
+
+    /// Is called by the client threads of [`run_cluster`](crate::run_cluster) after each grant, with no lock held. The answer
+    /// `false` stops the cluster.
+    fn inside(&self, entry: &Entry) -> bool;
+}
+
+/// The gate that lets everything pass.
+#[derive(Clone, Copy, Debug, PartialEq, Eq)]
+pub struct OpenGate;
+
+impl Gate for OpenGate {
+    ghost use Rattle.std.specs.Prelude.{◌≡◌, true};
+
+    fn step(&self, _node: NodeId) -> bool
+        ensures { result ≡ true }
+    {
+        true
+    }
+
+    fn inside(&self, _entry: &Entry) -> bool
+        ensures { result ≡ true }
+    {
+        true
+    }
+}

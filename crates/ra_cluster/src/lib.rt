@@ -1,0 +1,59 @@
+//! Nodes that run on threads. A node's book has the node, its event clock, what happened at it, and what it sent. Threads share
+//! the book under the lock of a site, and the frames between the sites go by a post. The books of all nodes settle into one run of
+//! the cluster.
+//!
+//! The event clock is that of L. Lamport, CACM 21(7), 1978.
+//!
+//! # What a service does
+//!
+//! - It makes a [`Site`] for each node and the [`Post`] with its inboxes, and starts a thread for each inbox, in [`Site::pump`].
+//! - Its own threads lock and unlock names by [`Site::lock`] and [`Site::unlock`], and end where a site is stopped.
+//! - At the end it closes the post, joins the threads of the inboxes, closes the sites, and [`settle`] shows the run.
+//!
+//! The shortest program that does so stands in docs/EMBEDDING.md, with each line said. [`run_cluster`] does all of it for a
+//! script.
+#![tactic(auto)]
+
+mod book;
+mod call;
+mod cluster;
+mod error;
+mod event;
+mod gate;
+mod grant;
+mod granting;
+mod keeping;
+mod keys;
+mod laws;
+mod losses;
+mod order;
+mod ordering;
+mod outcome;
+mod plan;
+mod post;
+mod posted;
+mod receipts;
+mod sent;
+mod settled;
+mod settled_runs;
+mod settling;
+mod site;
+mod stop;
+mod stopping;
+mod threads;
+
+pub use book::Book;
+pub use cluster::{ClusterError, run_cluster};
+pub use error::{BookError, MarkLostError, SettleError};
+pub use event::{BookEvent, BookKind, Events};
+pub use gate::{Gate, OpenGate};
+pub use grant::Grant;
+pub use laws::{histories_are_determined, histories_go_on};
+pub use post::{Inbox, NewPostError, Post, SendError};
+pub use posted::Posted;
+pub use ra_node::NewError;
+pub use sent::{Frames, Sent};
+pub use settled::Settled;
+pub use settling::{is_cluster, settle};
+pub use site::{Site, SiteError};
+pub use stop::Stop;

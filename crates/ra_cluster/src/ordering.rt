@@ -1,0 +1,107 @@
+//! The events of all books in one list, by clock and then by node.
+ghost use Rattle.std.specs.Prelude.{◌≡◌, ◌+◌, ◌<◌, ◌^◌, ℕ, List, length, replicate, slice_get, slice_index, IfOk, IfSome, IsNone, IsSome};
+ghost use Rattle.ra_cluster.specs.Book.{HasHistory};
+ghost use Rattle.ra_cluster.specs.Settled.{IsCluster, IsSettledOrder, Placed, steps_of, step_at};
+ghost use Rattle.ra_cluster.specs.Ordering.{IsEarliest};
+ghost use Rattle.ra_cluster.specs.Ordering as spec;
+
+use crate::{Book, BookEvent, BookKind};
+use ra_stamp::{Memory, NodeId};
+use ra_world::{Step, Steps};
+use std::alloc::{AllocError, Global};
+
+/// The next event of the book at a place.
+#[derive(Clone, Copy)]
+struct Turn {
+    place: usize,
+    event: BookEvent,
+}
+
+/// Returns the steps that the events of all books are, by clock and then by node. Each turn looks at the next event of each
+/// book.
+pub fn steps_in_order(alloc: Global, books: &[Book]) -> Result<Steps, Memory>
+    requires { IsCluster books.now }
+    ensures { IfOk result (λ steps. (placed : List Placed) × IsSettledOrder books.now placed
+        × (steps.items ≡ steps_of placed)) }
+{
+    let mut steps = Steps::new(alloc);
+    let mut taken = none_taken(alloc, books.len())?;
+    while let Some(turn) = earliest(books, &taken) {
+        let node = books[turn.place].me();
+        steps.push(step_of(node, &turn.event.kind))?;
+        taken[turn.place] += 1;
+    }
+    Ok(steps)
+}
+
+/// Returns a list of so many zeros.
+fn none_taken(alloc: Global, count: usize) -> Result<Vec<u64>, Memory>
+    ensures { IfOk result (λ taken. taken.items ≡ replicate count 0) }
+{
+    match vec![in alloc; 0u64; count] {
+        Ok(taken) => Ok(taken),
+        Err(AllocError) => Err(Memory),
+    }
+}
+
+/// Returns the next event of all books, where so many of each are taken already: the one with the least clock, and of those the
+/// one at the least node. Returns `None` where all are taken.
+fn earliest(books: &[Book], taken: &[u64]) -> Option<Turn>
+    requires { length taken.now ≡ length books.now }
+    ensures earliest { IsEarliest books.now taken.now (length books.now) result }
+    ensures fits { IfSome result (λ turn. slice_index taken.now turn.place + 1 < 2 ^ 64) }
+{
+    let mut first = None;
+    for (place, book) in books.iter().enumerate() {
+        if let Some(event) = next_of(book, taken[place]) {
+            first = Some(earlier_of(first, Turn { place, event }));
+        }
+    }
+    first
+}
+
+/// Returns the first one, unless there is none or the other one has a lesser clock.
+fn earlier_of(first: Option<Turn>, other: Turn) -> Turn
+    ensures { result ≡ spec.earlier_of first other }
+{
+    match first {
+        Some(turn) => {
+            if turn.event.clock <= other.event.clock {
+                turn
+            } else {
+                other
+            }
+        }
+        None => other,
+    }
+}
+
+/// Returns the event of a book after as many as are taken, or `None` where all are.
+fn next_of(book: &Book, taken: u64) -> Option<BookEvent>
+    ensures value { result ≡ slice_get book.now.events taken }
+    ensures fits { IsSome result → taken + 1 < 2 ^ 64 }
+    ensures history { HasHistory book.now }
+{
+    let events = book.events();
+    if taken < events.len() {
+        events.at(taken)
+    } else {
+        None
+    }
+}
+
+/// Returns the step of the cluster that an event of a node is.
+fn step_of(node: NodeId, kind: &BookKind) -> Step
+    ensures { result ≡ step_at node kind.now }
+{
+    match *kind {
+        BookKind::Asked { client, name, mode } => Step::Ask {
+            node,
+            client,
+            name,
+            mode,
+        },
+        BookKind::Gave { client, name } => Step::Leave { node, client, name },
+        BookKind::Got(frame) => Step::Deliver(frame.message),
+    }
+}

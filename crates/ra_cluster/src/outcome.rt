@@ -1,0 +1,101 @@
+//! What comes of a script that threads did.
+ghost use Rattle.std.specs.Prelude.{◌≡◌, ◌≢◌, ◌↔◌, ℕ, List, All, Some, map, length, IsTrue, IsErrOf, IsOk, IfOk};
+ghost use Rattle.ra_world.specs.Traffic.{Move};
+ghost use Rattle.ra_world.specs.Run.{IsRun};
+ghost use Rattle.ra_world.specs.World.{Reports};
+ghost use Rattle.ra_world.specs.MainTheorem.{MainTheorem};
+ghost use Rattle.ra_cluster.specs.Plan.{MeetsPlan, IsQuietEnd};
+ghost use Rattle.ra_cluster.specs.Outcome as spec;
+
+use crate::plan::meets_plan;
+use crate::{Book, ClusterError, Grant, SettleError, Settled, Stop, is_cluster, settle};
+use ra_schedule::Script;
+use ra_world::Report;
+use std::alloc::Global;
+
+/// Settles the books of the nodes that did a script, and checks that the script was brought to its end.
+///
+/// # Errors
+///
+/// Those of `run_cluster`, but for the first two.
+pub fn settle_script(
+    alloc: Global,
+    script: &Script,
+    books: &[Book],
+    grants: &[Grant],
+) -> Result<Settled, ClusterError>
+    // The report is that of a run of the steps at the script's nodes, from numbers that begin at 0.
+    ensures run { IfOk result (λ settled. (moves : List Move)
+        × (map (λ move. move.step) moves ≡ settled.steps.items)
+        × IsRun script.now.nodes 0 moves × Reports script.now.nodes 0 moves settled.report) }
+    ensures main_theorem { IfOk result (λ settled. MainTheorem script.now.nodes settled.report) }
+    ensures plan { IfOk result (λ settled. MeetsPlan script.now settled.report.marks.items) }
+    ensures ended { IfOk result (λ settled. IsQuietEnd settled.report) }
+    ensures fault { (stop : Stop) → IsErrOf result (ClusterError.Fault stop) ↔ (spec.first_fault books.now ≡ Some stop) }
+    ensures in_order { IsErrOf result ClusterError.OutOfOrder → ⊥ }
+    ensures released { IsErrOf result ClusterError.Unreleased → ⊥ }
+{
+    if let Some(stop) = first_fault(books) {
+        return Err(ClusterError::Fault(stop));
+    }
+    if !is_cluster(books) || !are_of(script, books) {
+        return Err(ClusterError::Settle);
+    }
+    let settled = match settle(alloc, books, grants) {
+        Ok(settled) => settled,
+        Err(SettleError::Memory) => return Err(ClusterError::Memory),
+        Err(_) => return Err(ClusterError::Settle),
+    };
+    check_report(script, &settled.report)?;
+    Ok(settled)
+}
+
+/// Returns the fault of the lowest node that has one.
+fn first_fault(books: &[Book]) -> Option<Stop>
+    ensures { result ≡ spec.first_fault books.now }
+{
+    for book in books {
+        if let Some(stop) = book.fault() {
+            return Some(stop);
+        }
+    }
+    None
+}
+
+/// Returns whether the books are as many as the nodes of the script, and their numbers begin at 0.
+fn are_of(script: &Script, books: &[Book]) -> bool
+    ensures { IsTrue result
+        ↔ ((length books.now ≡ script.now.nodes) × All (λ book. book.start ≡ 0) books.now) }
+{
+    books.len() == usize::from(script.nodes()) && books.iter().all(|book| book.start() == 0)
+}
+
+/// Checks that a run brought the script to its end.
+///
+/// # Errors
+///
+/// The first that holds:
+///
+/// 1. `PlanUnmet`: the marks of a client are not those of its operations in order, or a client is queued.
+/// 2. `Lost`: a message was lost.
+/// 3. `UnderWay`: a message is under way.
+fn check_report(script: &Script, report: &Report) -> Result<(), ClusterError>
+    ensures ok { IsOk result ↔ (MeetsPlan script.now report.now.marks.items × IsQuietEnd report.now) }
+    ensures plan_unmet { IsErrOf result ClusterError.PlanUnmet
+        ↔ ((MeetsPlan script.now report.now.marks.items × (report.now.queued ≡ 0)) → ⊥) }
+    ensures lost { IsErrOf result ClusterError.Lost ↔ (MeetsPlan script.now report.now.marks.items
+        × (report.now.queued ≡ 0) × (report.now.lost ≢ 0)) }
+    ensures under_way { IsErrOf result ClusterError.UnderWay ↔ (MeetsPlan script.now report.now.marks.items
+        × (report.now.queued ≡ 0) × (report.now.lost ≡ 0) × (report.now.under_way ≢ 0)) }
+{
+    if !meets_plan(script, report.marks.as_slice()) || report.queued != 0 {
+        return Err(ClusterError::PlanUnmet);
+    }
+    if report.lost != 0 {
+        return Err(ClusterError::Lost);
+    }
+    if report.under_way != 0 {
+        return Err(ClusterError::UnderWay);
+    }
+    Ok(())
+}

@@ -1,0 +1,139 @@
+ghost use Rattle.std.specs.Prelude.{◌≡◌, ◌↔◌, ◌≤◌, ◌<◌, length, vec_len, IfOk, IsErrOf, IsOkUnless};
+ghost use Rattle.ra_stamp.specs.NodeId.{IsNodeNumber};
+ghost use Rattle.ra_frame.specs.Fits.{Fits};
+
+use crossbeam_channel::{Receiver, Sender, unbounded};
+use ra_frame::{Frame, encode};
+use ra_stamp::{Memory, NodeId};
+use std::alloc::{AllocError, AllocFailed, Global};
+use std::sync::{Mutex, Wait};
+use thiserror::Error;
+
+/// Why there is no post.
+#[derive(Clone, Copy, Debug, PartialEq, Eq, Error)]
+pub enum NewPostError {
+    /// The number of nodes is not 1 to 16.
+    #[error("BadCount")]
+    BadCount,
+    /// Memory ran out.
+    #[error("Memory")]
+    Memory,
+}
+
+impl From<AllocError> for NewPostError {
+    ghost use Rattle.ra_cluster.specs.declared.post.NewPostError.TheVariants.{Memory};
+
+    ghost from_gives = { λ _ fault. fault ≡ Memory };
+
+    fn from(_refused: AllocError) -> NewPostError {
+        NewPostError::Memory
+    }
+}
+
+impl<T: Drop> From<AllocFailed<T>> for NewPostError {
+    ghost use Rattle.ra_cluster.specs.declared.post.NewPostError.TheVariants.{Memory};
+
+    ghost from_gives = { λ _ fault. fault ≡ Memory };
+
+    fn from(_refused: AllocFailed<T>) -> NewPostError {
+        NewPostError::Memory
+    }
+}
+
+/// Why a frame was not sent.
+#[derive(Clone, Copy, Debug, PartialEq, Eq, Error)]
+pub enum SendError {
+    /// The post is closed.
+    #[error("Closed")]
+    Closed,
+    /// There is no memory for it, or no inbox of its node, or the inbox is gone.
+    #[error("Refused")]
+    Refused,
+}
+
+/// Where the frames for one node come, each as its bytes.
+#[derive(Drop)]
+pub struct Inbox {
+    frames: Receiver<Vec<u8>>,
+}
+
+/// What carries frames between the nodes of a cluster: an inbox for each node, and for each inbox the one sender, until the
+/// post is closed. Threads share it.
+#[derive(Drop)]
+pub struct Post {
+    /// In the order of the nodes. There are none once the post is closed.
+    senders: Mutex<Option<Vec<Sender<Vec<u8>>>>>,
+}
+
+impl Post {
+    /// Makes the post of this many nodes, and their inboxes in the order of the nodes.
+    ///
+    /// # Errors
+    ///
+    /// The first that holds:
+    ///
+    /// 1. `BadCount`: the number of nodes is not 1 to 16.
+    /// 2. `Memory`.
+    pub fn new(alloc: Global, nodes: u16) -> Result<(Post, Vec<Inbox>), NewPostError>
+        ensures inboxes { IfOk result (λ made. vec_len made.1 ≡ nodes) }
+        ensures bad_count { IsErrOf result NewPostError.BadCount ↔ (IsNodeNumber nodes → ⊥) }
+        // Memory is the one other error.
+        ensures allowed { IsOkUnless result NewPostError.Memory ↔ IsNodeNumber nodes }
+    {
+        if NodeId::new(nodes).is_none() {
+            return Err(NewPostError::BadCount);
+        }
+        let mut senders = Vec::new(alloc);
+        let mut inboxes = Vec::new(alloc);
+        for _node in 0..nodes {
+            let (sender, frames) = unbounded(alloc)?;
+            senders.push(sender)?;
+            inboxes.push(Inbox { frames })?;
+        }
+        let senders = Mutex::new(Some(senders));
+        Ok((Post { senders }, inboxes))
+    }
+
+    /// Sends the bytes of a frame to the inbox of the node that it is for. It may wait for other calls of the post, but for
+    /// nobody who reads an inbox.
+    ///
+    /// # Errors
+    ///
+    /// The first that holds:
+    ///
+    /// 1. `Closed`: the post is closed.
+    /// 2. `Refused`: there is no memory, or no inbox of that node, or the inbox is gone.
+    pub fn send<R: Wait>(&self, rt: &R, alloc: Global, frame: &Frame) -> Result<(), SendError>
+        requires { Fits frame.now }
+    {
+        let bytes = encode(alloc, frame);
+        let senders = self.senders.lock(rt);
+        let Some(senders) = senders.as_ref() else {
+            return Err(SendError::Closed);
+        };
+        let Ok(bytes) = bytes else {
+            return Err(SendError::Refused);
+        };
+        let place = usize::from(frame.message.to().get()) - 1;
+        let Some(sender) = senders.get(place) else {
+            return Err(SendError::Refused);
+        };
+        match sender.send(rt, bytes) {
+            Ok(()) => Ok(()),
+            Err(_) => Err(SendError::Refused),
+        }
+    }
+
+    /// Closes the post: no frame is sent from now on, and each inbox is closed once it is empty. It may wait for other calls
+    /// of the post, and does not allocate.
+    pub fn close<R: Wait>(&self, rt: &R) {
+        *self.senders.lock(rt) = None;
+    }
+}
+
+impl Inbox {
+    /// Waits for the next frame, and returns its bytes, or `None` once the inbox is empty and the post closed.
+    pub(crate) fn next<R: Wait>(&self, rt: &R) -> Option<Vec<u8>> {
+        self.frames.recv(rt).ok()
+    }
+}

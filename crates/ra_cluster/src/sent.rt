@@ -1,0 +1,14 @@
+use ra_frame::Frame;
+use ra_stamp::Sequence;
+
+/// A frame that a node sent.
+#[derive(Clone, Copy, Debug, PartialEq, Eq)]
+pub struct Sent {
+    /// The frame.
+    pub frame: Frame,
+    /// Whether it was lost on its way: it is known that it reached nobody.
+    pub lost: bool,
+}
+
+/// A list of frames.
+pub type Frames = Sequence<Frame>;

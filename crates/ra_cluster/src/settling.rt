@@ -1,0 +1,95 @@
+ghost use Rattle.std.specs.Prelude.{◌≡◌, ◌≢◌, ◌↔◌, ◌⊎◌, ℕ, ◌+◌, List, All, AllPairs, map, length, IsTrue, IsErrOf, IfOk, OnOk};
+ghost use Rattle.std.specs.List.{Any};
+ghost use Rattle.ra_world.specs.Traffic.{Move};
+ghost use Rattle.ra_world.specs.World.{Reports};
+ghost use Rattle.ra_world.specs.MainTheorem.{MainTheorem};
+ghost use Rattle.ra_cluster.specs.Settled.{IsCluster, IsSettledOrder, IsSettledRun, Placed, settled_steps, start_of, IsGranted, HasUnsent, HasTwice, Repeats};
+
+use crate::granting::check_grants;
+use crate::losses::push_losses;
+use crate::ordering::steps_in_order;
+use crate::receipts::check_received;
+use crate::settled_runs::{
+    grants_of_settled_runs_are_in_the_books, settled_steps_make_settled_runs,
+};
+use crate::{Book, Grant, SettleError, Settled};
+use ra_world::{RunError, run};
+use std::alloc::Global;
+
+/// Returns whether the books are those of nodes 1 to n, in order, each of n nodes and all from one start. No books are no
+/// cluster. It does not allocate, and the cost is linear in the number of books.
+pub fn is_cluster(books: &[Book]) -> bool
+    ensures { IsTrue result ↔ IsCluster books.now }
+{
+    let Some(first) = books.first() else {
+        return false;
+    };
+    let count = books.len();
+    let start = first.start();
+    for (place, book) in books.iter().enumerate() {
+        if !is_member(book, place, count, start) {
+            return false;
+        }
+    }
+    true
+}
+
+/// Returns whether a book is that of the node with this place, counted from 0, of so many nodes and from this start.
+fn is_member(book: &Book, place: usize, count: usize, start: u64) -> bool
+    ensures { IsTrue result ↔ ((book.now.me ≡ place + 1) × (book.now.nodes ≡ count) × (book.now.start ≡ start)) }
+{
+    // Nodes are counted from 1.
+    let number = usize::from(book.me().get());
+    number - 1 == place && usize::from(book.nodes()) == count && book.start() == start
+}
+
+/// Settles the books of a cluster into one run of it: the events of all books by clock, and those of one clock by node, and
+/// then the loss of each frame that is flagged lost, by node and then in order of sending. So what [`run`] says of its steps
+/// holds of what happened at the nodes. With n events and frames sent, m grants and k books the cost is that of the run, and
+/// n log n, m log m and k n beside it.
+///
+/// # Errors
+///
+/// The first that holds, each of all books or grants:
+///
+/// 1. `NotSent`: a frame came, with this clock and message, that is not among the frames that its sender sent and that are not
+///    flagged lost. Also where [`run`] refuses the steps, which is not yet shown never to happen.
+/// 2. `Twice`: a message came twice.
+/// 3. `GrantMissing`: the entry of a grant has no Entered mark in its node's book.
+/// 4. `GrantTwice`: two grants are equal.
+/// 5. `Memory`, which may come before any of them.
+pub fn settle(alloc: Global, books: &[Book], grants: &[Grant]) -> Result<Settled, SettleError>
+    requires { IsCluster books.now }
+    // The steps are a settled run, and the report is that of the run.
+    ensures settled_run { IfOk result (λ settled. (moves : List Move)
+        × (map (λ move. move.step) moves ≡ settled.steps.items)
+        × IsSettledRun books.now moves × Reports (length books.now) (start_of books.now) moves settled.report) }
+    ensures main_theorem { IfOk result (λ settled. MainTheorem (length books.now) settled.report) }
+    ensures steps { IfOk result (λ settled. (placed : List Placed) × IsSettledOrder books.now placed
+        × (settled.steps.items ≡ settled_steps books.now placed)) }
+    ensures granted { OnOk result (All (λ grant. IsGranted books.now grant.entry) grants.now) }
+    ensures once { OnOk result (AllPairs (λ a b. a ≢ b) grants.now) }
+    // Want of memory may come before any other refusal.
+    ensures not_sent { HasUnsent books.now → IsErrOf result SettleError.NotSent ⊎ IsErrOf result SettleError.Memory }
+    ensures twice { IsErrOf result SettleError.Twice → HasTwice books.now × (HasUnsent books.now → ⊥) }
+    ensures found_twice { HasTwice books.now → IsErrOf result SettleError.NotSent ⊎ IsErrOf result SettleError.Twice
+        ⊎ IsErrOf result SettleError.Memory }
+    ensures missing { IsErrOf result SettleError.GrantMissing
+        → Any (λ grant. IsGranted books.now grant.entry → ⊥) grants.now }
+    ensures grant_twice { IsErrOf result SettleError.GrantTwice → Repeats grants.now
+        × All (λ grant. IsGranted books.now grant.entry) grants.now }
+{
+    settled_steps_make_settled_runs();
+    grants_of_settled_runs_are_in_the_books();
+    check_received(alloc, books)?;
+    let mut steps = steps_in_order(alloc, books)?;
+    push_losses(&mut steps, books)?;
+    let first = &books[0];
+    let report = match run(alloc, first.nodes(), first.start(), &steps) {
+        Ok(report) => report,
+        Err(RunError::Memory) => return Err(SettleError::Memory),
+        Err(_) => return Err(SettleError::NotSent),
+    };
+    check_grants(alloc, grants, report.marks.as_slice())?;
+    Ok(Settled { steps, report })
+}

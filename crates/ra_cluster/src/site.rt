@@ -1,0 +1,321 @@
+ghost use Rattle.std.specs.Prelude.{◌≡◌, ◌↔◌, ◌≤◌, ◌<◌, ℕ, All, length, IfOk, IfSome, IsErrOf, IsOkUnless};
+ghost use Rattle.ra_stamp.specs.NodeId.{IsNodeNumber};
+ghost use Rattle.ra_frame.specs.Fits.{Fits};
+
+use crate::call::Call;
+use crate::stopping::stop_of;
+use crate::{Book, BookError, Gate, Grant, Inbox, NewError, Post, Posted, Stop};
+use ra_frame::Frame;
+use ra_stamp::{Mode, Name, NodeId};
+use std::alloc::Global;
+use std::marker::Model;
+use std::sync::{Condvar, Mutex, Wait};
+use thiserror::Error;
+
+/// Why a call of a site did not do what it is for.
+#[derive(Clone, Copy, Debug, PartialEq, Eq, Error)]
+pub enum SiteError {
+    /// The book of the node refused it, and is as before.
+    #[error(transparent)]
+    Refused(BookError),
+    /// The node is stopped, for this cause.
+    #[error("{0}")]
+    Stopped(Stop),
+}
+
+/// A node that threads share: its number, and its book under a lock. Contracts see the number.
+///
+/// The calls that step the node take, beside what the book's call takes: the post that carries its frames, all sites of the
+/// cluster in the order of their nodes, this one among them, and the gate that watches. Under the lock they ask the gate and
+/// call the book; the frames are sent after the lock is given back. No thread ever has the locks of two books. A frame that
+/// the post does not take is flagged as lost, and then each site is stopped, which ends all waiting of clients at them.
+///
+/// Each such call costs what the book's call costs, the sending of the frames, and waking all clients that wait at the node,
+/// for whatever name.
+#[derive(Drop)]
+pub struct Site {
+    node: NodeId,
+    book: Mutex<Book>,
+    /// Tells those who wait of each change of the book.
+    changed: Condvar,
+}
+
+impl Model for Site {
+    ghost use Rattle.std.specs.Prelude.{ℕ};
+
+    ghost Value = { ℕ };
+
+    ghost view = { λ site. site.node };
+}
+
+impl Site {
+    ghost use Rattle.ra_cluster.specs.Book.{HasHistory};
+
+    /// Makes the site of node `me` of `nodes`, with a book in which nothing has happened yet. The highest number of each
+    /// resource begins at `start`, 0 to 2^64-1, which is to be the same at all nodes. It does not allocate.
+    ///
+    /// # Errors
+    ///
+    /// The first that holds:
+    ///
+    /// 1. `BadCount`: `nodes` is not 1 to 16.
+    /// 2. `BadNode`: `me` is above `nodes`.
+    pub fn new(alloc: Global, me: NodeId, nodes: u16, start: u64) -> Result<Site, NewError>
+        ensures ok { IfOk result (λ site. site ≡ me) }
+        ensures bad_count { IsErrOf result NewError.BadCount ↔ (IsNodeNumber nodes → ⊥) }
+        ensures bad_node { IsErrOf result NewError.BadNode ↔ (IsNodeNumber nodes × (nodes < me)) }
+        ensures no_memory { IsErrOf result NewError.Memory → ⊥ }
+    {
+        let book = Book::new(alloc, me, nodes, start)?;
+        Ok(Site {
+            node: me,
+            book: Mutex::new(book),
+            changed: Condvar::new(),
+        })
+    }
+
+    /// Asks for a name for a client, and waits until the client holds it, which is looked for before a fault. Nothing bounds
+    /// the wait, and clients that hold names while they ask for others may wait for each other for ever, unless all take
+    /// their names in one order.
+    ///
+    /// # Errors
+    ///
+    /// 1. `Refused`: the book refused it, as [`Book::ask`] says, with `Failed` where the node was stopped before. Nothing was
+    ///    asked.
+    /// 2. `Stopped`: the gate answered `false`, and nothing was asked; or the node was stopped while the client waited, and
+    ///    its request stands in the book.
+    pub fn lock<R: Wait, G: Gate>(
+        &self,
+        rt: &R,
+        alloc: Global,
+        client: u32,
+        name: Name,
+        mode: Mode,
+        post: &Post,
+        sites: &[Site],
+        gate: &G,
+    ) -> Result<Grant, SiteError>
+        ensures node { IfOk result (λ grant. grant.entry.stamp.node ≡ self.now) }
+        ensures client { IfOk result (λ grant. grant.entry.client ≡ client) }
+        ensures name { IfOk result (λ grant. grant.entry.name ≡ name) }
+        ensures mode { IfOk result (λ grant. grant.entry.mode ≡ mode) }
+    {
+        let call = Call::Ask { client, name, mode };
+        self.step(rt, alloc, &call, post, sites, gate)?;
+        self.wait_for_grant(rt, client, name, mode)
+    }
+
+    /// Gives back the name that a client holds. It waits for locks alone.
+    ///
+    /// # Errors
+    ///
+    /// 1. `Refused`: the book refused it, as [`Book::leave`] says, with `Failed` where the node was stopped before. Nothing
+    ///    was given back.
+    /// 2. `Stopped`: the gate answered `false`, and nothing was given back. Where the book took the leave the answer is `Ok`,
+    ///    even if the node is stopped by then.
+    pub fn unlock<R: Wait, G: Gate>(
+        &self,
+        rt: &R,
+        alloc: Global,
+        client: u32,
+        name: Name,
+        post: &Post,
+        sites: &[Site],
+        gate: &G,
+    ) -> Result<(), SiteError> {
+        let call = Call::Leave { client, name };
+        self.step(rt, alloc, &call, post, sites, gate)
+    }
+
+    /// Hands the book each frame that comes into the inbox, until the post is closed and the inbox empty, or the book refuses
+    /// a frame, or the gate does. A refusal stops each site, for a cause that says which it was, unless the book was stopped
+    /// before. A stop does not end it by itself, but by the next frame: close the post.
+    pub fn pump<R: Wait, G: Gate>(
+        &self,
+        rt: &R,
+        alloc: Global,
+        inbox: &Inbox,
+        post: &Post,
+        sites: &[Site],
+        gate: &G,
+    ) {
+        for _ in rt.forever() {
+            let Some(bytes) = inbox.next(rt) else {
+                return;
+            };
+            let call = Call::Receive(bytes.as_slice());
+            if let Err(refused) = self.step(rt, alloc, &call, post, sites, gate) {
+                stop_after(rt, sites, refused);
+                return;
+            }
+        }
+    }
+
+    /// Stops the node for this cause, unless it is stopped already, and wakes all clients that wait at it; these and who
+    /// calls from then on get `Stopped`, or `Refused` with `Failed`. Its pump ends when the post is closed. It waits for the
+    /// lock, and does not allocate.
+    pub fn stop<R: Wait>(&self, rt: &R, stop: Stop) {
+        let mut book = self.book.lock(rt);
+        book.fail(stop);
+        self.changed.notify_all();
+    }
+
+    /// Gives up the lock, and returns the book. It does not allocate.
+    pub fn close(self) -> Book
+        ensures history { HasHistory result }
+    {
+        let Site {
+            node: _,
+            book,
+            changed: _,
+        } = self;
+        let book = book.into_inner();
+        // Each reader tells that the book has a history.
+        let _me = book.me();
+        book
+    }
+
+    /// Makes one call of the book, and sends the frames of its event.
+    ///
+    /// # Errors
+    ///
+    /// 1. `Refused`: the book refused it.
+    /// 2. `Stopped`: the gate answered `false`, and the call was not made.
+    fn step<R: Wait, G: Gate>(
+        &self,
+        rt: &R,
+        alloc: Global,
+        call: &Call<'_>,
+        post: &Post,
+        sites: &[Site],
+        gate: &G,
+    ) -> Result<(), SiteError> {
+        let Some(answer) = self.call_book(rt, alloc, call, gate) else {
+            stop_all(rt, sites, Stop::Gate);
+            return Err(SiteError::Stopped(self.cause(rt)));
+        };
+        match answer {
+            Ok(posted) => {
+                self.send(rt, alloc, posted.frames.as_slice(), post, sites);
+                Ok(())
+            }
+            Err(refused) => Err(SiteError::Refused(refused)),
+        }
+    }
+
+    /// Asks the gate and makes one call of the book, all under the lock. Returns what the book answers, or `None` where the
+    /// gate answers `false`.
+    fn call_book<R: Wait, G: Gate>(
+        &self,
+        rt: &R,
+        alloc: Global,
+        call: &Call<'_>,
+        gate: &G,
+    ) -> Option<Result<Posted, BookError>>
+        ensures fits { IfSome result (λ answer. IfOk answer (λ posted. All Fits posted.frames.items)) }
+    {
+        let mut book = self.book.lock(rt);
+        if !gate.step(self.node) {
+            return None;
+        }
+        let answer = call.make(alloc, &mut book);
+        if answer.is_ok() {
+            self.changed.notify_all();
+        }
+        Some(answer)
+    }
+
+    /// Sends the frames of an event, each whether or not the ones before it were taken. Where one was not, each site is
+    /// stopped after the last.
+    fn send<R: Wait>(&self, rt: &R, alloc: Global, frames: &[Frame], post: &Post, sites: &[Site])
+        requires { All Fits frames.now }
+    {
+        let mut all_sent = true;
+        for frame in frames {
+            if post.send(rt, alloc, frame).is_err() {
+                self.mark_lost(rt, frame);
+                all_sent = false;
+            }
+        }
+        if !all_sent {
+            stop_all(rt, sites, Stop::Send);
+        }
+    }
+
+    /// Flags a frame that the book sent as lost.
+    fn mark_lost<R: Wait>(&self, rt: &R, frame: &Frame) {
+        let mut book = self.book.lock(rt);
+        // The book sent it, and nobody else flags it.
+        let _ = book.mark_lost(frame);
+        self.changed.notify_all();
+    }
+
+    /// Returns the cause for which the node is stopped.
+    fn cause<R: Wait>(&self, rt: &R) -> Stop {
+        // It is stopped where it is among the sites, as it should be.
+        self.book.lock(rt).fault().unwrap_or(Stop::Gate)
+    }
+
+    /// Waits until a client holds a name in a mode.
+    ///
+    /// # Errors
+    ///
+    /// `Stopped`: the node is stopped, and the client does not hold it.
+    fn wait_for_grant<R: Wait>(
+        &self,
+        rt: &R,
+        client: u32,
+        name: Name,
+        mode: Mode,
+    ) -> Result<Grant, SiteError>
+        ensures node { IfOk result (λ grant. grant.entry.stamp.node ≡ self.now) }
+        ensures client { IfOk result (λ grant. grant.entry.client ≡ client) }
+        ensures name { IfOk result (λ grant. grant.entry.name ≡ name) }
+        ensures mode { IfOk result (λ grant. grant.entry.mode ≡ mode) }
+    {
+        let mut book = self.book.lock(rt);
+        for _ in rt.forever() {
+            if let Some(grant) = self.grant_in(&book, client, name, mode) {
+                return Ok(grant);
+            }
+            if let Some(stop) = book.fault() {
+                return Err(SiteError::Stopped(stop));
+            }
+            book = self.changed.wait(rt, book);
+        }
+        unreachable!()
+    }
+
+    /// Returns the grant of a name to a client of this node, where the book has it.
+    fn grant_in(&self, book: &Book, client: u32, name: Name, mode: Mode) -> Option<Grant>
+        ensures node { IfSome result (λ grant. grant.entry.stamp.node ≡ self.now) }
+        ensures client { IfSome result (λ grant. grant.entry.client ≡ client) }
+        ensures name { IfSome result (λ grant. grant.entry.name ≡ name) }
+        ensures mode { IfSome result (λ grant. grant.entry.mode ≡ mode) }
+    {
+        let entry = book.holder(&name)?;
+        let is_granted = entry.stamp.node == self.node
+            && entry.client == client
+            && entry.name == name
+            && entry.mode == mode;
+        if is_granted {
+            Some(Grant { entry })
+        } else {
+            None
+        }
+    }
+}
+
+/// Stops each site, in turn from node 1 up, with one lock at a time.
+pub fn stop_all<R: Wait>(rt: &R, sites: &[Site], stop: Stop) {
+    for site in sites {
+        site.stop(rt, stop);
+    }
+}
+
+/// Stops each site after a call of one of them was refused, unless that one is stopped already.
+pub fn stop_after<R: Wait>(rt: &R, sites: &[Site], refused: SiteError) {
+    if let Some(stop) = stop_of(refused) {
+        stop_all(rt, sites, stop);
+    }
+}

@@ -1,0 +1,44 @@
+-- Which clients are enabled, as the driver keeps it from turn to turn where chance chooses. No public contract speaks of it.
+use Rattle.std.specs.Prelude.{◌≡◌, ◌≢◌, ◌↔◌, ℕ, ◌+◌, ◌-◌, ◌<◌, Bool, List, [], ◌∷◌, length, slice_index_or, Option, Some, None, option_map, IsTrue, All, Contains, if◌then◌else◌}
+use Rattle.ra_stamp.specs.declared.entry.Mark.{Mark}
+use Rattle.ra_stamp.specs.Message.{to_of}
+use Rattle.ra_world.specs.declared.step.Step.{Step}
+use Rattle.ra_world.specs.declared.step.Step.TheVariants.{Ask, Leave, Deliver, Lose}
+use Rattle.ra_world.specs.Traffic.{Move}
+use Rattle.ra_schedule.specs.Script.{ScriptState, client_at}
+use Rattle.ra_schedule.specs.Schedule.{IsEnabled, Enters}
+
+-- the flag says whether the client is enabled
+abbrev pub IsFlag : ScriptState → List Move → ℕ → Bool → Type 0
+IsFlag script moves client flag = IsTrue flag ↔ IsEnabled script moves client
+
+-- the flags of all clients, in the order of the script
+pub record AreFlags (script : ScriptState) (moves : List Move) (flags : List Bool) : Type 0 where
+  pub length_is : length flags ≡ length script.clients
+  pub each : (k : ℕ) (d : Bool) → k < length flags → IsFlag script moves (k + 1) (slice_index_or flags k d)
+
+-- the numbers of those whose flag is set, where the first flag is that of this number
+abbrev pub numbers_from : ℕ → List Bool → List ℕ
+numbers_from n [] = []
+numbers_from n (flag ∷ flags) = if flag then n ∷ numbers_from (n + 1) flags else numbers_from (n + 1) flags
+
+-- the node of a client of the script
+abbrev pub node_of : ScriptState → ℕ → Option ℕ
+node_of script client = option_map (λ who. who.node) (client_at script client)
+
+-- the node at which a step happens, if there is one
+abbrev pub node_at : Step → Option ℕ
+node_at (Ask node client name mode) = Some node
+node_at (Leave node client name) = Some node
+node_at (Deliver message) = Some (to_of message)
+node_at (Lose message) = None
+
+-- for each node, in the order of their numbers, its clients
+abbrev pub AreRosters : ScriptState → List (List ℕ) → Type 0
+AreRosters script rosters = (client node : ℕ) (d : List ℕ) → node_of script client ≡ Some node
+    → Contains (slice_index_or rosters (node - 1) d) client
+
+-- the flags of all clients but those at the node of a step and those that entered by its marks
+abbrev pub AreFlagsElsewhere : Step → List Mark → ScriptState → List Move → List Bool → Type 0
+AreFlagsElsewhere step marks script moves flags = (k : ℕ) (d : Bool) → k < length flags → node_of script (k + 1) ≢ node_at step
+    → All (λ mark. Enters (k + 1) mark → ⊥) marks → IsFlag script moves (k + 1) (slice_index_or flags k d)

@@ -1,0 +1,110 @@
+-- What a log counts of its moves.
+use Rattle.std.proofs.Common.{arith, ◌≡◌, ℕ, ◌+◌, ◌<◌, ◌≤◌, List, [], ◌∷◌, ◌++◌, length, map, get_or, take, refl, ap, sym, ◌∙◌, subst}
+use Rattle.std.proofs.lemmas.List.{append-nil, append_assoc, length-append, length-take, length-map, take_more}
+use Rattle.ra_stamp.specs.declared.entry.Mark.{Mark}
+use Rattle.ra_stamp.specs.declared.entry.Mark.TheVariants.{Requested, Entered, Left}
+use Rattle.ra_node.specs.declared.outcome.Outcome.{Outcome}
+use Rattle.ra_world.specs.declared.step.Step.{Step}
+use Rattle.ra_world.specs.declared.step.Step.TheVariants.{Ask, Leave, Deliver, Lose}
+use Rattle.ra_world.specs.Traffic.{Move, sent_by, lost_by, lost_in}
+use Rattle.ra_world.specs.Quiet.{requests_in}
+use Rattle.ra_world.specs.Log.{AreCounted, move_of, moves_of}
+use Rattle.ra_world.proofs.Moves.{marks_more, sent_more}
+
+pub requests_in-append : (a b : List Mark) → requests_in (a ++ b) ≡ requests_in a + requests_in b
+requests_in-append [] b = omega arith
+requests_in-append (Requested e ∷ a) b = omega (arith, requests_in-append a b)
+requests_in-append (Entered e ∷ a) b = requests_in-append a b
+requests_in-append (Left e ∷ a) b = requests_in-append a b
+
+-- each request has a mark
+pub requests_in_le : (marks : List Mark) → requests_in marks ≤ length marks
+requests_in_le [] = omega arith
+requests_in_le (Requested e ∷ marks) = omega (arith, requests_in_le marks)
+requests_in_le (Entered e ∷ marks) = omega (arith, requests_in_le marks)
+requests_in_le (Left e ∷ marks) = omega (arith, requests_in_le marks)
+
+pub lost_by-append : (a b : List Move) → lost_by (a ++ b) ≡ lost_by a ++ lost_by b
+lost_by-append [] b = refl
+lost_by-append (x ∷ a) b = ap (λ ms. lost_in x.step ++ ms) (lost_by-append a b) ∙ sym (append_assoc (lost_in x.step) (lost_by a) (lost_by b))
+
+pub lost_in_le : (s : Step) → length (lost_in s) ≤ 1
+lost_in_le (Ask node client name mode) = omega arith
+lost_in_le (Leave node client name) = omega arith
+lost_in_le (Deliver message) = omega arith
+lost_in_le (Lose message) = omega arith
+
+-- each loss is a step
+pub lost_by_le : (moves : List Move) → length (lost_by moves) ≤ length moves
+lost_by_le [] = omega arith
+lost_by_le (x ∷ moves) = omega (arith, length-append (lost_in x.step) (lost_by moves), lost_in_le x.step, lost_by_le moves)
+
+-- one more mark
+pub requests_in-take : (marks : List Mark) (i : ℕ) (mark : Mark) → i < length marks → mark ≡ get_or marks i mark
+    → requests_in (take (i + 1) marks) ≡ requests_in (take i marks) + requests_in (mark ∷ [])
+requests_in-take marks i mark low is =
+    ap requests_in (take_more marks i mark low)
+    ∙ requests_in-append (take i marks) (get_or marks i mark ∷ [])
+    ∙ ap (λ m. requests_in (take i marks) + requests_in (m ∷ [])) (sym is)
+
+-- so many marks have no more requests
+pub requests_in-take-le : (marks : List Mark) (i : ℕ) → requests_in (take i marks) ≤ length marks
+requests_in-take-le marks i = omega (arith, requests_in_le (take i marks), length-take i marks)
+
+-- as many steps as moves
+pub same_length : (moves : List Move) (steps : List Step) (marks : List Mark) (sent requests lost : ℕ)
+    → AreCounted moves steps marks sent requests lost → length steps ≡ length moves
+same_length moves steps marks sent requests lost h = ap length h.steps_are ∙ length-map moves (λ (move : Move). move.step)
+
+-- no more requests than marks, and no more losses than steps
+pub requests-le : (moves : List Move) (steps : List Step) (marks : List Mark) (sent requests lost : ℕ)
+    → AreCounted moves steps marks sent requests lost → requests ≤ length marks
+requests-le moves steps marks sent requests lost h = omega (arith, h.requests_are, requests_in_le marks)
+
+pub lost-le : (moves : List Move) (steps : List Step) (marks : List Mark) (sent requests lost : ℕ)
+    → AreCounted moves steps marks sent requests lost → lost ≤ length steps
+lost-le moves steps marks sent requests lost h = omega (arith, h.lost_are, lost_by_le moves, same_length moves steps marks sent requests lost h)
+
+-- one more step with what came of it
+pub made_more : (made : List (Step × Outcome)) (one : Step × Outcome) → moves_of (made ++ one ∷ []) ≡ moves_of made ++ move_of one ∷ []
+made_more [] one = refl
+made_more (x ∷ made) one = ap (λ (ms : List Move). move_of x ∷ ms) (made_more made one)
+
+steps_more : (moves : List Move) (move : Move) → map (λ (m : Move). m.step) (moves ++ move ∷ []) ≡ map (λ (m : Move). m.step) moves ++ move.step ∷ []
+steps_more [] move = refl
+steps_more (x ∷ moves) move = ap (λ (ss : List Step). x.step ∷ ss) (steps_more moves move)
+
+pub counted_more : (moves : List Move) (steps : List Step) (marks : List Mark) (sent requests lost : ℕ) (move : Move)
+    → AreCounted moves steps marks sent requests lost → length move.sends ≤ 18446744073709551615
+    → AreCounted (moves ++ move ∷ []) (steps ++ move.step ∷ []) (marks ++ move.marks) (sent + length move.sends) (requests + requests_in move.marks)
+    (lost + length (lost_in move.step))
+counted_more moves steps marks sent requests lost move h few =
+    let one : List Move = move ∷ [] in
+    record {
+      steps_are = ap (λ (ss : List Step). ss ++ move.step ∷ []) h.steps_are ∙ sym (steps_more moves move);
+      marks_are = ap (λ (ms : List Mark). ms ++ move.marks) h.marks_are ∙ sym (marks_more moves move);
+      sent_is = ap (λ n. n + length move.sends) h.sent_is ∙ sym (length-append (sent_by moves) move.sends) ∙ ap length (sym (sent_more moves move));
+      sent_fits = omega (arith, h.sent_fits, few, length-append steps (move.step ∷ []));
+      requests_are = ap (λ n. n + requests_in move.marks) h.requests_are ∙ sym (requests_in-append marks move.marks);
+      lost_are =
+          ap (λ n. n + length (lost_in move.step)) h.lost_are
+          ∙ ap (λ xs. length (lost_by moves) + length xs) (sym (append-nil (lost_in move.step)))
+          ∙ sym (length-append (lost_by moves) (lost_by one))
+          ∙ ap length (sym (lost_by-append moves one));
+    }
+
+-- the same, of what is equal to it
+pub pushed : (made made' : List (Step × Outcome)) (steps steps' : List Step) (marks marks' : List Mark) (sent s requests r lost k : ℕ) (step : Step) (outcome : Outcome)
+    → AreCounted (moves_of made) steps marks sent requests lost → length outcome.sends.items ≤ 18446744073709551615
+    → made' ≡ made ++ (step, outcome) ∷ [] → steps' ≡ steps ++ step ∷ [] → marks' ≡ marks ++ outcome.marks.items
+    → s ≡ length outcome.sends.items → r ≡ requests_in outcome.marks.items → k ≡ length (lost_in step)
+    → AreCounted (moves_of made') steps' marks' (sent + s) (requests + r) (lost + k)
+pushed made made' steps steps' marks marks' sent s requests r lost k step outcome h few em es ek is ir il =
+    let moves : moves_of made' ≡ moves_of made ++ move_of (step, outcome) ∷ [] = ap moves_of em ∙ made_more made (step, outcome) in
+    let more = counted_more (moves_of made) steps marks sent requests lost (move_of (step, outcome)) h few in
+    subst (λ (ms : List Move). AreCounted ms steps' marks' (sent + s) (requests + r) (lost + k)) (sym moves)
+    (subst (λ (xs : List Step). AreCounted (moves_of made ++ move_of (step, outcome) ∷ []) xs marks' (sent + s) (requests + r) (lost + k)) (sym es)
+    (subst (λ (xs : List Mark). AreCounted (moves_of made ++ move_of (step, outcome) ∷ []) (steps ++ step ∷ []) xs (sent + s) (requests + r) (lost + k)) (sym ek)
+    (subst (λ (n : ℕ). AreCounted (moves_of made ++ move_of (step, outcome) ∷ []) (steps ++ step ∷ []) (marks ++ outcome.marks.items) (sent + n) (requests + r) (lost + k)) (sym is)
+    (subst (λ (n : ℕ). AreCounted (moves_of made ++ move_of (step, outcome) ∷ []) (steps ++ step ∷ []) (marks ++ outcome.marks.items) (sent + length outcome.sends.items) (requests + n) (lost + k)) (sym ir)
+    (subst (λ (n : ℕ). AreCounted (moves_of made ++ move_of (step, outcome) ∷ []) (steps ++ step ∷ []) (marks ++ outcome.marks.items) (sent + length outcome.sends.items) (requests + requests_in outcome.marks.items) (lost + n)) (sym il) more)))))
