@@ -1,4 +1,4 @@
-ghost use Rattle.std.specs.Prelude.{◌≡◌, ◌≢◌, ◌+◌, ◌<◌, ◌≤◌, ◌↔◌, [], ◌++◌, length, slice_get, slice_index_or, Contains, IsNone, IsSome, IsOk, IfOk, IfSome, OnOk, OnErr, IsTrue, ℕ};
+ghost use Rattle.std.specs.Prelude.{◌≡◌, ◌≢◌, ◌+◌, ◌<◌, ◌≤◌, ◌↔◌, [], ◌++◌, length, slice_get, slice_index_or, Contains, Some, IsNone, IsSome, IsOk, IfOk, IfSome, OnOk, OnErr, IsTrue, ℕ};
 ghost use Rattle.std.specs.VecDeque.{deque_len, deque_capacity};
 ghost use Rattle.std.specs.List.{remove};
 ghost use Rattle.ra_stamp.specs.declared.message.Message.{Message};
@@ -71,6 +71,10 @@ impl Bag {
     pub fn find(&self, message: &Message, near: u64) -> Option<u64>
         ensures found { IfSome result (λ place. (place < length self.now.items)
             × (slice_index_or self.now.items place message.now ≡ message.now)) }
+        ensures near { near < length self.now.items → slice_index_or self.now.items near message.now ≡ message.now
+            → result ≡ Some near }
+        ensures first { IfSome result (λ place. place ≢ near
+            → (k : ℕ) → k < place → slice_index_or self.now.items k message.now ≢ message.now) }
         ensures none { IsNone result ↔ ¬ Contains self.now.items message.now }
     {
         if is_at(&self.messages, near, message) {
@@ -134,14 +138,18 @@ impl Bag {
         ensures none { IsNone result → self.new ≡ self.old }
         ensures spare { self.old.spare ≤ self.new.spare }
     {
+        // Who delivers the oldest takes the first.
+        if place == 0 {
+            return self.messages.pop_front();
+        }
         self.messages.remove(place as usize)
     }
 }
 
 /// Returns whether the message at this place is equal to this one.
 fn is_at(messages: &VecDeque<Message>, place: u64, message: &Message) -> bool
-    ensures { IsTrue result → (place < length messages.now.items)
-        × (slice_index_or messages.now.items place message.now ≡ message.now) }
+    ensures { IsTrue result ↔ ((place < length messages.now.items)
+        × (slice_index_or messages.now.items place message.now ≡ message.now)) }
 {
     match messages.get(place as usize) {
         Some(other) => is_same(other, message),

@@ -1,5 +1,5 @@
 use crate::serve;
-use crate::sim_tests::{A_DEADLOCK, A_QUEUE, A_WRITER, ONE_CLIENT, TWO_CLIENTS};
+use crate::sim_tests::{A_DEADLOCK, A_QUEUE, A_WRITER, ONE_CLIENT, ONE_ORDER, TWO_CLIENTS};
 use crate::tests::{FailingReader, FailingWriter, run, words_of};
 use std::alloc::Global;
 use std::io;
@@ -183,6 +183,7 @@ fn each_trace_that_sim_prints_is_valid(rt: HostRuntime) -> Result<(), Fail> {
         (TWO_CLIENTS, 0, "valid\nrequests 2\nmessages 8\n"),
         (A_WRITER, 0, "valid\nrequests 3\nmessages 12\n"),
         (A_QUEUE, 0, "valid\nrequests 2\nmessages 4\n"),
+        (ONE_ORDER, 0, "valid\nrequests 4\nmessages 8\n"),
     ] {
         for policy in ["oldest", "newest", "seeded --seed 1", "seeded --seed 99"] {
             let line = format!(in alloc; "ra sim --trace --policy {policy}")?;

@@ -281,16 +281,16 @@ fn a_writer_that_fails_has_a_front_of_what_the_threads_did(rt: HostRuntime) -> R
     Ok(())
 }
 
-/// Asserts how a refusal of a run is printed.
-fn assert_refused<T: Abort + AllocGlobal>(
+/// Asserts how a refusal is printed.
+pub fn assert_refused<T: Abort + AllocGlobal>(
     rt: &T,
-    fault: RunScriptError,
+    refusal: Refusal,
     status: u8,
     text: &str,
 ) -> Result<(), Fail> {
     let alloc = rt.alloc();
     let mut output = Vec::new(alloc);
-    let answered = refuse(alloc, &mut output, Refusal::Cluster(fault));
+    let answered = refuse(alloc, &mut output, refusal);
     assert_eq!(rt; output.as_slice(), text.as_bytes());
     assert_eq!(rt; answered, status, "{text}");
     Ok(())
@@ -310,15 +310,27 @@ fn each_refusal_of_a_run_is_printed_by_its_word(rt: HostRuntime) -> Result<(), F
         (ClusterError::UnderWay, "refused UnderWay\n"),
         (ClusterError::Memory, "refused Memory\n"),
     ] {
-        assert_refused(&rt, RunScriptError::from(refused), 2, text)?;
+        let refusal = Refusal::Cluster(RunScriptError::from(refused));
+        assert_refused(&rt, refusal, 2, text)?;
     }
-    let limit = RunScriptError::from(ScriptError::Limit);
-    assert_refused(&rt, limit, 2, "refused Limit\n")?;
-    let memory = RunScriptError::from(ScriptError::Memory);
-    assert_refused(&rt, memory, 2, "refused Memory\n")?;
-    assert_refused(&rt, RunScriptError::Memory, 2, "refused Memory\n")?;
-    assert_refused(&rt, RunScriptError::Read, 1, "refused Read\n")?;
-    assert_refused(&rt, RunScriptError::Write, 1, "")
+    for (refused, status, text) in [
+        (
+            RunScriptError::from(ScriptError::Limit),
+            2,
+            "refused Limit\n",
+        ),
+        (
+            RunScriptError::from(ScriptError::Memory),
+            2,
+            "refused Memory\n",
+        ),
+        (RunScriptError::Memory, 2, "refused Memory\n"),
+        (RunScriptError::Read, 1, "refused Read\n"),
+        (RunScriptError::Write, 1, ""),
+    ] {
+        assert_refused(&rt, Refusal::Cluster(refused), status, text)?;
+    }
+    Ok(())
 }
 
 #[test]

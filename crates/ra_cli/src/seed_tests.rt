@@ -36,6 +36,11 @@ fn the_seed_is_0_where_there_is_none(rt: HostRuntime) -> Result<(), Fail> {
     let (_, one) = run(&rt, "ra sim --policy seeded --seed 1", A_WRITER)?;
     assert!(rt; none.as_slice() == zero.as_slice());
     assert!(rt; none.as_slice() != one.as_slice());
+    for same in ["+1", "001"] {
+        let line = format!(in rt.alloc(); "ra sim --policy seeded --seed {same}")?;
+        let (_, output) = run(&rt, line.as_str(), A_WRITER)?;
+        assert!(rt; output.as_slice() == one.as_slice(), "{same}");
+    }
     let last = "ra sim --policy seeded --seed 18446744073709551615";
     let (status, _) = run(&rt, last, A_WRITER)?;
     assert_eq!(rt; status, 0);

@@ -1,5 +1,10 @@
+use crate::cluster_tests::assert_refused;
+use crate::serving::Refusal;
 use crate::tests::{FailingReader, FailingWriter, run, words_of};
 use crate::{CommandFault, refuse_words, serve};
+use ra_schedule::DriveError;
+use ra_script::{ChoicesError, PerformError};
+use ra_trace::TraceError;
 use std::alloc::Global;
 use std::io;
 use std::process::Abort;
@@ -517,6 +522,21 @@ fn words_that_are_not_there_are_refused(rt: HostRuntime) -> Result<(), Fail> {
         let mut output = Vec::new(alloc);
         assert_eq!(rt; refuse_words(&mut output, fault), 2);
         assert_eq!(rt; output.as_slice(), printed.as_bytes());
+    }
+    Ok(())
+}
+
+/// No script here has as many turns as there may be, and memory is there, so that these are printed by hand.
+#[test]
+fn refusals_that_no_script_meets_are_printed_by_their_words(rt: HostRuntime) -> Result<(), Fail> {
+    let limit = PerformError::Drive(DriveError::TurnLimit);
+    for (refusal, text) in [
+        (Refusal::Perform(limit), "refused TurnLimit\n"),
+        (Refusal::Perform(PerformError::Memory), "refused Memory\n"),
+        (Refusal::Choices(ChoicesError::Memory), "refused Memory\n"),
+        (Refusal::Check(TraceError::Memory), "refused Memory\n"),
+    ] {
+        assert_refused(&rt, refusal, 2, text)?;
     }
     Ok(())
 }

@@ -76,7 +76,8 @@ pub enum MarkLostError {
 /// Why books did not settle, in the order in which the causes are looked for.
 #[derive(Clone, Copy, Debug, PartialEq, Eq, Error)]
 pub enum SettleError {
-    /// A frame came that is not among the frames that its sender sent and that were not lost.
+    /// A frame came that is not among the frames that its sender sent and that were not lost; or, which is looked for after
+    /// `Twice`, the steps are refused as a run.
     #[error("NotSent")]
     NotSent,
     /// A message came twice.

@@ -46,18 +46,20 @@ fn is_member(book: &Book, place: usize, count: usize, start: u64) -> bool
 /// Settles the books of a cluster into one run of it: the events of all books by clock, and those of one clock by node, and
 /// then the loss of each frame that is flagged lost, by node and then in order of sending. So what [`run`] says of its steps
 /// holds of what happened at the nodes. With n events and frames sent, m grants and k books the cost is that of the run, and
-/// n log n, m log m and k n beside it.
+/// n log n, m log m and k n beside it. The run looks for each message among those under way then, as
+/// [`World::step`](ra_world::World::step) says: many frames that were lost, or are not delivered yet, make that dear.
 ///
 /// # Errors
 ///
 /// The first that holds, each of all books or grants:
 ///
 /// 1. `NotSent`: a frame came, with this clock and message, that is not among the frames that its sender sent and that are not
-///    flagged lost. Also where [`run`] refuses the steps, which is not yet shown never to happen.
+///    flagged lost.
 /// 2. `Twice`: a message came twice.
-/// 3. `GrantMissing`: the entry of a grant has no Entered mark in its node's book.
-/// 4. `GrantTwice`: two grants are equal.
-/// 5. `Memory`, which may come before any of them.
+/// 3. `NotSent` again: [`run`] refuses the steps, which is not yet shown never to happen.
+/// 4. `GrantMissing`: the entry of a grant has no Entered mark in its node's book.
+/// 5. `GrantTwice`: two grants are equal.
+/// 6. `Memory`, which may come before any of them.
 pub fn settle(alloc: Global, books: &[Book], grants: &[Grant]) -> Result<Settled, SettleError>
     requires { IsCluster books.now }
     // The steps are a settled run, and the report is that of the run.

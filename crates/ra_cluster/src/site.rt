@@ -151,9 +151,9 @@ impl Site {
         }
     }
 
-    /// Stops the node for this cause, unless it is stopped already, and wakes all clients that wait at it; these and who
-    /// calls from then on get `Stopped`, or `Refused` with `Failed`. Its pump ends when the post is closed. It waits for the
-    /// lock, and does not allocate.
+    /// Stops the node for this cause, unless it is stopped already, and wakes all clients that wait at it; those that are not let
+    /// in by then, and who calls from then on, get `Stopped`, or `Refused` with `Failed`. Its pump ends when the post is closed.
+    /// It waits for the lock, and does not allocate.
     pub fn stop<R: Wait>(&self, rt: &R, stop: Stop) {
         let mut book = self.book.lock(rt);
         book.fail(stop);

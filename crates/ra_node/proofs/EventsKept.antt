@@ -1,44 +1,21 @@
 -- An event leads from a consistent node to a consistent one, since each step of an automaton keeps its state so.
-use Rattle.std.proofs.Common.{◌≡◌, ℕ, ◌≤◌, Bool, List, All, Option, sym, ap, subst, inl, inr, ◌*◌, length, refl, arith}
-use Rattle.std.specs.Prelude.{unwrap_or}
+use Rattle.std.proofs.Common.{◌≡◌, ℕ, ◌≤◌, Bool, List, All, sym, subst, inl, inr, ◌*◌, length, refl, arith}
 use Rattle.std.proofs.lemmas.List.Elements.{All-weaker}
-use Rattle.ra_stamp.specs.NodeId.{IsNodeNumber}
 use Rattle.ra_stamp.specs.declared.mode.Mode.{Mode}
 use Rattle.ra_stamp.specs.declared.message.Message.{Message}
 use Rattle.ra_stamp.specs.declared.entry.Mark.{Mark}
 use Rattle.ra_stamp.specs.Message.{from_of, name_of, seq_of}
 use Rattle.ra_automaton.specs.State.{State, IsOther, IsConsistent}
 use Rattle.ra_automaton.specs.Steps.{RequestStep, ReceiveStep, LeaveStep}
-use Rattle.ra_node.specs.Resource.{Resource, unmet, use_of, IsConsistentResource}
+use Rattle.ra_node.specs.Resource.{Resource, use_of}
 use Rattle.ra_node.specs.Turns.{AskTurn, LeaveTurn}
-use Rattle.ra_node.specs.Node.{NodeState, opening_node, resource_at, with_resource, IsConsistentNode}
+use Rattle.ra_node.specs.Node.{NodeState, resource_at, IsConsistentNode}
 use Rattle.ra_node.specs.Events.{Event, name_of_event, NodeEvent, IsForThisNode}
 use Rattle.ra_node.specs.Events.Event.{Ask, Leave, Receive}
 use Rattle.ra_node.specs.Carried.{IsSend, IsMark, MarksLead, sends_at_most, marks_at_most}
-use Rattle.ra_node.proofs.Lookups.{same_or_apart, nothing_met, resource_changed, entry_stays}
-use Rattle.ra_node.proofs.Opening.{unmet_is_consistent}
 use Rattle.ra_node.proofs.Kept.{ask_kept, leave_kept, receive_kept}
+use Rattle.ra_node.proofs.NodeLemmas.{with_kept}
 use Rattle.ra_node.proofs.EventLemmas.{addressed, ask_event_room, leave_event_room, receive_event_room, ask_event_sends, leave_event_sends, receive_event_sends, ask_event_marks, leave_event_marks, receive_event_marks, ask_event_leads, leave_event_leads, receive_event_leads}
-
--- ---- One resource
-
-pub opening_is_consistent : (me nodes start : ℕ) → IsNodeNumber nodes → (1 ≤ me) × (me ≤ nodes) → IsConsistentNode (opening_node me nodes start)
-opening_is_consistent me nodes start count member = record { count = count; member = member; each = λ name. subst (λ (r : Resource). IsConsistentResource me nodes name start r) (sym (nothing_met me nodes start name)) (unmet_is_consistent me nodes name start count member) }
-
-with_kept : (n : NodeState) (name : List ℕ) (r : Resource) → IsConsistentNode n → IsConsistentResource n.me n.nodes name n.start r → IsConsistentNode (with_resource n name r)
-with_kept n name r h new =
-    record {
-      count = h.count;
-      member = h.member;
-      each = λ other. elim (same_or_apart other name) [
-        | inl same ↦
-            subst (λ (x : List ℕ). IsConsistentResource n.me n.nodes x n.start (resource_at (with_resource n name r) x)) (sym same)
-            (subst (λ (y : Resource). IsConsistentResource n.me n.nodes name n.start y) (sym (resource_changed n name r)) new)
-        | inr apart ↦
-            subst (λ (y : Resource). IsConsistentResource n.me n.nodes other n.start y)
-            (sym (ap (λ (o : Option Resource). unwrap_or o (unmet n.me n.nodes other n.start)) (entry_stays n name other r apart))) (h.each other)
-      ];
-    }
 
 -- ---- Turns and events
 

@@ -1,95 +1,78 @@
--- A node's slots, and what becomes of the node where one of them changes or comes.
-use Rattle.std.proofs.Common.{◌≡◌, ◌≢◌, ℕ, ◌<◌, List, [], ◌∷◌, ◌++◌, All, length, get_or, set, None, Result, Ok, Err, IfOk, OnOk, OnErr, sym, ap, ◌∙◌, subst}
+-- A node by its slots, and what becomes of it where one of them changes or comes.
+use Rattle.std.proofs.Common.{◌≡◌, ℕ, ◌≤◌, List, cond, Option, Some, None, IsNone, IfSome, Bor, sym, ap, ◌∙◌, subst, inl, inr}
+use Rattle.std.specs.Prelude.{unwrap_or}
+use Rattle.std.specs.Option.{option_copied}
+use Rattle.std.specs.Str.{bytes_eq}
+use Rattle.std.specs.Map.{lookup}
 use Rattle.std.specs.Ordering.{nat_cmp}
-use Rattle.std.specs.Cmp.Lexicographic.{slice_cmp, nat_list_cmp_total}
+use Rattle.std.specs.Cmp.Lexicographic.{slice_cmp}
 use Rattle.std.specs.FinMap as finmap
-use Rattle.std.specs.FinMap.Entries.{find}
-use Rattle.std.proofs.lemmas.List.Elements.{All-set, All-push}
+use Rattle.std.proofs.lemmas.Bool.{true≢false}
+use Rattle.indexmap.specs.IndexMap.{IndexMap}
+use Rattle.ra_stamp.specs.NodeId.{IsNodeNumber}
 use Rattle.ra_node.specs.Resource.{Resource, unmet, IsConsistentResource}
-use Rattle.ra_node.specs.Node.{NodeState, resource_at, with_resource, IsConsistentNode}
-use Rattle.ra_node.specs.View.{named, node_with, AreKept}
-use Rattle.ra_node.proofs.Named.{find_absent, at_absent, at_present, every_meets, changed, apart_changed, pushed, apart_pushed}
+use Rattle.ra_node.specs.Node.{NodeState, opening_node, resource_at, with_resource, IsConsistentNode}
+use Rattle.ra_node.specs.View.{node_with}
+use Rattle.ra_node.proofs.Lookups.{same_or_apart, nothing_met, resource_changed, entry_stays}
+use Rattle.ra_node.proofs.Named.{get_slot, updated}
 use Rattle.ra_node.proofs.Opening.{unmet_is_consistent}
 
--- a turn that led to the new resource, or none, and then the resource is as before
-pub after_turn : {X E : Type 0} (r : Result X E) (P : X → Type 0) (C Q : Type 0) {slot new : Resource} → IfOk r P → OnOk r C → OnErr r (new ≡ slot) → ((x : X) → P x → C → Q) → (new ≡ slot → Q) → Q
-after_turn (Ok x) P C Q turn kept err by_turn as_before = by_turn x turn kept
-after_turn (Err e) P C Q turn kept err by_turn as_before = as_before err
+pub opening_is_consistent : (me nodes start : ℕ) → IsNodeNumber nodes → (1 ≤ me) × (me ≤ nodes) → IsConsistentNode (opening_node me nodes start)
+opening_is_consistent me nodes start count member = record { count = count; member = member; each = λ name. subst (λ (r : Resource). IsConsistentResource me nodes name start r) (sym (nothing_met me nodes start name)) (unmet_is_consistent me nodes name start count member) }
 
-pub ok_both : {X E : Type 0} (r : Result X E) (P : X → Type 0) (C : Type 0) → IfOk r P → OnOk r C → IfOk r (λ x. P x × C)
-ok_both (Ok x) P C turn kept = (turn, kept)
-ok_both (Err e) P C turn kept = tt
+pub with_kept : (n : NodeState) (name : List ℕ) (r : Resource) → IsConsistentNode n → IsConsistentResource n.me n.nodes name n.start r → IsConsistentNode (with_resource n name r)
+with_kept n name r h new =
+    record {
+      count = h.count;
+      member = h.member;
+      each = λ other. elim (same_or_apart other name) [
+        | inl same ↦
+            subst (λ (x : List ℕ). IsConsistentResource n.me n.nodes x n.start (resource_at (with_resource n name r) x)) (sym same)
+            (subst (λ (y : Resource). IsConsistentResource n.me n.nodes name n.start y) (sym (resource_changed n name r)) new)
+        | inr apart ↦
+            subst (λ (y : Resource). IsConsistentResource n.me n.nodes other n.start y)
+            (sym (ap (λ (o : Option Resource). unwrap_or o (unmet n.me n.nodes other n.start)) (entry_stays n name other r apart))) (h.each other)
+      ];
+    }
 
-module _ (me nodes start : ℕ) (slots : List Resource) where
-  pub kept_is_consistent : AreKept me nodes start slots → IsConsistentNode (node_with me nodes start slots)
-  kept_is_consistent kept =
-      record {
-        count = kept.count;
-        member = kept.member;
-        each = λ name. every_meets (λ q r. IsConsistentResource me nodes q start r) slots name (unmet me nodes name start) kept.each (unmet_is_consistent me nodes name start kept.count kept.member);
-      }
+-- a map without a slot of this name, which is as another that has none
+pub absent_in : {S : Type 0} (slots slots' : IndexMap (List ℕ) Resource S) (name : List ℕ) → slots' ≡ slots → None ≡ lookup (bytes_eq name) slots.entries → finmap.get (finmap.from_entries {R = slice_cmp nat_cmp} slots'.entries) name ≡ None
+absent_in {S} slots slots' name same none = get_slot slots'.entries name ∙ ap (λ (m : IndexMap (List ℕ) Resource S). lookup (bytes_eq name) m.entries) same ∙ sym none
 
-  -- the slot at a place is the resource of this name
-  pub record IsSlot (now : NodeState) (name : List ℕ) (place : ℕ) (slot : Resource) : Type 0 where
-    pub within : place < length slots
-    pub named_so : (d : Resource) → (get_or slots place d).state.name ≡ name
-    pub name_is : slot.state.name ≡ name
-    pub here : slot ≡ resource_at now name
-    pub consistent : IsConsistentResource me nodes name start slot
-
-  pub found : (now : NodeState) (name : List ℕ) (place : ℕ) (slot : Resource) (shown : List Resource) → node_with me nodes start slots ≡ now → AreKept me nodes start slots → shown ≡ slots
-      → (place < length shown) × ((d : Resource) → (get_or shown place d).state.name ≡ name) → slot ≡ get_or slots place slot → IsSlot now name place slot
-  found now name place slot shown is kept same at value =
-      let here = subst (λ (xs : List Resource). (place < length xs) × ((d : Resource) → (get_or xs place d).state.name ≡ name)) same at in
-      let name-is : slot.state.name ≡ name = ap (λ (r : Resource). r.state.name) value ∙ here.1 slot in
-      record {
-        within = here.0;
-        named_so = here.1;
-        name_is = name-is;
-        here = value ∙ sym (at_present slots place slot name (unmet me nodes name start) kept.apart here.0 (here.1 slot)) ∙ ap (λ (m : NodeState). resource_at m name) is;
-        consistent = subst (λ (r : Resource). IsConsistentResource me nodes name start r) (sym value) (subst (λ (q : List ℕ). IsConsistentResource me nodes q start (get_or slots place slot)) (here.1 slot) (kept.each place slot here.0));
-      }
+module _ (me nodes start : ℕ) (slots : List (List ℕ × Resource)) (now : NodeState) (is : node_with me nodes start slots ≡ now) (name : List ℕ) where
+  -- the slot that a look-up finds is the resource of this name
+  pub found : (slot : Resource) → Some slot ≡ lookup (bytes_eq name) slots → slot ≡ resource_at now name
+  found slot at = ap (λ (o : Option Resource). unwrap_or o (unmet me nodes name start)) (at ∙ sym (get_slot slots name)) ∙ ap (λ (m : NodeState). resource_at m name) is
 
   -- no slot is of this name
-  pub missing : (now : NodeState) (name : List ℕ) (shown : List Resource) → node_with me nodes start slots ≡ now → shown ≡ slots → All (λ r. r.state.name ≢ name) shown
-      → (resource_at now name ≡ unmet me nodes name start) × (finmap.get now.resources name ≡ None)
-  missing now name shown is same all =
-      let none = subst (λ (xs : List Resource). All (λ r. r.state.name ≢ name) xs) same all in (
-        sym (ap (λ (m : NodeState). resource_at m name) is) ∙ at_absent slots name (unmet me nodes name start) none,
-        sym (ap (λ (m : NodeState). finmap.get m.resources name) is) ∙ finmap.get-from_entries nat_list_cmp_total (named slots) name ∙ find_absent slots name none,
+  pub missing : None ≡ lookup (bytes_eq name) slots → (resource_at now name ≡ unmet me nodes name start) × (finmap.get now.resources name ≡ None)
+  missing none =
+      let nowhere : finmap.get (finmap.from_entries slots) name ≡ None = get_slot slots name ∙ sym none in (
+        sym (ap (λ (m : NodeState). resource_at m name) is) ∙ ap (λ (o : Option Resource). unwrap_or o (unmet me nodes name start)) nowhere,
+        sym (ap (λ (m : NodeState). finmap.get m.resources name) is) ∙ nowhere,
       )
 
+  pub slot_is_consistent : (slot : Resource) → IsConsistentNode (node_with me nodes start slots) → Some slot ≡ lookup (bytes_eq name) slots → IsConsistentResource now.me now.nodes name now.start slot
+  slot_is_consistent slot kept at = subst (λ (r : Resource). IsConsistentResource now.me now.nodes name now.start r) (sym (found slot at)) ((subst IsConsistentNode is kept).each name)
+
+  pub found_shown : (shown : Option (Bor Resource)) → option_copied shown ≡ lookup (bytes_eq name) slots → IfSome shown (λ slot. slot.now ≡ resource_at now name)
+  found_shown None at = tt
+  found_shown (Some slot) at = found slot.now at
+
+  pub missing_shown : (shown : Option (Bor Resource)) → option_copied shown ≡ lookup (bytes_eq name) slots → IsNone shown → resource_at now name ≡ unmet now.me now.nodes name now.start
+  missing_shown None at none = (missing at).0 ∙ ap (λ (m : NodeState). unmet m.me m.nodes name m.start) is
+  missing_shown (Some slot) at none = absurd (true≢false none)
+
   -- the slots after an event about this name, which led to this resource
-  pub record AreAfter (now : NodeState) (name : List ℕ) (new : Resource) (slots' : List Resource) : Type 0 where
-    pub kept : AreKept me nodes start slots'
+  pub record AreAfter (new : Resource) (slots' : List (List ℕ × Resource)) : Type 0 where
+    pub kept : IsConsistentNode (node_with me nodes start slots')
     pub view : node_with me nodes start slots' ≡ with_resource now name new
 
-  pub after_change : (now : NodeState) (name : List ℕ) (place : ℕ) (slot new : Resource) → node_with me nodes start slots ≡ now → AreKept me nodes start slots → IsSlot now name place slot
-      → IsConsistentResource me nodes name start new → AreAfter now name new (set slots place new)
-  after_change now name place slot new is kept at h =
+  pub after_update : (new : Resource) (slots' : List (List ℕ × Resource)) → IsConsistentNode now → ((q : List ℕ) → lookup (bytes_eq q) slots' ≡ cond (bytes_eq name q) (Some new) (lookup (bytes_eq q) slots))
+      → IsConsistentResource now.me now.nodes name now.start new → AreAfter new slots'
+  after_update new slots' kept finds h =
+      let view : node_with me nodes start slots' ≡ with_resource now name new = (λ i. record (node_with me nodes start slots) { resources = updated slots slots' name new finds i }) ∙ ap (λ (m : NodeState). with_resource m name new) is in
       record {
-        kept = record {
-          count = kept.count;
-          member = kept.member;
-          apart = apart_changed slots place new new kept.apart at.within (h.name_is ∙ sym (at.named_so new));
-          each = All-set (λ r. IsConsistentResource me nodes r.state.name start r) slots place new (subst (λ (q : List ℕ). IsConsistentResource me nodes q start new) (sym h.name_is) h) kept.each;
-        };
-        view = (λ i. record (node_with me nodes start slots) { resources = changed slots place new new name kept.apart at.within (at.named_so new) h.name_is i }) ∙ ap (λ (m : NodeState). with_resource m name new) is;
+        kept = subst IsConsistentNode (sym view) (with_kept now name new kept h);
+        view = view;
       }
-
-  pub after_push : (now : NodeState) (name : List ℕ) (new : Resource) (slots' : List Resource) → node_with me nodes start slots ≡ now → AreKept me nodes start slots → finmap.get now.resources name ≡ None
-      → slots' ≡ slots ++ new ∷ [] → IsConsistentResource me nodes name start new → AreAfter now name new slots'
-  after_push now name new slots' is kept none more h =
-      let absent : find (slice_cmp nat_cmp) name (named slots) ≡ None =
-      sym (finmap.get-from_entries nat_list_cmp_total (named slots) name) ∙ ap (λ (m : NodeState). finmap.get m.resources name) is ∙ none
-      in
-      subst (λ (xs : List Resource). AreAfter now name new xs) (sym more)
-      (record {
-        kept = record {
-          count = kept.count;
-          member = kept.member;
-          apart = apart_pushed slots new kept.apart (subst (λ (q : List ℕ). find (slice_cmp nat_cmp) q (named slots) ≡ None) (sym h.name_is) absent);
-          each = All-push (λ r. IsConsistentResource me nodes r.state.name start r) slots new kept.each (subst (λ (q : List ℕ). IsConsistentResource me nodes q start new) (sym h.name_is) h);
-        };
-        view = (λ i. record (node_with me nodes start slots) { resources = pushed slots new name absent h.name_is i }) ∙ ap (λ (m : NodeState). with_resource m name new) is;
-      })

@@ -5,4 +5,3 @@ pub mod Node
 pub mod Events
 pub mod Carried
 pub mod View
-pub mod Hints

@@ -44,7 +44,6 @@
 #![tactic(auto)]
 
 mod error;
-mod hints;
 mod laws;
 mod marks;
 mod node;

@@ -1,9 +1,9 @@
-ghost use Rattle.std.specs.Prelude.{◌≡◌, ◌≢◌, ◌<◌, ◌≤◌, ◌⊎◌, ◌↔◌, None, length, vec_len, vec_capacity, slice_index_or, All, IsErrOf, IsOk, IsOkUnless, IfOk, OnOk, OnErr, IfErr, IsNone, IfSome};
-ghost use Rattle.ra_node.specs.Resource.{Resource};
+ghost use Rattle.std.specs.Prelude.{◌≡◌, ◌≢◌, ◌<◌, ◌≤◌, ◌⊎◌, ◌↔◌, None, IsErrOf, IsOk, IsOkUnless, IfOk, OnOk, OnErr, IfErr, IsNone, IfSome};
+ghost use Rattle.indexmap.specs.IndexMap.{spare};
 
-use crate::hints::Hints;
 use crate::slot::Slot;
 use crate::{AskError, LeaveError, NewError, Outcome, ReceiveError};
+use indexmap::IndexMap;
 use ra_stamp::{Entry, Memory, Message, Mode, Name, NodeId};
 use std::alloc::Global;
 use std::marker::Model;
@@ -13,7 +13,10 @@ use std::marker::Model;
 /// A client is any number, which means nothing to another node. A name that a client asked for or a message was about is
 /// kept for ever, since the highest number that the node has met on it must never fall.
 ///
-/// Each call but `new` takes time linear in the number of names that the node has met, and beside that what it says.
+/// Each call about a name finds it by a hash, in expected constant time however many names the node has met, and takes beside
+/// that what it says. The first call about a name may move all of them into a larger table, which is constant on average. The
+/// hash is a fixed one: among names that someone picked so that they collide, each look-up is linear in their number.
+///
 /// [`events_keep_a_node_consistent`](crate::events_keep_a_node_consistent) says more of what `ask`, `leave` and `receive`
 /// send and mark: to whom, with which numbers, how much at most, and that a node has at most one request on a name.
 #[derive(Debug, Drop)]
@@ -21,10 +24,8 @@ pub struct Node {
     me: NodeId,
     nodes: u16,
     start: u64,
-    /// One for each name that a client or a message was about.
-    slots: Vec<Slot>,
-    /// Where they may stand.
-    hints: Hints,
+    /// One for each name that a client or a message was about, in the order in which they were met.
+    slots: IndexMap<Name, Slot>,
 }
 
 impl Model for Node {
@@ -35,34 +36,22 @@ impl Model for Node {
 
     ghost coded = { node_code resources.the_row.coded };
 
-    ghost use Rattle.ra_node.specs.View.{node_of, IsKept};
+    ghost use Rattle.ra_node.specs.Node.{IsConsistentNode};
+    ghost use Rattle.ra_node.specs.View.{node_of};
 
     ghost view = { node_of };
 
-    ghost invariant = { IsKept };
-}
-
-/// Returns the index of the slot of a name, or `None` where there is none. It looks first where the hints say.
-fn place_of(slots: &[Slot], hints: &Hints, name: &Name) -> Option<usize>
-    ensures absent { IsNone result → All (λ r. r.state.name ≢ name.now) slots.now }
-    ensures found { IfSome result (λ place. (place < length slots.now)
-        × ((d : Resource) → (slice_index_or slots.now place d).state.name ≡ name.now)) }
-{
-    let hint = hints.place_of(name);
-    if hint < slots.len() && slots[hint].is_named(name) {
-        return Some(hint);
-    }
-    slots.iter().position(|slot| slot.is_named(name))
+    ghost invariant = { λ n. IsConsistentNode (node_of n) };
 }
 
 /// Makes room for one more slot.
 ///
 /// # Errors
 ///
-/// `Memory`: the room is as before.
-fn make_room(slots: &mut Vec<Slot>) -> Result<(), Memory>
-    ensures same { slots.new.items ≡ slots.old.items }
-    ensures room { OnOk result (vec_len slots.new < vec_capacity slots.new) }
+/// `Memory`: the slots are as before.
+fn make_room(slots: &mut IndexMap<Name, Slot>) -> Result<(), Memory>
+    ensures same { slots.new.entries ≡ slots.old.entries }
+    ensures room { OnOk result (1 ≤ spare slots.new) }
 {
     slots.reserve(1)?;
     Ok(())
@@ -105,8 +94,7 @@ impl Node {
             me,
             nodes,
             start,
-            slots: Vec::new(alloc),
-            hints: Hints::new(),
+            slots: IndexMap::new(alloc),
         })
     }
 
@@ -141,11 +129,8 @@ impl Node {
         ensures err { OnErr result (self.new ≡ self.old) }
     {
         self.may_ask(client, &name)?;
-        match place_of(&self.slots, &self.hints, &name) {
-            Some(place) => {
-                let slot = &mut self.slots[place];
-                slot.ask(alloc, client, mode)
-            }
+        match self.slots.get_mut(&name) {
+            Some(slot) => slot.ask(alloc, client, mode),
             None => self.ask_first(alloc, client, name, mode),
         }
     }
@@ -172,10 +157,9 @@ impl Node {
             ↔ ((entry : Entry) × Holds (resource_at self.old name) client entry) }
         ensures err { OnErr result (self.new ≡ self.old) }
     {
-        let Some(place) = place_of(&self.slots, &self.hints, &name) else {
+        let Some(slot) = self.slots.get_mut(&name) else {
             return Err(LeaveError::NotHeld);
         };
-        let slot = &mut self.slots[place];
         slot.leave(alloc, client)
     }
 
@@ -210,11 +194,8 @@ impl Node {
         if sender == self.me || sender.get() > self.nodes {
             return Err(ReceiveError::Stranger);
         }
-        match place_of(&self.slots, &self.hints, &message.name()) {
-            Some(place) => {
-                let slot = &mut self.slots[place];
-                slot.receive(alloc, message)
-            }
+        match self.slots.get_mut(&message.name()) {
+            Some(slot) => slot.receive(alloc, message),
             None => self.receive_first(alloc, message),
         }
     }
@@ -264,7 +245,8 @@ impl Node {
         }
     }
 
-    /// Returns how many requests of this node wait for their replies, over all names. It does not allocate.
+    /// Returns how many requests of this node wait for their replies, over all names. It does not allocate. The cost is linear
+    /// in the number of names that the node has met.
     ///
     /// A `u64` has room for them, since a node has at most one waiting request on a name, and memory for fewer than 2^64
     /// names.
@@ -273,7 +255,7 @@ impl Node {
         ensures consistent { IsConsistentNode self.now }
     {
         let mut waiting = 0;
-        for slot in &self.slots {
+        for (_, slot) in &self.slots {
             if slot.is_waiting() {
                 waiting += 1;
             }
@@ -281,7 +263,8 @@ impl Node {
         waiting
     }
 
-    /// Returns how many clients are queued, over all names. It does not allocate.
+    /// Returns how many clients are queued, over all names. It does not allocate. The cost is linear in the number of names
+    /// that the node has met.
     ///
     /// Each of fewer than 2^64 names can have a queue of nearly as many clients, so only a `u128` surely has room for their
     /// sum.
@@ -290,7 +273,7 @@ impl Node {
         ensures consistent { IsConsistentNode self.now }
     {
         let mut queued = 0;
-        for slot in &self.slots {
+        for (_, slot) in &self.slots {
             queued += slot.queued() as u128;
         }
         queued
@@ -303,8 +286,7 @@ impl Node {
             → resource_at self.now name.now ≡ unmet self.now.me self.now.nodes name.now self.now.start }
         ensures consistent { IsConsistentNode self.now }
     {
-        let place = place_of(&self.slots, &self.hints, name)?;
-        Some(&self.slots[place])
+        self.slots.get(name)
     }
 
     /// Asks for a client, which may ask, for a name that no client and no message was about yet.
@@ -330,8 +312,8 @@ impl Node {
         let mut slot = Slot::new(alloc, self.me, self.nodes, name, self.start)?;
         make_room(&mut self.slots)?;
         let outcome = slot.ask(alloc, client, mode)?;
-        self.hints.note(&name, self.slots.len());
-        self.slots.push_reserved(slot);
+        // There is room for it.
+        self.slots.insert(name, slot).unwrap();
         Ok(outcome)
     }
 
@@ -352,8 +334,8 @@ impl Node {
         let mut slot = Slot::new(alloc, self.me, self.nodes, message.name(), self.start)?;
         make_room(&mut self.slots)?;
         let outcome = slot.receive(alloc, message)?;
-        self.hints.note(&message.name(), self.slots.len());
-        self.slots.push_reserved(slot);
+        // There is room for it.
+        self.slots.insert(message.name(), slot).unwrap();
         Ok(outcome)
     }
 }

@@ -66,13 +66,6 @@ impl Slot {
         })
     }
 
-    /// Returns whether this is the resource's name.
-    pub fn is_named(&self, name: &Name) -> bool
-        ensures { IsTrue result ↔ (self.now.state.name ≡ name.now) }
-    {
-        self.automaton.name() == *name
-    }
-
     /// Returns the highest number that this node has met for the resource.
     pub fn highest(&self) -> u64
         ensures { result ≡ self.now.state.highest }
@@ -254,7 +247,12 @@ impl Slot {
         ensures err { OnErr result (self.new ≡ self.old) }
         ensures consistent { OnOk result (IsConsistent self.new.state) }
     {
-        let mut marks = marks_for(alloc, 1)?;
+        // Only by a REPLY does a request enter.
+        let room = match message {
+            Message::Request { .. } => 0,
+            Message::Reply { .. } => 1,
+        };
+        let mut marks = marks_for(alloc, room)?;
         let reaction = self.automaton.receive(alloc, message)?;
         if reaction.entered {
             if let Some(entry) = self.holder() {

@@ -433,6 +433,39 @@ fn a_thousand_names_are_apart(rt: HostRuntime) -> Result<(), Fail> {
     Ok(())
 }
 
+/// Returns the request on the name `n` with this number behind it that client 1 makes at node 1.
+fn on_numbered(alloc: Global, number: u16) -> Result<Entry, Fail> {
+    let name = format!(in alloc; "n{number}")?;
+    Ok(Entry {
+        name: Name::new(name.as_bytes())?,
+        ..entry(1, 1, Mode::Exclusive, 1)?
+    })
+}
+
+#[test]
+fn each_of_a_thousand_names_is_found(rt: HostRuntime) -> Result<(), Fail> {
+    let alloc = rt.alloc();
+    let mut node = node(alloc, 1, 1, 0)?;
+    for number in 0..1000 {
+        let entry = on_numbered(alloc, number)?;
+        let asked = node.ask(alloc, 1, entry.name, Mode::Exclusive)?;
+        assert!(rt; are_marks(&asked.marks, &[requested(&entry), entered(&entry)]));
+    }
+    for number in 0..1000 {
+        let entry = on_numbered(alloc, number)?;
+        assert_eq!(rt; node.holder(&entry.name), Some(entry));
+    }
+    let entry = on_numbered(alloc, 500)?;
+    let outcome = node.leave(alloc, 1, entry.name)?;
+    assert!(rt; are_marks(&outcome.marks, &[left(&entry)]));
+    for number in 0..1000 {
+        let entry = on_numbered(alloc, number)?;
+        let held = if number == 500 { None } else { Some(entry) };
+        assert_eq!(rt; node.holder(&entry.name), held);
+    }
+    Ok(())
+}
+
 #[test]
 fn faults_are_printed_as_their_words(rt: HostRuntime) -> Result<(), Fail> {
     let alloc = rt.alloc();

@@ -1,12 +1,16 @@
 -- Which names a client has after its operations.
-use Rattle.std.proofs.Common.{◌≡◌, ◌≢◌, ◌+◌, ◌<◌, ℕ, Bool, List, [], ◌∷◌, ◌++◌, length, get_or, take, All, refl, sym, ap, ◌∙◌, subst, inl, inr, append_assoc}
-use Rattle.std.specs.Prelude.{◌⊎◌, ◌↔◌, IsTrue}
-use Rattle.std.proofs.lemmas.List.{same_from_push, take_at, take_more}
+use Rattle.std.proofs.Common.{◌≡◌, ◌≢◌, ℕ, List, [], ◌∷◌, ◌++◌, length, All, refl, sym, ap, ◌∙◌, subst, inl, inr, append_assoc}
+use Rattle.std.specs.Prelude.{◌⊎◌, ◌↔◌}
+use Rattle.std.proofs.lemmas.List.{same_from_push, take_at}
 use Rattle.std.proofs.lemmas.List.Elements.{All-nil, All-push, All-take, All-same, All-contains, Contains-push}
 use Rattle.ra_stamp.specs.declared.mode.Mode.{Mode}
 use Rattle.ra_schedule.specs.declared.script.Op.{Op}
 use Rattle.ra_schedule.specs.declared.script.Op.TheVariants.{Lock, Unlock}
-use Rattle.ra_schedule.specs.Script.{IsHeldAfter, IsHeldThen}
+use Rattle.ra_schedule.specs.Script.{IsHeldAfter}
+
+-- after an operation the client has the name, where `before` says that it had it before
+abbrev IsHeldThen : Type 0 → Op → List ℕ → Type 0
+IsHeldThen before op name = ((mode : Mode) × (op ≡ Lock name mode)) ⊎ ((op ≢ Unlock name) × before)
 
 -- a list is empty, or it has a last element
 pub ends : {X : Type 0} (xs : List X) → (xs ≡ []) ⊎ ((front : List X) × (last : X) × (xs ≡ front ++ last ∷ []))
@@ -53,19 +57,22 @@ held_pushed ops op name = (
   ],
 )
 
--- one more step of a loop that keeps whether the name is held
-pub held_more : (ops : List Op) (i : ℕ) (op : Op) (name : List ℕ) (held now : Bool) → i < length ops → op ≡ get_or ops i op
-    → (IsTrue held ↔ IsHeldAfter (take i ops) name) → (IsTrue now ↔ IsHeldThen (IsTrue held) op name)
-    → IsTrue now ↔ IsHeldAfter (take (i + 1) ops) name
-held_more ops i op name held now lt is before step =
-    let more : take (i + 1) ops ≡ take i ops ++ op ∷ [] = take_more ops i op lt ∙ ap (λ (o : Op). take i ops ++ o ∷ []) (sym is) in
-    let pushed = held_pushed (take i ops) op name in (
-      λ yes. subst (λ (xs : List Op). IsHeldAfter xs name) (sym more) (pushed.1 (elim (step.0 yes) [
-        | inl w ↦ inl w
-        | inr w ↦ inr (w.0, before.0 w.1)
-      ])),
-      λ h. step.1 (elim (pushed.0 (subst (λ (xs : List Op). IsHeldAfter xs name) more h)) [
-        | inl w ↦ inl w
-        | inr w ↦ inr (w.0, before.1 w.1)
-      ]),
+-- where the last operation is not about the name, the name is held exactly where it was before
+pub says_nothing : (ops before : List Op) (last : Op) (name : List ℕ) → ops ≡ before ++ last ∷ []
+    → ((mode : Mode) → last ≢ Lock name mode) → last ≢ Unlock name → IsHeldAfter ops name ↔ IsHeldAfter before name
+says_nothing ops before last name is no-lock no-unlock =
+    let pushed = held_pushed before last name in (
+      λ h. elim (pushed.0 (subst (λ (xs : List Op). IsHeldAfter xs name) is h)) [
+        | inl w ↦ absurd (no-lock w.0 w.1)
+        | inr w ↦ w.1
+      ],
+      λ h. subst (λ (xs : List Op). IsHeldAfter xs name) (sym is) (pushed.1 (inr (no-unlock, h))),
     )
+
+-- where the last operation unlocks the name, it is not held
+pub unlocked_last : (ops before : List Op) (name : List ℕ) → ops ≡ before ++ Unlock name ∷ [] → IsHeldAfter ops name → ⊥
+unlocked_last ops before name is held =
+    elim ((held_pushed before (Unlock name) name).0 (subst (λ (xs : List Op). IsHeldAfter xs name) is held)) [
+      | inl w ↦ absurd cc
+      | inr w ↦ w.0 refl
+    ]

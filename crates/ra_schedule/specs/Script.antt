@@ -20,10 +20,6 @@ abbrev pub IsHeldAfter : List Op → List ℕ → Type 0
 IsHeldAfter ops name = (before after : List Op) × (mode : Mode)
     × (ops ≡ before ++ Lock name mode ∷ after) × All (λ op. op ≢ Unlock name) after
 
--- after an operation the client has the name, where `before` says that it had it before
-abbrev pub IsHeldThen : Type 0 → Op → List ℕ → Type 0
-IsHeldThen before op name = ((mode : Mode) × (op ≡ Lock name mode)) ⊎ ((op ≢ Unlock name) × before)
-
 -- an operation fits behind these: a name is locked where the client does not have it, and unlocked where it does
 abbrev pub Fits : List Op → Op → Type 0
 Fits ops (Lock name mode) = IsHeldAfter ops name → ⊥

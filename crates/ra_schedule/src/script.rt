@@ -1,7 +1,7 @@
 ghost use Rattle.std.specs.Prelude.{◌≡◌, ◌⊎◌, ◌<◌, ◌≤◌, ◌↔◌, ◌∷◌, ◌++◌, ℕ, List, [], length, option_map, option_copied, IsTrue, IsErrOf, IsOkUnless, IsOk, IsSome, IfOk, IfSome, OnOk, OnErr};
 ghost use Rattle.ra_stamp.specs.NodeId.{IsNodeNumber};
 ghost use Rattle.ra_schedule.specs.declared.script.Op.{Op};
-ghost use Rattle.ra_schedule.specs.Script.{IsHeldAfter, IsHeldThen, Fits, IsScriptClient};
+ghost use Rattle.ra_schedule.specs.Script.{IsHeldAfter, Fits, IsScriptClient};
 
 use crate::{AddClientError, AddOpError, NewScriptError};
 use ra_stamp::{Mode, Name, NodeId};
@@ -268,23 +268,18 @@ fn check_op(ops: &[Op], op: &Op) -> Result<(), AddOpError>
     }
 }
 
-/// Returns whether a client that did these operations has the name.
+/// Returns whether a client that did these operations has the name. The last one about the name says so, and is looked for from the
+/// end.
 fn is_held_after(ops: &[Op], name: &Name) -> bool
     ensures { IsTrue result ↔ IsHeldAfter ops.now name.now }
 {
-    let mut held = false;
-    for op in ops {
-        held = is_held_then(held, op, name);
+    let mut rest = ops;
+    while let Some((last, before)) = rest.split_last() {
+        match last {
+            Op::Lock(locked, _) if locked == name => return true,
+            Op::Unlock(unlocked) if unlocked == name => return false,
+            _ => rest = before,
+        }
     }
-    held
-}
-
-/// Returns whether a client has the name after the operation, where `held` says whether it had it before.
-fn is_held_then(held: bool, op: &Op, name: &Name) -> bool
-    ensures { IsTrue result ↔ IsHeldThen (IsTrue held) op.now name.now }
-{
-    match op {
-        Op::Lock(locked, _) => held || locked == name,
-        Op::Unlock(unlocked) => held && unlocked != name,
-    }
+    false
 }

@@ -1,5 +1,5 @@
 -- What names are.
-use Rattle.std.specs.Prelude.{◌≡◌, ℕ, ◌-◌, ◌≤◌, Bool, ◌||◌, ◌&&◌, List, ◌++◌, length, take, drop, replicate, ◌==◌, nat_le}
+use Rattle.std.specs.Prelude.{◌≡◌, ℕ, ◌-◌, ◌≤◌, Bool, ◌||◌, ◌&&◌, List, ◌++◌, length, take, replicate, ◌==◌, nat_le}
 use Rattle.std.specs.List.{AllPass}
 
 -- an ASCII letter or digit, '_', '-' or '.'

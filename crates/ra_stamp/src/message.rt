@@ -4,7 +4,7 @@ use crate::{Mode, Name, NodeId, Sequence};
 
 /// A message between two nodes, about one resource (G. Ricart and A. K. Agrawala, CACM 24(1), 1981). The name, the mode
 /// and the number in a REPLY are this project's own.
-#[derive(Clone, Copy, Debug, PartialEq, Eq)]
+#[derive(Clone, Copy, Debug, PartialEq, Eq, Hash)]
 pub enum Message {
     /// `from` asks `to` to let it lock the resource, with its sequence number, 1 or more.
     Request {

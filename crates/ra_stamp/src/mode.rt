@@ -4,7 +4,7 @@ ghost use Rattle.ra_stamp.specs.Mode as spec;
 use std::fmt;
 
 /// How a resource is locked. That there is a shared mode is this project's choice. It prints as its letter, `S` or `X`.
-#[derive(Clone, Copy, Debug, PartialEq, Eq)]
+#[derive(Clone, Copy, Debug, PartialEq, Eq, Hash)]
 pub enum Mode {
     /// Beside others that lock it shared.
     Shared,

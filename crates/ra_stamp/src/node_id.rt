@@ -5,7 +5,7 @@ use std::fmt;
 use std::marker::Model;
 
 /// The number of a node, 1 to 16. Contracts see the number, and it prints as that.
-#[derive(Clone, Copy, Debug, PartialEq, Eq, PartialOrd, Ord)]
+#[derive(Clone, Copy, Debug, PartialEq, Eq, PartialOrd, Ord, Hash)]
 pub struct NodeId {
     number: u16,
 }

@@ -23,15 +23,15 @@ pub fn traces_rest_on_runs()
     runs_go_on_where_steps_are_allowed();
 }
 
-/// Each text has one verdict: it is the trace of one run, or one line is the first wrong one, for one cause.
+/// No text has two verdicts: it is the trace of one run, or one line is the first wrong one, for one cause.
 pub fn each_text_has_one_verdict()
     ensures { (text : List ℕ) (a b : Verdict) → IsVerdict text a → IsVerdict text b → a ≡ b }
 {
     traces_rest_on_runs();
 }
 
-/// No two lists of moves have one text, whether they are runs or not: it tells how many nodes there are, the number that each
-/// resource begins with, each step and its marks.
+/// No two lists of moves whose fields are in their ranges have one text, whether they are runs or not: it tells how many nodes
+/// there are, the number that each resource begins with, each step and its marks.
 pub fn texts_tell_their_steps()
     ensures { (n m start other : ℕ) (moves others : List Move)
         → All IsLine (trace_lines n start moves) → All IsLine (trace_lines m other others)

@@ -1,4 +1,5 @@
-use Rattle.ra_node.proofs.EventsKept.{opening_is_consistent, event_kept, event_sends, event_numbers, event_answers, event_marks, event_room, event_room_of_all, event_leads}
+use Rattle.ra_node.proofs.NodeLemmas.{opening_is_consistent}
+use Rattle.ra_node.proofs.EventsKept.{event_kept, event_sends, event_numbers, event_answers, event_marks, event_room, event_room_of_all, event_leads}
 use Rattle.ra_node.proofs.laws.events_keep_a_node_consistent.Goals as goal
 
 pub returns : goal.returns

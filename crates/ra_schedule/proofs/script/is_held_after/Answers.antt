@@ -1,6 +1,30 @@
-use Rattle.ra_schedule.proofs.Held.{held_more}
+use Rattle.std.proofs.Common.{rules, ℕ, ◌≡◌, ◌≢◌, ◌++◌, ◌∷◌, [], List, ap, ◌∙◌}
+use Rattle.ra_schedule.specs.declared.script.Op.{Op}
+use Rattle.ra_schedule.specs.declared.script.Op.TheVariants.{Unlock}
+use Rattle.ra_schedule.proofs.Held.{says_nothing, unlocked_last}
 use Rattle.ra_schedule.proofs.script.is_held_after.Goals as goal
 
-pub loop-op-preserved : goal.loop-op-preserved
-loop-op-preserved c =
-    held_more c.args.ops.now c.loop-op.op-index c.op-item.result c.args.name.now c.loop-op.held _ c.loop-op-test.true c.op-item.is c.loop-op.invariant c.is_held_then-held.ensures
+pub returns-in-Unlock : goal.returns-in-Unlock
+returns-in-Unlock c =
+    let name = c.args.name.now in
+    let same : c.in-Unlock.unlocked ≡ name = search rules in
+    let last = c.in-Unlock.is ∙ ap (λ (n : List ℕ). Unlock n) same in
+    let split = c.in-Some.ensures.cases.0 ∙ ap (λ (op : Op). c.in-Some.before.now ++ op ∷ []) last in
+    let none = unlocked_last c.loop-last.rest.now c.in-Some.before.now name split in
+    (λ yes. absurd cc, λ held. absurd (none (c.loop-last.invariant.0 held)))
+
+pub loop-last-preserved-in_default-last : goal.loop-last-preserved-in_default-last
+loop-last-preserved-in_default-last c =
+    let name = c.args.name.now in
+    let other : c.in-Lock.locked ≢ name = search rules in
+    let says = says_nothing c.loop-last.rest.now c.in-Some.before.now c.in-Some.last.now name c.in-Some.ensures.cases.0
+    (λ mode is. other cc) (λ is. absurd cc) in
+    (λ held. says.0 (c.loop-last.invariant.0 held), λ held. c.loop-last.invariant.1 (says.1 held))
+
+pub loop-last-preserved : goal.loop-last-preserved
+loop-last-preserved c =
+    let name = c.args.name.now in
+    let other : c.in-Unlock.unlocked ≢ name = search rules in
+    let says = says_nothing c.loop-last.rest.now c.in-Some.before.now c.in-Some.last.now name c.in-Some.ensures.cases.0
+    (λ mode is. absurd cc) (λ is. other cc) in
+    (λ held. says.0 (c.loop-last.invariant.0 held), λ held. c.loop-last.invariant.1 (says.1 held))

@@ -1,7 +1,10 @@
-use Rattle.std.specs.Prelude.{IsTrue, ◌↔◌, take}
+use Rattle.std.proofs.Common.{◌↔◌, length}
 use Rattle.ra_schedule.specs.Script.{IsHeldAfter}
 use Rattle.ra_schedule.proofs.script.is_held_after.Given as goal
 
--- the operations so far say whether the name is held
-abbrev pub invariant-loop-op : goal.invariant-loop-op
-invariant-loop-op l = IsTrue l.held ↔ IsHeldAfter (take l.op-index l.ops) l.name
+-- the operations that are left say whether the name is held
+abbrev pub invariant-loop-last : goal.invariant-loop-last
+invariant-loop-last l = IsHeldAfter l.ops l.name ↔ IsHeldAfter l.rest l.name
+
+abbrev pub decreases-loop-last : goal.decreases-loop-last
+decreases-loop-last l = length l.rest

@@ -1,43 +1,36 @@
-use Rattle.std.proofs.Common.{rules, ◌≡◌, List, ◌++◌, ◌∷◌, [], sym, ap, ◌∙◌, subst}
+use Rattle.std.proofs.Common.{rules, ◌≡◌, ◌<◌, ℕ, List, ap, ◌∙◌, subst}
+use Rattle.indexmap.specs.IndexMap.{spare}
 use Rattle.ra_node.specs.Resource.{Resource, unmet}
 use Rattle.ra_node.specs.Node.{IsConsistentNode}
-use Rattle.ra_node.specs.View.{AreKept}
-use Rattle.ra_node.proofs.After.{asked_first, unmet_here}
-use Rattle.ra_node.proofs.NodeLemmas.{kept_is_consistent}
+use Rattle.ra_node.specs.View.{node_with}
+use Rattle.ra_node.proofs.After.{where_ok, asked, unmet_here}
 use Rattle.ra_node.proofs.node.Node.ask_first.Goals as goal
-
-pub returns-in_err-slot-clause-consistent : goal.returns-in_err-slot-clause-consistent
-returns-in_err-slot-clause-consistent c =
-    let n = c.self.inside in
-    subst IsConsistentNode c.self.view_is (kept_is_consistent n.me n.nodes n.start n.slots.items c.self.invariant)
-
-pub returns-in_err-make_room-clause-consistent : goal.returns-in_err-make_room-clause-consistent
-returns-in_err-make_room-clause-consistent c =
-    let n = c.self.inside in
-    kept_is_consistent n.me n.nodes n.start c.make_room.new.slots.items (subst (λ (xs : List Resource). AreKept n.me n.nodes n.start xs) (sym c.make_room.ensures.same) c.self.invariant)
-
-pub returns-in_err-outcome-clause-consistent : goal.returns-in_err-outcome-clause-consistent
-returns-in_err-outcome-clause-consistent c =
-    let n = c.self.inside in
-    kept_is_consistent n.me n.nodes n.start c.make_room.new.slots.items (subst (λ (xs : List Resource). AreKept n.me n.nodes n.start xs) (sym c.make_room.ensures.same) c.self.invariant)
 
 pub invariant_of-self-2 : goal.invariant_of-self-2
 invariant_of-self-2 c =
     let n = c.self.inside in
-    let more : c.push_reserved.new.self.items ≡ n.slots.items ++ c.ask.new.self ∷ [] = c.push_reserved.ensures.items ∙ ap (λ (xs : List Resource). xs ++ c.ask.new.self ∷ []) c.make_room.ensures.same in
-    let fresh : c.in_ok-slot.slot ≡ unmet n.me n.nodes c.args.name n.start = search rules in
-    (asked_first n.me n.nodes n.start n.slots.items c.args.self.now c.self.view_is c.self.invariant c.in_ok-slot.slot c.ask.new.self c.push_reserved.new.self.items more (search rules) c.args.client c.args.name c.args.mode _ _ c.requires.first
-    fresh (fresh ∙ unmet_here n.me n.nodes n.start n.slots.items c.args.self.now c.args.name c.self.view_is c.requires.first) c.in_ok-outcome.ensures.ok).0.kept
+    let now = c.args.self.now in
+    let slots = c.make_room.new.slots.entries in
+    let view : node_with n.me n.nodes n.start slots ≡ now = ap (λ (es : List (List ℕ × Resource)). node_with n.me n.nodes n.start es) c.make_room.ensures.same ∙ c.self.view_is in
+    let kept = subst IsConsistentNode c.self.view_is c.self.invariant in
+    let fresh : c.in_ok-slot.slot ≡ unmet n.me n.nodes (c.args.name) n.start = search rules in
+    let here = fresh ∙ unmet_here n.me n.nodes n.start slots now (c.args.name) view c.requires.first in
+    let room : 0 < spare c.make_room.new.slots = search rules in
+    let updates = where_ok c.insert.result _ (c.insert.ensures.succeeds room) c.insert.ensures.updates in
+    (asked n.me n.nodes n.start slots now view kept c.in_ok-slot.slot c.ask.new.self c.insert.new.self.entries c.args.client c.args.name c.args.mode _ _ here updates.0 c.in_ok-outcome.ensures.ok c.in_ok-outcome.ensures.consistent).0
 
 pub returns-clause-ok : goal.returns-clause-ok
 returns-clause-ok c =
     let n = c.self.inside in
-    let more : c.push_reserved.new.self.items ≡ n.slots.items ++ c.ask.new.self ∷ [] = c.push_reserved.ensures.items ∙ ap (λ (xs : List Resource). xs ++ c.ask.new.self ∷ []) c.make_room.ensures.same in
-    let fresh : c.in_ok-slot.slot ≡ unmet n.me n.nodes c.args.name n.start = search rules in
-    (asked_first n.me n.nodes n.start n.slots.items c.args.self.now c.self.view_is c.self.invariant c.in_ok-slot.slot c.ask.new.self c.push_reserved.new.self.items more (search rules) c.args.client c.args.name c.args.mode _ _ c.requires.first
-    fresh (fresh ∙ unmet_here n.me n.nodes n.start n.slots.items c.args.self.now c.args.name c.self.view_is c.requires.first) c.in_ok-outcome.ensures.ok).1
+    let now = c.args.self.now in
+    let slots = c.make_room.new.slots.entries in
+    let view : node_with n.me n.nodes n.start slots ≡ now = ap (λ (es : List (List ℕ × Resource)). node_with n.me n.nodes n.start es) c.make_room.ensures.same ∙ c.self.view_is in
+    let kept = subst IsConsistentNode c.self.view_is c.self.invariant in
+    let fresh : c.in_ok-slot.slot ≡ unmet n.me n.nodes (c.args.name) n.start = search rules in
+    let here = fresh ∙ unmet_here n.me n.nodes n.start slots now (c.args.name) view c.requires.first in
+    let room : 0 < spare c.make_room.new.slots = search rules in
+    let updates = where_ok c.insert.result _ (c.insert.ensures.succeeds room) c.insert.ensures.updates in
+    (asked n.me n.nodes n.start slots now view kept c.in_ok-slot.slot c.ask.new.self c.insert.new.self.entries c.args.client c.args.name c.args.mode _ _ here updates.0 c.in_ok-outcome.ensures.ok c.in_ok-outcome.ensures.consistent).1
 
 pub returns-clause-consistent : goal.returns-clause-consistent
-returns-clause-consistent c =
-    let n = c.self.inside in
-    kept_is_consistent n.me n.nodes n.start c.push_reserved.new.self.items (invariant_of-self-2 c)
+returns-clause-consistent c = invariant_of-self-2 c

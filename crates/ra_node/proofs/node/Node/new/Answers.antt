@@ -1,17 +1,14 @@
-use Rattle.std.proofs.Common.{rules, List, sym, subst}
-use Rattle.std.proofs.lemmas.List.Elements.{All-nil}
-use Rattle.ra_node.specs.Resource.{Resource, IsConsistentResource}
-use Rattle.ra_node.specs.View.{AreKept}
-use Rattle.ra_node.proofs.NodeLemmas.{kept_is_consistent}
+use Rattle.std.proofs.Common.{rules, ℕ, List, sym, subst}
+use Rattle.ra_node.specs.Resource.{Resource}
+use Rattle.ra_node.specs.Node.{IsConsistentNode}
+use Rattle.ra_node.specs.View.{node_with}
+use Rattle.ra_node.proofs.NodeLemmas.{opening_is_consistent}
 use Rattle.ra_node.proofs.node.Node.new.Goals as goal
 
+pub invariant_of-result : goal.invariant_of-result
+invariant_of-result c =
+    subst (λ (es : List (List ℕ × Resource)). IsConsistentNode (node_with c.args.me c.args.nodes c.args.start es)) (sym c.new-2.ensures.empty)
+    (opening_is_consistent c.args.me c.args.nodes c.args.start (search rules) (search rules))
+
 pub returns-clause-consistent : goal.returns-clause-consistent
-returns-clause-consistent c =
-    kept_is_consistent c.args.me c.args.nodes c.args.start c.new-2.result.items
-    (subst (λ (xs : List Resource). AreKept c.args.me c.args.nodes c.args.start xs) (sym c.new-2.ensures.items)
-    (record {
-      count = search rules;
-      member = search rules;
-      apart = tt;
-      each = All-nil (λ r. IsConsistentResource c.args.me c.args.nodes r.state.name c.args.start r);
-    }))
+returns-clause-consistent c = invariant_of-result c

@@ -1,23 +1,14 @@
-use Rattle.std.proofs.Common.{rules, ◌≤◌, List, length, ap, ◌∙◌, subst}
+use Rattle.std.proofs.Common.{◌≡◌, ℕ, List, ap, ◌∙◌, arith}
 use Rattle.std.specs.Prelude.{sum_by}
-use Rattle.std.proofs.lemmas.List.{take_all}
 use Rattle.ra_node.specs.Resource.{Resource, waiting_at}
-use Rattle.ra_node.specs.Node.{NodeState, IsConsistentNode, waiting_count}
+use Rattle.ra_node.specs.Node.{waiting_count}
 use Rattle.ra_node.proofs.Named.{sum_of_slots}
-use Rattle.ra_node.proofs.NodeLemmas.{kept_is_consistent}
 use Rattle.ra_node.proofs.node.Node.waiting.Goals as goal
 
 pub returns-clause-value : goal.returns-clause-value
 returns-clause-value c =
-    let slots = c.self.inside.slots.items in
-    let shown = c.deref-slot-items.result.now in
-    let past : length shown ≤ c.loop-slot.slot-index = search rules in
-    c.loop-slot.invariant.0
-    ∙ ap (λ (xs : List Resource). sum_by waiting_at xs) (take_all c.loop-slot.slot-index shown past ∙ c.deref-slot-items.ensures.value)
-    ∙ sum_of_slots waiting_at slots c.self.invariant.apart
-    ∙ ap (λ (n : NodeState). waiting_count n) c.self.view_is
-
-pub returns-clause-consistent : goal.returns-clause-consistent
-returns-clause-consistent c =
-    let n = c.self.inside in
-    subst IsConsistentNode c.self.view_is (kept_is_consistent n.me n.nodes n.start n.slots.items c.self.invariant)
+    let f = λ (e : List ℕ × Resource). waiting_at e.1 in
+    let all = c.into_iter-slot-iterator.ensures.into_iter_gives in
+    let none : sum_by f c.loop-slot.slot-iterator ≡ 0 = ap (sum_by f) c.in-None.ensures.steps.0 in
+    let whole : c.loop-slot.waiting ≡ sum_by f c.into_iter-slot-iterator.result = omega (arith, c.loop-slot.invariant.0, none) in
+    whole ∙ ap (sum_by f) all.0 ∙ sum_of_slots (λ r. waiting_at r) c.self.inside.slots.entries all.4 ∙ ap waiting_count c.self.view_is
