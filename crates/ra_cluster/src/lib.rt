@@ -57,3 +57,12 @@ pub use settled::Settled;
 pub use settling::{is_cluster, settle};
 pub use site::{Site, SiteError};
 pub use stop::Stop;
+
+#[cfg(test)]
+mod outcome_tests;
+#[cfg(test)]
+mod test_helpers;
+#[cfg(test)]
+mod threads_tests;
+#[cfg(test)]
+mod waiting_tests;

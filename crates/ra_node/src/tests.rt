@@ -1,5 +1,5 @@
 use super::*;
-use ra_stamp::{Entry, Mark, Marks, Message, Messages, Mode, Name, NodeId, Stamp};
+use ra_stamp::{Entry, Mark, Message, Mode, Name, NodeId, Stamp};
 use std::alloc::Global;
 use std::test::*;
 
@@ -62,14 +62,45 @@ fn reply(from: u16, to: u16, seq: u64) -> Result<Message, Fail> {
     })
 }
 
-/// Returns whether the messages are these.
-fn are_messages(list: &Messages, expected: &[Message]) -> bool {
-    list.as_slice() == expected
+/// Returns whether an event sent these messages and made these marks.
+fn is_outcome(outcome: &Outcome, sends: &[Message], marks: &[Mark]) -> bool {
+    outcome.sends.as_slice() == sends && outcome.marks.as_slice() == marks
 }
 
-/// Returns whether the marks are these.
-fn are_marks(list: &Marks, expected: &[Mark]) -> bool {
-    list.as_slice() == expected
+/// A client asks for `r`. Returns whether this came of it.
+fn asks(
+    alloc: Global,
+    node: &mut Node,
+    client: u32,
+    sends: &[Message],
+    marks: &[Mark],
+) -> Result<bool, Fail> {
+    let outcome = node.ask(alloc, client, Name::new(b"r")?, Mode::Exclusive)?;
+    Ok(is_outcome(&outcome, sends, marks))
+}
+
+/// A client leaves `r`. Returns whether this came of it.
+fn leaves(
+    alloc: Global,
+    node: &mut Node,
+    client: u32,
+    sends: &[Message],
+    marks: &[Mark],
+) -> Result<bool, Fail> {
+    let outcome = node.leave(alloc, client, Name::new(b"r")?)?;
+    Ok(is_outcome(&outcome, sends, marks))
+}
+
+/// A message comes. Returns whether this came of it.
+fn receives(
+    alloc: Global,
+    node: &mut Node,
+    message: &Message,
+    sends: &[Message],
+    marks: &[Mark],
+) -> Result<bool, Fail> {
+    let outcome = node.receive(alloc, message)?;
+    Ok(is_outcome(&outcome, sends, marks))
 }
 
 /// Makes node 1 of 2, where client 1 waits with number 1 and client 2 is queued.
@@ -92,19 +123,11 @@ fn holding(alloc: Global) -> Result<Node, Fail> {
 #[test]
 fn the_second_client_queues(rt: HostRuntime) -> Result<(), Fail> {
     let alloc = rt.alloc();
-    let r = Name::new(b"r")?;
+    let first = requested(&entry(1, 1, Mode::Exclusive, 1)?);
+    let sent = request(1, 2, Mode::Exclusive, 1)?;
     let mut node = node(alloc, 1, 2, 0)?;
-    let asked = node.ask(alloc, 1, r, Mode::Exclusive)?;
-    assert!(rt; are_messages(&asked.sends, &[request(1, 2, Mode::Exclusive, 1)?]));
-    assert!(rt;
-        are_marks(
-            &asked.marks,
-            &[requested(&entry(1, 1, Mode::Exclusive, 1)?)]
-        )
-    );
-    let queued = node.ask(alloc, 2, r, Mode::Exclusive)?;
-    assert!(rt; are_messages(&queued.sends, &[]));
-    assert!(rt; are_marks(&queued.marks, &[]));
+    assert!(rt; asks(alloc, &mut node, 1, &[sent], &[first])?);
+    assert!(rt; asks(alloc, &mut node, 2, &[], &[])?);
     assert_eq!(rt; node.waiting(), 1);
     assert_eq!(rt; node.queued(), 1);
     Ok(())
@@ -113,15 +136,13 @@ fn the_second_client_queues(rt: HostRuntime) -> Result<(), Fail> {
 #[test]
 fn the_first_client_enters_by_the_reply(rt: HostRuntime) -> Result<(), Fail> {
     let alloc = rt.alloc();
+    let r = Name::new(b"r")?;
     let first = entry(1, 1, Mode::Exclusive, 1)?;
+    let (theirs, granting) = (request(2, 1, Mode::Exclusive, 1)?, reply(2, 1, 1)?);
     let mut node = queueing(alloc)?;
-    let deferred = node.receive(alloc, &request(2, 1, Mode::Exclusive, 1)?)?;
-    assert!(rt; are_messages(&deferred.sends, &[]));
-    assert!(rt; are_marks(&deferred.marks, &[]));
-    let granted = node.receive(alloc, &reply(2, 1, 1)?)?;
-    assert!(rt; are_messages(&granted.sends, &[]));
-    assert!(rt; are_marks(&granted.marks, &[entered(&first)]));
-    assert_eq!(rt; node.holder(&Name::new(b"r")?), Some(first));
+    assert!(rt; receives(alloc, &mut node, &theirs, &[], &[])?);
+    assert!(rt; receives(alloc, &mut node, &granting, &[], &[entered(&first)])?);
+    assert_eq!(rt; node.holder(&r), Some(first));
     Ok(())
 }
 
@@ -129,6 +150,7 @@ fn the_first_client_enters_by_the_reply(rt: HostRuntime) -> Result<(), Fail> {
 fn clients_that_hold_or_queue_are_busy(rt: HostRuntime) -> Result<(), Fail> {
     let alloc = rt.alloc();
     let r = Name::new(b"r")?;
+    let first = entry(1, 1, Mode::Exclusive, 1)?;
     let mut node = holding(alloc)?;
     assert_eq!(rt;
         node.ask(alloc, 1, r, Mode::Shared).err(),
@@ -142,7 +164,7 @@ fn clients_that_hold_or_queue_are_busy(rt: HostRuntime) -> Result<(), Fail> {
     assert_eq!(rt; node.may_ask(2, &r), Err(AskError::Busy));
     assert_eq!(rt; node.may_ask(3, &r), Ok(()));
     assert_eq!(rt; node.leave(alloc, 2, r).err(), Some(LeaveError::NotHeld));
-    assert_eq!(rt; node.holder(&r), Some(entry(1, 1, Mode::Exclusive, 1)?));
+    assert_eq!(rt; node.holder(&r), Some(first));
     assert_eq!(rt; node.queued(), 1);
     Ok(())
 }
@@ -150,27 +172,25 @@ fn clients_that_hold_or_queue_are_busy(rt: HostRuntime) -> Result<(), Fail> {
 #[test]
 fn the_next_client_asks_after_the_replies_of_a_leave(rt: HostRuntime) -> Result<(), Fail> {
     let alloc = rt.alloc();
-    let r = Name::new(b"r")?;
-    let mut node = holding(alloc)?;
-    let given_back = node.leave(alloc, 1, r)?;
+    let (r, q) = (Name::new(b"r")?, Name::new(b"q")?);
     let replies_first = [reply(1, 2, 1)?, request(1, 2, Mode::Exclusive, 2)?];
-    assert!(rt; are_messages(&given_back.sends, &replies_first));
-    let first = entry(1, 1, Mode::Exclusive, 1)?;
-    let second = entry(1, 2, Mode::Exclusive, 2)?;
-    assert!(rt; are_marks(&given_back.marks, &[left(&first), requested(&second)]));
+    let first = left(&entry(1, 1, Mode::Exclusive, 1)?);
+    let second = requested(&entry(1, 2, Mode::Exclusive, 2)?);
+    let mut node = holding(alloc)?;
+    assert!(rt; leaves(alloc, &mut node, 1, &replies_first, &[first, second])?);
     assert_eq!(rt; node.holder(&r), None);
     assert_eq!(rt; node.waiting(), 1);
     assert_eq!(rt; node.queued(), 0);
     assert_eq!(rt; node.highest(&r), 2);
-    assert_eq!(rt; node.highest(&Name::new(b"q")?), 0);
+    assert_eq!(rt; node.highest(&q), 0);
     Ok(())
 }
 
 #[test]
 fn requests_and_queues_are_counted_over_all_names(rt: HostRuntime) -> Result<(), Fail> {
     let alloc = rt.alloc();
-    let mut node = queueing(alloc)?;
     let q = Name::new(b"q")?;
+    let mut node = queueing(alloc)?;
     node.ask(alloc, 1, q, Mode::Shared)?;
     node.ask(alloc, 3, q, Mode::Shared)?;
     assert_eq!(rt; node.waiting(), 2);
@@ -184,21 +204,12 @@ fn a_single_node_grants_at_once(rt: HostRuntime) -> Result<(), Fail> {
     let r = Name::new(b"r")?;
     let first = entry(1, 1, Mode::Exclusive, 1)?;
     let second = entry(1, 2, Mode::Exclusive, 2)?;
+    let at_once = [requested(&first), entered(&first)];
+    let handed_over = [left(&first), requested(&second), entered(&second)];
     let mut node = node(alloc, 1, 1, 0)?;
-    let asked = node.ask(alloc, 1, r, Mode::Exclusive)?;
-    assert!(rt; are_messages(&asked.sends, &[]));
-    assert!(rt; are_marks(&asked.marks, &[requested(&first), entered(&first)]));
-    let queued = node.ask(alloc, 2, r, Mode::Exclusive)?;
-    assert!(rt; are_messages(&queued.sends, &[]));
-    assert!(rt; are_marks(&queued.marks, &[]));
-    let given_back = node.leave(alloc, 1, r)?;
-    assert!(rt; are_messages(&given_back.sends, &[]));
-    assert!(rt;
-        are_marks(
-            &given_back.marks,
-            &[left(&first), requested(&second), entered(&second)]
-        )
-    );
+    assert!(rt; asks(alloc, &mut node, 1, &[], &at_once)?);
+    assert!(rt; asks(alloc, &mut node, 2, &[], &[])?);
+    assert!(rt; leaves(alloc, &mut node, 1, &[], &handed_over)?);
     assert_eq!(rt; node.holder(&r), Some(second));
     Ok(())
 }
@@ -207,16 +218,19 @@ fn a_single_node_grants_at_once(rt: HostRuntime) -> Result<(), Fail> {
 fn readers_of_one_node_take_turns_first_in_first_out(rt: HostRuntime) -> Result<(), Fail> {
     let alloc = rt.alloc();
     let r = Name::new(b"r")?;
+    let first = entry(1, 7, Mode::Shared, 1)?;
+    let second = entry(1, 3, Mode::Shared, 2)?;
+    let third = entry(1, 5, Mode::Shared, 3)?;
     let mut node = node(alloc, 1, 1, 0)?;
     for client in [7, 3, 5] {
         node.ask(alloc, client, r, Mode::Shared)?;
     }
-    assert_eq!(rt; node.holder(&r), Some(entry(1, 7, Mode::Shared, 1)?));
+    assert_eq!(rt; node.holder(&r), Some(first));
     assert_eq!(rt; node.queued(), 2);
     node.leave(alloc, 7, r)?;
-    assert_eq!(rt; node.holder(&r), Some(entry(1, 3, Mode::Shared, 2)?));
+    assert_eq!(rt; node.holder(&r), Some(second));
     node.leave(alloc, 3, r)?;
-    assert_eq!(rt; node.holder(&r), Some(entry(1, 5, Mode::Shared, 3)?));
+    assert_eq!(rt; node.holder(&r), Some(third));
     node.leave(alloc, 5, r)?;
     assert_eq!(rt; node.holder(&r), None);
     assert_eq!(rt; node.may_ask(7, &r), Ok(()));
@@ -227,39 +241,31 @@ fn readers_of_one_node_take_turns_first_in_first_out(rt: HostRuntime) -> Result<
 /// greatest number is deferred.
 fn at_the_greatest_number(alloc: Global) -> Result<Node, Fail> {
     let r = Name::new(b"r")?;
+    let granting = reply(2, 1, 18446744073709551614)?;
+    let theirs = request(2, 1, Mode::Exclusive, 18446744073709551615)?;
     let mut node = node(alloc, 1, 2, 18446744073709551613)?;
     node.ask(alloc, 1, r, Mode::Exclusive)?;
-    node.receive(alloc, &reply(2, 1, 18446744073709551614)?)?;
+    node.receive(alloc, &granting)?;
     node.ask(alloc, 2, r, Mode::Exclusive)?;
-    node.receive(
-        alloc,
-        &request(2, 1, Mode::Exclusive, 18446744073709551615)?,
-    )?;
+    node.receive(alloc, &theirs)?;
     Ok(node)
 }
 
 #[test]
 fn the_greatest_number_but_one_is_given_out(rt: HostRuntime) -> Result<(), Fail> {
     let alloc = rt.alloc();
-    let r = Name::new(b"r")?;
     let number = 18446744073709551614;
     let first = entry(1, 1, Mode::Exclusive, number)?;
+    let (sent, granting) = (
+        request(1, 2, Mode::Exclusive, number)?,
+        reply(2, 1, number)?,
+    );
+    let theirs = request(2, 1, Mode::Exclusive, 18446744073709551615)?;
     let mut node = node(alloc, 1, 2, 18446744073709551613)?;
-    let asked = node.ask(alloc, 1, r, Mode::Exclusive)?;
-    assert!(rt; are_messages(&asked.sends, &[request(1, 2, Mode::Exclusive, number)?]));
-    assert!(rt; are_marks(&asked.marks, &[requested(&first)]));
-    let granted = node.receive(alloc, &reply(2, 1, number)?)?;
-    assert!(rt; are_messages(&granted.sends, &[]));
-    assert!(rt; are_marks(&granted.marks, &[entered(&first)]));
-    let queued = node.ask(alloc, 2, r, Mode::Exclusive)?;
-    assert!(rt; are_messages(&queued.sends, &[]));
-    assert!(rt; are_marks(&queued.marks, &[]));
-    let deferred = node.receive(
-        alloc,
-        &request(2, 1, Mode::Exclusive, 18446744073709551615)?,
-    )?;
-    assert!(rt; are_messages(&deferred.sends, &[]));
-    assert!(rt; are_marks(&deferred.marks, &[]));
+    assert!(rt; asks(alloc, &mut node, 1, &[sent], &[requested(&first)])?);
+    assert!(rt; receives(alloc, &mut node, &granting, &[], &[entered(&first)])?);
+    assert!(rt; asks(alloc, &mut node, 2, &[], &[])?);
+    assert!(rt; receives(alloc, &mut node, &theirs, &[], &[])?);
     Ok(())
 }
 
@@ -269,18 +275,16 @@ fn the_greatest_number_is_given_out(rt: HostRuntime) -> Result<(), Fail> {
     let r = Name::new(b"r")?;
     let number = 18446744073709551615;
     let third = entry(2, 3, Mode::Exclusive, number)?;
+    let theirs = request(1, 2, Mode::Exclusive, 18446744073709551614)?;
+    let answer = reply(2, 1, 18446744073709551614)?;
+    let (sent, granting) = (
+        request(2, 1, Mode::Exclusive, number)?,
+        reply(1, 2, number)?,
+    );
     let mut node = node(alloc, 2, 2, 18446744073709551613)?;
-    let answered = node.receive(
-        alloc,
-        &request(1, 2, Mode::Exclusive, 18446744073709551614)?,
-    )?;
-    assert!(rt; are_messages(&answered.sends, &[reply(2, 1, 18446744073709551614)?]));
-    let asked = node.ask(alloc, 3, r, Mode::Exclusive)?;
-    assert!(rt; are_messages(&asked.sends, &[request(2, 1, Mode::Exclusive, number)?]));
-    assert!(rt; are_marks(&asked.marks, &[requested(&third)]));
-    let granted = node.receive(alloc, &reply(1, 2, number)?)?;
-    assert!(rt; are_messages(&granted.sends, &[]));
-    assert!(rt; are_marks(&granted.marks, &[entered(&third)]));
+    assert!(rt; receives(alloc, &mut node, &theirs, &[answer], &[])?);
+    assert!(rt; asks(alloc, &mut node, 3, &[sent], &[requested(&third)])?);
+    assert!(rt; receives(alloc, &mut node, &granting, &[], &[entered(&third)])?);
     assert_eq!(rt; node.highest(&r), number);
     Ok(())
 }
@@ -288,7 +292,7 @@ fn the_greatest_number_is_given_out(rt: HostRuntime) -> Result<(), Fail> {
 #[test]
 fn nobody_asks_at_the_greatest_number(rt: HostRuntime) -> Result<(), Fail> {
     let alloc = rt.alloc();
-    let r = Name::new(b"r")?;
+    let (r, q) = (Name::new(b"r")?, Name::new(b"q")?);
     let mut node = at_the_greatest_number(alloc)?;
     assert_eq!(rt; node.highest(&r), 18446744073709551615);
     assert_eq!(rt; node.may_ask(1, &r), Err(AskError::Busy));
@@ -297,7 +301,7 @@ fn nobody_asks_at_the_greatest_number(rt: HostRuntime) -> Result<(), Fail> {
         node.ask(alloc, 3, r, Mode::Exclusive).err(),
         Some(AskError::Exhausted)
     );
-    assert_eq!(rt; node.may_ask(1, &Name::new(b"q")?), Ok(()));
+    assert_eq!(rt; node.may_ask(1, &q), Ok(()));
     Ok(())
 }
 
@@ -305,11 +309,10 @@ fn nobody_asks_at_the_greatest_number(rt: HostRuntime) -> Result<(), Fail> {
 fn a_queue_stays_unstamped_at_the_greatest_number(rt: HostRuntime) -> Result<(), Fail> {
     let alloc = rt.alloc();
     let r = Name::new(b"r")?;
+    let deferred = reply(1, 2, 18446744073709551615)?;
+    let first = left(&entry(1, 1, Mode::Exclusive, 18446744073709551614)?);
     let mut node = at_the_greatest_number(alloc)?;
-    let given_back = node.leave(alloc, 1, r)?;
-    assert!(rt; are_messages(&given_back.sends, &[reply(1, 2, 18446744073709551615)?]));
-    let first = entry(1, 1, Mode::Exclusive, 18446744073709551614)?;
-    assert!(rt; are_marks(&given_back.marks, &[left(&first)]));
+    assert!(rt; leaves(alloc, &mut node, 1, &[deferred], &[first])?);
     assert_eq!(rt; node.holder(&r), None);
     assert_eq!(rt; node.waiting(), 0);
     assert_eq!(rt; node.queued(), 1);
@@ -353,6 +356,7 @@ fn bad_counts_and_nodes_make_no_node(rt: HostRuntime) -> Result<(), Fail> {
 #[test]
 fn messages_for_others_and_from_strangers_are_refused(rt: HostRuntime) -> Result<(), Fail> {
     let alloc = rt.alloc();
+    let r = Name::new(b"r")?;
     let mut node = node(alloc, 2, 3, 0)?;
     // The receiver comes first where the sender is wrong, too.
     for (from, to, fault) in [
@@ -366,20 +370,20 @@ fn messages_for_others_and_from_strangers_are_refused(rt: HostRuntime) -> Result
             .err();
         assert_eq!(rt; refused, Some(fault), "from {from} to {to}");
     }
-    assert_eq!(rt; node.highest(&Name::new(b"r")?), 0);
+    assert_eq!(rt; node.highest(&r), 0);
     Ok(())
 }
 
 #[test]
 fn an_idle_node_answers_and_takes_strays(rt: HostRuntime) -> Result<(), Fail> {
     let alloc = rt.alloc();
+    let r = Name::new(b"r")?;
+    let theirs = request(1, 2, Mode::Exclusive, 7)?;
+    let (answer, stray) = (reply(2, 1, 7)?, reply(1, 2, 7)?);
     let mut node = node(alloc, 2, 3, 0)?;
-    let answered = node.receive(alloc, &request(1, 2, Mode::Exclusive, 7)?)?;
-    assert!(rt; are_messages(&answered.sends, &[reply(2, 1, 7)?]));
-    assert_eq!(rt; node.highest(&Name::new(b"r")?), 7);
-    let stray = node.receive(alloc, &reply(1, 2, 7)?)?;
-    assert!(rt; are_messages(&stray.sends, &[]));
-    assert!(rt; are_marks(&stray.marks, &[]));
+    assert!(rt; receives(alloc, &mut node, &theirs, &[answer], &[])?);
+    assert_eq!(rt; node.highest(&r), 7);
+    assert!(rt; receives(alloc, &mut node, &stray, &[], &[])?);
     Ok(())
 }
 
@@ -442,22 +446,33 @@ fn on_numbered(alloc: Global, number: u16) -> Result<Entry, Fail> {
     })
 }
 
+/// A client leaves the name of an entry at a single node. Returns whether only that came of it.
+fn leaves_numbered(
+    alloc: Global,
+    node: &mut Node,
+    client: u32,
+    entry: &Entry,
+) -> Result<bool, Fail> {
+    let outcome = node.leave(alloc, client, entry.name)?;
+    Ok(is_outcome(&outcome, &[], &[left(entry)]))
+}
+
 #[test]
 fn each_of_a_thousand_names_is_found(rt: HostRuntime) -> Result<(), Fail> {
     let alloc = rt.alloc();
     let mut node = node(alloc, 1, 1, 0)?;
     for number in 0..1000 {
         let entry = on_numbered(alloc, number)?;
+        let at_once = [requested(&entry), entered(&entry)];
         let asked = node.ask(alloc, 1, entry.name, Mode::Exclusive)?;
-        assert!(rt; are_marks(&asked.marks, &[requested(&entry), entered(&entry)]));
+        assert!(rt; is_outcome(&asked, &[], &at_once));
     }
     for number in 0..1000 {
         let entry = on_numbered(alloc, number)?;
         assert_eq!(rt; node.holder(&entry.name), Some(entry));
     }
     let entry = on_numbered(alloc, 500)?;
-    let outcome = node.leave(alloc, 1, entry.name)?;
-    assert!(rt; are_marks(&outcome.marks, &[left(&entry)]));
+    assert!(rt; leaves_numbered(alloc, &mut node, 1, &entry)?);
     for number in 0..1000 {
         let entry = on_numbered(alloc, number)?;
         let held = if number == 500 { None } else { Some(entry) };

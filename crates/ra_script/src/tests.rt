@@ -105,6 +105,61 @@ fn deep_nesting_is_refused(rt: HostRuntime) -> Result<(), Fail> {
     Ok(())
 }
 
+/// Asserts that a text is refused that begins with `front` and goes on with `turn`, so many times.
+fn assert_deep_refused<T: Abort + AllocGlobal>(
+    rt: &T,
+    front: &str,
+    turn: &str,
+    turns: usize,
+) -> Result<(), Fail> {
+    let alloc = rt.alloc();
+    let deep = turn.repeat(alloc, turns)?;
+    let text = format!(in alloc; "{front}{deep}")?;
+    assert!(rt; text.len() <= 65_536, "{front}");
+    let read = read_script(alloc, text.as_bytes());
+    assert!(rt;
+        matches!(&read, Err(ScriptError::Toml | ScriptError::Shape)),
+        "{front}"
+    );
+    Ok(())
+}
+
+/// The parser has a bound of its own for some of these, and the others are no script.
+#[test]
+fn deep_tables_are_refused(rt: HostRuntime) -> Result<(), Fail> {
+    assert_deep_refused(&rt, "nodes = ", "{a=", 21_842)?;
+    assert_deep_refused(&rt, "nodes", ".a", 32_765)?;
+    assert_deep_refused(&rt, "[nodes", ".a", 32_765)?;
+    assert_deep_refused(&rt, "nodes = 1\n[[client", ".a", 32_759)?;
+    assert_deep_refused(&rt, "client = [", "[{a=", 16_381)
+}
+
+/// Asserts that tables of this many levels are refused, closed as they should be: inline ones, and those of a key, of a header and
+/// of an array's header with dots.
+fn assert_closed_tables_refused<T: Abort + AllocGlobal>(rt: &T, levels: usize) -> Result<(), Fail> {
+    let alloc = rt.alloc();
+    let dots = ".a".repeat(alloc, levels)?;
+    let (open, closed) = ("{a=".repeat(alloc, levels)?, "}".repeat(alloc, levels)?);
+    for text in [
+        format!(in alloc; "client = []\nnodes = {open}1{closed}\n")?,
+        format!(in alloc; "client = []\nnodes{dots} = 1\n")?,
+        format!(in alloc; "client = []\n[nodes{dots}]\n")?,
+        format!(in alloc; "nodes = 1\n[[client{dots}]]\nnode = 1\nops = []\n")?,
+    ] {
+        assert!(rt; text.len() <= 65_536);
+        let read = read_script(alloc, text.as_bytes());
+        assert!(rt; matches!(&read, Err(ScriptError::Toml | ScriptError::Shape)));
+    }
+    Ok(())
+}
+
+#[test]
+fn tables_in_tables_are_refused(rt: HostRuntime) -> Result<(), Fail> {
+    assert_closed_tables_refused(&rt, 1)?;
+    assert_closed_tables_refused(&rt, 100)?;
+    assert_closed_tables_refused(&rt, 16_000)
+}
+
 #[test]
 fn another_shape_is_refused(rt: HostRuntime) {
     assert_refused(&rt, "nodes.x = 1\nclient = []\n", ScriptError::Shape);
@@ -152,6 +207,18 @@ fn a_number_of_nodes_is_an_integer(rt: HostRuntime) {
     assert_refused(&rt, "client = []\nnodes = true\n", ScriptError::Shape);
     assert_refused(&rt, "client = []\nnodes = 2024-05-06\n", ScriptError::Shape);
     assert_refused(&rt, "client = []\nnodes = \"2\"\n", ScriptError::Shape);
+}
+
+#[test]
+fn a_client_has_an_integer_and_strings(rt: HostRuntime) -> Result<(), Fail> {
+    let alloc = rt.alloc();
+    for value in ["1.0", "true", "2024-05-06", "[]", "{}"] {
+        let node = format!(in alloc; "nodes = 1\nclient = [{{node = {value}, ops = []}}]\n")?;
+        assert_refused(&rt, node.as_str(), ScriptError::Shape);
+        let op = format!(in alloc; "nodes = 1\nclient = [{{node = 1, ops = [{value}]}}]\n")?;
+        assert_refused(&rt, op.as_str(), ScriptError::Shape);
+    }
+    Ok(())
 }
 
 #[test]
