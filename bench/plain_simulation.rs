@@ -1,13 +1,17 @@
 //! What `ra sim` does by the policies `oldest`, `newest` and `seeded`, as a plain program: a hash map of names at each node, a
 //! queue of messages, and nothing proved or kept but what is printed. It reads a script as `bench/largest-script` writes it. The
-//! argument is the policy; the seed is 0.
+//! argument is the policy; the seed is 0. Each message has a copy of its name, or, under `--cfg shared_names`, a counted reference to
+//! it, which only one thread can have.
 use std::collections::{HashMap, VecDeque};
 use std::fmt::Write as _;
 use std::io::{self, Read, Write as _};
 use std::mem;
-use std::rc::Rc;
 
-type Name = Rc<str>;
+#[cfg(not(shared_names))]
+type Name = String;
+
+#[cfg(shared_names)]
+type Name = std::rc::Rc<str>;
 
 #[derive(Clone, Copy, PartialEq)]
 enum Mode {

@@ -48,6 +48,16 @@ pub fn request(from: u16, to: u16, mode: Mode) -> Result<Message, Fail> {
     })
 }
 
+/// Returns the REPLY to such a REQUEST, which goes between these nodes.
+pub fn reply(from: u16, to: u16) -> Result<Message, Fail> {
+    Ok(Message::Reply {
+        from: id(from)?,
+        to: id(to)?,
+        name: Name::new(b"r")?,
+        seq: 1,
+    })
+}
+
 /// Makes the sites of a cluster of this many nodes, whose numbers begin at `start`.
 pub fn sites_of(alloc: Global, nodes: u16, start: u64) -> Result<Vec<Site>, Fail> {
     let mut sites = Vec::new(alloc);

@@ -61,6 +61,8 @@ pub use stop::Stop;
 #[cfg(test)]
 mod outcome_tests;
 #[cfg(test)]
+mod settling_tests;
+#[cfg(test)]
 mod test_helpers;
 #[cfg(test)]
 mod threads_tests;

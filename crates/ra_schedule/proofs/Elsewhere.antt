@@ -1,10 +1,9 @@
 -- Who is enabled behind one more move: who is not at its node and did not enter by it is so where it was before.
-use Rattle.std.proofs.Common.{◌≡◌, ◌≢◌, ◌⊎◌, ◌↔◌, ℕ, ◌+◌, ◌<◌, Bool, Option, Some, None, List, [], ◌∷◌, ◌++◌, All, length, slice_get, slice_index_or, refl, sym, ap, ◌∙◌, subst, arith, inl, inr, IsTrue}
-use Rattle.std.specs.Prelude.{if◌then◌else◌, ◌==◌, option_map}
+use Rattle.std.proofs.Common.{◌≡◌, ◌≢◌, ◌↔◌, ℕ, ◌+◌, Bool, Some, List, [], ◌∷◌, ◌++◌, All, slice_get, slice_index_or, refl, sym, ap, ◌∙◌, subst, arith, inl, inr}
+use Rattle.std.specs.Prelude.{if◌then◌else◌, option_map}
 use Rattle.std.proofs.lemmas.Bool.{ne_eqb}
 use Rattle.ra_stamp.specs.NodeId.{IsNodeNumber}
 use Rattle.ra_stamp.specs.Message.{to_of}
-use Rattle.ra_stamp.specs.declared.entry.Mark.{Mark}
 use Rattle.ra_world.specs.declared.step.Step.{Step}
 use Rattle.ra_world.specs.declared.step.Step.TheVariants.{Ask, Leave, Deliver, Lose}
 use Rattle.ra_world.specs.Traffic.{Move}
@@ -15,7 +14,7 @@ use Rattle.ra_schedule.specs.declared.script.Op.TheVariants.{Lock, Unlock}
 use Rattle.ra_schedule.specs.declared.choice.Choice.{Choice}
 use Rattle.ra_schedule.specs.declared.choice.Choice.TheVariants.{Client, Message, Lost}
 use Rattle.ra_schedule.specs.Script.{ScriptClient, ScriptState, client_at}
-use Rattle.ra_schedule.specs.Schedule.{steps_of, steps_in, steps_by, step_of, Asks, Enters, StandsFor, Enables, IsNext, IsWaiting, IsEnabled}
+use Rattle.ra_schedule.specs.Schedule.{steps_of, steps_in, steps_by, step_of, Asks, Enters, StandsFor, IsEnabled}
 use Rattle.ra_schedule.specs.Enabled.{IsFlag, AreFlags, AreFlagsElsewhere, node_of, node_at}
 use Rattle.ra_schedule.specs.Below.{LawsBelow}
 use Rattle.ra_schedule.proofs.Waiting.{steps_by-more, waits_on, waited}

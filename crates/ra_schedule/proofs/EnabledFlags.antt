@@ -1,5 +1,5 @@
 -- The flags of the clients, and the numbers of those that are set.
-use Rattle.std.proofs.Common.{◌≡◌, ◌↔◌, ℕ, zero, suc, ◌+◌, ◌-◌, ◌<◌, ◌≤◌, Bool, true, false, Option, Some, None, List, [], ◌∷◌, ◌++◌, length, drop, slice_get, slice_index_or, slice_set, refl, sym, ap, ◌∙◌, subst, append_assoc, arith, inl, inr, IsTrue}
+use Rattle.std.proofs.Common.{◌≡◌, ℕ, suc, ◌+◌, ◌<◌, ◌≤◌, Bool, true, false, Option, Some, None, List, [], ◌∷◌, ◌++◌, length, drop, slice_index_or, slice_set, refl, sym, ap, ◌∙◌, subst, append_assoc, arith, IsTrue}
 use Rattle.std.specs.Prelude.{if◌then◌else◌, sum_by}
 use Rattle.std.specs.Option.{IfSome, is_some}
 use Rattle.std.specs.Prelude.{IsNone}

@@ -1,15 +1,14 @@
 -- Lists of the enabled clients.
-use Rattle.std.proofs.Common.{◌≡◌, ◌↔◌, ℕ, zero, suc, ◌+◌, ◌<◌, ◌≤◌, Some, None, List, [], ◌∷◌, ◌++◌, length, slice_get, get_or, sym, ap, ◌∙◌, subst, arith, inl, inr}
+use Rattle.std.proofs.Common.{◌≡◌, ◌↔◌, ℕ, zero, suc, ◌+◌, ◌<◌, ◌≤◌, List, [], ◌∷◌, ◌++◌, length, get_or, sym, subst, arith, inl, inr}
 use Rattle.std.specs.Prelude.{Contains}
 use Rattle.std.specs.List.Sorted.{IsStrictlyIncreasing}
-use Rattle.std.proofs.lemmas.Bool.{cases_eq, cases_lt}
-use Rattle.std.proofs.lemmas.Grind.{get_or_default_zero}
-use Rattle.std.proofs.lemmas.Option.{slice_get_within, slice_get-get_or, slice_get_past}
+use Rattle.std.proofs.lemmas.Bool.{cases_eq}
+use Rattle.std.proofs.lemmas.Option.{slice_get_within}
 use Rattle.std.proofs.lemmas.List.Elements.{Contains-push, Contains-push_cases, Contains-append_left, Contains-get_or}
 use Rattle.ra_world.specs.Traffic.{Move}
 use Rattle.ra_schedule.specs.Script.{ScriptState}
 use Rattle.ra_schedule.specs.Schedule.{IsEnabled, AreEnabled}
-use Rattle.ra_schedule.proofs.Rising.{later_is_above, rises_more, same_items}
+use Rattle.ra_schedule.proofs.Rising.{rises_more, same_items}
 
 -- nobody has the number 0
 pub nobody_is_zero : (script : ScriptState) (moves : List Move) → IsEnabled script moves 0 → ⊥

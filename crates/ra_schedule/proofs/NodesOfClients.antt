@@ -1,8 +1,8 @@
 -- The nodes of the clients of a script.
-use Rattle.std.proofs.Common.{◌≡◌, ℕ, zero, suc, ◌+◌, ◌<◌, ◌≤◌, Some, List, [], ◌∷◌, All, length, slice_get, refl, sym, ap, ◌∙◌, subst, arith}
+use Rattle.std.proofs.Common.{◌≡◌, ℕ, zero, suc, ◌+◌, ◌<◌, ◌≤◌, Some, List, [], ◌∷◌, All, length, slice_get, refl, ap, ◌∙◌, arith}
 use Rattle.std.specs.Prelude.{option_map}
 use Rattle.std.proofs.lemmas.List.Elements as elements
-use Rattle.ra_schedule.specs.Script.{ScriptClient, ScriptState, IsScript, IsScriptClient, client_at}
+use Rattle.ra_schedule.specs.Script.{ScriptClient, ScriptState, IsScript, IsScriptClient}
 use Rattle.ra_schedule.specs.Enabled.{node_of}
 
 within_list : (clients : List ScriptClient) (k node : ℕ) → option_map (λ (who : ScriptClient). who.node) (slice_get clients k) ≡ Some node

@@ -17,7 +17,7 @@ use Rattle.ra_schedule.specs.declared.choice.Choice.TheVariants.{Client, Message
 use Rattle.ra_schedule.specs.declared.choice.Policy.{Policy}
 use Rattle.ra_schedule.specs.Script.{ScriptClient, ScriptState, client_at, op_at}
 use Rattle.ra_schedule.specs.Schedule.{steps_of, steps_in, steps_by, Enters, IsEnabled, IsAtPlace, StandsFor, Picks, Follows}
-use Rattle.ra_schedule.specs.Progress.{IsProgress, Tracks, OfEach, IsProgressAfter, AreCountable, AreDone, IsStuck, AreStuck, NoneEnters}
+use Rattle.ra_schedule.specs.Progress.{IsProgress, Tracks, OfEach, IsProgressAfter, AreCountable, AreDone, IsStuck, AreStuck, NoneEnters, recorded}
 use Rattle.ra_schedule.specs.Enabled.{AreFlags, AreRosters, numbers_from}
 use Rattle.ra_schedule.specs.Below.{LawsBelow}
 use Rattle.ra_schedule.proofs.Waiting.{nobody_waits, goes_on}
@@ -83,6 +83,11 @@ tracks_on script world next clients new move tracks is len after =
           subst (λ (ms : List Move). IsProgress (k + 1) ms (slice_index_or new k d)) (sym moves)
           (goes_on (k + 1) world.moves move (slice_index_or clients k d) (slice_index_or new k d) (tracks.each k d before) (after k d before));
     }
+
+-- of no moves there is nothing to record
+pub nothing_recorded : (records : Bool) (steps : List Step) (moves : List Move) → steps ≡ [] → moves ≡ [] → steps ≡ recorded records moves
+nothing_recorded true steps moves none no_moves = none ∙ sym (ap steps_of no_moves)
+nothing_recorded false steps moves none no_moves = none
 
 -- ---- Who waits or has nothing left to do
 

@@ -1,6 +1,6 @@
 -- Who waits after one more move, and how many steps each client has made.
-use Rattle.std.proofs.Common.{◌≡◌, ◌≢◌, ◌⊎◌, ◌↔◌, ℕ, ◌+◌, Bool, true, false, List, [], ◌∷◌, ◌++◌, map, All, refl, sym, ap, ◌∙◌, subst, append_assoc, arith, inl, inr, IsTrue}
-use Rattle.std.proofs.lemmas.Bool.{cases_eq, false≢true}
+use Rattle.std.proofs.Common.{◌≡◌, ◌⊎◌, ℕ, ◌+◌, false, List, [], ◌∷◌, ◌++◌, All, refl, sym, ap, ◌∙◌, subst, append_assoc, arith, inl, inr}
+use Rattle.std.proofs.lemmas.Bool.{false≢true}
 use Rattle.std.proofs.lemmas.List.Elements.{All-append, All-same, All-nil, All-push}
 use Rattle.std.proofs.lemmas.List.Elements as elements
 use Rattle.ra_stamp.specs.declared.entry.Entry.{Entry}
@@ -12,7 +12,7 @@ use Rattle.ra_world.specs.Run.{marks_of}
 use Rattle.ra_world.proofs.Moves.{marks_more}
 use Rattle.ra_schedule.specs.declared.progress.Progress.{Progress}
 use Rattle.ra_schedule.specs.Schedule.{steps_of, steps_in, steps_by, Asks, Enters, IsWaiting}
-use Rattle.ra_schedule.specs.Progress.{IsProgress, IsAfterStep, IsAfterMarks, IsProgressAfter}
+use Rattle.ra_schedule.specs.Progress.{IsProgress, IsAfterMarks, IsProgressAfter}
 use Rattle.ra_schedule.proofs.Lists.{split_last}
 
 pub steps_by-append : (client : ℕ) (xs ys : List Step) → steps_by client (xs ++ ys) ≡ steps_by client xs + steps_by client ys

@@ -1,5 +1,5 @@
 -- How the driver keeps where the clients stand. No public contract speaks of it.
-use Rattle.std.specs.Prelude.{◌≡◌, ◌⊎◌, ◌↔◌, ℕ, ◌+◌, ◌^◌, ◌<◌, List, length, slice_index_or, Some, None, option_map, IsTrue, All}
+use Rattle.std.specs.Prelude.{◌≡◌, ◌⊎◌, ◌↔◌, ℕ, ◌+◌, ◌^◌, ◌<◌, Bool, true, false, List, [], length, slice_index_or, Some, None, option_map, IsTrue, All}
 use Rattle.ra_stamp.specs.declared.entry.Mark.{Mark}
 use Rattle.ra_world.specs.declared.step.Step.{Step}
 use Rattle.ra_world.specs.Traffic.{Move}
@@ -61,3 +61,8 @@ AreStuck script clients first = (k : ℕ) (d : Progress) → k < first → k < l
 -- no client before this place, counted from 0, entered by these marks
 abbrev pub NoneEnters : ℕ → List Mark → Type 0
 NoneEnters first marks = (k : ℕ) → k < first → All (λ mark. Enters (k + 1) mark → ⊥) marks
+
+-- the steps that are recorded of these moves: all, or none
+abbrev pub recorded : Bool → List Move → List Step
+recorded true moves = steps_of moves
+recorded false moves = []

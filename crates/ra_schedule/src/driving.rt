@@ -3,7 +3,7 @@ ghost use Rattle.ra_world.specs.Traffic.{Move};
 ghost use Rattle.ra_world.specs.World.{Reports};
 ghost use Rattle.ra_world.specs.MainTheorem.{MainTheorem};
 ghost use Rattle.ra_schedule.specs.Schedule.{steps_of, Follows, Ends, Stops, IsFinished};
-ghost use Rattle.ra_schedule.specs.Progress.{Tracks, OfEach, IsProgressAfter, AreCountable, AreDone};
+ghost use Rattle.ra_schedule.specs.Progress.{Tracks, OfEach, IsProgressAfter, AreCountable, AreDone, recorded};
 ghost use Rattle.ra_world.specs.Run.{IsRun, GoesOn};
 ghost use Rattle.ra_schedule.specs.declared.choice.Choice.{Choice};
 ghost use Rattle.ra_schedule.specs.declared.error.DriveError.{DriveError};
@@ -15,7 +15,7 @@ use crate::progress::{
     Progress, first_entered, first_free, note_marks, note_step, opening_progress,
 };
 use crate::{Choice, DriveError, Policy, Script};
-use ra_stamp::Marks;
+use ra_stamp::{Marks, Memory};
 use ra_world::{Report, Step, Steps, World};
 use std::alloc::Global;
 
@@ -30,9 +30,19 @@ pub struct Recording {
     pub finished: bool,
 }
 
+/// What a policy made of a script, but for its steps.
+#[derive(Debug, Drop)]
+pub struct Summary {
+    /// What came of the steps.
+    pub report: Report,
+    /// Whether every operation is done, and nothing waits, is queued or under way.
+    pub finished: bool,
+}
+
 /// Drives a cluster through a script, from numbers that begin at 0: at each turn the policy makes a choice, and what it
 /// stands for is done, until no choice is left. A turn costs time linear in the number of clients, and that of one step of the
-/// world; and for each client that is looked at, whether it may ask, in the queue of the name that it asks for.
+/// world; and for each client that is looked at, whether it may ask, in the queue of the name that it asks for. The steps take
+/// memory linear in the number of turns.
 ///
 /// # Errors
 ///
@@ -65,10 +75,74 @@ pub fn drive(
     ensures allowed { (moves : List Move) → Follows script.now policy.now moves → Ends script.now policy.now moves
         → length moves ≤ limit → IsOkUnless result DriveError.Memory }
 {
+    drive_through(alloc, script, policy, limit, true)
+}
+
+/// Does as [`drive`], and keeps no steps, so that it takes less time, and memory only for what it reports and for what is under way.
+///
+/// # Errors
+///
+/// Those of `drive`.
+pub fn summarize(
+    alloc: Global,
+    script: &Script,
+    policy: &Policy,
+    limit: u64,
+) -> Result<Summary, DriveError>
+    // There are steps, which are all that the policy chose until no choice was left, and the report is that of their run.
+    ensures ok { IfOk result (λ summary. (moves : List Move)
+        × Follows script.now policy.now moves × Ends script.now policy.now moves × (length moves ≤ limit)
+        × Reports script.now.nodes 0 moves summary.report
+        × (IsTrue summary.finished ↔ IsFinished script.now (steps_of moves) summary.report)) }
+    ensures main_theorem { IfOk result (λ summary. MainTheorem script.now.nodes summary.report) }
+    // A refusal but want of memory comes where its cause stands, and where one stands nothing else is answered.
+    ensures refused { (cause : DriveError) → cause ≢ DriveError.Memory → IsErrOf result cause
+        → (moves : List Move) × Follows script.now policy.now moves × Stops script.now policy.now limit moves cause }
+    ensures exact { (cause : DriveError) (moves : List Move) → Follows script.now policy.now moves
+        → Stops script.now policy.now limit moves cause
+        → IsErrOf result cause ⊎ IsErrOf result DriveError.Memory }
+    ensures allowed { (moves : List Move) → Follows script.now policy.now moves → Ends script.now policy.now moves
+        → length moves ≤ limit → IsOkUnless result DriveError.Memory }
+{
+    let Recording {
+        report,
+        finished,
+        ..
+    } = drive_through(alloc, script, policy, limit, false)?;
+    Ok(Summary { report, finished })
+}
+
+/// Drives a cluster through a script, and records the steps, or none.
+///
+/// # Errors
+///
+/// Those of `drive`.
+fn drive_through(
+    alloc: Global,
+    script: &Script,
+    policy: &Policy,
+    limit: u64,
+    records: bool,
+) -> Result<Recording, DriveError>
+    ensures ok { IfOk result (λ recording. (moves : List Move)
+        × (recording.steps.items ≡ recorded records moves)
+        × Follows script.now policy.now moves × Ends script.now policy.now moves × (length moves ≤ limit)
+        × Reports script.now.nodes 0 moves recording.report
+        × (IsTrue recording.finished ↔ IsFinished script.now (steps_of moves) recording.report)) }
+    ensures main_theorem { IfOk result (λ recording. MainTheorem script.now.nodes recording.report) }
+    ensures refused { (cause : DriveError) → cause ≢ DriveError.Memory → IsErrOf result cause
+        → (moves : List Move) × Follows script.now policy.now moves × Stops script.now policy.now limit moves cause }
+    ensures exact { (cause : DriveError) (moves : List Move) → Follows script.now policy.now moves
+        → Stops script.now policy.now limit moves cause
+        → IsErrOf result cause ⊎ IsErrOf result DriveError.Memory }
+    ensures allowed { (moves : List Move) → Follows script.now policy.now moves → Ends script.now policy.now moves
+        → length moves ≤ limit → IsOkUnless result DriveError.Memory }
+{
     schedules_rest_on_runs();
     let Ok(mut world) = World::new(alloc, script.nodes(), 0) else {
         return Err(DriveError::Memory);
     };
+    let mut steps = Steps::new(alloc);
     let mut clients = opening_progress(alloc, script.clients())?;
     let mut draws = Draws::of(alloc, policy, script, &world, &clients)?;
     // Each client before this place waits or has nothing left to do, so that most turns need not look at all clients.
@@ -76,18 +150,34 @@ pub fn drive(
     for _turn in 0..limit {
         first = first_free(script, &clients, first);
         let Some(choice) = pick(script, policy, &mut draws, &world, &clients, first) else {
-            return recording_of(alloc, script, world, &clients);
+            return recording_of(alloc, script, &world, &clients, steps);
         };
         let step = meaning(script, &world, &clients, choice)?;
         let made = make(alloc, &mut world, &mut clients, &step, place_in(choice))?;
+        keep_step(&mut steps, records, &step)?;
         let marks = made.as_slice();
         first = first_entered(marks, first);
         draws.note(script, &world, &clients, &step, marks);
     }
     match pick(script, policy, &mut draws, &world, &clients, first) {
-        None => recording_of(alloc, script, world, &clients),
+        None => recording_of(alloc, script, &world, &clients, steps),
         Some(_) => Err(DriveError::TurnLimit),
     }
+}
+
+/// Adds a step to those that are recorded, where any are.
+///
+/// # Errors
+///
+/// `Memory`.
+fn keep_step(steps: &mut Steps, records: bool, step: &Step) -> Result<(), Memory>
+    ensures { (moves : List Move) (move : Move) → move.step ≡ step.now → steps.old.items ≡ recorded records moves
+        → OnOk result (steps.new.items ≡ recorded records (moves ++ move ∷ [])) }
+{
+    if records {
+        steps.push(*step)?;
+    }
+    Ok(())
 }
 
 /// Returns the place of the message that a choice names, or 0 where it names a client.
@@ -137,21 +227,22 @@ fn make(
 fn recording_of(
     alloc: Global,
     script: &Script,
-    world: World,
+    world: &World,
     clients: &[Progress],
+    steps: Steps,
 ) -> Result<Recording, DriveError>
-    requires tracked { Tracks script.now world clients.now }
-    ensures steps { IfOk result (λ recording. recording.steps.items ≡ steps_of world.moves) }
-    ensures report { IfOk result (λ recording. Reports script.now.nodes 0 world.moves recording.report) }
+    requires tracked { Tracks script.now world.now clients.now }
+    ensures steps { IfOk result (λ recording. recording.steps.items ≡ steps.items) }
+    ensures report { IfOk result (λ recording. Reports script.now.nodes 0 world.now.moves recording.report) }
     ensures main_theorem { IfOk result (λ recording. MainTheorem script.now.nodes recording.report) }
     ensures finished { IfOk result (λ recording.
-        IsTrue recording.finished ↔ IsFinished script.now recording.steps.items recording.report) }
+        IsTrue recording.finished ↔ IsFinished script.now (steps_of world.now.moves) recording.report) }
     ensures err { IfErr result (λ fault. fault ≡ DriveError.Memory) }
 {
     let report = world.report(alloc)?;
     let finished = has_nothing_left(&report) && are_done(script, clients);
     Ok(Recording {
-        steps: world.into_steps(),
+        steps,
         report,
         finished,
     })

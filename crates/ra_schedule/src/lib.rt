@@ -14,7 +14,7 @@ mod rosters;
 mod script;
 
 pub use choice::{Choice, Choices, Policy};
-pub use driving::{Recording, drive};
+pub use driving::{Recording, Summary, drive, summarize};
 pub use error::{AddClientError, AddOpError, DriveError, NewScriptError};
 pub use laws::policies_lead_to_one_run;
 pub use script::{Op, Script};

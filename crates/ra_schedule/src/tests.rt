@@ -151,13 +151,19 @@ fn a_script_is_read_by_clients_and_places(rt: HostRuntime) -> Result<(), Fail> {
     Ok(())
 }
 
+/// Makes a script of one client of two nodes, which locks `r` and unlocks it.
+fn one_lock(alloc: Global) -> Result<Script, Fail> {
+    let mut script = one_client(alloc)?;
+    script.add_op(lock(b"r")?)?;
+    script.add_op(unlock(b"r")?)?;
+    Ok(script)
+}
+
 /// One client of two nodes asks, its REQUEST and the REPLY are delivered, and it leaves.
 #[test]
 fn one_lock_takes_four_turns(rt: HostRuntime) -> Result<(), Fail> {
     let alloc = rt.alloc();
-    let mut script = one_client(alloc)?;
-    script.add_op(lock(b"r")?)?;
-    script.add_op(unlock(b"r")?)?;
+    let script = one_lock(alloc)?;
     assert_eq!(rt;
         drive(alloc, &script, &Policy::Oldest, 3).err(),
         Some(DriveError::TurnLimit)
@@ -168,6 +174,22 @@ fn one_lock_takes_four_turns(rt: HostRuntime) -> Result<(), Fail> {
     assert_eq!(rt; recording.report.requests, 1);
     assert_eq!(rt; recording.report.sent, 2);
     assert_eq!(rt; recording.report.marks.len(), 3);
+    Ok(())
+}
+
+#[test]
+fn one_lock_is_summed_up_without_its_steps(rt: HostRuntime) -> Result<(), Fail> {
+    let alloc = rt.alloc();
+    let script = one_lock(alloc)?;
+    assert_eq!(rt;
+        summarize(alloc, &script, &Policy::Oldest, 3).err(),
+        Some(DriveError::TurnLimit)
+    );
+    let summary = summarize(alloc, &script, &Policy::Oldest, 4)?;
+    assert!(rt; summary.finished);
+    assert_eq!(rt; summary.report.requests, 1);
+    assert_eq!(rt; summary.report.sent, 2);
+    assert_eq!(rt; summary.report.marks.len(), 3);
     Ok(())
 }
 

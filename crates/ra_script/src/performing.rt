@@ -1,15 +1,12 @@
-ghost use Rattle.std.specs.Prelude.{◌≡◌, ◌≢◌, ◌≤◌, ◌<◌, List, ℕ, [], ◌++◌, Bool, length, string_bytes, IfOk, IfErr, IfSome, IsErrOf};
+ghost use Rattle.std.specs.Prelude.{◌≡◌, ◌≢◌, ◌≤◌, ◌<◌, List, ℕ, [], ◌++◌, Bool, length, string_bytes, Ok, IfOk, IfErr, IfSome, IsErrOf};
 ghost use Rattle.std.specs.Io.KnownBytes.{Consumes, Appends};
-ghost use Rattle.ra_world.specs.Traffic.{Move};
-ghost use Rattle.ra_world.specs.Run.{IsRun};
-ghost use Rattle.ra_schedule.specs.Schedule.{steps_of};
 ghost use Rattle.ra_script.specs.declared.form.Form.{Form};
-ghost use Rattle.ra_script.specs.Performed.{Says, IsPerformed, IsPerformedAs, IsTraced, Refuses, RefusesAs};
+ghost use Rattle.ra_script.specs.ScriptText.{script_of};
+ghost use Rattle.ra_script.specs.Performed.{IsPerformed, IsPerformedAs, IsTraced, Refuses, RefusesAs};
 
 use crate::form::Form;
 use crate::{PerformError, read_script};
-use ra_schedule::{Policy, Recording, drive};
-use ra_stamp::Memory;
+use ra_schedule::{Policy, Script, drive, summarize};
 use ra_trace::trace_text;
 use ra_world::{read_up_to, report_text, runs_are_determined, write_out};
 use std::alloc::Global;
@@ -28,24 +25,54 @@ struct Printed {
     finished: bool,
 }
 
-/// Returns what is written of a run from numbers that begin at 0.
+/// Drives a cluster through a script by a policy, and returns the lines of its report.
 ///
 /// # Errors
 ///
-/// `Memory`: there is none for the text.
-fn text_of(alloc: Global, form: Form, nodes: u16, recording: &Recording) -> Result<String, Memory>
-    ensures { (moves : List Move) → IsRun nodes 0 moves → steps_of moves ≡ recording.now.steps.items
-        → IfOk result (λ text. Says form nodes moves recording.now.report (string_bytes text)) }
+/// The first that holds, but that `Memory` may come before the other:
+///
+/// 1. `Drive`: the policy can't go on.
+/// 2. `Memory`.
+fn lines_of(alloc: Global, policy: &Policy, script: &Script) -> Result<Printed, PerformError>
+    ensures ok { (input : List ℕ) → script_of input ≡ Ok script.now
+        → IfOk result (λ printed. IsPerformedAs Form.Lines policy.now input (string_bytes printed.text) printed.finished) }
+    ensures err { (input : List ℕ) → script_of input ≡ Ok script.now → IfErr result (RefusesAs Form.Lines policy.now input) }
+    ensures early { IfErr result (λ fault. fault ≢ PerformError.Write) }
+    ensures unread { ¬ IsErrOf result PerformError.Read }
+{
+    let summary = summarize(alloc, script, policy, MAX_TURNS)?;
+    let text = report_text(alloc, &summary.report)?;
+    Ok(Printed {
+        text,
+        finished: summary.finished,
+    })
+}
+
+/// Drives a cluster through a script by a policy, and returns the trace of its run.
+///
+/// # Errors
+///
+/// The first that holds, but that `Memory` may come before the other:
+///
+/// 1. `Drive`: the policy can't go on.
+/// 2. `Memory`.
+fn trace_of(alloc: Global, policy: &Policy, script: &Script) -> Result<Printed, PerformError>
+    ensures ok { (input : List ℕ) → script_of input ≡ Ok script.now
+        → IfOk result (λ printed. IsPerformedAs Form.Trace policy.now input (string_bytes printed.text) printed.finished) }
+    ensures err { (input : List ℕ) → script_of input ≡ Ok script.now → IfErr result (RefusesAs Form.Trace policy.now input) }
+    ensures early { IfErr result (λ fault. fault ≢ PerformError.Write) }
+    ensures unread { ¬ IsErrOf result PerformError.Read }
 {
     runs_are_determined();
-    match form {
-        Form::Lines => report_text(alloc, &recording.report),
-        // The steps are a run, so only memory can be wanting.
-        Form::Trace => match trace_text(alloc, nodes, 0, &recording.steps) {
-            Ok(text) => Ok(text),
-            Err(_) => Err(Memory),
-        },
-    }
+    let recording = drive(alloc, script, policy, MAX_TURNS)?;
+    // The steps are a run, so only memory can be wanting.
+    let Ok(text) = trace_text(alloc, script.nodes(), 0, &recording.steps) else {
+        return Err(PerformError::Memory);
+    };
+    Ok(Printed {
+        text,
+        finished: recording.finished,
+    })
 }
 
 /// Returns what is written of what comes of a script.
@@ -69,12 +96,10 @@ fn make_printed(
     ensures unread { ¬ IsErrOf result PerformError.Read }
 {
     let script = read_script(alloc, input)?;
-    let recording = drive(alloc, &script, policy, MAX_TURNS)?;
-    let text = text_of(alloc, form, script.nodes(), &recording)?;
-    Ok(Printed {
-        text,
-        finished: recording.finished,
-    })
+    match form {
+        Form::Lines => lines_of(alloc, policy, &script),
+        Form::Trace => trace_of(alloc, policy, &script),
+    }
 }
 
 /// Reads the text of a script, drives a cluster through it by a policy, and writes what came of it in a form. Returns whether
@@ -170,8 +195,8 @@ pub fn perform<R: Read, W: Write>(
     perform_as(alloc, reader, writer, Form::Lines, policy)
 }
 
-/// Does as [`perform`], and writes the trace of the run in place of the lines of its report. The steps are made a second time,
-/// for their marks, so that it costs about twice as much, and beside that time linear in the trace.
+/// Does as [`perform`], and writes the trace of the run in place of the lines of its report. It keeps the steps, and makes them a
+/// second time for their marks, so that it costs about twice as much, and beside that time and memory linear in the trace.
 ///
 /// # Errors
 ///

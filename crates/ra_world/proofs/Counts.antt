@@ -1,6 +1,6 @@
 -- What a log counts of its moves.
-use Rattle.std.proofs.Common.{arith, ◌≡◌, ℕ, ◌+◌, ◌<◌, ◌≤◌, List, [], ◌∷◌, ◌++◌, length, map, get_or, take, refl, ap, sym, ◌∙◌, subst}
-use Rattle.std.proofs.lemmas.List.{append-nil, append_assoc, length-append, length-take, length-map, take_more}
+use Rattle.std.proofs.Common.{arith, ◌≡◌, ℕ, ◌+◌, ◌<◌, ◌≤◌, List, [], ◌∷◌, ◌++◌, length, get_or, take, refl, ap, sym, ◌∙◌, subst}
+use Rattle.std.proofs.lemmas.List.{append-nil, append_assoc, length-append, length-take, take_more}
 use Rattle.ra_stamp.specs.declared.entry.Mark.{Mark}
 use Rattle.ra_stamp.specs.declared.entry.Mark.TheVariants.{Requested, Entered, Left}
 use Rattle.ra_node.specs.declared.outcome.Outcome.{Outcome}
@@ -51,40 +51,31 @@ requests_in-take marks i mark low is =
 pub requests_in-take-le : (marks : List Mark) (i : ℕ) → requests_in (take i marks) ≤ length marks
 requests_in-take-le marks i = omega (arith, requests_in_le (take i marks), length-take i marks)
 
--- as many steps as moves
-pub same_length : (moves : List Move) (steps : List Step) (marks : List Mark) (sent requests lost : ℕ)
-    → AreCounted moves steps marks sent requests lost → length steps ≡ length moves
-same_length moves steps marks sent requests lost h = ap length h.steps_are ∙ length-map moves (λ (move : Move). move.step)
-
 -- no more requests than marks, and no more losses than steps
-pub requests-le : (moves : List Move) (steps : List Step) (marks : List Mark) (sent requests lost : ℕ)
+pub requests-le : (moves : List Move) (steps : ℕ) (marks : List Mark) (sent requests lost : ℕ)
     → AreCounted moves steps marks sent requests lost → requests ≤ length marks
 requests-le moves steps marks sent requests lost h = omega (arith, h.requests_are, requests_in_le marks)
 
-pub lost-le : (moves : List Move) (steps : List Step) (marks : List Mark) (sent requests lost : ℕ)
-    → AreCounted moves steps marks sent requests lost → lost ≤ length steps
-lost-le moves steps marks sent requests lost h = omega (arith, h.lost_are, lost_by_le moves, same_length moves steps marks sent requests lost h)
+pub lost-le : (moves : List Move) (steps : ℕ) (marks : List Mark) (sent requests lost : ℕ)
+    → AreCounted moves steps marks sent requests lost → lost ≤ steps
+lost-le moves steps marks sent requests lost h = omega (arith, h.lost_are, lost_by_le moves, h.steps_are)
 
 -- one more step with what came of it
 pub made_more : (made : List (Step × Outcome)) (one : Step × Outcome) → moves_of (made ++ one ∷ []) ≡ moves_of made ++ move_of one ∷ []
 made_more [] one = refl
 made_more (x ∷ made) one = ap (λ (ms : List Move). move_of x ∷ ms) (made_more made one)
 
-steps_more : (moves : List Move) (move : Move) → map (λ (m : Move). m.step) (moves ++ move ∷ []) ≡ map (λ (m : Move). m.step) moves ++ move.step ∷ []
-steps_more [] move = refl
-steps_more (x ∷ moves) move = ap (λ (ss : List Step). x.step ∷ ss) (steps_more moves move)
-
-pub counted_more : (moves : List Move) (steps : List Step) (marks : List Mark) (sent requests lost : ℕ) (move : Move)
+pub counted_more : (moves : List Move) (steps : ℕ) (marks : List Mark) (sent requests lost : ℕ) (move : Move)
     → AreCounted moves steps marks sent requests lost → length move.sends ≤ 18446744073709551615
-    → AreCounted (moves ++ move ∷ []) (steps ++ move.step ∷ []) (marks ++ move.marks) (sent + length move.sends) (requests + requests_in move.marks)
+    → AreCounted (moves ++ move ∷ []) (steps + 1) (marks ++ move.marks) (sent + length move.sends) (requests + requests_in move.marks)
     (lost + length (lost_in move.step))
 counted_more moves steps marks sent requests lost move h few =
     let one : List Move = move ∷ [] in
     record {
-      steps_are = ap (λ (ss : List Step). ss ++ move.step ∷ []) h.steps_are ∙ sym (steps_more moves move);
+      steps_are = omega (arith, h.steps_are, length-append moves one);
       marks_are = ap (λ (ms : List Mark). ms ++ move.marks) h.marks_are ∙ sym (marks_more moves move);
       sent_is = ap (λ n. n + length move.sends) h.sent_is ∙ sym (length-append (sent_by moves) move.sends) ∙ ap length (sym (sent_more moves move));
-      sent_fits = omega (arith, h.sent_fits, few, length-append steps (move.step ∷ []));
+      sent_fits = omega (arith, h.sent_fits, few);
       requests_are = ap (λ n. n + requests_in move.marks) h.requests_are ∙ sym (requests_in-append marks move.marks);
       lost_are =
           ap (λ n. n + length (lost_in move.step)) h.lost_are
@@ -94,17 +85,17 @@ counted_more moves steps marks sent requests lost move h few =
     }
 
 -- the same, of what is equal to it
-pub pushed : (made made' : List (Step × Outcome)) (steps steps' : List Step) (marks marks' : List Mark) (sent s requests r lost k : ℕ) (step : Step) (outcome : Outcome)
+pub pushed : (made made' : List (Step × Outcome)) (steps steps' : ℕ) (marks marks' : List Mark) (sent s requests r lost k : ℕ) (step : Step) (outcome : Outcome)
     → AreCounted (moves_of made) steps marks sent requests lost → length outcome.sends.items ≤ 18446744073709551615
-    → made' ≡ made ++ (step, outcome) ∷ [] → steps' ≡ steps ++ step ∷ [] → marks' ≡ marks ++ outcome.marks.items
+    → made' ≡ made ++ (step, outcome) ∷ [] → steps' ≡ steps + 1 → marks' ≡ marks ++ outcome.marks.items
     → s ≡ length outcome.sends.items → r ≡ requests_in outcome.marks.items → k ≡ length (lost_in step)
     → AreCounted (moves_of made') steps' marks' (sent + s) (requests + r) (lost + k)
 pushed made made' steps steps' marks marks' sent s requests r lost k step outcome h few em es ek is ir il =
     let moves : moves_of made' ≡ moves_of made ++ move_of (step, outcome) ∷ [] = ap moves_of em ∙ made_more made (step, outcome) in
     let more = counted_more (moves_of made) steps marks sent requests lost (move_of (step, outcome)) h few in
     subst (λ (ms : List Move). AreCounted ms steps' marks' (sent + s) (requests + r) (lost + k)) (sym moves)
-    (subst (λ (xs : List Step). AreCounted (moves_of made ++ move_of (step, outcome) ∷ []) xs marks' (sent + s) (requests + r) (lost + k)) (sym es)
-    (subst (λ (xs : List Mark). AreCounted (moves_of made ++ move_of (step, outcome) ∷ []) (steps ++ step ∷ []) xs (sent + s) (requests + r) (lost + k)) (sym ek)
-    (subst (λ (n : ℕ). AreCounted (moves_of made ++ move_of (step, outcome) ∷ []) (steps ++ step ∷ []) (marks ++ outcome.marks.items) (sent + n) (requests + r) (lost + k)) (sym is)
-    (subst (λ (n : ℕ). AreCounted (moves_of made ++ move_of (step, outcome) ∷ []) (steps ++ step ∷ []) (marks ++ outcome.marks.items) (sent + length outcome.sends.items) (requests + n) (lost + k)) (sym ir)
-    (subst (λ (n : ℕ). AreCounted (moves_of made ++ move_of (step, outcome) ∷ []) (steps ++ step ∷ []) (marks ++ outcome.marks.items) (sent + length outcome.sends.items) (requests + requests_in outcome.marks.items) (lost + n)) (sym il) more)))))
+    (subst (λ (n : ℕ). AreCounted (moves_of made ++ move_of (step, outcome) ∷ []) n marks' (sent + s) (requests + r) (lost + k)) (sym es)
+    (subst (λ (xs : List Mark). AreCounted (moves_of made ++ move_of (step, outcome) ∷ []) (steps + 1) xs (sent + s) (requests + r) (lost + k)) (sym ek)
+    (subst (λ (n : ℕ). AreCounted (moves_of made ++ move_of (step, outcome) ∷ []) (steps + 1) (marks ++ outcome.marks.items) (sent + n) (requests + r) (lost + k)) (sym is)
+    (subst (λ (n : ℕ). AreCounted (moves_of made ++ move_of (step, outcome) ∷ []) (steps + 1) (marks ++ outcome.marks.items) (sent + length outcome.sends.items) (requests + n) (lost + k)) (sym ir)
+    (subst (λ (n : ℕ). AreCounted (moves_of made ++ move_of (step, outcome) ∷ []) (steps + 1) (marks ++ outcome.marks.items) (sent + length outcome.sends.items) (requests + requests_in outcome.marks.items) (lost + n)) (sym il) more)))))

@@ -1,6 +1,6 @@
--- How a log keeps the moves of a world: its steps and its marks in lists, of the messages only how many there were, and the moves
+-- How a log keeps the moves of a world: its marks in a list, of the steps and the messages only how many there were, and the moves
 -- themselves as a history that is not there at run time. No public contract speaks of it.
-use Rattle.std.specs.Prelude.{◌≡◌, ℕ, ◌*◌, ◌≤◌, List, length, map}
+use Rattle.std.specs.Prelude.{◌≡◌, ℕ, ◌*◌, ◌<◌, ◌≤◌, List, length, map}
 use Rattle.ra_stamp.specs.declared.entry.Mark.{Mark}
 use Rattle.ra_node.specs.declared.outcome.Outcome.{Outcome}
 use Rattle.ra_world.specs.declared.step.Step.{Step}
@@ -8,15 +8,14 @@ use Rattle.ra_world.specs.Traffic.{Move, sent_by, lost_by}
 use Rattle.ra_world.specs.Run.{marks_of}
 use Rattle.ra_world.specs.Quiet.{requests_in}
 
--- the moves, and how many more steps and marks there is room for
+-- the moves, and how many more marks there is room for
 pub record LogState : Type 0 where
   pub moves : List Move
-  pub steps_room : ℕ
   pub marks_room : ℕ
 
--- there is room for one step with this many marks
+-- there is room for one step with this many marks: the number of steps can go up, and the marks have their place
 pub record HasRoom (log : LogState) (marks : ℕ) : Type 0 where
-  pub for_step : 1 ≤ log.steps_room
+  pub for_step : length log.moves < 18446744073709551615
   pub for_marks : marks ≤ log.marks_room
 
 -- a step with what came of it, as a move
@@ -27,10 +26,10 @@ abbrev pub moves_of : List (Step × Outcome) → List Move
 moves_of made = map move_of made
 
 -- what is kept is that of the moves, and no list that was counted had 2^64 messages
-pub record AreCounted (moves : List Move) (steps : List Step) (marks : List Mark) (sent requests lost : ℕ) : Type 0 where
-  pub steps_are : steps ≡ map (λ move. move.step) moves
+pub record AreCounted (moves : List Move) (steps : ℕ) (marks : List Mark) (sent requests lost : ℕ) : Type 0 where
+  pub steps_are : steps ≡ length moves
   pub marks_are : marks ≡ marks_of moves
   pub sent_is : sent ≡ length (sent_by moves)
-  pub sent_fits : sent ≤ 18446744073709551615 * length steps
+  pub sent_fits : sent ≤ 18446744073709551615 * steps
   pub requests_are : requests ≡ requests_in marks
   pub lost_are : lost ≡ length (lost_by moves)

@@ -50,12 +50,12 @@ pub fn make_room(under_way: &mut Bag, log: &mut Log, sends: u64, marks: u64) -> 
 }
 
 /// Puts what a step sent under way and logs the step, where there is room for it.
-pub fn keep(under_way: &mut Bag, log: &mut Log, step: Step, outcome: &Outcome)
+pub fn keep(under_way: &mut Bag, log: &mut Log, step: &Step, outcome: &Outcome)
     requires bag_room { length outcome.now.sends.items ≤ under_way.old.spare }
     requires log_room { HasRoom log.old (length outcome.now.marks.items) }
     ensures messages { under_way.new.items ≡ under_way.old.items ++ outcome.now.sends.items }
     ensures moves { log.new.moves ≡ log.old.moves
-        ++ record { step = step; sends = outcome.now.sends.items; marks = outcome.now.marks.items } ∷ [] }
+        ++ record { step = step.now; sends = outcome.now.sends.items; marks = outcome.now.marks.items } ∷ [] }
 {
     under_way.put_all(&outcome.sends).unwrap();
     log.push(step, outcome);

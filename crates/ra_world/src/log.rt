@@ -1,21 +1,23 @@
-//! The steps of a world so far, with what came of them.
-ghost use Rattle.std.specs.Prelude.{◌≡◌, ◌+◌, ◌≤◌, [], ◌∷◌, ◌++◌, length, map, OnOk};
+//! What came of the steps of a world so far.
+ghost use Rattle.std.specs.Prelude.{◌≡◌, ◌+◌, ◌≤◌, [], ◌∷◌, ◌++◌, length, OnOk};
 ghost use Rattle.ra_stamp.specs.declared.entry.Mark.{Mark};
 ghost use Rattle.ra_world.specs.Traffic.{lost_in};
 ghost use Rattle.ra_world.specs.Quiet.{requests_in};
 
+use crate::Step;
 use crate::history::History;
-use crate::{Step, Steps};
 use ra_node::Outcome;
 use ra_stamp::{Mark, Marks, Memory, Sequence};
 use std::alloc::Global;
 use std::fmt;
 use std::marker::Model;
 
-/// The steps so far with what came of them. Contracts see the moves, and the room for more.
+/// What came of the steps so far. The steps themselves are counted and not kept. Contracts see the moves, and the room for more
+/// marks.
 #[derive(Drop)]
 pub struct Log {
-    steps: Steps,
+    /// How many steps there were.
+    steps: u64,
     /// All marks of the steps, in order.
     marks: Marks,
     /// How many messages the steps sent.
@@ -35,12 +37,11 @@ impl Model for Log {
 
     ghost view = { λ l. record {
       moves = moves_of l.made.items;
-      steps_room = l.steps.spare;
       marks_room = l.marks.spare;
     } };
 
     ghost invariant = { λ l.
-        AreCounted (moves_of l.made.items) l.steps.items l.marks.items l.sent l.requests l.lost };
+        AreCounted (moves_of l.made.items) l.steps l.marks.items l.sent l.requests l.lost };
 }
 
 impl fmt::Debug for Log {
@@ -65,7 +66,7 @@ impl Log {
         ensures { result.moves ≡ [] }
     {
         Log {
-            steps: Steps::new(alloc),
+            steps: 0,
             marks: Marks::new(alloc),
             sent: 0,
             requests: 0,
@@ -74,11 +75,11 @@ impl Log {
         }
     }
 
-    /// Returns how many steps there are.
+    /// Returns how many steps there were.
     pub fn len(&self) -> u64
         ensures { result ≡ length self.now.moves }
     {
-        self.steps.len()
+        self.steps
     }
 
     /// Returns how many messages the steps sent.
@@ -102,14 +103,6 @@ impl Log {
         self.lost
     }
 
-    /// Gives the steps up, in order.
-    pub fn into_steps(self) -> Steps
-        ensures { result.items ≡ map (λ move. move.step) self.moves }
-    {
-        let Log { steps, .. } = self;
-        steps
-    }
-
     /// Returns the marks of the steps, in order.
     pub fn marks(&self) -> &Marks
         ensures { result.now.items ≡ marks_of self.now.moves }
@@ -117,36 +110,37 @@ impl Log {
         &self.marks
     }
 
-    /// Makes room for one step with this many marks. The cost is linear in what is kept where the room has to
-    /// grow, which, as it doubles, is amortized constant for each item added.
+    /// Makes room for one step with this many marks. The cost is linear in the marks that are kept where the room has to
+    /// grow, which, as it doubles, is amortized constant for each mark added.
     ///
     /// # Errors
     ///
-    /// `Memory`: the steps are as before.
+    /// `Memory`, also where there were 2^64-1 steps: the steps are as before.
     pub fn reserve(&mut self, marks: u64) -> Result<(), Memory>
         ensures same { self.new.moves ≡ self.old.moves }
         ensures ok { OnOk result (HasRoom self.new marks) }
     {
-        self.steps.reserve(1)?;
+        if self.steps == u64::MAX {
+            return Err(Memory);
+        }
         self.marks.reserve(marks)?;
         Ok(())
     }
 
     /// Adds a step with what came of it, for which there is room.
-    pub fn push(&mut self, step: Step, outcome: &Outcome)
+    pub fn push(&mut self, step: &Step, outcome: &Outcome)
         requires { HasRoom self.old (length outcome.now.marks.items) }
         ensures { self.new.moves ≡ self.old.moves
-            ++ record { step = step; sends = outcome.now.sends.items; marks = outcome.now.marks.items } ∷ [] }
+            ++ record { step = step.now; sends = outcome.now.sends.items; marks = outcome.now.marks.items } ∷ [] }
     {
-        self.steps.push(step).unwrap();
+        self.steps += 1;
         append(&mut self.marks, outcome.marks.as_slice());
         // The counts fit: no list has 2^64 items, and there are no more requests than marks and no more losses than steps.
-        let _all_steps = self.steps.len();
         self.sent += u128::from(outcome.sends.len());
         let _all_marks = self.marks.len();
         self.requests += requests_of(outcome.marks.as_slice());
-        self.lost += losses_of(&step);
-        self.made = self.made.and(&step, outcome);
+        self.lost += losses_of(step);
+        self.made = self.made.and(step, outcome);
     }
 }
 

@@ -1,4 +1,4 @@
-ghost use Rattle.std.specs.Prelude.{◌≡◌, ◌≢◌, ℕ, ◌<◌, ◌≤◌, ◌⊎◌, ◌↔◌, ◌*◌, [], ◌++◌, List, length, map, slice_get, IsTrue, IsErrOf, IsOk, IsOkUnless, IfOk, OnErr, IfErr, OnOk};
+ghost use Rattle.std.specs.Prelude.{◌≡◌, ◌≢◌, ℕ, ◌<◌, ◌≤◌, ◌⊎◌, ◌↔◌, ◌*◌, [], ◌++◌, List, length, slice_get, IsTrue, IsErrOf, IsOk, IsOkUnless, IfOk, OnErr, IfErr, OnOk};
 ghost use Rattle.ra_stamp.specs.declared.message.Message.{Message};
 
 use crate::keeping::{
@@ -7,9 +7,7 @@ use crate::keeping::{
 };
 use crate::log::Log;
 use crate::numbering::{is_held_by, opening_nodes, place_of, queued_at, waiting_at};
-use crate::{
-    NewError, NodeRefusal, Report, Step, StepError, Steps, runs_go_on_where_steps_are_allowed,
-};
+use crate::{NewError, NodeRefusal, Report, Step, StepError, runs_go_on_where_steps_are_allowed};
 use ra_bag::Bag;
 use ra_node::{Node, Outcome, events_keep_a_node_consistent};
 use ra_stamp::{Memory, Message, Mode, Name, NodeId};
@@ -19,7 +17,8 @@ use std::marker::Model;
 /// A cluster of nodes in one thread, with the messages under way between them. Contracts see how many nodes there are, the
 /// start value and the steps so far with what came of them, which are a run.
 ///
-/// A world keeps its steps and their marks, and of the messages that they sent those under way and how many there were.
+/// A world keeps the marks of its steps, and of the messages that they sent those under way. Of the steps and the messages it keeps only
+/// how many there were, so that its memory grows with what it reports.
 #[derive(Debug, Drop)]
 pub struct World {
     start: u64,
@@ -125,14 +124,14 @@ impl World {
         steps_have_one_cause();
         // What holds before the step is that the steps so far are a run.
         let _ = &self.start;
-        match *step {
+        match step {
             Step::Ask {
                 node,
                 client,
                 name,
                 mode,
-            } => self.ask(alloc, node, client, name, mode),
-            Step::Leave { node, client, name } => self.leave(alloc, node, client, name),
+            } => self.ask(alloc, *node, *client, *name, *mode),
+            Step::Leave { node, client, name } => self.leave(alloc, *node, *client, *name),
             Step::Deliver(message) => self.deliver(alloc, message, near),
             Step::Lose(message) => self.lose(alloc, message, near),
         }
@@ -186,13 +185,6 @@ impl World {
         ensures count { IsNodeNumber self.now.count }
     {
         self.log.len()
-    }
-
-    /// Gives up the steps so far, in order. It does not allocate.
-    pub fn into_steps(self) -> Steps
-        ensures { result.items ≡ map (λ move. move.step) self.moves }
-    {
-        self.log.into_steps()
     }
 
     /// Reports what came of the steps so far. The cost is linear in the number of marks and of the names that the nodes have
@@ -253,7 +245,7 @@ impl World {
             name,
             mode,
         };
-        keep(&mut self.under_way, &mut self.log, step, &outcome);
+        keep(&mut self.under_way, &mut self.log, &step, &outcome);
         Ok(outcome)
     }
 
@@ -285,22 +277,22 @@ impl World {
         keep(
             &mut self.under_way,
             &mut self.log,
-            Step::Leave { node, client, name },
+            &Step::Leave { node, client, name },
             &outcome,
         );
         Ok(outcome)
     }
 
     /// A message under way reaches its node.
-    fn deliver(&mut self, alloc: Global, message: Message, near: u64) -> Result<Outcome, StepError>
-        ensures tried { Tries self.old (Step.Deliver message) result self.new }
+    fn deliver(&mut self, alloc: Global, message: &Message, near: u64) -> Result<Outcome, StepError>
+        ensures tried { Tries self.old (Step.Deliver message.now) result self.new }
         ensures run { IsRun self.new.count self.new.start self.new.moves }
         ensures count { IsNodeNumber self.new.count }
     {
         kept_runs_go_on();
         runs_go_on_where_steps_are_allowed();
         events_keep_a_node_consistent();
-        let Some(at) = self.under_way.find(&message, near) else {
+        let Some(at) = self.under_way.find(message, near) else {
             return Err(StepError::NotUnderWay);
         };
         // What is under way is for one of the nodes, so there is always a place.
@@ -310,7 +302,7 @@ impl World {
         make_room(&mut self.under_way, &mut self.log, MAX_SENDS, MAX_MARKS)?;
         let receiver = &mut self.nodes[place];
         // What is under way is for its node and from another one, so only memory can be wanting.
-        let outcome = match receiver.receive(alloc, &message) {
+        let outcome = match receiver.receive(alloc, message) {
             Ok(outcome) => outcome,
             Err(_) => return Err(StepError::Memory),
         };
@@ -318,22 +310,22 @@ impl World {
         keep(
             &mut self.under_way,
             &mut self.log,
-            Step::Deliver(message),
+            &Step::Deliver(*message),
             &outcome,
         );
         Ok(outcome)
     }
 
     /// A message under way is lost.
-    fn lose(&mut self, alloc: Global, message: Message, near: u64) -> Result<Outcome, StepError>
-        ensures tried { Tries self.old (Step.Lose message) result self.new }
+    fn lose(&mut self, alloc: Global, message: &Message, near: u64) -> Result<Outcome, StepError>
+        ensures tried { Tries self.old (Step.Lose message.now) result self.new }
         ensures run { IsRun self.new.count self.new.start self.new.moves }
         ensures count { IsNodeNumber self.new.count }
     {
         kept_runs_go_on();
         runs_go_on_where_steps_are_allowed();
         events_keep_a_node_consistent();
-        let Some(at) = self.under_way.find(&message, near) else {
+        let Some(at) = self.under_way.find(message, near) else {
             return Err(StepError::NotUnderWay);
         };
         make_room(&mut self.under_way, &mut self.log, 0, 0)?;
@@ -342,7 +334,7 @@ impl World {
         keep(
             &mut self.under_way,
             &mut self.log,
-            Step::Lose(message),
+            &Step::Lose(*message),
             &outcome,
         );
         Ok(outcome)

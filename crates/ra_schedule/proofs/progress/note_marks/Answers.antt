@@ -1,8 +1,7 @@
-use Rattle.std.proofs.Common.{◌≡◌, ◌+◌, ℕ, take, arith, List, sym, subst, ◌∙◌, ap, refl, inl, inr, ◌++◌, ◌∷◌, [], slice_index_or}
+use Rattle.std.proofs.Common.{◌≡◌, ◌+◌, take, arith, List, sym, subst, ◌∙◌, ap, inl, inr, ◌++◌, ◌∷◌, [], slice_index_or}
 use Rattle.std.proofs.lemmas.Bool.{cases_eq}
 use Rattle.std.proofs.lemmas.List.{take_more}
 use Rattle.ra_stamp.specs.declared.entry.Mark.{Mark}
-use Rattle.ra_stamp.specs.declared.entry.Mark.TheVariants.{Requested, Entered, Left}
 use Rattle.ra_schedule.specs.declared.progress.Progress.{Progress}
 use Rattle.ra_schedule.specs.Schedule.{Enters}
 use Rattle.ra_schedule.specs.Progress.{IsAfterMarks}

@@ -3,7 +3,6 @@ use Rattle.std.specs.Prelude.{Contains}
 use Rattle.std.proofs.lemmas.Bool.{cases_eq}
 use Rattle.std.proofs.lemmas.List.{get_or_append_left, length-append}
 use Rattle.std.proofs.Math.Seq.{get_or-append_seam}
-use Rattle.ra_schedule.specs.Enabled.{node_of}
 use Rattle.ra_schedule.proofs.NodesOfClients.{node_fits}
 use Rattle.ra_schedule.proofs.rosters.rosters_of.Goals as goal
 

@@ -1,6 +1,5 @@
-use Rattle.std.proofs.Common.{◌≡◌, ◌+◌, ◌-◌, ◌<◌, ℕ, Bool, Some, List, [], length, slice_index_or, sym, ap, ◌∙◌, subst, arith, inl, inr}
-use Rattle.std.specs.Prelude.{Contains}
-use Rattle.ra_schedule.specs.Enabled.{IsFlag, AreFlags, AreRosters, node_of, node_at}
+use Rattle.std.proofs.Common.{◌≡◌, ◌+◌, ◌<◌, [], length, sym, ◌∙◌, subst, arith, inl, inr}
+use Rattle.ra_schedule.specs.Enabled.{IsFlag, AreRosters}
 use Rattle.ra_schedule.proofs.NodesOfClients.{has_node}
 use Rattle.ra_schedule.proofs.draws.Draws.note.Goals as goal
 

@@ -1,4 +1,4 @@
-use Rattle.std.proofs.Common.{ℕ, take}
+use Rattle.std.proofs.Common.{take}
 use Rattle.std.specs.Prelude.{Contains}
 use Rattle.ra_schedule.proofs.LookingAgain.{SoFar}
 use Rattle.ra_schedule.proofs.enabled.Enabled.look_at_all.Given as goal

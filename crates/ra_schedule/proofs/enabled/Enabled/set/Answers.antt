@@ -1,5 +1,4 @@
-use Rattle.std.proofs.Common.{◌≡◌, ◌+◌, ◌≤◌, Bool, length, slice_index_or, ap, ◌∙◌, arith}
-use Rattle.ra_schedule.specs.Enabled.{numbers_from}
+use Rattle.std.proofs.Common.{◌≡◌, slice_index_or, ap, ◌∙◌, arith}
 use Rattle.ra_schedule.proofs.EnabledFlags.{bit, bit_at_most, at_most, count_set}
 use Rattle.ra_schedule.proofs.enabled.Enabled.set.Goals as goal
 

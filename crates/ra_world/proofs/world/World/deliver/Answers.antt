@@ -10,16 +10,16 @@ use Rattle.ra_world.proofs.world.World.deliver.Goals as goal
 pub returns-in_default-clause-tried : goal.returns-in_default-clause-tried
 returns-in_default-clause-tried c =
     let w = c.self.inside in
-    let under = c.kept_runs_go_on.ensures.under_way w.start w.nodes.items w.under_way.items w.log.moves c.args.message c.self.invariant in
-    let absent : Contains w.under_way.items c.args.message → ⊥ = c.in_default.ensures.none.0 refl in
-    (refl, with_cause w.start w.nodes.items w.log.moves c.args.self.now (Deliver c.args.message) NotUnderWay c.self.view_is (λ on. absent (under.0 on)))
+    let under = c.kept_runs_go_on.ensures.under_way w.start w.nodes.items w.under_way.items w.log.moves c.args.message.now c.self.invariant in
+    let absent : Contains w.under_way.items c.args.message.now → ⊥ = c.in_default.ensures.none.0 refl in
+    (refl, with_cause w.start w.nodes.items w.log.moves c.args.self.now (Deliver c.args.message.now) NotUnderWay c.self.view_is (λ on. absent (under.0 on)))
 
 pub returns-in_default-place_of-clause-tried : goal.returns-in_default-place_of-clause-tried
 returns-in_default-place_of-clause-tried c =
     let w = c.self.inside in
     let found = c.in-Some.ensures.found in
-    let there : Contains w.under_way.items c.args.message = (c.in-Some.at, found.0, found.1) in
-    let taken = c.kept_runs_go_on.ensures.is_taken w.start w.nodes.items w.under_way.items w.log.moves c.args.message c.self.invariant there in
+    let there : Contains w.under_way.items c.args.message.now = (c.in-Some.at, found.0, found.1) in
+    let taken = c.kept_runs_go_on.ensures.is_taken w.start w.nodes.items w.under_way.items w.log.moves c.args.message.now c.self.invariant there in
     absurd (omega (arith, taken.0, c.in_default-place_of.ensures.none.0 refl, c.to.ensures, ap length c.deref.ensures.value))
 
 pub returns-in_err-make_room-clause-tried : goal.returns-in_err-make_room-clause-tried
@@ -27,11 +27,11 @@ returns-in_err-make_room-clause-tried c =
     let w = c.self.inside in
     let k = c.self.invariant in
     let found = c.in-Some.ensures.found in
-    let there : Contains w.under_way.items c.args.message = (c.in-Some.at, found.0, found.1) in
-    let under = c.kept_runs_go_on.ensures.under_way w.start w.nodes.items w.under_way.items w.log.moves c.args.message k in
-    short w.start w.nodes.items w.log.moves c.args.self.now _ (Deliver c.args.message) c.from_residual.result c.self.view_is
+    let there : Contains w.under_way.items c.args.message.now = (c.in-Some.at, found.0, found.1) in
+    let under = c.kept_runs_go_on.ensures.under_way w.start w.nodes.items w.under_way.items w.log.moves c.args.message.now k in
+    short w.start w.nodes.items w.log.moves c.args.self.now _ (Deliver c.args.message.now) c.from_residual.result c.self.view_is
     (ap (shown w.start w.nodes.items) c.make_room.ensures.moves)
-    ((c.runs_go_on_where_steps_are_allowed.ensures.deliver _ w.start w.log.moves k.count k.run c.args.message).1 (under.1 there))
+    ((c.runs_go_on_where_steps_are_allowed.ensures.deliver _ w.start w.log.moves k.count k.run c.args.message.now).1 (under.1 there))
     c.from_residual.ensures.1
 
 pub returns-in-Err-clause-tried : goal.returns-in-Err-clause-tried
@@ -40,12 +40,12 @@ returns-in-Err-clause-tried c =
     let k = c.self.invariant in
     let old = c.index_mut-receiver.result.now in
     let found = c.in-Some.ensures.found in
-    let there : Contains w.under_way.items c.args.message = (c.in-Some.at, found.0, found.1) in
-    let under = c.kept_runs_go_on.ensures.under_way w.start w.nodes.items w.under_way.items w.log.moves c.args.message k in
+    let there : Contains w.under_way.items c.args.message.now = (c.in-Some.at, found.0, found.1) in
+    let under = c.kept_runs_go_on.ensures.under_way w.start w.nodes.items w.under_way.items w.log.moves c.args.message.now k in
     let at : old ≡ get_or w.nodes.items c.in-Some-place_of.place old = search rules in
-    short w.start w.nodes.items w.log.moves c.args.self.now _ (Deliver c.args.message) (Err Memory) c.self.view_is
+    short w.start w.nodes.items w.log.moves c.args.self.now _ (Deliver c.args.message.now) (Err Memory) c.self.view_is
     (same_nodes w.start w.nodes.items w.log.moves c.make_room.new.log.moves c.in-Some-place_of.place old c.receive.new.self at c.in-Err.ensures.err c.make_room.ensures.moves)
-    ((c.runs_go_on_where_steps_are_allowed.ensures.deliver _ w.start w.log.moves k.count k.run c.args.message).1 (under.1 there))
+    ((c.runs_go_on_where_steps_are_allowed.ensures.deliver _ w.start w.log.moves k.count k.run c.args.message.now).1 (under.1 there))
     refl
 
 pub returns-in-Err-clause-run : goal.returns-in-Err-clause-run
@@ -58,7 +58,7 @@ invariant_of-self-2 c =
     let w = c.self.inside in
     let old = c.index_mut-receiver.result.now in
     let place = c.in-Some-place_of.place in
-    let message = c.args.message in
+    let message = c.args.message.now in
     let outcome = c.in-Ok.outcome in
     let found = c.in-Some.ensures.found in
     let there : Contains w.under_way.items message = (c.in-Some.at, found.0, found.1) in

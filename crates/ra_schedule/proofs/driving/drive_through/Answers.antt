@@ -1,6 +1,7 @@
 use Rattle.std.proofs.Common.{rules, ◌≡◌, ◌≤◌, ◌+◌, ◌++◌, ℕ, List, [], Some, None, Err, IsErrOf, take, drop, length, replicate, refl, sym, ap, ◌∙◌, subst, arith, inl}
 use Rattle.ra_stamp.specs.declared.entry.Mark.{Mark}
 use Rattle.ra_world.specs.declared.step.Step.{Step}
+use Rattle.ra_world.specs.Traffic.{Move}
 use Rattle.ra_world.specs.Run.{IsRun, GoesOn}
 use Rattle.ra_world.specs.World.{WorldState}
 use Rattle.ra_schedule.specs.declared.enabled.Enabled.{Enabled}
@@ -9,12 +10,12 @@ use Rattle.ra_schedule.specs.declared.error.DriveError.TheVariants.{TurnLimit}
 use Rattle.ra_schedule.specs.Schedule.{StandsFor, Stops}
 use Rattle.ra_schedule.specs.Drawing.{generator_at}
 use Rattle.ra_schedule.specs.Enabled.{AreFlagsElsewhere, AreRosters}
-use Rattle.ra_schedule.specs.Progress.{Tracks, AreCountable, OfEach, IsProgressAfter, AreStuck, NoneEnters}
+use Rattle.ra_schedule.specs.Progress.{Tracks, AreCountable, OfEach, IsProgressAfter, AreStuck, NoneEnters, recorded}
 use Rattle.ra_schedule.proofs.Elsewhere.{flags_elsewhere}
 use Rattle.ra_schedule.proofs.Seeded.{had_one}
-use Rattle.ra_schedule.proofs.Turns.{IsDriven, tracks_on, driven_none, driven_more, countable, can_be_done, opening_progress, whole}
+use Rattle.ra_schedule.proofs.Turns.{IsDriven, tracks_on, driven_none, driven_more, countable, can_be_done, opening_progress, whole, nothing_recorded}
 use Rattle.ra_schedule.proofs.Following.{one_ending, refused_here}
-use Rattle.ra_schedule.proofs.driving.drive.Goals as goal
+use Rattle.ra_schedule.proofs.driving.drive_through.Goals as goal
 
 none_some : {X : Type 0} {x : X} → None ≡ Some x → ⊥
 none_some e = cc
@@ -35,6 +36,7 @@ loop-turn-init c = (
     count_is = c.in_ok-draws.ensures.count;
     flags_are = λ some. c.in_ok-draws.ensures.flags;
   },
+  nothing_recorded c.args.records c.new-steps.result.items c.in-Ok.world.moves c.new-steps.ensures (ap (λ (w : WorldState). w.moves) c.in-Ok.ensures.ok),
 )
 
 pub returns-in_default-pick-clause-exact : goal.returns-in_default-pick-clause-exact
@@ -131,6 +133,8 @@ loop-turn-preserved c =
         count_is = c.note.ensures.count;
         flags_are = c.note.ensures.flags;
       },
+      subst (λ (moves : List Move). c.keep_step.new.steps.items ≡ recorded c.args.records moves) (sym (ap (λ (w : WorldState). w.moves) next))
+          (c.in_ok-keep_step.ensures c.loop-turn.world.moves move this c.loop-turn.invariant.3),
     )
 
 pub returns-in_err-step-clause-exact : goal.returns-in_err-step-clause-exact
@@ -155,8 +159,8 @@ returns-in_err-step-clause-allowed c moves follows ends short =
     absurd (none_some (one_ending c.schedules_rest_on_runs.ensures c.args.script.now c.args.policy.now c.args.limit moves c.loop-turn.world.moves
     None (Some fault) c.nodes.ensures.script.count follows driven.follows (ends, short) here))
 
-pub returns-in-Some-pick-clause-exact : goal.returns-in-Some-pick-clause-exact
-returns-in-Some-pick-clause-exact c cause moves follows stops =
+pub returns-clause-exact : goal.returns-clause-exact
+returns-clause-exact c cause moves follows stops =
     let driven = c.loop-turn.invariant.0 in
     let here : Stops c.args.script.now c.args.policy.now c.args.limit c.loop-turn.world.moves TurnLimit =
     (let turns = driven.turns_are in let all = c.loop-turn.auto._turn-end in omega arith, (c.in-Some-pick.field-0, c.in-Some-pick.ensures.some)) in
@@ -164,8 +168,8 @@ returns-in-Some-pick-clause-exact c cause moves follows stops =
     (Some TurnLimit) (Some cause) c.nodes.ensures.script.count driven.follows follows here stops) in
     inl (ap Err same)
 
-pub returns-in-Some-pick-clause-allowed : goal.returns-in-Some-pick-clause-allowed
-returns-in-Some-pick-clause-allowed c moves follows ends short =
+pub returns-clause-allowed : goal.returns-clause-allowed
+returns-clause-allowed c moves follows ends short =
     let driven = c.loop-turn.invariant.0 in
     let here : Stops c.args.script.now c.args.policy.now c.args.limit c.loop-turn.world.moves TurnLimit =
     (let turns = driven.turns_are in let all = c.loop-turn.auto._turn-end in omega arith, (c.in-Some-pick.field-0, c.in-Some-pick.ensures.some)) in
