@@ -1,16 +1,19 @@
 use crate::serve;
-use crate::sim_tests::{A_DEADLOCK, A_QUEUE, A_WRITER, ONE_CLIENT, ONE_ORDER, TWO_CLIENTS};
-use crate::tests::{FailingReader, FailingWriter, run, words_of};
+use crate::sim_tests::{
+    A_DEADLOCK, A_QUEUE, A_WRITER, ONE_CLIENT, ONE_ORDER, TWO_CLIENTS, sim_prints,
+};
+use crate::test_helpers::{
+    fails_in_fronts, is_read_fault, is_written, prints, refuses, run, words_of,
+};
 use std::alloc::Global;
 use std::io;
 use std::io::Read;
-use std::process::Abort;
 use std::sync::Wait;
 use std::test::Fail;
 use std::thread::Threads;
 
 /// The trace of a client that locks and unlocks a name, at the first of two nodes.
-const ALONE: &str = "trace 1 2 0
+pub const ALONE: &str = "trace 1 2 0
 ask 1 1 r X
 request 1 1 r X 1
 deliver request 1 2 r X 1
@@ -52,73 +55,24 @@ lose request 1 2 r X 1
 end
 ";
 
-/// Asserts what a command line prints for an input, and its status.
-pub fn assert_prints<T: Abort + AllocGlobal + Threads + Wait + Sync>(
-    rt: &T,
-    line: &str,
-    input: &[u8],
-    status: u8,
-    text: &str,
-) -> Result<(), Fail> {
-    let alloc = rt.alloc();
-    let words = words_of(alloc, line)?;
-    let mut reader = input;
-    let mut output = Vec::new(alloc);
-    let ended = serve(rt, alloc, words.as_slice(), &mut reader, &mut output);
-    assert_eq!(rt; ended, status, "{line}");
-    assert_eq!(rt; output.as_slice(), text.as_bytes(), "{line}");
-    Ok(())
-}
-
 #[test]
 fn sim_prints_the_trace_of_its_run(rt: HostRuntime) -> Result<(), Fail> {
-    assert_prints(&rt, "ra sim --trace", ONE_CLIENT.as_bytes(), 0, ALONE)?;
-    assert_prints(&rt, "ra sim --trace", TWO_CLIENTS.as_bytes(), 0, AT_ONCE)?;
-    let words = [
-        "ra",
-        "sim",
-        "--trace",
-        "--policy",
-        "listed",
-        "--choices",
-        "c1 l0",
-    ];
-    let alloc = rt.alloc();
-    let mut line = Vec::new(alloc);
-    for word in words {
-        line.push(format!(in alloc; "{word}")?)?;
-    }
-    let mut reader = ONE_CLIENT.as_bytes();
-    let mut output = Vec::new(alloc);
-    let status = serve(&rt, alloc, line.as_slice(), &mut reader, &mut output);
-    assert_eq!(rt; status, 3);
-    assert_eq!(rt; output.as_slice(), LOST.as_bytes());
+    assert!(rt; prints(&rt, "ra sim --trace", ONE_CLIENT, 0, ALONE)?);
+    assert!(rt; prints(&rt, "ra sim --trace", TWO_CLIENTS, 0, AT_ONCE)?);
+    let words = ["--trace", "--policy", "listed", "--choices", "c1 l0"];
+    assert!(rt; sim_prints(&rt, &words, ONE_CLIENT, LOST, 3)?);
     Ok(())
 }
 
 #[test]
 fn traces_of_runs_are_valid(rt: HostRuntime) -> Result<(), Fail> {
-    assert_prints(
-        &rt,
-        "ra check",
-        ALONE.as_bytes(),
-        0,
-        "valid\nrequests 1\nmessages 2\n",
-    )?;
-    assert_prints(
-        &rt,
-        "ra check",
-        AT_ONCE.as_bytes(),
-        0,
-        "valid\nrequests 2\nmessages 8\n",
-    )?;
-    assert_prints(
-        &rt,
-        "ra check",
-        LOST.as_bytes(),
-        0,
-        "valid\nrequests 1\nmessages 1\n",
-    )?;
+    for (trace, verdict) in [
+        (ALONE, "valid\nrequests 1\nmessages 2\n"),
+        (AT_ONCE, "valid\nrequests 2\nmessages 8\n"),
+        (LOST, "valid\nrequests 1\nmessages 1\n"),
+    ] {
+        assert!(rt; prints(&rt, "ra check", trace, 0, verdict)?, "{trace}");
+    }
     Ok(())
 }
 
@@ -159,48 +113,70 @@ fn the_first_wrong_line_is_named(rt: HostRuntime) -> Result<(), Fail> {
         (20, "", false, "invalid 20 Line\n"),
     ] {
         let trace = with_line(alloc, AT_ONCE, place, line, stays)?;
-        assert_prints(&rt, "ra check", trace.as_bytes(), 3, text)?;
+        assert!(rt; prints(&rt, "ra check", trace.as_str(), 3, text)?, "{text}");
     }
-    assert_prints(&rt, "ra check", b"".as_slice(), 3, "invalid 1 Line\n")?;
-    let without = with_line(alloc, ALONE, 5, "", false)?;
-    let exchanged = with_line(alloc, without.as_str(), 6, "deliver reply 2 1 r 1\n", true)?;
-    assert_prints(
-        &rt,
-        "ra check",
-        exchanged.as_bytes(),
-        3,
-        "invalid 5 Marks\n",
-    )?;
-    let behind = format!(in alloc; "{ALONE}x")?;
-    assert_prints(&rt, "ra check", behind.as_bytes(), 3, "invalid 10 Line\n")?;
     Ok(())
 }
 
 #[test]
-fn each_trace_that_sim_prints_is_valid(rt: HostRuntime) -> Result<(), Fail> {
+fn an_empty_text_is_no_trace(rt: HostRuntime) -> Result<(), Fail> {
+    assert!(rt; prints(&rt, "ra check", "", 3, "invalid 1 Line\n")?);
+    Ok(())
+}
+
+#[test]
+fn two_lines_that_are_exchanged_are_wrong_at_the_first(rt: HostRuntime) -> Result<(), Fail> {
     let alloc = rt.alloc();
-    for (script, ended, text) in [
-        (TWO_CLIENTS, 0, "valid\nrequests 2\nmessages 8\n"),
-        (A_WRITER, 0, "valid\nrequests 3\nmessages 12\n"),
-        (A_QUEUE, 0, "valid\nrequests 2\nmessages 4\n"),
-        (ONE_ORDER, 0, "valid\nrequests 4\nmessages 8\n"),
+    let without = with_line(alloc, ALONE, 5, "", false)?;
+    let exchanged = with_line(alloc, without.as_str(), 6, "deliver reply 2 1 r 1\n", true)?;
+    assert!(rt; prints(&rt, "ra check", exchanged.as_str(), 3, "invalid 5 Marks\n")?);
+    Ok(())
+}
+
+#[test]
+fn what_stands_behind_a_trace_is_a_wrong_line(rt: HostRuntime) -> Result<(), Fail> {
+    let behind = format!(in rt.alloc(); "{ALONE}x")?;
+    assert!(rt; prints(&rt, "ra check", behind.as_str(), 3, "invalid 10 Line\n")?);
+    Ok(())
+}
+
+/// Returns whether what these words print of a script, with this status, is a trace with this verdict.
+fn is_valid<T: AllocGlobal + Threads + Wait + Sync>(
+    rt: &T,
+    line: &str,
+    script: &str,
+    status: u8,
+    verdict: &str,
+) -> Result<bool, Fail> {
+    let (answered, trace) = run(rt, line, script)?;
+    let trace = str::from_utf8(trace.as_slice())?;
+    Ok(answered == status && prints(rt, "ra check", trace, 0, verdict)?)
+}
+
+#[test]
+fn each_trace_that_sim_prints_is_valid(rt: HostRuntime) -> Result<(), Fail> {
+    for (script, verdict) in [
+        (TWO_CLIENTS, "valid\nrequests 2\nmessages 8\n"),
+        (A_WRITER, "valid\nrequests 3\nmessages 12\n"),
+        (A_QUEUE, "valid\nrequests 2\nmessages 4\n"),
+        (ONE_ORDER, "valid\nrequests 4\nmessages 8\n"),
     ] {
-        for policy in ["oldest", "newest", "seeded --seed 1", "seeded --seed 99"] {
-            let line = format!(in alloc; "ra sim --trace --policy {policy}")?;
-            let (status, trace) = run(&rt, line.as_str(), script)?;
-            assert_eq!(rt; status, ended, "{policy}");
-            assert_prints(&rt, "ra check", trace.as_slice(), 0, text)?;
+        for line in [
+            "ra sim --trace --policy oldest",
+            "ra sim --trace --policy newest",
+            "ra sim --trace --policy seeded --seed 1",
+            "ra sim --trace --policy seeded --seed 99",
+        ] {
+            assert!(rt; is_valid(&rt, line, script, 0, verdict)?, "{line}");
         }
     }
-    let (status, trace) = run(&rt, "ra sim --trace", A_DEADLOCK)?;
-    assert_eq!(rt; status, 3);
-    assert_prints(
-        &rt,
-        "ra check",
-        trace.as_slice(),
-        0,
-        "valid\nrequests 4\nmessages 6\n",
-    )?;
+    Ok(())
+}
+
+#[test]
+fn the_trace_of_a_deadlock_is_valid(rt: HostRuntime) -> Result<(), Fail> {
+    let verdict = "valid\nrequests 4\nmessages 6\n";
+    assert!(rt; is_valid(&rt, "ra sim --trace", A_DEADLOCK, 3, verdict)?);
     Ok(())
 }
 
@@ -235,7 +211,8 @@ Example: ra sim --trace < script.toml | ra check
 Status 0: it is a run. Status 3: it is not. Status 2: the words are refused, or it has more than 16777216 bytes. Status 1: the
 input or the output failed.
 ";
-    assert_prints(&rt, "ra check --help", b"".as_slice(), 0, text)
+    assert!(rt; prints(&rt, "ra check --help", "", 0, text)?);
+    Ok(())
 }
 
 #[test]
@@ -245,28 +222,19 @@ fn words_that_are_no_check_are_refused(rt: HostRuntime) -> Result<(), Fail> {
         "ra check trace.txt",
         "ra check --policy oldest",
     ] {
-        assert_prints(&rt, line, ALONE.as_bytes(), 2, "refused Usage\n")?;
+        assert!(rt; refuses(&rt, line, ALONE, "Usage")?, "{line}");
     }
     Ok(())
 }
 
 #[test]
 fn a_reader_that_fails_behind_any_byte_of_a_trace_is_a_fault(rt: HostRuntime) -> Result<(), Fail> {
-    let alloc = rt.alloc();
-    let words = words_of(alloc, "ra check")?;
-    for before_fault in 0..=ALONE.len() {
-        let mut reader = FailingReader {
-            bytes: ALONE.as_bytes(),
-            before_fault: Some(before_fault),
-            fault: io::ErrorKind::Interrupted,
-        };
-        let mut output = Vec::new(alloc);
-        let status = serve(&rt, alloc, words.as_slice(), &mut reader, &mut output);
-        assert_eq!(rt; status, 1, "after {before_fault} bytes");
-        assert_eq!(rt;
-            output.as_slice(),
-            b"refused Read\n".as_slice(),
-            "after {before_fault} bytes"
+    let bytes = ALONE.as_bytes();
+    let fault = io::ErrorKind::Interrupted;
+    for place in 0..=bytes.len() {
+        assert!(rt;
+            is_read_fault(&rt, "ra check", bytes, place, fault)?,
+            "after {place} bytes"
         );
     }
     Ok(())
@@ -274,25 +242,9 @@ fn a_reader_that_fails_behind_any_byte_of_a_trace_is_a_fault(rt: HostRuntime) ->
 
 #[test]
 fn a_writer_that_fails_has_a_front_of_the_verdict(rt: HostRuntime) -> Result<(), Fail> {
-    let alloc = rt.alloc();
-    let words = words_of(alloc, "ra check")?;
     let printed = "valid\nrequests 1\nmessages 2\n".as_bytes();
-    for before_fault in 0..=printed.len() {
-        let mut reader = ALONE.as_bytes();
-        let mut writer = FailingWriter {
-            taken: Vec::new(alloc),
-            before_fault: Some(before_fault),
-            fault: Some(io::ErrorKind::Interrupted),
-        };
-        let status = serve(&rt, alloc, words.as_slice(), &mut reader, &mut writer);
-        let expected = u8::from(before_fault < printed.len());
-        assert_eq!(rt; status, expected, "after {before_fault} bytes");
-        assert_eq!(rt;
-            Some(writer.taken.as_slice()),
-            printed.get(..before_fault),
-            "after {before_fault} bytes"
-        );
-    }
+    assert!(rt; fails_in_fronts(&rt, "ra check", ALONE, printed)?);
+    assert!(rt; is_written(&rt, "ra check", ALONE, printed, 0)?);
     Ok(())
 }
 
@@ -320,8 +272,7 @@ fn a_trace_that_is_too_long_is_refused(rt: HostRuntime) -> Result<(), Fail> {
     let mut reader = Letters { left: 16_777_218 };
     let mut output = Vec::new(alloc);
     let status = serve(&rt, alloc, words.as_slice(), &mut reader, &mut output);
-    assert_eq!(rt; status, 2);
-    assert_eq!(rt; output.as_slice(), b"refused Limit\n".as_slice());
-    assert_eq!(rt; reader.left, 1);
+    assert!(rt; status == 2 && reader.left == 1);
+    assert!(rt; output.as_slice() == b"refused Limit\n".as_slice());
     Ok(())
 }

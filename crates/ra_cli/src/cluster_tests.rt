@@ -1,17 +1,14 @@
-use crate::check_tests::assert_prints;
 use crate::error::RunScriptError;
-use crate::serve;
 use crate::serving::{Refusal, refuse};
 use crate::sim_tests::{
     A_DEADLOCK, A_KEEPER, A_QUEUE, A_WRITER, ALONE, APART, ONE_CLIENT, ONE_CLIENT_PRINTED,
     ONE_ORDER, SIXTEEN_NODES, TWO_CLIENTS, TWO_NAMES, TWO_READERS, printed,
 };
-use crate::tests::{FailingReader, FailingWriter, assert_write_fault, run, words_of};
+use crate::test_helpers::{fails_in_fronts, is_read_fault, is_written, prints, refuses, run};
 use ra_cluster::{ClusterError, Stop};
 use ra_script::ScriptError;
 use std::alloc::Global;
 use std::io;
-use std::process::Abort;
 use std::sync::Wait;
 use std::test::Fail;
 use std::thread::Threads;
@@ -90,31 +87,54 @@ fn writers_are_alone(output: &str) -> bool {
     writer.is_none()
 }
 
-/// Asserts what is determined of a run by threads: the marks of each client, in their order, and the totals, where nothing is
-/// left. With so many lines in all, no mark names another client.
-fn assert_run<T: Abort + AllocGlobal + Threads + Wait + Sync>(
+/// Returns whether the marks of a client are these.
+fn has_marks(alloc: Global, output: &str, client: &str, wanted: &str) -> Result<bool, Fail> {
+    Ok(marks_of(alloc, output, client)?.as_str() == wanted)
+}
+
+/// Returns whether the marks of the clients, by their numbers from 1, are these.
+fn have_marks(alloc: Global, output: &str, clients: &[&str]) -> Result<bool, Fail> {
+    for (place, wanted) in clients.iter().enumerate() {
+        let client = format!(in alloc; "{}", place + 1)?;
+        if !has_marks(alloc, output, client.as_str(), wanted)? {
+            return Ok(false);
+        }
+    }
+    Ok(true)
+}
+
+/// Returns whether a text ends with the totals of a run that left nothing, and has so many lines.
+fn ends_with(
+    alloc: Global,
+    output: &str,
+    requests: u32,
+    messages: u32,
+    lines: usize,
+) -> Result<bool, Fail> {
+    let totals = format!(in alloc;
+        "requests {requests}\nmessages {messages}\nunder-way 0\nlost 0\nwaiting 0\nqueued 0\n"
+    )?;
+    Ok(output.ends_with(totals.as_str()) && output.split_terminator('\n').count() == lines)
+}
+
+/// Returns whether a script is run by threads with what is determined of that: the marks of each client, in their order, and the
+/// totals, where nothing is left. With so many lines in all, no mark names another client.
+fn runs<T: AllocGlobal + Threads + Wait + Sync>(
     rt: &T,
     script: &str,
     clients: &[&str],
     requests: u32,
     messages: u32,
     lines: usize,
-) -> Result<(), Fail> {
+) -> Result<bool, Fail> {
     let alloc = rt.alloc();
-    let totals = format!(in alloc;
-        "requests {requests}\nmessages {messages}\nunder-way 0\nlost 0\nwaiting 0\nqueued 0\n"
-    )?;
     let (status, output) = run(rt, "ra cluster", script)?;
-    assert_eq!(rt; status, 0, "{script}");
-    assert!(rt; output.ends_with(totals.as_bytes()), "{script}");
     let output = str::from_utf8(output.as_slice())?;
-    assert_eq!(rt; output.split_terminator('\n').count(), lines, "{script}");
-    for (place, wanted) in clients.iter().enumerate() {
-        let client = format!(in alloc; "{}", place + 1)?;
-        let found = marks_of(alloc, output, client.as_str())?;
-        assert_eq!(rt; found.as_str(), *wanted, "{script}");
-    }
-    Ok(())
+    Ok(
+        status == 0
+            && ends_with(alloc, output, requests, messages, lines)?
+            && have_marks(alloc, output, clients)?,
+    )
 }
 
 #[test]
@@ -123,11 +143,20 @@ fn a_script_of_one_client_has_one_output(rt: HostRuntime) -> Result<(), Fail> {
     let marks = "request 1 1 r X 1 / enter 1 1 r X 1 / leave 1 1 r X 1";
     for (script, messages) in [(ALONE, 0), (ONE_CLIENT, 2), (SIXTEEN_NODES, 30)] {
         let text = printed(alloc, marks, [1, messages, 0, 0, 0, 0])?;
-        assert_prints(&rt, "ra cluster", script.as_bytes(), 0, text.as_str())?;
+        assert!(rt;
+            prints(&rt, "ra cluster", script, 0, text.as_str())?,
+            "{script}"
+        );
     }
+    Ok(())
+}
+
+#[test]
+fn a_script_of_no_operation_has_no_marks(rt: HostRuntime) -> Result<(), Fail> {
     let nothing = "requests 0\nmessages 0\nunder-way 0\nlost 0\nwaiting 0\nqueued 0\n";
-    let idle = "nodes = 3\nclient = [{ node = 2, ops = [] }]".as_bytes();
-    assert_prints(&rt, "ra cluster", idle, 0, nothing)
+    let idle = "nodes = 3\nclient = [{ node = 2, ops = [] }]";
+    assert!(rt; prints(&rt, "ra cluster", idle, 0, nothing)?);
+    Ok(())
 }
 
 #[test]
@@ -154,25 +183,44 @@ fn each_client_does_its_operations_in_order(rt: HostRuntime) -> Result<(), Fail>
     ];
     for (script, clients, requests, messages, lines) in cases {
         for _ in 0..RUNS {
-            assert_run(&rt, script, clients, requests, messages, lines)?;
+            assert!(rt;
+                runs(&rt, script, clients, requests, messages, lines)?,
+                "{script}"
+            );
         }
     }
     Ok(())
+}
+
+/// Returns whether a script is run by threads so that no writer is inside with another client.
+fn runs_with_writers_alone<T: AllocGlobal + Threads + Wait + Sync>(
+    rt: &T,
+    script: &str,
+) -> Result<bool, Fail> {
+    let (status, output) = run(rt, "ra cluster", script)?;
+    let output = str::from_utf8(output.as_slice())?;
+    Ok(status == 0 && writers_are_alone(output))
 }
 
 #[test]
 fn no_two_conflicting_clients_are_inside_together(rt: HostRuntime) -> Result<(), Fail> {
     for script in [TWO_CLIENTS, A_WRITER, A_QUEUE] {
         for _ in 0..RUNS {
-            let (status, output) = run(&rt, "ra cluster", script)?;
-            assert_eq!(rt; status, 0, "{script}");
-            assert!(rt;
-                writers_are_alone(str::from_utf8(output.as_slice())?),
-                "{script}"
-            );
+            assert!(rt; runs_with_writers_alone(&rt, script)?, "{script}");
         }
     }
     Ok(())
+}
+
+/// Returns whether the queue at one node is run by threads with one of these outputs.
+fn prints_one_of<T: AllocGlobal + Threads + Wait + Sync>(
+    rt: &T,
+    one: &str,
+    other: &str,
+) -> Result<bool, Fail> {
+    let (status, output) = run(rt, "ra cluster", A_QUEUE)?;
+    let output = str::from_utf8(output.as_slice())?;
+    Ok(status == 0 && (output == one || output == other))
 }
 
 /// The one that goes second has the next number, whichever it is.
@@ -186,11 +234,7 @@ fn clients_of_one_node_take_turns(rt: HostRuntime) -> Result<(), Fail> {
     let one = printed(alloc, one, [2, 4, 0, 0, 0, 0])?;
     let other = printed(alloc, other, [2, 4, 0, 0, 0, 0])?;
     for _ in 0..RUNS {
-        let (status, output) = run(&rt, "ra cluster", A_QUEUE)?;
-        assert_eq!(rt; status, 0);
-        let is_one = output.as_slice() == one.as_bytes();
-        let is_other = output.as_slice() == other.as_bytes();
-        assert!(rt; is_one || is_other);
+        assert!(rt; prints_one_of(&rt, one.as_str(), other.as_str())?);
     }
     Ok(())
 }
@@ -200,15 +244,15 @@ fn names_are_locked_in_ascending_order_and_given_back(rt: HostRuntime) -> Result
     let both = "nodes = 1\nclient = [{ node = 1, ops = [\"X b\", \"X a\"] }]";
     let one_each = "nodes = 1
 client = [{ node = 1, ops = [\"X r\"] }, { node = 1, ops = [\"S b\", \"S a\", \"U a\", \"U b\"] }]";
-    for (script, text) in [
-        (TWO_NAMES, "refused OutOfOrder\n"),
-        (A_DEADLOCK, "refused OutOfOrder\n"),
-        (A_KEEPER, "refused Unreleased\n"),
+    for (script, word) in [
+        (TWO_NAMES, "OutOfOrder"),
+        (A_DEADLOCK, "OutOfOrder"),
+        (A_KEEPER, "Unreleased"),
         // Where both hold, in one client or in two.
-        (both, "refused OutOfOrder\n"),
-        (one_each, "refused OutOfOrder\n"),
+        (both, "OutOfOrder"),
+        (one_each, "OutOfOrder"),
     ] {
-        assert_prints(&rt, "ra cluster", script.as_bytes(), 2, text)?;
+        assert!(rt; refuses(&rt, "ra cluster", script, word)?, "{script}");
     }
     Ok(())
 }
@@ -223,19 +267,23 @@ fn what_is_no_script_is_refused_first(rt: HostRuntime) -> Result<(), Fail> {
         ("\"X r\", \"S r\"", "AlreadyHeld"),
     ] {
         let script = format!(in alloc; "{out_of_order}{{ node = 1, ops = [{ops}] }}]")?;
-        let text = format!(in alloc; "refused {word}\n")?;
-        assert_prints(&rt, "ra cluster", script.as_bytes(), 2, text.as_str())?;
+        assert!(rt;
+            refuses(&rt, "ra cluster", script.as_str(), word)?,
+            "{word}"
+        );
     }
-    for (script, text) in [
-        ("nodes = ", "refused Toml\n"),
-        ("nodes = 2", "refused Shape\n"),
-        (
-            "nodes = 17\nclient = [{ node = 1, ops = [] }]",
-            "refused Nodes\n",
-        ),
-        ("nodes = 2\nclient = []", "refused Clients\n"),
+    Ok(())
+}
+
+#[test]
+fn what_is_no_document_of_a_script_is_refused(rt: HostRuntime) -> Result<(), Fail> {
+    for (script, word) in [
+        ("nodes = ", "Toml"),
+        ("nodes = 2", "Shape"),
+        ("nodes = 17\nclient = [{ node = 1, ops = [] }]", "Nodes"),
+        ("nodes = 2\nclient = []", "Clients"),
     ] {
-        assert_prints(&rt, "ra cluster", script.as_bytes(), 2, text)?;
+        assert!(rt; refuses(&rt, "ra cluster", script, word)?, "{script}");
     }
     Ok(())
 }
@@ -244,61 +292,38 @@ fn what_is_no_script_is_refused_first(rt: HostRuntime) -> Result<(), Fail> {
 fn a_fault_of_the_reader_comes_before_what_is_wrong_with_the_script(
     rt: HostRuntime,
 ) -> Result<(), Fail> {
-    let alloc = rt.alloc();
-    let words = words_of(alloc, "ra cluster")?;
     for script in ["nodes = ", A_KEEPER, TWO_NAMES] {
-        let mut reader = FailingReader {
-            bytes: script.as_bytes(),
-            before_fault: Some(script.len()),
-            fault: io::ErrorKind::Interrupted,
-        };
-        let mut output = Vec::new(alloc);
-        let status = serve(&rt, alloc, words.as_slice(), &mut reader, &mut output);
-        assert_eq!(rt; status, 1, "{script}");
-        assert_eq!(rt; output.as_slice(), b"refused Read\n".as_slice(), "{script}");
+        let bytes = script.as_bytes();
+        let fault = io::ErrorKind::Interrupted;
+        assert!(rt;
+            is_read_fault(&rt, "ra cluster", bytes, bytes.len(), fault)?,
+            "{script}"
+        );
     }
     Ok(())
 }
 
 #[test]
 fn a_writer_that_fails_has_a_front_of_what_the_threads_did(rt: HostRuntime) -> Result<(), Fail> {
-    let alloc = rt.alloc();
     let printed = ONE_CLIENT_PRINTED.as_bytes();
-    assert_write_fault(&rt, "ra cluster", ONE_CLIENT, printed)?;
-    let refused = b"refused OutOfOrder\n".as_slice();
-    assert_write_fault(&rt, "ra cluster", TWO_NAMES, refused)?;
+    assert!(rt; fails_in_fronts(&rt, "ra cluster", ONE_CLIENT, printed)?);
+    assert!(rt; fails_in_fronts(&rt, "ra cluster", TWO_NAMES, b"refused OutOfOrder\n")?);
     // It fails only where something is left to be written.
-    let words = words_of(alloc, "ra cluster")?;
-    let mut reader = ONE_CLIENT.as_bytes();
-    let mut writer = FailingWriter {
-        taken: Vec::new(alloc),
-        before_fault: Some(printed.len()),
-        fault: Some(io::ErrorKind::BrokenPipe),
-    };
-    let status = serve(&rt, alloc, words.as_slice(), &mut reader, &mut writer);
-    assert_eq!(rt; status, 0);
-    assert_eq!(rt; writer.taken.as_slice(), printed);
+    assert!(rt; is_written(&rt, "ra cluster", ONE_CLIENT, printed, 0)?);
     Ok(())
 }
 
-/// Asserts how a refusal is printed.
-pub fn assert_refused<T: Abort + AllocGlobal>(
-    rt: &T,
-    refusal: Refusal,
-    status: u8,
-    text: &str,
-) -> Result<(), Fail> {
-    let alloc = rt.alloc();
+/// Returns whether a refusal is answered with this status and printed so.
+pub fn is_refused(alloc: Global, refusal: Refusal, status: u8, text: &str) -> bool {
     let mut output = Vec::new(alloc);
     let answered = refuse(alloc, &mut output, refusal);
-    assert_eq!(rt; output.as_slice(), text.as_bytes());
-    assert_eq!(rt; answered, status, "{text}");
-    Ok(())
+    answered == status && output.as_slice() == text.as_bytes()
 }
 
 /// Where there is memory and threads start, most of these are the answer to no script, so that they are printed by hand.
 #[test]
-fn each_refusal_of_a_run_is_printed_by_its_word(rt: HostRuntime) -> Result<(), Fail> {
+fn each_refusal_of_a_cluster_is_printed_by_its_word(rt: HostRuntime) -> Result<(), Fail> {
+    let alloc = rt.alloc();
     for (refused, text) in [
         (ClusterError::OutOfOrder, "refused OutOfOrder\n"),
         (ClusterError::Unreleased, "refused Unreleased\n"),
@@ -311,8 +336,14 @@ fn each_refusal_of_a_run_is_printed_by_its_word(rt: HostRuntime) -> Result<(), F
         (ClusterError::Memory, "refused Memory\n"),
     ] {
         let refusal = Refusal::Cluster(RunScriptError::from(refused));
-        assert_refused(&rt, refusal, 2, text)?;
+        assert!(rt; is_refused(alloc, refusal, 2, text), "{text}");
     }
+    Ok(())
+}
+
+#[test]
+fn each_refusal_of_a_script_to_be_run_is_printed_by_its_word(rt: HostRuntime) -> Result<(), Fail> {
+    let alloc = rt.alloc();
     for (refused, status, text) in [
         (
             RunScriptError::from(ScriptError::Limit),
@@ -328,7 +359,10 @@ fn each_refusal_of_a_run_is_printed_by_its_word(rt: HostRuntime) -> Result<(), F
         (RunScriptError::Read, 1, "refused Read\n"),
         (RunScriptError::Write, 1, ""),
     ] {
-        assert_refused(&rt, Refusal::Cluster(refused), status, text)?;
+        assert!(rt;
+            is_refused(alloc, Refusal::Cluster(refused), status, text),
+            "{text}"
+        );
     }
     Ok(())
 }
@@ -343,7 +377,7 @@ fn words_that_are_no_cluster_are_refused(rt: HostRuntime) -> Result<(), Fail> {
         "ra --cluster",
         "ra clusters",
     ] {
-        assert_prints(&rt, line, ONE_CLIENT.as_bytes(), 2, "refused Usage\n")?;
+        assert!(rt; refuses(&rt, line, ONE_CLIENT, "Usage")?, "{line}");
     }
     Ok(())
 }
@@ -380,5 +414,6 @@ Status 0: each operation is done, and nothing waits, is queued, lost or under wa
 Status 2: the words or the script are refused, or the run failed: Fault where a node was stopped, as for want of memory or of
 threads, and Settle, PlanUnmet, Lost or UnderWay where what the nodes wrote down is no run, or not that of the whole script.
 ";
-    assert_prints(&rt, "ra cluster --help", b"".as_slice(), 0, text)
+    assert!(rt; prints(&rt, "ra cluster --help", "", 0, text)?);
+    Ok(())
 }

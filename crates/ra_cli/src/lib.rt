@@ -23,4 +23,6 @@ mod seed_tests;
 #[cfg(test)]
 mod sim_tests;
 #[cfg(test)]
+mod test_helpers;
+#[cfg(test)]
 mod tests;

@@ -1,154 +1,39 @@
-use crate::{AnswerError, answer, serve};
+use crate::test_helpers::{
+    FAULTS, FailingReader, FailingWriter, WRITE_FAULTS, fails_in_fronts, is_read_fault, is_written,
+    prints, refuses,
+};
+use crate::{AnswerError, answer};
 use std::alloc::Global;
 use std::io;
-use std::io::{Read, Write};
-use std::process::Abort;
 use std::sync::Wait;
 use std::test::Fail;
 use std::thread::Threads;
 
+/// The words by which node 2 of 3 answers.
+const ANSWER: &str = "ra answer --node 2 --nodes 3";
+
 /// A REQUEST of node 1 for node 2: exclusively, the name r, number 1, clock 1.
 const REQUEST: &str = "0101010201000000000000000100000000000000010172";
 
-/// The REPLY to it, at clock 2.
-const REPLY: &str = "0102020100000000000000000100000000000000020172";
-
-/// Faults that other readers and writers would try again, and one that they would not.
-const FAULTS: [io::ErrorKind; 3] = [
-    io::ErrorKind::Interrupted,
-    io::ErrorKind::WouldBlock,
-    io::ErrorKind::BrokenPipe,
-];
-
-/// The same, and that nothing is taken.
-const WRITE_FAULTS: [Option<io::ErrorKind>; 4] = [
-    Some(io::ErrorKind::Interrupted),
-    Some(io::ErrorKind::WouldBlock),
-    Some(io::ErrorKind::BrokenPipe),
-    None,
-];
-
-/// Gives one byte at a time. After so many reads it fails once, and then goes on.
-#[derive(Drop)]
-pub struct FailingReader<'a> {
-    pub bytes: &'a [u8],
-    pub before_fault: Option<usize>,
-    pub fault: io::ErrorKind,
-}
-
-impl Read for FailingReader<'_> {
-    fn read(&mut self, buf: &mut [u8]) -> io::Result<usize> {
-        match self.before_fault {
-            Some(0) => {
-                self.before_fault = None;
-                return Err(self.fault.into());
-            }
-            Some(reads) => self.before_fault = Some(reads - 1),
-            None => {}
-        }
-        if self.bytes.is_empty() || buf.is_empty() {
-            return Ok(0);
-        }
-        buf[0] = self.bytes[0];
-        self.bytes = &self.bytes[1..];
-        Ok(1)
-    }
-}
-
-/// Takes one byte at a time. After so many writes it fails once, or takes nothing once where there is no fault, and
-/// then goes on.
-#[derive(Drop)]
-pub struct FailingWriter {
-    pub taken: Vec<u8>,
-    pub before_fault: Option<usize>,
-    pub fault: Option<io::ErrorKind>,
-}
-
-impl Write for FailingWriter {
-    fn write(&mut self, buf: &[u8]) -> io::Result<usize> {
-        match self.before_fault {
-            Some(0) => {
-                self.before_fault = None;
-                return match self.fault {
-                    Some(kind) => Err(kind.into()),
-                    None => Ok(0),
-                };
-            }
-            Some(writes) => self.before_fault = Some(writes - 1),
-            None => {}
-        }
-        if buf.is_empty() {
-            return Ok(0);
-        }
-        self.taken.push(buf[0])?;
-        Ok(1)
-    }
-
-    fn flush(&mut self) -> io::Result<()> {
-        Ok(())
-    }
-}
-
-/// The words of a line.
-pub fn words_of(alloc: Global, line: &str) -> Result<Vec<String>, Fail> {
-    let mut words = Vec::new(alloc);
-    for word in line.split(' ') {
-        words.push(word.to_string(alloc)?)?;
-    }
-    Ok(words)
-}
-
-/// What `ra` answers and prints, with the line of its words and an input.
-pub fn run<T: AllocGlobal + Threads + Wait + Sync>(
-    rt: &T,
-    line: &str,
-    input: &str,
-) -> Result<(u8, Vec<u8>), Fail> {
-    let alloc = rt.alloc();
-    let words = words_of(alloc, line)?;
-    let mut reader = input.as_bytes();
-    let mut output = Vec::new(alloc);
-    let status = serve(rt, alloc, words.as_slice(), &mut reader, &mut output);
-    Ok((status, output))
-}
-
-fn assert_answered<T: Abort + AllocGlobal + Threads + Wait + Sync>(
-    rt: &T,
-    request: &str,
-    reply: &str,
-) -> Result<(), Fail> {
-    let alloc = rt.alloc();
-    let printed = format!(in alloc; "{reply}\n")?;
-    let (status, output) = run(rt, "ra answer --node 2 --nodes 3", request)?;
-    assert_eq!(rt; status, 0, "{request}");
-    assert_eq!(rt; output.as_slice(), printed.as_bytes(), "{request}");
-
-    let with_feed = format!(in alloc; "{request}\n")?;
-    let (status, output) = run(rt, "ra answer --node 2 --nodes 3", with_feed.as_str())?;
-    assert_eq!(rt; status, 0, "{request} and a line feed");
-    assert_eq!(rt;
-        output.as_slice(),
-        printed.as_bytes(),
-        "{request} and a line feed"
-    );
-    Ok(())
-}
+/// The REPLY to it, at clock 2, as a line.
+const REPLY: &str = "0102020100000000000000000100000000000000020172\n";
 
 #[test]
 fn a_request_is_answered_in_either_case_with_a_line_feed_or_not(
     rt: HostRuntime,
 ) -> Result<(), Fail> {
-    assert_answered(&rt, REQUEST, REPLY)?;
-    assert_answered(
-        &rt,
-        "010101020100000000000000013fffffffffffffff0172",
-        "0102020100000000000000000140000000000000000172",
-    )?;
-    assert_answered(
-        &rt,
-        "010101020100000000000000013FFfFfFfFfFfFfFF0172",
-        "0102020100000000000000000140000000000000000172",
-    )
+    let late = "0102020100000000000000000140000000000000000172\n";
+    for (request, reply) in [
+        (REQUEST, REPLY),
+        ("0101010201000000000000000100000000000000010172\n", REPLY),
+        ("010101020100000000000000013fffffffffffffff0172", late),
+        ("010101020100000000000000013fffffffffffffff0172\n", late),
+        ("010101020100000000000000013FFfFfFfFfFfFfFF0172", late),
+        ("010101020100000000000000013FFfFfFfFfFfFfFF0172\n", late),
+    ] {
+        assert!(rt; prints(&rt, ANSWER, request, 0, reply)?, "{request}");
+    }
+    Ok(())
 }
 
 #[test]
@@ -157,30 +42,25 @@ fn answer_writes_the_reply_with_ample_memory(rt: HostRuntime) -> Result<(), Fail
     let mut reader = REQUEST.as_bytes();
     let mut output = Vec::new(alloc);
     let answered = answer(alloc, 2, 3, &mut reader, &mut output);
-    assert_eq!(rt; answered, Ok(()));
-    let printed = format!(in alloc; "{REPLY}\n")?;
-    assert_eq!(rt; output.as_slice(), printed.as_bytes());
+    assert!(rt; answered.is_ok());
+    assert!(rt; output.as_slice() == REPLY.as_bytes());
     Ok(())
 }
 
 #[test]
 fn an_idle_node_says_nothing_to_a_reply(rt: HostRuntime) -> Result<(), Fail> {
-    let inputs = [
+    for input in [
         "0102010200000000000000000100000000000000010172",
         "0102010200000000000000000100000000000000010172\n",
         "01020102000000000000000001000000000000000A0172",
-    ];
-    for input in inputs {
-        let (status, output) = run(&rt, "ra answer --node 2 --nodes 3", input)?;
-        assert_eq!(rt; status, 0, "{input}");
-        assert_eq!(rt; output.as_slice(), b"".as_slice(), "{input}");
+    ] {
+        assert!(rt; prints(&rt, ANSWER, input, 0, "")?, "{input}");
     }
     Ok(())
 }
 
 #[test]
 fn each_refusal_is_printed_by_its_word(rt: HostRuntime) -> Result<(), Fail> {
-    let alloc = rt.alloc();
     let cases = [
         ("0101010201000000000000000000000000000000010172", "Seq"),
         (
@@ -219,17 +99,13 @@ fn each_refusal_is_printed_by_its_word(rt: HostRuntime) -> Result<(), Fail> {
         ("0101050201000000000000000100000000000000010172", "Stranger"),
     ];
     for (input, word) in cases {
-        let (status, output) = run(&rt, "ra answer --node 2 --nodes 3", input)?;
-        let printed = format!(in alloc; "refused {word}\n")?;
-        assert_eq!(rt; status, 2, "{input}");
-        assert_eq!(rt; output.as_slice(), printed.as_bytes(), "{input}");
+        assert!(rt; refuses(&rt, ANSWER, input, word)?, "{input}");
     }
     Ok(())
 }
 
 #[test]
 fn of_two_causes_the_first_is_named(rt: HostRuntime) -> Result<(), Fail> {
-    let alloc = rt.alloc();
     let cases = [
         // The last clock, for another node or from one that there is not.
         (
@@ -262,63 +138,54 @@ fn of_two_causes_the_first_is_named(rt: HostRuntime) -> Result<(), Fail> {
         ("zz\nzz", "Line"),
     ];
     for (input, word) in cases {
-        let (status, output) = run(&rt, "ra answer --node 2 --nodes 3", input)?;
-        let printed = format!(in alloc; "refused {word}\n")?;
-        assert_eq!(rt; status, 2, "{input}");
-        assert_eq!(rt; output.as_slice(), printed.as_bytes(), "{input}");
+        assert!(rt; refuses(&rt, ANSWER, input, word)?, "{input}");
     }
     Ok(())
 }
 
 #[test]
 fn the_numbers_of_the_command_are_checked_before_the_input(rt: HostRuntime) -> Result<(), Fail> {
-    let cases = [
-        ("ra answer --node 2 --nodes 17", "refused BadCount\n"),
-        ("ra answer --node 2 --nodes 0", "refused BadCount\n"),
-        ("ra answer --node 4 --nodes 3", "refused BadNode\n"),
-        ("ra answer --node 0 --nodes 3", "refused BadNode\n"),
-    ];
-    for (line, printed) in cases {
-        for input in [REQUEST, "zz"] {
-            let (status, output) = run(&rt, line, input)?;
-            assert_eq!(rt; status, 2, "{line}");
-            assert_eq!(rt; output.as_slice(), printed.as_bytes(), "{line}");
-        }
+    for (line, word) in [
+        ("ra answer --node 2 --nodes 17", "BadCount"),
+        ("ra answer --node 2 --nodes 0", "BadCount"),
+        ("ra answer --node 4 --nodes 3", "BadNode"),
+        ("ra answer --node 0 --nodes 3", "BadNode"),
+    ] {
+        assert!(rt; refuses(&rt, line, REQUEST, word)?, "{line}");
+        assert!(rt; refuses(&rt, line, "zz", word)?, "{line}");
     }
     Ok(())
+}
+
+/// Makes this many digits.
+fn digits(alloc: Global, many: u64) -> Result<String, Fail> {
+    let mut digits = String::new(alloc);
+    for _ in 0..many {
+        digits.push('0')?;
+    }
+    Ok(digits)
 }
 
 #[test]
 fn a_line_has_at_most_256_bytes_and_nothing_behind_it(rt: HostRuntime) -> Result<(), Fail> {
     let alloc = rt.alloc();
-    let mut digits = String::new(alloc);
-    for _ in 0..256 {
-        digits.push('0')?;
+    let most = digits(alloc, 256)?;
+    for (behind, word) in [("", "Version"), ("\n", "Version"), ("0", "Line")] {
+        let line = format!(in alloc; "{most}{behind}")?;
+        assert!(rt; refuses(&rt, ANSWER, line.as_str(), word)?, "{line}");
     }
-    let longer = format!(in alloc; "{digits}0")?;
-    let longest = format!(in alloc; "{digits}\n")?;
-    let followed = format!(in alloc; "{REQUEST}\n0")?;
-    let fed_twice = format!(in alloc; "{REQUEST}\n\n")?;
-    let much_longer = format!(in alloc; "{digits}\n{digits}")?;
-    let cases = [
-        (digits.as_str(), "refused Version\n"),
-        (longest.as_str(), "refused Version\n"),
-        (longer.as_str(), "refused Line\n"),
-        (followed.as_str(), "refused Line\n"),
-        (fed_twice.as_str(), "refused Line\n"),
-        (much_longer.as_str(), "refused Line\n"),
-    ];
-    for (input, printed) in cases {
-        let (status, output) = run(&rt, "ra answer --node 2 --nodes 3", input)?;
-        assert_eq!(rt; status, 2, "{input}");
-        assert_eq!(rt; output.as_slice(), printed.as_bytes(), "{input}");
+    let much_longer = format!(in alloc; "{most}\n{most}")?;
+    assert!(rt; refuses(&rt, ANSWER, much_longer.as_str(), "Line")?);
+    for behind in ["\n0", "\n\n"] {
+        let line = format!(in alloc; "{REQUEST}{behind}")?;
+        assert!(rt; refuses(&rt, ANSWER, line.as_str(), "Line")?, "{line}");
     }
     Ok(())
 }
 
 #[test]
 fn words_that_are_no_command_are_refused(rt: HostRuntime) -> Result<(), Fail> {
-    let lines = [
+    for line in [
         "ra",
         "ra simulate",
         "ra help",
@@ -331,18 +198,14 @@ fn words_that_are_no_command_are_refused(rt: HostRuntime) -> Result<(), Fail> {
         "ra answer --node 2 --nodes 65536",
         "ra answer --node -1 --nodes 3",
         "ra --node 2 --nodes 3",
-    ];
-    for line in lines {
-        let (status, output) = run(&rt, line, REQUEST)?;
-        assert_eq!(rt; status, 2, "{line}");
-        assert_eq!(rt; output.as_slice(), b"refused Usage\n".as_slice(), "{line}");
+    ] {
+        assert!(rt; refuses(&rt, line, REQUEST, "Usage")?, "{line}");
     }
     Ok(())
 }
 
 #[test]
 fn help_on_answer_prints_a_frame(rt: HostRuntime) -> Result<(), Fail> {
-    let (status, output) = run(&rt, "ra answer --help", "")?;
     let text = "Answer one frame, a line of hexadecimal digits, as an idle node does
 
 Usage: ra answer --node <node> --nodes <nodes>
@@ -357,8 +220,7 @@ The node has met no number before, and its clock was 0. It prints the frames tha
 Example, a REQUEST of node 1 for the name r, answered by node 2 of 3:
   echo 0101010201000000000000000100000000000000010172 | ra answer --node 2 --nodes 3
 ";
-    assert_eq!(rt; status, 0);
-    assert_eq!(rt; output.as_slice(), text.as_bytes());
+    assert!(rt; prints(&rt, "ra answer --help", "", 0, text)?);
     Ok(())
 }
 
@@ -380,66 +242,47 @@ Options:
 Status 0: done. Status 1: the input or the output failed. Status 2: refused, by one line with the word that says why.
 Status 3: a run that ended with something left to do, or a trace that is none.
 ";
-    for line in ["ra --help", "ra -h"] {
-        let (status, output) = run(&rt, line, "")?;
-        assert_eq!(rt; status, 0, "{line}");
-        assert_eq!(rt; output.as_slice(), text.as_bytes(), "{line}");
-    }
+    assert!(rt; prints(&rt, "ra --help", "", 0, text)?);
+    assert!(rt; prints(&rt, "ra -h", "", 0, text)?);
     Ok(())
 }
 
-/// Asserts that the fault of a reader that fails once, behind so many of its bytes, is the answer, that no byte is
-/// read after it, and that `serve` prints it.
-fn assert_read_fault<T: Abort + AllocGlobal + Threads + Wait + Sync>(
+/// Returns whether `answer` names the fault of a reader that fails once, behind so many of its bytes, reads no byte after it, and
+/// writes nothing.
+fn fails_to_read(
+    alloc: Global,
+    bytes: &[u8],
+    before_fault: usize,
+    fault: io::ErrorKind,
+) -> Result<bool, Fail> {
+    let mut reader = FailingReader {
+        bytes,
+        before_fault: Some(before_fault),
+        fault,
+    };
+    let mut output = Vec::new(alloc);
+    let answered = answer(alloc, 2, 3, &mut reader, &mut output);
+    Ok(
+        answered == Err(AnswerError::Read)
+            && Some(reader.bytes) == bytes.get(before_fault..)
+            && output.is_empty(),
+    )
+}
+
+/// Returns whether each fault at this place is a fault of `answer`, which `ra` prints.
+fn are_read_faults<T: AllocGlobal + Threads + Wait + Sync>(
     rt: &T,
     bytes: &[u8],
     before_fault: usize,
-) -> Result<(), Fail> {
-    let alloc = rt.alloc();
-    let words = words_of(alloc, "ra answer --node 2 --nodes 3")?;
+) -> Result<bool, Fail> {
     for fault in FAULTS {
-        let mut reader = FailingReader {
-            bytes,
-            before_fault: Some(before_fault),
-            fault,
-        };
-        let mut output = Vec::new(alloc);
-        let answered = answer(alloc, 2, 3, &mut reader, &mut output);
-        assert_eq!(rt;
-            answered,
-            Err(AnswerError::Read),
-            "after {before_fault} bytes"
-        );
-        assert_eq!(rt;
-            Some(reader.bytes),
-            bytes.get(before_fault..),
-            "after {before_fault} bytes"
-        );
-        assert_eq!(rt;
-            output.as_slice(),
-            b"".as_slice(),
-            "after {before_fault} bytes"
-        );
-
-        let mut reader = FailingReader {
-            bytes,
-            before_fault: Some(before_fault),
-            fault,
-        };
-        let status = serve(rt, alloc, words.as_slice(), &mut reader, &mut output);
-        assert_eq!(rt; status, 1, "after {before_fault} bytes");
-        assert_eq!(rt;
-            Some(reader.bytes),
-            bytes.get(before_fault..),
-            "after {before_fault} bytes"
-        );
-        assert_eq!(rt;
-            output.as_slice(),
-            b"refused Read\n".as_slice(),
-            "after {before_fault} bytes"
-        );
+        if !fails_to_read(rt.alloc(), bytes, before_fault, fault)?
+            || !is_read_fault(rt, ANSWER, bytes, before_fault, fault)?
+        {
+            return Ok(false);
+        }
     }
-    Ok(())
+    Ok(true)
 }
 
 #[test]
@@ -447,15 +290,25 @@ fn a_reader_that_fails_once_at_any_byte_is_a_fault(rt: HostRuntime) -> Result<()
     let alloc = rt.alloc();
     let line = format!(in alloc; "{REQUEST}\n")?;
     for before_fault in 0..=line.len() {
-        assert_read_fault(&rt, line.as_bytes(), before_fault)?;
+        assert!(rt;
+            are_read_faults(&rt, line.as_bytes(), before_fault)?,
+            "after {before_fault} bytes"
+        );
     }
+    Ok(())
+}
+
+#[test]
+fn a_reader_is_not_asked_behind_its_end(rt: HostRuntime) -> Result<(), Fail> {
+    let alloc = rt.alloc();
+    let line = format!(in alloc; "{REQUEST}\n")?;
     let mut reader = FailingReader {
         bytes: line.as_bytes(),
         before_fault: Some(line.len() + 1),
         fault: io::ErrorKind::Interrupted,
     };
     let mut output = Vec::new(alloc);
-    assert_eq!(rt; answer(alloc, 2, 3, &mut reader, &mut output), Ok(()));
+    assert!(rt; answer(alloc, 2, 3, &mut reader, &mut output).is_ok());
     Ok(())
 }
 
@@ -464,104 +317,78 @@ fn a_fault_of_the_reader_comes_before_what_is_wrong_with_the_line(
     rt: HostRuntime,
 ) -> Result<(), Fail> {
     let alloc = rt.alloc();
-    let mut digits = String::new(alloc);
-    for _ in 0..257 {
-        digits.push('0')?;
-    }
+    let too_long = digits(alloc, 257)?;
     let followed = format!(in alloc; "{REQUEST}\n0")?;
     let fed_twice = format!(in alloc; "{REQUEST}\n\n")?;
     for line in [
-        digits.as_str(),
+        too_long.as_str(),
         followed.as_str(),
         fed_twice.as_str(),
         "zz\nzz",
         "zz",
     ] {
-        assert_read_fault(&rt, line.as_bytes(), line.len())?;
+        assert!(rt;
+            are_read_faults(&rt, line.as_bytes(), line.len())?,
+            "{line}"
+        );
     }
     Ok(())
 }
 
-/// Asserts that where `serve` prints these bytes, the fault of a writer that fails once, or takes nothing once, after
-/// any of them is the status, and that the writer has those before it and no more.
-pub fn assert_write_fault<T: Abort + AllocGlobal + Threads + Wait + Sync>(
-    rt: &T,
-    line: &str,
-    input: &str,
-    printed: &[u8],
-) -> Result<(), Fail> {
-    let alloc = rt.alloc();
-    let words = words_of(alloc, line)?;
-    for before_fault in 0..printed.len() {
-        for fault in WRITE_FAULTS {
-            let mut reader = input.as_bytes();
-            let mut writer = FailingWriter {
-                taken: Vec::new(alloc),
-                before_fault: Some(before_fault),
-                fault,
-            };
-            let status = serve(rt, alloc, words.as_slice(), &mut reader, &mut writer);
-            assert_eq!(rt; status, 1, "after {before_fault} bytes");
-            assert_eq!(rt;
-                Some(writer.taken.as_slice()),
-                printed.get(..before_fault),
-                "after {before_fault} bytes"
-            );
-        }
-    }
-    Ok(())
+/// Returns whether `answer` names the fault of a writer that fails once, or takes nothing once, behind so many bytes of the REPLY,
+/// and the writer has those and no more.
+fn fails_to_write(
+    alloc: Global,
+    before_fault: usize,
+    fault: Option<io::ErrorKind>,
+) -> Result<bool, Fail> {
+    let mut reader = REQUEST.as_bytes();
+    let mut writer = FailingWriter {
+        taken: Vec::new(alloc),
+        before_fault: Some(before_fault),
+        fault,
+    };
+    let answered = answer(alloc, 2, 3, &mut reader, &mut writer);
+    Ok(
+        answered == Err(AnswerError::Write)
+            && Some(writer.taken.as_slice()) == REPLY.as_bytes().get(..before_fault),
+    )
 }
 
 #[test]
 fn a_writer_that_fails_once_has_the_bytes_before_and_no_more(rt: HostRuntime) -> Result<(), Fail> {
-    let alloc = rt.alloc();
-    let printed = format!(in alloc; "{REPLY}\n")?;
-    for before_fault in 0..printed.len() {
+    for before_fault in 0..REPLY.len() {
         for fault in WRITE_FAULTS {
-            let mut reader = REQUEST.as_bytes();
-            let mut writer = FailingWriter {
-                taken: Vec::new(alloc),
-                before_fault: Some(before_fault),
-                fault,
-            };
-            let answered = answer(alloc, 2, 3, &mut reader, &mut writer);
-            assert_eq!(rt;
-                answered,
-                Err(AnswerError::Write),
-                "after {before_fault} bytes"
-            );
-            assert_eq!(rt;
-                Some(writer.taken.as_slice()),
-                printed.as_bytes().get(..before_fault),
+            assert!(rt;
+                fails_to_write(rt.alloc(), before_fault, fault)?,
                 "after {before_fault} bytes"
             );
         }
     }
+    Ok(())
+}
 
-    let answers = "ra answer --node 2 --nodes 3";
-    assert_write_fault(&rt, answers, REQUEST, printed.as_bytes())?;
-    assert_write_fault(&rt, answers, "zz", b"refused Hex\n".as_slice())?;
-    assert_write_fault(&rt, "ra", REQUEST, b"refused Usage\n".as_slice())?;
-    assert_write_fault(&rt, "ra --help", "", b"Lock named resources".as_slice())
+#[test]
+fn a_writer_that_fails_has_a_front_of_what_is_printed(rt: HostRuntime) -> Result<(), Fail> {
+    for (line, input, printed) in [
+        (ANSWER, REQUEST, REPLY),
+        (ANSWER, "zz", "refused Hex\n"),
+        ("ra", REQUEST, "refused Usage\n"),
+        ("ra --help", "", "Lock named resources"),
+    ] {
+        assert!(rt;
+            fails_in_fronts(&rt, line, input, printed.as_bytes())?,
+            "{line}"
+        );
+    }
+    Ok(())
 }
 
 #[test]
 fn a_writer_fails_only_where_something_is_to_be_written(rt: HostRuntime) -> Result<(), Fail> {
-    let alloc = rt.alloc();
-    let words = words_of(alloc, "ra answer --node 2 --nodes 3")?;
-    let printed = format!(in alloc; "{REPLY}\n")?;
     // A REPLY is taken in silence.
     let silent = "0102010200000000000000000100000000000000010172";
-    for (input, printed) in [(REQUEST, printed.as_bytes()), (silent, b"".as_slice())] {
-        let mut reader = input.as_bytes();
-        let mut writer = FailingWriter {
-            taken: Vec::new(alloc),
-            before_fault: Some(printed.len()),
-            fault: Some(io::ErrorKind::BrokenPipe),
-        };
-        let status = serve(&rt, alloc, words.as_slice(), &mut reader, &mut writer);
-        assert_eq!(rt; status, 0, "{input}");
-        assert_eq!(rt; writer.taken.as_slice(), printed, "{input}");
-    }
+    assert!(rt; is_written(&rt, ANSWER, REQUEST, REPLY.as_bytes(), 0)?);
+    assert!(rt; is_written(&rt, ANSWER, silent, b"", 0)?);
     Ok(())
 }
