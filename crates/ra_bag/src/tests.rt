@@ -70,6 +70,18 @@ fn the_first_equal_message_is_taken(rt: HostRuntime) -> Result<(), Fail> {
 }
 
 #[test]
+fn a_message_is_found_near_a_place_and_taken_there(rt: HostRuntime) -> Result<(), Fail> {
+    let (asked, replied) = (request()?, reply()?);
+    let mut bag = three(rt.alloc())?;
+    assert!(rt; bag.find(&asked, 2) == Some(2));
+    // It does not stand there, so it is the first one.
+    assert!(rt; bag.find(&asked, 1) == Some(0) && bag.find(&asked, 3) == Some(0));
+    assert!(rt; bag.take_at(1) == Some(replied) && bag.take_at(2).is_none());
+    assert!(rt; bag.find(&replied, 1).is_none() && has(&bag, &[asked, asked]));
+    Ok(())
+}
+
+#[test]
 fn an_absent_message_is_not_taken(rt: HostRuntime) -> Result<(), Fail> {
     let alloc = rt.alloc();
     let mut bag = Bag::new(alloc)?;
