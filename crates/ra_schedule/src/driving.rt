@@ -78,7 +78,7 @@ pub fn drive(
     drive_through(alloc, script, policy, limit, true)
 }
 
-/// Does as [`drive`], and keeps no steps, so that it takes less time, and memory only for what it reports and for what is under way.
+/// Does as [`drive`], and keeps no steps, so that it takes less time, and memory only for the world and for what it reports.
 ///
 /// # Errors
 ///

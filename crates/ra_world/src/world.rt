@@ -17,8 +17,8 @@ use std::marker::Model;
 /// A cluster of nodes in one thread, with the messages under way between them. Contracts see how many nodes there are, the
 /// start value and the steps so far with what came of them, which are a run.
 ///
-/// A world keeps the marks of its steps, and of the messages that they sent those under way. Of the steps and the messages it keeps only
-/// how many there were, so that its memory grows with what it reports.
+/// A world keeps the marks of its steps, and of the messages that they sent those under way. Of the steps and of all messages it
+/// keeps only how many there were.
 #[derive(Debug, Drop)]
 pub struct World {
     start: u64,
