@@ -26,7 +26,7 @@ fn main(rt: HostRuntime) -> ExitCode {
         Ok(words) => words,
         Err(fault) => return ExitCode::from(refuse_words(&mut writer, fault)),
     };
-    // A byte at a time is read from it, which would else be a call of the system each.
+    // It is read in small pieces, which would else be a call of the system each.
     let mut reader = match BufReader::new(alloc, rt.reader()) {
         Ok(reader) => reader,
         Err(_) => return ExitCode::from(refuse_words(&mut writer, CommandFault::Memory)),

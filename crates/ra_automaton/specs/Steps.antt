@@ -135,6 +135,12 @@ ReceiveStep old (Request from to name mode seq) sends entered new =
 ReceiveStep old (Reply from to name seq) sends entered new =
     (sends ≡ []) × TakesReply old from seq entered new
 
+-- the message is the last REPLY that the node awaits, by which it enters
+abbrev pub LetsEnter : State → Message → Type 0
+LetsEnter old (Request from to name mode seq) = ⊥
+LetsEnter old (Reply from to name seq) =
+    (mode : Mode) × Awaits old from seq mode × (set.remove old.awaited from ≡ set.empty)
+
 -- ---- The client leaves: each deferred REPLY goes out, and none is deferred any more.
 
 pub record LeaveStep (old : State) (sends : List Message) (new : State) : Type 0 where

@@ -52,7 +52,7 @@ impl Automaton {
     ghost use Rattle.ra_automaton.specs.State.{opening, entered_phase};
     ghost use Rattle.ra_automaton.specs.State.{IsOther, IsAddressed, IsConsistent, IsInside, IsWaiting};
     ghost use Rattle.ra_automaton.specs.Steps.{greatest_number, later_of, OwnGoesFirst, Awaits};
-    ghost use Rattle.ra_automaton.specs.Steps.{Begins, Defers, RepliesAtOnce, TakesReply};
+    ghost use Rattle.ra_automaton.specs.Steps.{Begins, Defers, RepliesAtOnce, TakesReply, LetsEnter};
     ghost use Rattle.ra_automaton.specs.Steps.{RequestStep, ReceiveStep, LeaveStep, LeaveAndRequestStep};
 
     /// Makes the automaton of node `me` of `nodes` for a resource. The highest number that it has met is `start`, 0
@@ -142,6 +142,7 @@ impl Automaton {
         requires { name_of message.now ≡ self.old.name }
         ensures ok { IfOk result (λ reaction.
             ReceiveStep self.old message.now reaction.sends.items reaction.entered self.new) }
+        ensures enters { IfOk result (λ reaction. IsTrue reaction.entered ↔ LetsEnter self.old message.now) }
         ensures addressed { OnOk result (IsAddressed self.old message.now) }
         ensures consistent { IsConsistent self.new }
 
@@ -278,6 +279,17 @@ impl Automaton {
         ensures consistent { IsConsistent self.now }
     {
         number_of(&self.deferred, node)
+    }
+
+    /// Returns whether a message is the last REPLY that the node awaits: received as a message for it about this resource, it lets
+    /// the node enter. It does not allocate. The cost is linear in the number of nodes.
+    pub fn lets_enter(&self, message: &Message) -> bool
+        ensures { IsTrue result ↔ LetsEnter self.now message.now }
+    {
+        match *message {
+            Message::Request { .. } => false,
+            Message::Reply { from, seq, .. } => self.effect(from, seq) == Effect::Enter,
+        }
     }
 
     /// Returns whether the node is inside.

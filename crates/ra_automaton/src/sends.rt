@@ -28,6 +28,7 @@ pub fn push_requests(
     ensures { OnOk result (sends.new.items ≡ sends.old.items
         ++ map (λ other. Message.Request me other name mode seq) (others_of me nodes)) }
 {
+    sends.reserve(u64::from(nodes.saturating_sub(1)))?;
     for place in 0..nodes {
         let number = place + 1;
         if number != me.get() {

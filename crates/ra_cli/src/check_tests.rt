@@ -251,17 +251,15 @@ fn a_writer_that_fails_has_a_front_of_the_verdict(rt: HostRuntime) -> Result<(),
 /// Gives this many letters.
 #[derive(Drop)]
 struct Letters {
-    left: u64,
+    left: usize,
 }
 
 impl Read for Letters {
     fn read(&mut self, buf: &mut [u8]) -> io::Result<usize> {
-        if self.left == 0 || buf.is_empty() {
-            return Ok(0);
-        }
-        self.left -= 1;
-        buf[0] = b'a';
-        Ok(1)
+        let count = self.left.min(buf.len());
+        buf[..count].fill(b'a');
+        self.left -= count;
+        Ok(count)
     }
 }
 

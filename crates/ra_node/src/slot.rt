@@ -247,10 +247,11 @@ impl Slot {
         ensures err { OnErr result (self.new ≡ self.old) }
         ensures consistent { OnOk result (IsConsistent self.new.state) }
     {
-        // Only by a REPLY does a request enter.
-        let room = match message {
-            Message::Request { .. } => 0,
-            Message::Reply { .. } => 1,
+        // Most messages let nobody enter, and then there is no mark to make room for.
+        let room = if self.automaton.lets_enter(message) {
+            1
+        } else {
+            0
         };
         let mut marks = marks_for(alloc, room)?;
         let reaction = self.automaton.receive(alloc, message)?;

@@ -339,12 +339,10 @@ struct Letters {
 
 impl Read for Letters {
     fn read(&mut self, buf: &mut [u8]) -> io::Result<usize> {
-        if self.left == 0 || buf.is_empty() {
-            return Ok(0);
-        }
-        buf[0] = b'a';
-        self.left -= 1;
-        Ok(1)
+        let count = self.left.min(buf.len());
+        buf[..count].fill(b'a');
+        self.left -= count;
+        Ok(count)
     }
 }
 

@@ -41,3 +41,4 @@ pub mod Refusing
 mod NameText
 mod Written
 mod Elsewhere
+mod Pieces
