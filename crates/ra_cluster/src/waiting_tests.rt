@@ -211,20 +211,24 @@ fn a_leave_is_taken_though_its_frame_is_lost(rt: HostRuntime) -> Result<(), Fail
     Ok(())
 }
 
-/// Has client 1 lock and unlock a name at a site, so many times or until it is refused.
-fn hammer<R: Wait, G: Gate>(
+/// At which turn of the client of node 1 the post is closed.
+const CLOSING: u32 = 50;
+
+/// Has client 1 lock and unlock a name at a site, so many times or until it is refused. At the turn `closing` it closes the post
+/// while it holds the name, so that it is refused at the next one at the latest.
+fn hammer<R: Wait>(
     rt: &R,
     alloc: Global,
     name: &Name,
     site: &Site,
     post: &Post,
     sites: &[Site],
-    gate: &G,
+    closing: Option<u32>,
     grants: &Mutex<Vec<Grant>>,
 ) {
     let x = Mode::Exclusive;
-    for _ in 0..10_000u32 {
-        let Ok(grant) = site.lock(rt, alloc, 1, *name, x, post, sites, gate) else {
+    for turn in 0..10_000u32 {
+        let Ok(grant) = site.lock(rt, alloc, 1, *name, x, post, sites, &OpenGate) else {
             return;
         };
         // It holds the name, and whoever waits for it would wait for ever.
@@ -232,32 +236,37 @@ fn hammer<R: Wait, G: Gate>(
             stop_all(rt, sites, Stop::Memory);
             return;
         }
-        if let Err(refused) = site.unlock(rt, alloc, 1, *name, post, sites, gate) {
+        if closing == Some(turn) {
+            post.close(rt);
+        }
+        if let Err(refused) = site.unlock(rt, alloc, 1, *name, post, sites, &OpenGate) {
             stop_after(rt, sites, refused);
             return;
         }
     }
 }
 
-/// Has a client at each of two nodes lock and unlock one name, closes the post after some steps, and returns the books and the
-/// grants once all has ended.
+/// Has a client at each of two nodes lock and unlock one name, of which that of node 1 closes the post, and returns the books and
+/// the grants once all has ended.
 fn closed_under_traffic<R: Threads + Wait + Sync>(
     rt: &R,
     alloc: Global,
-    steps: u64,
 ) -> Result<(Vec<Book>, Vec<Grant>), Fail> {
     let r = Name::new(b"r")?;
     let sites = sites_of(alloc, 2, 0)?;
     let (post, inboxes) = Post::new(alloc, 2)?;
-    let gate = Counting::open();
     let kept = Mutex::new(Vec::new(alloc));
-    let (all, inboxes, post, gate, grants) = (sites.as_slice(), &inboxes, &post, &gate, &kept);
+    let (all, inboxes, post, grants) = (sites.as_slice(), &inboxes, &post, &kept);
     let name = &r;
-    let closed = thread::scope(thread::scope_env(), rt, move |scope| {
-        for (site, inbox) in all.iter().zip(inboxes.iter()) {
-            let pumps = scope.spawn(move || site.pump(rt, alloc, inbox, post, all, gate));
+    let begun = thread::scope(thread::scope_env(), rt, move |scope| {
+        for ((site, inbox), closing) in all.iter().zip(inboxes.iter()).zip([Some(CLOSING), None]) {
+            let pumps = scope.spawn(move || site.pump(rt, alloc, inbox, post, all, &OpenGate));
             let locks = scope.spawn(move || {
-                hammer(rt, alloc, name, site, post, all, gate, grants);
+                hammer(rt, alloc, name, site, post, all, closing, grants);
+                // Where it came to no such turn, the pumps would wait for ever.
+                if closing.is_some() {
+                    post.close(rt);
+                }
             });
             if pumps.is_err() || locks.is_err() {
                 stop_all(rt, all, Stop::Spawn);
@@ -265,12 +274,10 @@ fn closed_under_traffic<R: Threads + Wait + Sync>(
                 return false;
             }
         }
-        let enough = comes_to(&gate.steps, steps);
-        post.close(rt);
-        enough
+        true
     });
-    if !closed {
-        return Err(Fail::new("the nodes make steps"));
+    if !begun {
+        return Err(Fail::new("four threads"));
     }
     Ok((books_of(alloc, sites)?, kept.into_inner()))
 }
@@ -278,7 +285,7 @@ fn closed_under_traffic<R: Threads + Wait + Sync>(
 #[test]
 fn books_settle_where_the_post_is_closed_under_traffic(rt: HostRuntime) -> Result<(), Fail> {
     let alloc = rt.alloc();
-    let (books, grants) = closed_under_traffic(&rt, alloc, 200)?;
+    let (books, grants) = closed_under_traffic(&rt, alloc)?;
     let [one, two] = books.as_slice() else {
         return Err(Fail::new("two books"));
     };
@@ -286,8 +293,8 @@ fn books_settle_where_the_post_is_closed_under_traffic(rt: HostRuntime) -> Resul
         (one.fault(), two.fault()),
         (Some(Stop::Send), Some(Stop::Send))
     );
-    // A lock takes few steps, so some were granted, and each stands in the run.
-    assert!(rt; is_cluster(&books) && !grants.is_empty());
+    // Each grant stands in the run, those of node 1 up to the closing among them.
+    assert!(rt; is_cluster(&books) && grants.len() > CLOSING as usize);
     let settled = settle(alloc, &books, &grants)?;
     assert!(rt; settled.report.lost > 0);
     Ok(())
