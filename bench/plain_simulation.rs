@@ -1,16 +1,17 @@
 //! What `ra sim` does by the policies `oldest`, `newest` and `seeded`, as a plain program: a hash map of names at each node, a
-//! queue of messages, and nothing proved or kept but what is printed. It reads a script as `bench/largest-script` writes it. The
-//! argument is the policy; the seed is 0. Each message has a copy of its name, or, under `--cfg shared_names`, a counted reference to
-//! it, which only one thread can have.
+//! queue of messages, and nothing proved or kept but what is printed. It reads a script with the crate `toml`, or, with the feature
+//! `cut_script`, by cutting it at its quotes, which does for what `bench/largest-script` writes. The argument is the policy; the seed
+//! is 0. Each message has a copy of its name, or, with the feature `shared_names`, a counted reference to it, which only one thread
+//! can have.
 use std::collections::{HashMap, VecDeque};
 use std::fmt::Write as _;
 use std::io::{self, Read, Write as _};
 use std::mem;
 
-#[cfg(not(shared_names))]
+#[cfg(not(feature = "shared_names"))]
 type Name = String;
 
-#[cfg(shared_names)]
+#[cfg(feature = "shared_names")]
 type Name = std::rc::Rc<str>;
 
 #[derive(Clone, Copy, PartialEq)]
@@ -262,15 +263,35 @@ fn read_op(word: &str) -> Op {
     }
 }
 
-fn read_script(text: &str) -> Cluster {
-    let mut cluster = Cluster {
+fn new_cluster() -> Cluster {
+    Cluster {
         nodes: Vec::new(),
         under_way: VecDeque::new(),
         clients: Vec::new(),
         lines: String::new(),
         requests: 0,
         sent: 0,
-    };
+    }
+}
+
+#[cfg(not(feature = "cut_script"))]
+fn read_script(text: &str) -> Cluster {
+    let mut cluster = new_cluster();
+    let tree: toml::Value = text.parse().expect("a document");
+    let count = tree["nodes"].as_integer().expect("a number of nodes");
+    cluster.nodes = (0..count).map(|_| HashMap::new()).collect();
+    for client in tree["client"].as_array().expect("clients") {
+        let number = client["node"].as_integer().expect("a node's number") as usize;
+        let list = client["ops"].as_array().expect("operations");
+        let ops = list.iter().map(|op| read_op(op.as_str().expect("an operation"))).collect();
+        cluster.clients.push(Client { node: number - 1, ops, done: 0, waits: false });
+    }
+    cluster
+}
+
+#[cfg(feature = "cut_script")]
+fn read_script(text: &str) -> Cluster {
+    let mut cluster = new_cluster();
     for line in text.lines() {
         if let Some(number) = line.strip_prefix("nodes = ") {
             let count: usize = number.parse().expect("a number of nodes");
