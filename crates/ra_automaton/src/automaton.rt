@@ -138,6 +138,7 @@ impl Automaton {
     /// 1. `WrongNode`: the message is for another node.
     /// 2. `Stranger`: its sender is this node, or is above the number of nodes.
     /// 3. `Memory`: memory ran out.
+    #[inline(always)]
     pub fn receive(&mut self, alloc: Global, message: &Message) -> Result<Reaction, ReceiveError>
         requires { name_of message.now ≡ self.old.name }
         ensures ok { IfOk result (λ reaction.

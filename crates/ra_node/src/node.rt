@@ -174,6 +174,7 @@ impl Node {
     /// 1. `WrongNode`: the message is for another node.
     /// 2. `Stranger`: its sender is this node or above the number of nodes.
     /// 3. `Memory`: nothing has changed, and the call can be made again.
+    #[inline(always)]
     pub fn receive(&mut self, alloc: Global, message: &Message) -> Result<Outcome, ReceiveError>
         ensures ok { IfOk result (λ outcome.
             ReceiveEvent self.old message.now outcome.sends.items outcome.marks.items self.new) }

@@ -109,6 +109,7 @@ impl World {
     /// # Errors
     ///
     /// Those of `step`.
+    #[inline(always)]
     pub fn step_near(&mut self, alloc: Global, step: &Step, near: u64) -> Result<Outcome, StepError>
         ensures ok { IfOk result (λ outcome.
             self.new ≡ with_move self.old step.now outcome.sends.items outcome.marks.items) }
