@@ -1,10 +1,9 @@
 //! What several files of tests use.
 use ra_cluster::{Book, Gate, Site};
-use ra_schedule::{Op, Script};
 use ra_stamp::{Entry, Message, Mode, Name, NodeId, Stamp};
 use std::alloc::Global;
+use std::fmt::Display;
 use std::sync::atomic::{AtomicU64, Ordering};
-use std::test::Fail;
 use std::thread;
 
 /// How often a test looks for what another thread is to do, before it gives up.
@@ -21,78 +20,89 @@ pub fn comes_to(number: &AtomicU64, least: u64) -> bool {
     false
 }
 
-/// Returns the node with this number.
-pub fn id(number: u16) -> Result<NodeId, &'static str> {
-    NodeId::new(number).ok_or("a node's number is 1 to 16")
+/// Returns the name `r`.
+pub fn r() -> Option<Name> {
+    Name::new(b"r").ok()
 }
 
-/// Returns the request of a client on the name `r` at a node, with this number.
-pub fn entry(node: u16, client: u32, mode: Mode, seq: u64) -> Result<Entry, Fail> {
-    let node = id(node)?;
-    Ok(Entry {
-        name: Name::new(b"r")?,
+/// Returns the request of a client on a name at a node, with this number, or `None` where there is no such node.
+pub fn entry(name: Name, node: u16, client: u32, mode: Mode, seq: u64) -> Option<Entry> {
+    let node = NodeId::new(node)?;
+    Some(Entry {
+        name,
         stamp: Stamp { seq, node },
         client,
         mode,
     })
 }
 
-/// Returns the REQUEST with number 1 for `r` between these nodes.
-pub fn request(from: u16, to: u16, mode: Mode) -> Result<Message, Fail> {
-    Ok(Message::Request {
-        from: id(from)?,
-        to: id(to)?,
-        name: Name::new(b"r")?,
+/// Returns the REQUEST with number 1 for a name between these nodes, or `None` where there is no such node.
+pub fn request(name: Name, from: u16, to: u16, mode: Mode) -> Option<Message> {
+    Some(Message::Request {
+        from: NodeId::new(from)?,
+        to: NodeId::new(to)?,
+        name,
         mode,
         seq: 1,
     })
 }
 
 /// Returns the REPLY to such a REQUEST, which goes between these nodes.
-pub fn reply(from: u16, to: u16) -> Result<Message, Fail> {
-    Ok(Message::Reply {
-        from: id(from)?,
-        to: id(to)?,
-        name: Name::new(b"r")?,
+pub fn reply(name: Name, from: u16, to: u16) -> Option<Message> {
+    Some(Message::Reply {
+        from: NodeId::new(from)?,
+        to: NodeId::new(to)?,
+        name,
         seq: 1,
     })
 }
 
-/// Makes the sites of a cluster of this many nodes, whose numbers begin at `start`.
-pub fn sites_of(alloc: Global, nodes: u16, start: u64) -> Result<Vec<Site>, Fail> {
-    let mut sites = Vec::new(alloc);
-    for number in 1..=nodes {
-        sites.push(Site::new(alloc, id(number)?, nodes, start)?)?;
+/// Returns whether a value prints as this text.
+pub fn prints(alloc: Global, value: impl Display + Drop, text: &str) -> bool {
+    match value.to_string(alloc) {
+        Ok(printed) => printed.as_str() == text,
+        Err(_) => false,
     }
-    Ok(sites)
+}
+
+/// Makes the site of a node of so many, from number `start`, and adds it to the others. Returns whether that succeeds.
+fn adds_site(alloc: Global, sites: &mut Vec<Site>, number: u16, nodes: u16, start: u64) -> bool {
+    let Some(node) = NodeId::new(number) else {
+        return false;
+    };
+    match Site::new(alloc, node, nodes, start) {
+        Ok(site) => sites.push(site).is_ok(),
+        Err(_) => false,
+    }
+}
+
+/// Adds the sites of a cluster of this many nodes. Returns whether that succeeds.
+fn adds_sites(alloc: Global, sites: &mut Vec<Site>, nodes: u16, start: u64) -> bool {
+    for place in 0..nodes {
+        if !adds_site(alloc, sites, place + 1, nodes, start) {
+            return false;
+        }
+    }
+    true
+}
+
+/// Makes the sites of a cluster of this many nodes, whose numbers begin at `start`.
+pub fn sites_of(alloc: Global, nodes: u16, start: u64) -> Option<Vec<Site>> {
+    let mut sites = Vec::new(alloc);
+    if adds_sites(alloc, &mut sites, nodes, start) {
+        Some(sites)
+    } else {
+        None
+    }
 }
 
 /// Gives up the locks of the sites, and returns their books.
-pub fn books_of(alloc: Global, sites: Vec<Site>) -> Result<Vec<Book>, Fail> {
+pub fn books_of(alloc: Global, sites: Vec<Site>) -> Option<Vec<Book>> {
     let mut books = Vec::new(alloc);
     for site in sites {
-        books.push(site.close())?;
+        books.push(site.close()).ok()?;
     }
-    Ok(books)
-}
-
-/// A client locks `r` exclusively, and unlocks it.
-pub const USES_R: [(u8, u8); 2] = [(b'X', b'r'), (b'U', b'r')];
-
-/// Adds a client at a node to a script. Of its operations `X` and `S` lock the name of one letter exclusively or shared, and `U`
-/// unlocks it.
-pub fn add(alloc: Global, script: &mut Script, node: u16, ops: &[(u8, u8)]) -> Result<(), Fail> {
-    script.add_client(alloc, node)?;
-    for (kind, letter) in ops {
-        let name = Name::new(&[*letter])?;
-        let op = match *kind {
-            b'X' => Op::Lock(name, Mode::Exclusive),
-            b'S' => Op::Lock(name, Mode::Shared),
-            _ => Op::Unlock(name),
-        };
-        script.add_op(op)?;
-    }
-    Ok(())
+    Some(books)
 }
 
 /// Counts the steps and lets so many of them pass, and lets either nobody or everybody be inside.

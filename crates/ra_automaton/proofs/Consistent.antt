@@ -1,12 +1,10 @@
 -- Each step leads from a consistent state to a consistent one.
-use Rattle.std.proofs.Common.{◌≡◌, ◌≢◌, ◌⊎◌, ℕ, zero, suc, ◌+◌, ◌-◌, ◌<◌, ◌≤◌, ◌^◌, max, Bool, true, false, cond, not, ◌&&◌, List, [], ◌∷◌, length, filter, Option, Some, None, refl, sym, ap, ◌∙◌, subst, arith, inl, inr, nat_eq}
+use Rattle.std.proofs.Common.{◌≡◌, ◌≢◌, ◌⊎◌, ℕ, ◌+◌, ◌<◌, ◌≤◌, max, Bool, true, false, cond, not, ◌&&◌, List, Option, Some, None, refl, sym, ap, ◌∙◌, subst, arith, inl, inr}
 use Rattle.std.specs.Prelude.{◌==◌, IsTrue}
-use Rattle.std.specs.List.{list_any, range_with_len}
 use Rattle.std.specs.Ordering.{nat_cmp, eq_by_cmp}
 use Rattle.std.specs.Cmp.{nat_cmp_total}
 use Rattle.std.specs.FinSet as set
 use Rattle.std.specs.FinMap as map
-use Rattle.std.proofs.lemmas.Bool.{cases_lt}
 use Rattle.std.proofs.lemmas.Bool.Decides.{nat_tests}
 use Rattle.ra_stamp.specs.declared.mode.Mode.{Mode}
 use Rattle.ra_stamp.specs.declared.message.Message.{Message}
@@ -16,43 +14,9 @@ use Rattle.ra_stamp.specs.Stamp.{IsEarlier}
 use Rattle.ra_automaton.specs.declared.phase.Phase.{Phase}
 use Rattle.ra_automaton.specs.declared.phase.Phase.TheVariants.{Idle, Waiting, Inside}
 use Rattle.ra_automaton.specs.State.{State, IsOther, IsWaiting, IsInside, HasNumber, IsConsistent}
-use Rattle.ra_automaton.specs.Steps.{others_of, later_of, AsksOthers, EntersAlone, Begins, RequestStep, Defers, RepliesAtOnce, Awaits, Enters, WaitsOn, IsStray, TakesReply, ReceiveStep, LeaveStep, LeaveAndRequestStep, OwnGoesFirst}
-use Rattle.ra_automaton.proofs.SlotLemmas.{tied, untied, cases_same, eq_at, eq_apart}
-
--- a number of a filtered range is in the range and passes
-any_in_range : (p : ℕ → Bool) (first n q : ℕ) → list_any (λ y. nat_eq y q) (filter p (range_with_len first n)) ≡ true → (first ≤ q) × (q < first + n) × (p q ≡ true)
-any_in_range p first zero q h = absurd cc
-any_in_range p first (suc n) q h =
-    elim (cases_same first q) [
-      | inl same ↦
-          elim (p first) as (λ b. p first ≡ b → list_any (λ y. nat_eq y q) (cond b (first ∷ filter p (range_with_len (first + 1) n)) (filter p (range_with_len (first + 1) n))) ≡ true → (first ≤ q) × (q < first + suc n) × (p q ≡ true)) [
-            | true ↦ λ e _. (omega arith, omega arith, rw (← same) e)
-            | false ↦ λ e k. let rest = any_in_range p (first + 1) n q k in absurd (omega (arith, rest.0))
-          ] refl h
-      | inr apart ↦
-          let rest : list_any (λ y. nat_eq y q) (filter p (range_with_len (first + 1) n)) ≡ true =
-          elim (p first) as (λ b. list_any (λ y. nat_eq y q) (cond b (first ∷ filter p (range_with_len (first + 1) n)) (filter p (range_with_len (first + 1) n))) ≡ true → list_any (λ y. nat_eq y q) (filter p (range_with_len (first + 1) n)) ≡ true) [
-            | true ↦ λ k. rw (eq_apart first q apart) at k
-            | false ↦ λ k. k
-          ] h in
-          let found = any_in_range p (first + 1) n q rest in
-          (omega (arith, found.0), omega (arith, found.1), found.2)
-    ]
-
-in_range_any : (p : ℕ → Bool) (first n q : ℕ) → first ≤ q → q < first + n → p q ≡ true → list_any (λ y. nat_eq y q) (filter p (range_with_len first n)) ≡ true
-in_range_any p first zero q low high pass = absurd (omega arith)
-in_range_any p first (suc n) q low high pass =
-    elim (cases_same first q) [
-      | inl same ↦
-          let here : p first ≡ true = rw same pass in
-          rw here (rw (eq_at first q same) refl)
-      | inr apart ↦
-          let rest = in_range_any p (first + 1) n q (omega (arith, low)) (omega (arith, high)) pass in
-          elim (p first) as (λ b. list_any (λ y. nat_eq y q) (cond b (first ∷ filter p (range_with_len (first + 1) n)) (filter p (range_with_len (first + 1) n))) ≡ true) [
-            | true ↦ rw (eq_apart first q apart) rest
-            | false ↦ rest
-          ]
-    ]
+use Rattle.ra_automaton.specs.Steps.{others_of, later_of, Begins, RequestStep, Defers, RepliesAtOnce, TakesReply, ReceiveStep, LeaveStep, LeaveAndRequestStep, OwnGoesFirst}
+use Rattle.ra_automaton.proofs.Apart.{tied, untied, cases_same}
+use Rattle.ra_automaton.proofs.Ranges.{any_inside, any_passes}
 
 pub not_me : (q me : ℕ) → not (q == me) ≡ true → q ≢ me
 not_me q me h e = grind (arith, nat_tests)
@@ -63,12 +27,12 @@ is_not q me h = grind (arith, nat_tests)
 -- who is asked is another node
 asked_is_other : (s : State) (node : ℕ) → IsTrue (set.contains (set.from_list {R = nat_cmp} (others_of s.me s.nodes)) node) → IsOther s node
 asked_is_other s node h =
-    let found = any_in_range (λ k. not (k == s.me)) 1 s.nodes node (sym (set.contains-from_list_nat (others_of s.me s.nodes) node) ∙ h) in
+    let found = any_passes (λ k. not (k == s.me)) 1 s.nodes node (sym (set.contains-from_list_nat (others_of s.me s.nodes) node) ∙ h) in
     record { first = found.0; last = omega (arith, found.1); other = not_me node s.me found.2 }
 
 pub other_is_asked : (me nodes node : ℕ) → 1 ≤ node → node ≤ nodes → node ≢ me → set.contains (set.from_list {R = nat_cmp} (others_of me nodes)) node ≡ true
 other_is_asked me nodes node low high apart =
-    set.contains-from_list_nat (others_of me nodes) node ∙ in_range_any (λ k. not (k == me)) 1 nodes node low (omega (arith, high)) (is_not node me apart)
+    set.contains-from_list_nat (others_of me nodes) node ∙ (any_inside (λ k. not (k == me)) 1 nodes node low (omega (arith, high)) ∙ is_not node me apart)
 
 true_is_not_false : true ≡ false → ⊥
 true_is_not_false e = cc
@@ -307,11 +271,6 @@ consistent_leave old sends new h step =
 pub consistent_leave_and_request : (old : State) (mode : Mode) (sends : List Message) (entered : Bool) (new : State) → IsConsistent old → LeaveAndRequestStep old mode sends entered new → IsConsistent new
 consistent_leave_and_request old mode sends entered new h step =
     consistent_request step.between mode step.requests entered new (consistent_leave old step.replies step.between h step.leaves) step.asks
-
--- nothing stands in the slot for 0
-pub no_node_zero : (s : State) (slot : Option ℕ) → IsConsistent s → map.get s.deferred 0 ≡ slot → slot ≡ None
-no_node_zero s None h e = refl
-no_node_zero s (Some number) h e = let zeroth = h.deferred_others 0 number e in let first : 1 ≤ 0 = zeroth.first in absurd (omega arith)
 
 -- what a node inside holds
 pub inside_is : (phase : Phase) → IsInside phase → (seq : ℕ) × (mode : Mode) × (phase ≡ Inside seq mode)

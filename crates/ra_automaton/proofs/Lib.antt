@@ -1,5 +1,7 @@
+pub mod Apart
+mod Ranges
+mod WordLemmas
 pub mod Opening
-pub mod SlotLemmas
 mod Sent
-mod Marks
 pub mod Consistent
+mod Kept

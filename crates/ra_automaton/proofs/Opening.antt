@@ -1,8 +1,7 @@
 -- A node that is idle, awaits nobody and has deferred nobody is consistent.
-use Rattle.std.proofs.Common.{◌≡◌, ℕ, ◌≤◌, List, Some, None, refl, arith, rules}
-use Rattle.std.specs.Ordering.{nat_cmp}
+use Rattle.std.proofs.Common.{ℕ, ◌≤◌, List, refl, rules}
 use Rattle.std.specs.FinSet.{members}
-use Rattle.std.specs.FinMap.{get-empty, gets}
+use Rattle.std.specs.FinMap.{gets}
 use Rattle.ra_stamp.specs.NodeId.{IsNodeNumber}
 use Rattle.ra_automaton.specs.State.{opening, IsConsistent}
 

@@ -1,11 +1,9 @@
 -- The lists of messages, one more at a time.
-use Rattle.std.proofs.Common.{◌≡◌, ◌≢◌, ℕ, zero, suc, ◌+◌, ◌<◌, Bool, true, false, cond, not, eqb, List, [], ◌∷◌, ◌++◌, length, get_or, take, map, filter, Option, Some, None, refl, sym, ap, ◌∙◌, subst, append_assoc, arith}
+use Rattle.std.proofs.Common.{◌≡◌, ◌≢◌, ℕ, zero, suc, ◌+◌, Bool, true, false, cond, not, List, [], ◌∷◌, ◌++◌, map, filter, refl, sym, ap, ◌∙◌, append_assoc, arith}
 use Rattle.std.specs.Prelude.{◌==◌}
 use Rattle.std.specs.List.{range_with_len}
-use Rattle.std.proofs.lemmas.List.{append-nil, take_more, length-take}
+use Rattle.std.proofs.lemmas.List.{append-nil}
 use Rattle.std.proofs.lemmas.Bool.Decides.{nat_tests}
-use Rattle.ra_automaton.specs.Slots.{filled_from}
-use Rattle.ra_automaton.specs.Steps.{others_of}
 
 range_push : (first n : ℕ) → range_with_len first (suc n) ≡ range_with_len first n ++ (first + n) ∷ []
 range_push first zero = ap (λ (x : ℕ). x ∷ []) (omega arith)
@@ -24,49 +22,36 @@ map_push : {X Y : Type 0} (f : X → Y) (xs ys : List X) → map f (xs ++ ys) �
 map_push f [] ys = refl
 map_push f (x ∷ xs) ys = λ i. f x ∷ map_push f xs ys i
 
-others_push : (me n : ℕ) → others_of me (suc n) ≡ others_of me n ++ cond (not (suc n == me)) (suc n ∷ []) []
-others_push me n =
+passing_push : (p : ℕ → Bool) (n : ℕ) → filter p (range_with_len 1 (suc n)) ≡ filter p (range_with_len 1 n) ++ cond (p (suc n)) (suc n ∷ []) []
+passing_push p n =
     let next : 1 + n ≡ suc n = omega arith in
-    ap (filter (λ node. not (node == me))) (range_push 1 n ∙ ap (λ (x : ℕ). range_with_len 1 n ++ x ∷ []) next)
-    ∙ filter_push (λ node. not (node == me)) (range_with_len 1 n) (suc n)
+    ap (filter p) (range_push 1 n ∙ ap (λ (x : ℕ). range_with_len 1 n ++ x ∷ []) next)
+    ∙ filter_push p (range_with_len 1 n) (suc n)
 
--- another node, and its message
-pub to_other : {X : Type 0} (f : ℕ → X) (me n : ℕ) (before sent now : List X) → sent ≡ before ++ map f (others_of me n) → suc n ≢ me → now ≡ sent ++ f (suc n) ∷ [] → now ≡ before ++ map f (others_of me (suc n))
-to_other f me n before sent now so_far apart more =
-    let passes : not (suc n == me) ≡ true = grind (arith, nat_tests) in
-    let next : others_of me (suc n) ≡ others_of me n ++ suc n ∷ [] = others_push me n ∙ ap (λ b. others_of me n ++ cond b (suc n ∷ []) []) passes in
-    more ∙ ap (λ xs. xs ++ f (suc n) ∷ []) so_far ∙ append_assoc before (map f (others_of me n)) (f (suc n) ∷ []) ∙ ap (λ xs. before ++ xs) (sym (ap (map f) next ∙ map_push f (others_of me n) (suc n ∷ [])))
+-- a node that passes, and its message
+pub to_passing : {X : Type 0} (f : ℕ → X) (p : ℕ → Bool) (n : ℕ) (before sent now : List X) → sent ≡ before ++ map f (filter p (range_with_len 1 n)) → p (suc n) ≡ true → now ≡ sent ++ f (suc n) ∷ []
+    → now ≡ before ++ map f (filter p (range_with_len 1 (suc n)))
+to_passing f p n before sent now so_far passes more =
+    let xs = filter p (range_with_len 1 n) in
+    let next : filter p (range_with_len 1 (suc n)) ≡ xs ++ suc n ∷ [] = passing_push p n ∙ ap (λ b. xs ++ cond b (suc n ∷ []) []) passes in
+    more ∙ ap (λ ys. ys ++ f (suc n) ∷ []) so_far ∙ append_assoc before (map f xs) (f (suc n) ∷ []) ∙ ap (λ ys. before ++ ys) (sym (ap (map f) next ∙ map_push f xs (suc n ∷ [])))
 
--- the node itself
-pub to_itself : {X : Type 0} (f : ℕ → X) (me n : ℕ) (before sent : List X) → sent ≡ before ++ map f (others_of me n) → suc n ≡ me → sent ≡ before ++ map f (others_of me (suc n))
-to_itself f me n before sent so_far same =
-    let fails : not (suc n == me) ≡ false = grind (arith, nat_tests) in
-    let next : others_of me (suc n) ≡ others_of me n = others_push me n ∙ ap (λ b. others_of me n ++ cond b (suc n ∷ []) []) fails ∙ append-nil (others_of me n) in
-    so_far ∙ ap (λ xs. before ++ map f xs) (sym next)
+-- a node that does not
+pub to_failing : {X : Type 0} (f : ℕ → X) (p : ℕ → Bool) (n : ℕ) (before sent : List X) → sent ≡ before ++ map f (filter p (range_with_len 1 n)) → p (suc n) ≡ false
+    → sent ≡ before ++ map f (filter p (range_with_len 1 (suc n)))
+to_failing f p n before sent so_far fails =
+    let xs = filter p (range_with_len 1 n) in
+    let next : filter p (range_with_len 1 (suc n)) ≡ xs = passing_push p n ∙ ap (λ b. xs ++ cond b (suc n ∷ []) []) fails ∙ append-nil xs in
+    so_far ∙ ap (λ ys. before ++ map f ys) (sym next)
 
-filled_push_none : (slots : List (Option ℕ)) (first : ℕ) → filled_from first (slots ++ None ∷ []) ≡ filled_from first slots
-filled_push_none [] first = refl
-filled_push_none (None ∷ slots) first = filled_push_none slots (first + 1)
-filled_push_none (Some number ∷ slots) first = λ i. (first, number) ∷ filled_push_none slots (first + 1) i
+pub is_other : (n me : ℕ) → suc n ≢ me → not (suc n == me) ≡ true
+is_other n me apart = grind (arith, nat_tests)
 
-filled_push_some : (slots : List (Option ℕ)) (first number at : ℕ) → first + length slots ≡ at → filled_from first (slots ++ Some number ∷ []) ≡ filled_from first slots ++ (at, number) ∷ []
-filled_push_some [] first number at e = let here : first ≡ at = omega arith in λ i. (here i, number) ∷ []
-filled_push_some (None ∷ slots) first number at e = filled_push_some slots (first + 1) number at (omega arith)
-filled_push_some (Some other ∷ slots) first number at e = λ i. (first, other) ∷ filled_push_some slots (first + 1) number at (omega arith) i
+pub is_itself : (n me : ℕ) → suc n ≡ me → not (suc n == me) ≡ false
+is_itself n me same = grind (arith, nat_tests)
 
--- a deferred node, and its message
-pub to_deferred : {X : Type 0} (f : ℕ × ℕ → X) (slots : List (Option ℕ)) (n number : ℕ) (before sent now : List X) → sent ≡ before ++ map f (filled_from 0 (take n slots)) → n < length slots
-    → get_or slots n None ≡ Some number → now ≡ sent ++ f (n, number) ∷ [] → now ≡ before ++ map f (filled_from 0 (take (n + 1) slots))
-to_deferred f slots n number before sent now so_far within at more =
-    let here : 0 + length (take n slots) ≡ n = omega (arith, length-take n slots) in
-    let next : take (n + 1) slots ≡ take n slots ++ Some number ∷ [] = take_more slots n None within ∙ ap (λ (o : Option ℕ). take n slots ++ o ∷ []) at in
-    let pushed : filled_from 0 (take (n + 1) slots) ≡ filled_from 0 (take n slots) ++ (n, number) ∷ [] = ap (filled_from 0) next ∙ filled_push_some (take n slots) 0 number n here in
-    more ∙ ap (λ xs. xs ++ f (n, number) ∷ []) so_far ∙ append_assoc before (map f (filled_from 0 (take n slots))) (f (n, number) ∷ []) ∙ ap (λ xs. before ++ xs) (sym (ap (map f) pushed ∙ map_push f (filled_from 0 (take n slots)) ((n, number) ∷ [])))
+-- ---- The messages to the deferred nodes.
 
--- a node that is not deferred
-pub to_nobody : {X : Type 0} (f : ℕ × ℕ → X) (slots : List (Option ℕ)) (n : ℕ) (before sent : List X) → sent ≡ before ++ map f (filled_from 0 (take n slots)) → n < length slots
-    → get_or slots n None ≡ None → sent ≡ before ++ map f (filled_from 0 (take (n + 1) slots))
-to_nobody f slots n before sent so_far within at =
-    let next : take (n + 1) slots ≡ take n slots ++ None ∷ [] = take_more slots n None within ∙ ap (λ (o : Option ℕ). take n slots ++ o ∷ []) at in
-    let same : filled_from 0 (take (n + 1) slots) ≡ filled_from 0 (take n slots) = ap (filled_from 0) next ∙ filled_push_none (take n slots) 0 in
-    so_far ∙ ap (λ es. before ++ map f es) (sym same)
+pub map-entries : {X : Type 0} (f : ℕ × ℕ → X) (v : ℕ → ℕ) (nodes : List ℕ) → map f (map (λ node. (node, v node)) nodes) ≡ map (λ node. f (node, v node)) nodes
+map-entries f v [] = refl
+map-entries f v (node ∷ nodes) = λ i. f (node, v node) ∷ map-entries f v nodes i

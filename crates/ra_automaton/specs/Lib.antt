@@ -1,5 +1,6 @@
 pub mod State
 pub mod Steps
-pub mod Slots
+pub mod Words
 pub mod View
 pub mod Cases
+pub mod Memory

@@ -1,8 +1,8 @@
 -- An automaton's fields as its state.
-use Rattle.std.specs.Prelude.{◌≡◌, ℕ, ◌+◌, List, Bool, Option, length}
+use Rattle.std.specs.Prelude.{◌≡◌, length}
 use Rattle.ra_automaton.specs.declared.automaton.Automaton.TheInside.{Inside}
 use Rattle.ra_automaton.specs.State.{State, IsConsistent}
-use Rattle.ra_automaton.specs.Slots.{marked, filled}
+use Rattle.ra_automaton.specs.Words.{set_of, map_of}
 
 abbrev pub state_of : Inside → State
 state_of a =
@@ -12,12 +12,11 @@ state_of a =
       name = a.name;
       highest = a.highest;
       phase = a.phase;
-      awaited = marked a.awaited.items;
-      deferred = filled a.deferred.items;
+      awaited = set_of a.awaited;
+      deferred = map_of a.deferred a.numbers.items;
     }
 
--- there is a slot for each node, and the state is consistent
+-- there is a number for each node, and the state is consistent: so no bit is set above the nodes
 pub record IsKept (a : Inside) : Type 0 where
-  pub awaited_slots : length a.awaited.items ≡ a.nodes + 1
-  pub deferred_slots : length a.deferred.items ≡ a.nodes + 1
+  pub numbers : length a.numbers.items ≡ a.nodes
   pub consistent : IsConsistent (state_of a)

@@ -5,10 +5,9 @@ use crate::cases::{
     Answer, Doing, Effect, answer_when_idle, answer_when_inside, answer_when_waiting, compare,
     effect_of_reply,
 };
+use crate::numbers::{fill, number_of, zeros};
 use crate::sends::{push_replies, push_requests};
-use crate::slots::{
-    fill, is_marked, is_only, mark_others, number_of, unfill, unfilled, unmark, unmarked,
-};
+use crate::words::{all_but, contains, is_only, remove};
 use crate::{LeaveError, NewError, Phase, Reaction, ReceiveError, RequestError};
 use ra_stamp::{Message, Messages, Mode, Name, NodeId, Stamp};
 use std::alloc::Global;
@@ -22,10 +21,12 @@ pub struct Automaton {
     name: Name,
     highest: u64,
     phase: Phase,
-    /// Whether a node is awaited, by its number. The first slot stays empty.
-    awaited: Vec<bool>,
-    /// The number with which a node is deferred, by its number. The first slot stays empty.
-    deferred: Vec<Option<u64>>,
+    /// The nodes that are awaited: bit i - 1 stands for node i.
+    awaited: u64,
+    /// The nodes that are deferred, likewise.
+    deferred: u64,
+    /// The number with which node i is deferred, at place i - 1. It means nothing where the node is not.
+    numbers: Vec<u64>,
 }
 
 impl Model for Automaton {
@@ -54,6 +55,7 @@ impl Automaton {
     ghost use Rattle.ra_automaton.specs.Steps.{greatest_number, later_of, OwnGoesFirst, Awaits};
     ghost use Rattle.ra_automaton.specs.Steps.{Begins, Defers, RepliesAtOnce, TakesReply, LetsEnter};
     ghost use Rattle.ra_automaton.specs.Steps.{RequestStep, ReceiveStep, LeaveStep, LeaveAndRequestStep};
+    ghost use Rattle.ra_automaton.specs.Memory.{IsRepliedAtOnce};
 
     /// Makes the automaton of node `me` of `nodes` for a resource. The highest number that it has met is `start`, 0
     /// to 2^64-1. The cost is linear in the number of nodes.
@@ -83,17 +85,16 @@ impl Automaton {
         if me.get() > nodes {
             return Err(NewError::BadNode);
         }
-        let slots = usize::from(nodes) + 1;
-        let awaited = unmarked(alloc, slots)?;
-        let deferred = unfilled(alloc, slots)?;
+        let numbers = zeros(alloc, usize::from(nodes))?;
         Ok(Automaton {
             me,
             nodes,
             name,
             highest: start,
             phase: Phase::Idle,
-            awaited,
-            deferred,
+            awaited: 0,
+            deferred: 0,
+            numbers,
         })
     }
 
@@ -129,7 +130,7 @@ impl Automaton {
     }
 
     /// Takes a message from another node, which must be about this resource. A REPLY that is not awaited is a stray:
-    /// it is taken, and changes nothing. The cost is linear in the number of nodes.
+    /// it is taken, and changes nothing. The cost is constant. It allocates only for a REPLY that goes out at once.
     ///
     /// # Errors
     ///
@@ -137,7 +138,7 @@ impl Automaton {
     ///
     /// 1. `WrongNode`: the message is for another node.
     /// 2. `Stranger`: its sender is this node, or is above the number of nodes.
-    /// 3. `Memory`: memory ran out.
+    /// 3. `Memory`: memory ran out, for a REPLY that was to go out at once.
     #[inline(always)]
     pub fn receive(&mut self, alloc: Global, message: &Message) -> Result<Reaction, ReceiveError>
         requires { name_of message.now ≡ self.old.name }
@@ -151,6 +152,7 @@ impl Automaton {
         ensures stranger { IsErrOf result ReceiveError.Stranger
             ↔ ((to_of message.now ≡ self.old.me)
             × ((from_of message.now ≡ self.old.me) ⊎ (self.old.nodes < from_of message.now))) }
+        ensures memory_only_for_reply { IsErrOf result ReceiveError.Memory → IsRepliedAtOnce self.old message.now }
         ensures err { OnErr result (self.new ≡ self.old) }
     {
         if message.to() != self.me {
@@ -198,7 +200,7 @@ impl Automaton {
             return Err(LeaveError::NotHeld);
         }
         let mut sends = Messages::new(alloc);
-        push_replies(&mut sends, self.me, self.name, &self.deferred)?;
+        push_replies(&mut sends, self.me, self.name, self.deferred, &self.numbers)?;
         self.end();
         let entered = false;
         Ok(Reaction { sends, entered })
@@ -226,7 +228,7 @@ impl Automaton {
         }
         let seq = self.highest + 1;
         let mut sends = Messages::new(alloc);
-        push_replies(&mut sends, self.me, self.name, &self.deferred)?;
+        push_replies(&mut sends, self.me, self.name, self.deferred, &self.numbers)?;
         push_requests(&mut sends, self.me, self.nodes, self.name, mode, seq)?;
         self.end();
         let entered = self.begin(mode);
@@ -270,7 +272,7 @@ impl Automaton {
         ensures value { result ≡ set.contains self.now.awaited node }
         ensures consistent { IsConsistent self.now }
     {
-        is_marked(&self.awaited, node)
+        contains(self.awaited, node)
     }
 
     /// Returns the number of the request of a node whose REPLY is deferred, or `None` where it is not. It does not
@@ -279,11 +281,11 @@ impl Automaton {
         ensures value { result ≡ finmap.get self.now.deferred node }
         ensures consistent { IsConsistent self.now }
     {
-        number_of(&self.deferred, node)
+        number_of(self.deferred, &self.numbers, node)
     }
 
     /// Returns whether a message is the last REPLY that the node awaits: received as a message for it about this resource, it lets
-    /// the node enter. It does not allocate. The cost is linear in the number of nodes.
+    /// the node enter. It does not allocate. The cost is constant.
     pub fn lets_enter(&self, message: &Message) -> bool
         ensures { IsTrue result ↔ LetsEnter self.now message.now }
     {
@@ -313,7 +315,7 @@ impl Automaton {
             return true;
         }
         self.phase = Phase::Waiting { seq, mode };
-        mark_others(&mut self.awaited, self.me, usize::from(self.nodes));
+        self.awaited = all_but(self.me, self.nodes);
         false
     }
 
@@ -323,7 +325,7 @@ impl Automaton {
         ensures { self.new ≡ record self.old { phase = Phase.Idle; deferred = finmap.empty } }
     {
         self.phase = Phase::Idle;
-        unfill(&mut self.deferred);
+        self.deferred = 0;
     }
 
     /// Returns what a REQUEST of another node leads to.
@@ -357,7 +359,8 @@ impl Automaton {
         ensures ok { IfOk result (λ sends. Defers self.old other seq wanted sends.items self.new
             ⊎ RepliesAtOnce self.old other seq wanted sends.items self.new) }
         ensures err { OnErr result (self.new ≡ self.old) }
-        ensures memory { IfErr result (λ fault. fault ≡ ReceiveError.Memory) }
+        ensures memory { IfErr result (λ fault. (fault ≡ ReceiveError.Memory)
+            × (OwnGoesFirst self.old.phase self.old.me other seq wanted → ⊥)) }
     {
         let mut sends = Messages::new(alloc);
         match self.answer(other, wanted, seq) {
@@ -394,11 +397,11 @@ impl Automaton {
               (finmap.get self.old.deferred other) seq);
         } }
     {
-        let later = match number_of(&self.deferred, other) {
+        let later = match number_of(self.deferred, &self.numbers, other) {
             None => seq,
             Some(before) => before.max(seq),
         };
-        fill(&mut self.deferred, other, later);
+        self.deferred = fill(self.deferred, &mut self.numbers, other, later);
         self.highest = self.highest.max(seq);
     }
 
@@ -410,8 +413,8 @@ impl Automaton {
             × (set.remove self.now.awaited other ≡ set.empty → ⊥) }
         ensures stray { result ≡ Effect.Stray → (mode : Mode) → Awaits self.now other number mode → ⊥ }
     {
-        let awaited = is_marked(&self.awaited, other);
-        let others = !is_only(&self.awaited, other);
+        let awaited = contains(self.awaited, other);
+        let others = !is_only(self.awaited, other);
         match self.phase {
             Phase::Idle => effect_of_reply(Doing::Nothing, false, awaited, others),
             Phase::Waiting { seq, .. } => effect_of_reply(
@@ -440,7 +443,7 @@ impl Automaton {
                 false
             }
             Effect::Enter => {
-                self.enter(other);
+                self.enter();
                 true
             }
         }
@@ -452,16 +455,15 @@ impl Automaton {
         requires not_last { set.remove self.old.awaited other ≡ set.empty → ⊥ }
         ensures { self.new ≡ record self.old { awaited = set.remove self.old.awaited other } }
     {
-        unmark(&mut self.awaited, other);
+        self.awaited = remove(self.awaited, other);
     }
 
     /// Takes the last REPLY that is awaited, and enters.
-    fn enter(&mut self, other: NodeId)
-        requires waits { IsWaiting self.old.phase }
-        requires last { set.remove self.old.awaited other ≡ set.empty }
+    fn enter(&mut self)
+        requires { IsWaiting self.old.phase }
         ensures { self.new ≡ record self.old { phase = entered_phase self.old.phase; awaited = set.empty } }
     {
-        unmark(&mut self.awaited, other);
+        self.awaited = 0;
         if let Phase::Waiting { seq, mode } = self.phase {
             self.phase = Phase::Inside { seq, mode };
         }

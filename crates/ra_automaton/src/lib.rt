@@ -6,16 +6,14 @@ mod automaton;
 mod cases;
 mod error;
 mod laws;
+mod numbers;
 mod phase;
 mod reaction;
 mod sends;
-mod slots;
+mod words;
 
 pub use automaton::Automaton;
 pub use error::{LeaveError, NewError, ReceiveError, RequestError};
 pub use laws::steps_keep_a_state_consistent;
 pub use phase::Phase;
 pub use reaction::Reaction;
-
-#[cfg(test)]
-mod tests;

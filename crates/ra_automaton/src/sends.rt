@@ -1,10 +1,12 @@
 //! The messages that events send.
-ghost use Rattle.std.specs.Prelude.{◌≡◌, ◌≤◌, ◌++◌, length, map, None, OnOk};
-ghost use Rattle.std.specs.List.{slice_index_or};
+ghost use Rattle.std.specs.Prelude.{◌≡◌, ℕ, ◌≤◌, ◌++◌, length, map, IsTrue, OnOk};
+ghost use Rattle.std.specs.FinSet as set;
+ghost use Rattle.std.specs.FinMap as finmap;
 ghost use Rattle.ra_stamp.specs.NodeId.{IsNodeNumber};
-ghost use Rattle.ra_automaton.specs.Slots.{filled_from};
+ghost use Rattle.ra_automaton.specs.Words.{set_of, map_of};
 ghost use Rattle.ra_automaton.specs.Steps.{others_of};
 
+use crate::words::contains;
 use ra_stamp::{Memory, Message, Messages, Mode, Name, NodeId};
 
 /// Returns the node with a number that is known to be one.
@@ -49,20 +51,24 @@ pub fn push_replies(
     sends: &mut Messages,
     me: NodeId,
     name: Name,
-    deferred: &[Option<u64>],
+    deferred: u64,
+    numbers: &[u64],
 ) -> Result<(), Memory>
-    requires slots { length deferred.now ≤ 17 }
-    requires first { slice_index_or deferred.now 0 None ≡ None }
+    requires nodes { length numbers.now ≤ 16 }
+    requires numbered { (node : ℕ) → IsTrue (set.contains (set_of deferred) node)
+        → node ≤ length numbers.now }
     ensures { OnOk result (sends.new.items ≡ sends.old.items
-        ++ map (λ entry. Message.Reply me entry.0 name entry.1) (filled_from 0 deferred.now)) }
+        ++ map (λ entry. Message.Reply me entry.0 name entry.1)
+        (finmap.entries (map_of deferred numbers.now))) }
 {
-    for place in 1..deferred.len() {
-        if let Some(seq) = deferred[place] {
+    for place in 0..numbers.len() {
+        let to = node(place as u16 + 1);
+        if contains(deferred, to) {
             sends.push(Message::Reply {
                 from: me,
-                to: node(place as u16),
+                to,
                 name,
-                seq,
+                seq: numbers[place],
             })?;
         }
     }

@@ -56,6 +56,18 @@ impl Bag {
         self.messages.get(place as usize).copied()
     }
 
+    /// Returns whether the message at this place, counted from 0, is equal to this one. It does not allocate.
+    #[inline(always)]
+    pub fn is_at(&self, place: u64, message: &Message) -> bool
+        ensures { IsTrue result ↔ ((place < length self.now.items)
+            × (slice_index_or self.now.items place message.now ≡ message.now)) }
+    {
+        match self.messages.get(place as usize) {
+            Some(other) => is_same(other, message),
+            None => false,
+        }
+    }
+
     /// Returns whether a message that is equal to this one is under way, in time linear in the number of
     /// messages. It does not allocate.
     pub fn contains(&self, message: &Message) -> bool
@@ -77,7 +89,7 @@ impl Bag {
             → (k : ℕ) → k < place → slice_index_or self.now.items k message.now ≢ message.now) }
         ensures none { IsNone result ↔ ¬ Contains self.now.items message.now }
     {
-        if is_at(&self.messages, near, message) {
+        if self.is_at(near, message) {
             return Some(near);
         }
         let first = place_of(&self.messages, message)?;
@@ -143,17 +155,6 @@ impl Bag {
             return self.messages.pop_front();
         }
         self.messages.remove(place as usize)
-    }
-}
-
-/// Returns whether the message at this place is equal to this one.
-fn is_at(messages: &VecDeque<Message>, place: u64, message: &Message) -> bool
-    ensures { IsTrue result ↔ ((place < length messages.now.items)
-        × (slice_index_or messages.now.items place message.now ≡ message.now)) }
-{
-    match messages.get(place as usize) {
-        Some(other) => is_same(other, message),
-        None => false,
     }
 }
 

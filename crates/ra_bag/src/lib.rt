@@ -4,6 +4,3 @@
 mod bag;
 
 pub use bag::Bag;
-
-#[cfg(test)]
-mod tests;

@@ -13,16 +13,3 @@ pub use answering::answer;
 pub use command_line::CommandFault;
 pub use error::AnswerError;
 pub use serving::{refuse_words, serve};
-
-#[cfg(test)]
-mod check_tests;
-#[cfg(test)]
-mod cluster_tests;
-#[cfg(test)]
-mod seed_tests;
-#[cfg(test)]
-mod sim_tests;
-#[cfg(test)]
-mod test_helpers;
-#[cfg(test)]
-mod tests;

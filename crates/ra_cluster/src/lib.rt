@@ -61,10 +61,6 @@ pub use stop::Stop;
 #[cfg(test)]
 mod outcome_tests;
 #[cfg(test)]
-mod settling_tests;
-#[cfg(test)]
 mod test_helpers;
 #[cfg(test)]
 mod threads_tests;
-#[cfg(test)]
-mod waiting_tests;

@@ -1,88 +1,114 @@
 //! The threads that do a script, at sites that the test makes.
-use crate::test_helpers::{USES_R, add, books_of, entry, sites_of};
+use crate::test_helpers::{Does, USES_R, books_of, entry, r, script_of, two_sites};
 use crate::threads::{Shared, run_threads};
-use crate::{Gate, Grant, OpenGate, Post, Site, Stop};
+use crate::{Book, Grant, OpenGate, Post, Site, Stop};
 use ra_schedule::Script;
-use ra_stamp::Mode;
+use ra_stamp::{Mode, Name};
 use std::alloc::Global;
 use std::sync::{Mutex, Wait};
-use std::test::Fail;
 use std::thread::Threads;
 
 /// Has threads do a script at these sites, and returns the grants that are kept.
-fn run_at<R: Threads + Wait + Sync, G: Gate>(
+fn run_at<R: Threads + Wait + Sync>(
     rt: &R,
     alloc: Global,
     script: &Script,
     sites: &[Site],
-    gate: &G,
-) -> Result<Vec<Grant>, Fail> {
-    let (post, inboxes) = Post::new(alloc, script.nodes())?;
+) -> Option<Vec<Grant>> {
+    let (post, inboxes) = Post::new(alloc, script.nodes()).ok()?;
     let grants = Mutex::new(Vec::new(alloc));
     let shared = Shared {
         script,
         sites,
         post: &post,
         grants: &grants,
-        gate,
+        gate: &OpenGate,
     };
     run_threads(rt, alloc, &shared, &inboxes);
-    Ok(grants.into_inner())
+    Some(grants.into_inner())
+}
+
+/// Returns whether the grants are those of the first two requests of client 1 at node 1, for `r` exclusively and then shared.
+fn are_both(grants: &[Grant], name: Name) -> bool {
+    let first = entry(name, 1, 1, Mode::Exclusive, 1);
+    let second = entry(name, 1, 1, Mode::Shared, 2);
+    match (grants, first, second) {
+        ([one, two], Some(first), Some(second)) => one.entry == first && two.entry == second,
+        _ => false,
+    }
+}
+
+/// A client locks `r` exclusively and unlocks it, and then shared.
+const USES_R_TWICE: &[Does] = &[
+    Does::Locks(Mode::Exclusive),
+    Does::Unlocks,
+    Does::Locks(Mode::Shared),
+    Does::Unlocks,
+];
+
+/// Returns whether both grants of a client are kept.
+fn keeps_both<R: Threads + Wait + Sync>(rt: &R, alloc: Global) -> Option<bool> {
+    let name = r()?;
+    let script = script_of(alloc, 2, name, 1, USES_R_TWICE)?;
+    let sites = two_sites(alloc, 0)?;
+    let grants = run_at(rt, alloc, &script, &sites)?;
+    Some(are_both(&grants, name))
 }
 
 #[test]
-fn each_grant_is_kept(rt: HostRuntime) -> Result<(), Fail> {
-    let alloc = rt.alloc();
-    let mut script = Script::new(alloc, 2)?;
-    let ops = [(b'X', b'r'), (b'U', b'r'), (b'S', b'r'), (b'U', b'r')];
-    add(alloc, &mut script, 1, &ops)?;
-    let sites = sites_of(alloc, 2, 0)?;
-    let grants = run_at(&rt, alloc, &script, &sites, &OpenGate)?;
-    let expected = [
-        entry(1, 1, Mode::Exclusive, 1)?,
-        entry(1, 1, Mode::Shared, 2)?,
-    ]
-    .map(|entry| Grant { entry });
-    assert!(rt; grants.as_slice() == expected.as_slice());
-    Ok(())
+fn each_grant_is_kept(rt: HostRuntime) {
+    assert!(rt; keeps_both(&rt, rt.alloc()) == Some(true));
 }
 
-#[test]
-fn a_client_of_a_stopped_node_stops_no_other(rt: HostRuntime) -> Result<(), Fail> {
-    let alloc = rt.alloc();
-    let mut script = Script::new(alloc, 2)?;
-    add(alloc, &mut script, 2, &USES_R)?;
-    let sites = sites_of(alloc, 2, 0)?;
-    let [_, site] = sites.as_slice() else {
-        return Err(Fail::new("two sites"));
-    };
-    site.stop(&rt, Stop::Clock);
-    let grants = run_at(&rt, alloc, &script, &sites, &OpenGate)?;
-    assert!(rt; grants.is_empty());
+/// Returns whether the books of two nodes have no event, and these faults.
+fn have_faults(books: &[Book], first: Option<Stop>, second: Option<Stop>) -> bool {
+    match books {
+        [one, two] => {
+            one.fault() == first
+                && two.fault() == second
+                && one.events().len() == 0
+                && two.events().len() == 0
+        }
+        _ => false,
+    }
+}
+
+/// Has a client at this node of two use `r` at these sites. Returns whether no grant is kept, and the books have no event and these
+/// faults then.
+fn ends_so<R: Threads + Wait + Sync>(
+    rt: &R,
+    alloc: Global,
+    node: u16,
+    sites: Vec<Site>,
+    first: Option<Stop>,
+    second: Option<Stop>,
+) -> Option<bool> {
+    let script = script_of(alloc, 2, r()?, node, USES_R)?;
+    let grants = run_at(rt, alloc, &script, &sites)?;
     let books = books_of(alloc, sites)?;
-    let [one, two] = books.as_slice() else {
-        return Err(Fail::new("two books"));
-    };
-    assert_eq!(rt; (one.fault(), one.events().len()), (None, 0));
-    assert_eq!(rt; (two.fault(), two.events().len()), (Some(Stop::Clock), 0));
-    Ok(())
+    Some(grants.is_empty() && have_faults(&books, first, second))
+}
+
+/// Returns whether a client of node 2, which is stopped, stops no other.
+fn stops_no_other<R: Threads + Wait + Sync>(rt: &R, alloc: Global) -> Option<bool> {
+    let sites = two_sites(alloc, 0)?;
+    sites.get(1)?.stop(rt, Stop::Clock);
+    ends_so(rt, alloc, 2, sites, None, Some(Stop::Clock))
 }
 
 #[test]
-fn a_refusal_of_a_client_stops_all(rt: HostRuntime) -> Result<(), Fail> {
-    let alloc = rt.alloc();
-    let mut script = Script::new(alloc, 2)?;
-    add(alloc, &mut script, 1, &USES_R)?;
-    // No number is left for any name.
-    let sites = sites_of(alloc, 2, u64::MAX)?;
-    let grants = run_at(&rt, alloc, &script, &sites, &OpenGate)?;
-    assert!(rt; grants.is_empty());
-    let books = books_of(alloc, sites)?;
-    let [one, two] = books.as_slice() else {
-        return Err(Fail::new("two books"));
-    };
+fn a_client_of_a_stopped_node_stops_no_other(rt: HostRuntime) {
+    assert!(rt; stops_no_other(&rt, rt.alloc()) == Some(true));
+}
+
+/// Returns whether a client of node 1 stops all where no number is left for any name.
+fn stops_all<R: Threads + Wait + Sync>(rt: &R, alloc: Global) -> Option<bool> {
+    let sites = two_sites(alloc, u64::MAX)?;
     let fault = Some(Stop::Exhausted);
-    assert_eq!(rt; (one.fault(), one.events().len()), (fault, 0));
-    assert_eq!(rt; (two.fault(), two.events().len()), (fault, 0));
-    Ok(())
+    ends_so(rt, alloc, 1, sites, fault, fault)
+}
+
+#[test]
+fn a_refusal_of_a_client_stops_all(rt: HostRuntime) {
+    assert!(rt; stops_all(&rt, rt.alloc()) == Some(true));
 }

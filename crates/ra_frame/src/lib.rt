@@ -11,6 +11,3 @@ pub use decoding::{decode, one_spelling, round_trip};
 pub use encoding::encode;
 pub use error::FrameError;
 pub use frame::Frame;
-
-#[cfg(test)]
-mod tests;

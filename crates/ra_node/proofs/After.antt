@@ -24,10 +24,10 @@ use Rattle.ra_node.proofs.Kept.{ask_kept, leave_kept, receive_kept}
 use Rattle.ra_node.proofs.NodeLemmas.{found, after_update}
 
 -- this slot was found at a name, and the slots afterwards have the new one there and all others as before
-record IsWritten (slots : List (List ℕ × Resource)) (name : List ℕ) (slot new : Resource) (slots' : List (List ℕ × Resource)) : Type 0 where
-  was : Some slot ≡ lookup (bytes_eq name) slots
-  slots_are : slots' ≡ set_value (bytes_eq name) slots new
-  finds : (q : List ℕ) → lookup (bytes_eq q) slots' ≡ cond (bytes_eq name q) (Some new) (lookup (bytes_eq q) slots)
+pub record IsWritten (slots : List (List ℕ × Resource)) (name : List ℕ) (slot new : Resource) (slots' : List (List ℕ × Resource)) : Type 0 where
+  pub was : Some slot ≡ lookup (bytes_eq name) slots
+  pub slots_are : slots' ≡ set_value (bytes_eq name) slots new
+  pub finds : (q : List ℕ) → lookup (bytes_eq q) slots' ≡ cond (bytes_eq name q) (Some new) (lookup (bytes_eq q) slots)
 
 -- what a call that was Ok says
 pub where_ok : {X E : Type 0} (r : Result X E) (P : Type 0) → IsOk r → OnOk r P → P
@@ -83,7 +83,7 @@ module _ (me nodes start : ℕ) (slots : List (List ℕ × Resource)) (now : Nod
 
 -- ---- A call at the slot that a look-up among a node's slots finds
 
-written_through : {S : Type 0} (slots slots' : IndexMap (List ℕ) Resource S) (name : List ℕ) (slot new : Resource) → Some slot ≡ lookup (bytes_eq name) slots.entries → WritesThrough bytes_eq (bytes_eq name) slots new slots'
+pub written_through : {S : Type 0} (slots slots' : IndexMap (List ℕ) Resource S) (name : List ℕ) (slot new : Resource) → Some slot ≡ lookup (bytes_eq name) slots.entries → WritesThrough bytes_eq (bytes_eq name) slots new slots'
     → IsWritten slots.entries name slot new slots'.entries
 written_through slots slots' name slot new was written = record { was = was; slots_are = written.0; finds = (written.3 (subst IsSome was refl)).0 }
 

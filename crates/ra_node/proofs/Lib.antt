@@ -13,6 +13,7 @@ pub mod NodeLemmas
 pub mod EventLemmas
 pub mod EventsKept
 pub mod After
+mod Totals
 pub mod Determined
 pub mod Possible
 pub mod Chains

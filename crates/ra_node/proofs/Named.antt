@@ -19,7 +19,7 @@ use Rattle.ra_node.specs.Resource.{Resource}
 abbrev cmp : List ℕ → List ℕ → Ordering
 cmp = slice_cmp nat_cmp
 
-same_names : finmap.IsAntisymmetric cmp
+pub same_names : finmap.IsAntisymmetric cmp
 same_names = finmap.slice_cmp-IsAntisymmetric finmap.nat_cmp-IsAntisymmetric
 
 -- ---- Looking a name up
@@ -58,6 +58,12 @@ sum_by-put f alike k v (e ∷ es) none =
           omega (arith, rest, sum_by-cons f e (put cmp k v es), sum_by-cons f e es)
     ] none
 
+-- a resource of a new name adds what it is
+pub sum_of_insert : (f : Resource → ℕ) (m : finmap.FinMap cmp Resource) (name : List ℕ) (r : Resource) → finmap.get m name ≡ None → sum_by (λ e. f e.1) (finmap.entries (finmap.insert m name r)) ≡ f r + sum_by (λ e. f e.1) (finmap.entries m)
+sum_of_insert f m name r none =
+    let g = λ (x : List ℕ × Resource). f x.1 in
+    ap (sum_by g) (finmap.entries-insert nat_list_cmp_total m name r) ∙ sum_by-put g (λ a b r. refl) name r (finmap.entries m) (sym (finmap.get-entries m name) ∙ none)
+
 no_items : {X : Type 0} (xs : List X) → length xs ≡ 0 → xs ≡ []
 no_items [] e = refl
 no_items (x ∷ xs) e = absurd (omega (arith, e))
@@ -66,17 +72,20 @@ absent : (name : List ℕ) (slots : List (List ℕ × Resource)) → AllByRecurs
 absent name [] apart = refl
 absent name (e ∷ es) apart = ap (λ b. cond b (Some e.1) (lookup (bytes_eq name) es)) apart.0 ∙ absent name es apart.1
 
+-- no name adds nothing
+pub sum_of_none : (f : Resource → ℕ) → sum_by (λ e. f e.1) (finmap.entries (finmap.empty {X = Resource} {R = cmp})) ≡ 0
+sum_of_none f =
+    let m = finmap.empty {X = Resource} {R = cmp} in
+    ap (sum_by (λ e. f e.1)) (no_items (finmap.entries m) (sym (finmap.len-entries m) ∙ finmap.len-empty cmp Resource))
+
 -- a sum over the slots, where no name has two, is one over all names
 pub sum_of_slots : (f : Resource → ℕ) (slots : List (List ℕ × Resource)) → IsDistinct bytes_eq (keys_of slots)
     → sum_by (λ e. f e.1) slots ≡ sum_by (λ e. f e.1) (finmap.entries (finmap.from_entries {R = cmp} slots))
 unfolding IsDistinct
-sum_of_slots f [] distinct =
-    let m = finmap.empty {X = Resource} {R = cmp} in
-    sym (ap (sum_by (λ e. f e.1)) (no_items (finmap.entries m) (sym (finmap.len-entries m) ∙ finmap.len-empty cmp Resource)))
+sum_of_slots f [] distinct = sym (sum_of_none f)
 sum_of_slots f (e ∷ es) distinct =
     let g = λ (x : List ℕ × Resource). f x.1 in
     let m = finmap.from_entries {R = cmp} es in
-    let none : find cmp e.0 (finmap.entries m) ≡ None = sym (finmap.get-entries m e.0) ∙ get_slot es e.0 ∙ absent e.0 es distinct.0 in
     sum_by-cons g e es
     ∙ ap (λ n. f e.1 + n) (sum_of_slots f es distinct.1)
-    ∙ sym (ap (sum_by g) (finmap.entries-insert nat_list_cmp_total m e.0 e.1) ∙ sum_by-put g (λ a b r. refl) e.0 e.1 (finmap.entries m) none)
+    ∙ sym (sum_of_insert f m e.0 e.1 (get_slot es e.0 ∙ absent e.0 es distinct.0))

@@ -1,8 +1,8 @@
 -- The slots of a node, by the names that it has met, as the map from names to resources. No public contract speaks of slots.
-use Rattle.std.specs.Prelude.{ℕ, List}
+use Rattle.std.specs.Prelude.{◌≡◌, ℕ, ◌/◌, ◌^◌, List, length, sum_by}
 use Rattle.std.specs.FinMap as finmap
 use Rattle.ra_node.specs.Resource.{Resource}
-use Rattle.ra_node.specs.Node.{NodeState}
+use Rattle.ra_node.specs.Node.{NodeState, waiting_count, queued_count, IsConsistentNode}
 use Rattle.ra_node.specs.declared.node.Node.TheInside.{Inside}
 
 abbrev pub node_with : ℕ → ℕ → ℕ → List (List ℕ × Resource) → NodeState
@@ -10,3 +10,14 @@ node_with me nodes start slots = record { me = me; nodes = nodes; start = start;
 
 abbrev pub node_of : Inside → NodeState
 node_of n = node_with n.me n.nodes n.start n.slots.entries
+
+-- 0 where each queue is shorter than 2^64, as one that was counted is
+abbrev pub excess_of : NodeState → ℕ
+excess_of n = sum_by (λ e. length e.1.queue / 2 ^ 64) (finmap.entries n.resources)
+
+-- the totals are the sums over all names, and the node is consistent
+pub record IsKept (n : Inside) : Type 0 where
+  pub consistent : IsConsistentNode (node_of n)
+  pub waiting : n.waiting ≡ waiting_count (node_of n)
+  pub queued : n.queued ≡ queued_count (node_of n)
+  pub counted : excess_of (node_of n) ≡ 0

@@ -59,6 +59,3 @@ pub use laws::{
 pub use node::Node;
 pub use outcome::Outcome;
 pub use ra_automaton::{NewError, ReceiveError};
-
-#[cfg(test)]
-mod tests;

@@ -26,6 +26,12 @@ pub struct Node {
     start: u64,
     /// One for each name that a client or a message was about, in the order in which they were met.
     slots: IndexMap<Name, Slot>,
+    /// How many requests wait for their replies, over all names. A `u64` has room for them, since a node has at most one
+    /// waiting request on a name, and memory for fewer than 2^64 names.
+    waiting: u64,
+    /// How many clients are queued, over all names. Each of fewer than 2^64 names can have a queue of nearly as many
+    /// clients, so only a `u128` surely has room for their sum.
+    queued: u128,
 }
 
 impl Model for Node {
@@ -36,12 +42,11 @@ impl Model for Node {
 
     ghost coded = { node_code resources.the_row.coded };
 
-    ghost use Rattle.ra_node.specs.Node.{IsConsistentNode};
-    ghost use Rattle.ra_node.specs.View.{node_of};
+    ghost use Rattle.ra_node.specs.View.{node_of, IsKept};
 
     ghost view = { node_of };
 
-    ghost invariant = { λ n. IsConsistentNode (node_of n) };
+    ghost invariant = { IsKept };
 }
 
 /// Makes room for one more slot.
@@ -95,6 +100,8 @@ impl Node {
             nodes,
             start,
             slots: IndexMap::new(alloc),
+            waiting: 0,
+            queued: 0,
         })
     }
 
@@ -129,8 +136,17 @@ impl Node {
         ensures err { OnErr result (self.new ≡ self.old) }
     {
         self.may_ask(client, &name)?;
+        // The totals have room: there are fewer than 2^64 names.
+        prove!(self.slots.len() < usize::MAX);
         match self.slots.get_mut(&name) {
-            Some(slot) => slot.ask(alloc, client, mode),
+            Some(slot) => {
+                let waiting = self.waiting - slot.waiting();
+                let queued = self.queued - slot.queued() as u128;
+                let outcome = slot.ask(alloc, client, mode);
+                self.waiting = waiting + slot.waiting();
+                self.queued = queued + slot.queued() as u128;
+                outcome
+            }
             None => self.ask_first(alloc, client, name, mode),
         }
     }
@@ -157,15 +173,22 @@ impl Node {
             ↔ ((entry : Entry) × Holds (resource_at self.old name) client entry) }
         ensures err { OnErr result (self.new ≡ self.old) }
     {
+        // The totals have room: there are fewer than 2^64 names.
+        prove!(self.slots.len() < usize::MAX);
         let Some(slot) = self.slots.get_mut(&name) else {
             return Err(LeaveError::NotHeld);
         };
-        slot.leave(alloc, client)
+        let waiting = self.waiting - slot.waiting();
+        let queued = self.queued - slot.queued() as u128;
+        let outcome = slot.leave(alloc, client);
+        self.waiting = waiting + slot.waiting();
+        self.queued = queued + slot.queued() as u128;
+        outcome
     }
 
     /// Takes a message from another node. By the last REPLY that it awaits the node's request enters, with the mark
     /// Entered. A REPLY that is not awaited is a stray, which is taken and changes nothing but that its name counts as met.
-    /// The cost is linear in the number of nodes, too.
+    /// The cost is constant, too, and linear in the number of nodes where the name was not met before.
     ///
     /// # Errors
     ///
@@ -195,8 +218,16 @@ impl Node {
         if sender == self.me || sender.get() > self.nodes {
             return Err(ReceiveError::Stranger);
         }
+        // The total has room: there are fewer than 2^64 names.
+        prove!(self.slots.len() < usize::MAX);
         match self.slots.get_mut(&message.name()) {
-            Some(slot) => slot.receive(alloc, message),
+            Some(slot) => {
+                // The queue stays as it is.
+                let waiting = self.waiting - slot.waiting();
+                let outcome = slot.receive(alloc, message);
+                self.waiting = waiting + slot.waiting();
+                outcome
+            }
             None => self.receive_first(alloc, message),
         }
     }
@@ -246,38 +277,21 @@ impl Node {
         }
     }
 
-    /// Returns how many requests of this node wait for their replies, over all names. It does not allocate. The cost is linear
-    /// in the number of names that the node has met.
-    ///
-    /// A `u64` has room for them, since a node has at most one waiting request on a name, and memory for fewer than 2^64
-    /// names.
+    /// Returns how many requests of this node wait for their replies, over all names. It does not allocate. The cost is
+    /// constant.
     pub fn waiting(&self) -> u64
         ensures value { result ≡ waiting_count self.now }
         ensures consistent { IsConsistentNode self.now }
     {
-        let mut waiting = 0;
-        for (_, slot) in &self.slots {
-            if slot.is_waiting() {
-                waiting += 1;
-            }
-        }
-        waiting
+        self.waiting
     }
 
-    /// Returns how many clients are queued, over all names. It does not allocate. The cost is linear in the number of names
-    /// that the node has met.
-    ///
-    /// Each of fewer than 2^64 names can have a queue of nearly as many clients, so only a `u128` surely has room for their
-    /// sum.
+    /// Returns how many clients are queued, over all names. It does not allocate. The cost is constant.
     pub fn queued(&self) -> u128
         ensures value { result ≡ queued_count self.now }
         ensures consistent { IsConsistentNode self.now }
     {
-        let mut queued = 0;
-        for (_, slot) in &self.slots {
-            queued += slot.queued() as u128;
-        }
-        queued
+        self.queued
     }
 
     /// Returns the slot of a name, or `None` where no client and no message was about it yet.
@@ -313,6 +327,10 @@ impl Node {
         let mut slot = Slot::new(alloc, self.me, self.nodes, name, self.start)?;
         make_room(&mut self.slots)?;
         let outcome = slot.ask(alloc, client, mode)?;
+        // The totals have room: there are fewer than 2^64 names.
+        prove!(self.slots.len() < usize::MAX);
+        self.waiting += slot.waiting();
+        self.queued += slot.queued() as u128;
         // There is room for it.
         self.slots.insert(name, slot).unwrap();
         Ok(outcome)
@@ -335,7 +353,7 @@ impl Node {
         let mut slot = Slot::new(alloc, self.me, self.nodes, message.name(), self.start)?;
         make_room(&mut self.slots)?;
         let outcome = slot.receive(alloc, message)?;
-        // There is room for it.
+        // No request waits at it and no client is queued, so that the totals stay. There is room for it.
         self.slots.insert(message.name(), slot).unwrap();
         Ok(outcome)
     }

@@ -1,4 +1,4 @@
-ghost use Rattle.std.specs.Prelude.{◌≡◌, ◌≢◌, ◌<◌, ◌≤◌, ◌⊎◌, ◌↔◌, ◌∷◌, [], length, take, if◌then◌else◌, IsTrue, IsErrOf, IsOk, IsOkUnless, IfOk, OnOk, OnErr, IfErr, AllPairs, Any, IsNone, IfSome};
+ghost use Rattle.std.specs.Prelude.{◌≡◌, ◌≢◌, ◌<◌, ◌≤◌, ◌⊎◌, ◌↔◌, ◌∷◌, [], length, take, IsTrue, IsErrOf, IsOk, IsOkUnless, IfOk, OnOk, OnErr, IfErr, AllPairs, Any, IsNone, IfSome};
 ghost use Rattle.ra_stamp.specs.declared.entry.Entry.{Entry};
 ghost use Rattle.ra_node.specs.Resource.{entry_of};
 
@@ -83,11 +83,14 @@ impl Slot {
         }
     }
 
-    /// Returns whether a request of this node waits for its replies.
-    pub fn is_waiting(&self) -> bool
-        ensures { waiting_at self.now ≡ if result then 1 else 0 }
+    /// Returns how many requests of this node wait here for their replies: one at most.
+    pub fn waiting(&self) -> u64
+        ensures { result ≡ waiting_at self.now }
     {
-        matches!(self.automaton.phase(), Phase::Waiting { .. })
+        match self.automaton.phase() {
+            Phase::Waiting { .. } => 1,
+            Phase::Idle | Phase::Inside { .. } => 0,
+        }
     }
 
     /// Returns how many clients are queued.

@@ -18,6 +18,3 @@ pub use driving::{Recording, Summary, drive, summarize};
 pub use error::{AddClientError, AddOpError, DriveError, NewScriptError};
 pub use laws::policies_lead_to_one_run;
 pub use script::{Op, Script};
-
-#[cfg(test)]
-mod tests;

@@ -14,6 +14,3 @@ pub use choices::read_choices;
 pub use error::{ChoicesError, PerformError, ScriptError};
 pub use performing::{perform, perform_trace};
 pub use reading::read_script;
-
-#[cfg(test)]
-mod tests;

@@ -21,6 +21,3 @@ pub use name::{Name, NameError};
 pub use node_id::NodeId;
 pub use sequence::Sequence;
 pub use stamp::Stamp;
-
-#[cfg(test)]
-mod tests;

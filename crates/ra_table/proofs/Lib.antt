@@ -7,3 +7,4 @@ pub mod Runs
 pub mod Counts
 pub mod History
 pub mod Next
+pub mod Numbers

@@ -1,7 +1,7 @@
 -- Lists that gain or lose an entry, and table steps made of them.
-use Rattle.std.proofs.Common.{◌≡◌, ℕ, ◌<◌, suc, List, [], ◌∷◌, ◌++◌, length, get_or, take, drop, All, Contains, refl, sym, ap, ◌∙◌, add-one}
+use Rattle.std.proofs.Common.{◌≡◌, ℕ, ◌<◌, suc, List, [], ◌∷◌, ◌++◌, length, get_or, take, drop, All, Contains, refl, sym}
 use Rattle.std.specs.List.{remove}
-use Rattle.std.proofs.lemmas.List.{append-nil, take-append-drop, drop_more}
+use Rattle.std.proofs.lemmas.List.{append-nil}
 use Rattle.std.proofs.lemmas.List.Quantifiers.{all_pairs_push}
 use Rattle.ra_stamp.proofs.Places.{split_at}
 use Rattle.ra_stamp.specs.declared.entry.Entry.{Entry}

@@ -1,3 +1,4 @@
 pub mod Table
 pub mod Refusals
 pub mod Laws
+pub mod Highest

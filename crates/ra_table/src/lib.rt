@@ -3,6 +3,7 @@
 #![tactic(auto)]
 
 mod error;
+mod highest;
 mod laws;
 mod lists;
 mod table;
@@ -15,6 +16,3 @@ pub use laws::{
     tables_of_one_run_have_the_same_entries, waiting_entries_were_requested_and_have_not_entered,
 };
 pub use table::Table;
-
-#[cfg(test)]
-mod tests;

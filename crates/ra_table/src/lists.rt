@@ -1,5 +1,5 @@
 //! What the lock table asks of its lists of entries.
-ghost use Rattle.std.specs.Prelude.{◌≡◌, ◌<◌, ◌≤◌, ◌↔◌, length, slice_index_or, Any, Contains, IsTrue, IsNone, IfSome};
+ghost use Rattle.std.specs.Prelude.{◌≡◌, ◌<◌, ◌↔◌, length, slice_index_or, Any, Contains, IsTrue, IsNone, IfSome};
 ghost use Rattle.ra_stamp.specs.Stamp.{IsEarlier};
 ghost use Rattle.ra_table.specs.Table.{Excludes};
 ghost use Rattle.ra_table.specs.Refusals.{SharesNodeAndName};
@@ -18,14 +18,6 @@ pub fn has_node_of(list: &[Entry], entry: &Entry) -> bool
     ensures { IsTrue result ↔ Any (λ x. SharesNodeAndName x entry.now) list.now }
 {
     list.iter().any(|other| other.name == entry.name && other.stamp.node == entry.stamp.node)
-}
-
-/// Returns whether an entry of the list, on this entry's name, has its number or a greater one.
-pub fn reaches_number_of(list: &[Entry], entry: &Entry) -> bool
-    ensures { IsTrue result
-        ↔ Any (λ x. (x.name ≡ entry.now.name) × (entry.now.stamp.seq ≤ x.stamp.seq)) list.now }
-{
-    list.iter().any(|other| other.name == entry.name && entry.stamp.seq <= other.stamp.seq)
 }
 
 /// Returns whether an entry of the list excludes this entry.

@@ -5,30 +5,38 @@ ghost use Rattle.ra_table.specs.Refusals.{IsNodeBusy, IsNotAbove, IsHeld, HasEar
 ghost use Rattle.ra_table.specs.Laws.{IsConflictFree};
 
 use crate::error::{EnterError, LeaveError, RequestError};
-use crate::lists::{has_earlier, has_excluding, has_node_of, place_of, reaches_number_of};
-use ra_stamp::{Entry, Memory};
+use crate::highest::{raise, reaches_number_of};
+use crate::lists::{has_earlier, has_excluding, has_node_of, place_of};
+use indexmap::IndexMap;
+use ra_stamp::{Entry, Memory, Name};
 use std::alloc::Global;
 use std::marker::Model;
 
 /// The lock table: which entries wait, which hold, and which were granted so far. No two conflicting entries on
 /// one name hold. An entry that was granted is kept for ever, so the table grows with each grant.
+///
+/// Beside the grants the table keeps the highest number granted so far on each name, since that number alone
+/// decides on a request, and looking at each grant would take ever longer. It finds the number by a fixed hash:
+/// among names that someone picked so that they collide, a look-up is linear in their number.
 #[derive(Debug, Drop)]
 pub struct Table {
     waiting: Vec<Entry>,
     holding: Vec<Entry>,
     granted: Vec<Entry>,
+    /// The highest number granted so far on each name.
+    highest: IndexMap<Name, u64>,
 }
 
 impl Model for Table {
     ghost use Rattle.ra_table.specs.Table.{LockTable};
-    ghost use Rattle.ra_table.specs.Laws.{IsConflictFree};
+    ghost use Rattle.ra_table.specs.Highest.{IsKept};
 
     ghost Value = { LockTable };
 
     ghost view = { λ t.
         record { waiting = t.waiting.items; holding = t.holding.items; granted = t.granted.items } };
 
-    ghost invariant = { λ t. IsConflictFree t.holding.items };
+    ghost invariant = { λ t. IsKept t.holding.items t.granted.items t.highest.entries };
 }
 
 impl Table {
@@ -45,10 +53,11 @@ impl Table {
             waiting: Vec::new(alloc),
             holding: Vec::new(alloc),
             granted: Vec::new(alloc),
+            highest: IndexMap::new(alloc),
         })
     }
 
-    /// Lets the entry wait, in time linear in the number of entries that wait, hold and were granted.
+    /// Lets the entry wait, in expected time linear in the number of entries that wait and hold.
     ///
     /// # Errors
     ///
@@ -75,8 +84,8 @@ impl Table {
         Ok(())
     }
 
-    /// Grants an entry that waits, so that it holds, in time linear in the number of entries that wait, hold and
-    /// were granted.
+    /// Grants an entry that waits, so that it holds, in expected time linear in the number of entries that wait and
+    /// hold. Now and then it moves all that was granted into more memory, which is constant on average.
     ///
     /// # Errors
     ///
@@ -105,9 +114,11 @@ impl Table {
         let place = self.check_enter(entry)?;
         self.holding.reserve(1)?;
         self.granted.reserve(1)?;
+        self.highest.reserve(1)?;
         self.waiting.remove(place);
         self.holding.push_reserved(*entry);
         self.granted.push_reserved(*entry);
+        raise(&mut self.highest, entry);
         Ok(())
     }
 
@@ -166,7 +177,7 @@ impl Table {
         if self.is_node_busy(entry) {
             return Err(RequestError::NodeBusy);
         }
-        if reaches_number_of(&self.granted, entry) {
+        if reaches_number_of(&self.highest, entry) {
             return Err(RequestError::NotAbove);
         }
         Ok(())

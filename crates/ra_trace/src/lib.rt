@@ -19,8 +19,3 @@ pub use error::{TraceError, WriteTraceError};
 pub use laws::{each_text_has_one_verdict, texts_tell_their_steps, traces_tell_their_runs};
 pub use verdict::{Cause, Verdict};
 pub use writing::{trace_text, write_trace};
-
-#[cfg(test)]
-mod check_tests;
-#[cfg(test)]
-mod tests;

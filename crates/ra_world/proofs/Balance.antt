@@ -21,7 +21,7 @@ use Rattle.ra_node.specs.Resource.{Resource}
 use Rattle.ra_node.proofs.Handed.{handed_step, handed_marks}
 use Rattle.ra_node.specs.Turns.{request_marks, next_entry, EntersBy, AskTurn, LeaveTurn, ReceiveTurn}
 use Rattle.ra_world.specs.Quiet.{requests_in}
-use Rattle.ra_automaton.proofs.SlotLemmas.{cases_same}
+use Rattle.ra_automaton.proofs.Apart.{cases_same}
 use Rattle.ra_world.proofs.Protocol.{IsNode}
 
 -- ---- REQUESTs

@@ -18,7 +18,7 @@ use Rattle.ra_node.specs.Resource.Use.{WaitsBy, HoldsBy}
 use Rattle.ra_node.specs.Node.{NodeState, resource_at}
 use Rattle.ra_table.specs.Table.{LockTable}
 use Rattle.ra_world.specs.Quiet.{IsBlocked}
-use Rattle.ra_automaton.proofs.SlotLemmas.{tied}
+use Rattle.ra_automaton.proofs.Apart.{tied}
 use Rattle.ra_world.proofs.Lists.{none_some}
 use Rattle.ra_world.proofs.Protocol.{seq_in, mode_in, IsNode, IsDeferred}
 use Rattle.ra_world.proofs.Tables.{contains_of, of_contains}

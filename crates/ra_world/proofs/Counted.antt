@@ -21,7 +21,7 @@ use Rattle.ra_node.specs.Resource.Use.{WaitsBy}
 use Rattle.ra_node.specs.Node.{NodeState, resource_at}
 use Rattle.ra_table.specs.Table.{LockTable}
 use Rattle.ra_node.proofs.Lookups.{true_of}
-use Rattle.ra_automaton.proofs.SlotLemmas.{tied}
+use Rattle.ra_automaton.proofs.Apart.{tied}
 use Rattle.ra_world.proofs.Protocol.{IsNode}
 use Rattle.ra_world.proofs.Tables.{of_contains}
 use Rattle.ra_world.proofs.Marking.{waiting_of}

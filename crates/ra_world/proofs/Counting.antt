@@ -23,7 +23,7 @@ use Rattle.ra_node.specs.Node.{NodeState, resource_at, with_resource}
 use Rattle.ra_node.specs.Carried.{MarksLead}
 use Rattle.ra_table.specs.Table.{LockTable, Gains, TableSteps}
 use Rattle.ra_node.proofs.Lookups.{true_of}
-use Rattle.ra_automaton.proofs.SlotLemmas.{cases_same}
+use Rattle.ra_automaton.proofs.Apart.{cases_same}
 
 -- ---- One resource of a node changes
 

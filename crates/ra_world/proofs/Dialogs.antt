@@ -15,7 +15,7 @@ use Rattle.ra_stamp.specs.declared.message.Message.TheVariants.{Request, Reply}
 use Rattle.ra_stamp.specs.Message.{name_of}
 use Rattle.ra_automaton.specs.Steps.{others_of}
 use Rattle.ra_node.proofs.Lookups.{true_of}
-use Rattle.ra_automaton.proofs.SlotLemmas.{cases_same, tied, untied}
+use Rattle.ra_automaton.proofs.Apart.{cases_same, tied, untied}
 use Rattle.ra_world.proofs.Lists.{filter_hit, filter_miss, filter_none}
 
 -- ---- Tests

@@ -7,7 +7,7 @@ use Rattle.ra_stamp.specs.declared.message.Message.{Message}
 use Rattle.ra_stamp.specs.declared.message.Message.TheVariants.{Request, Reply}
 use Rattle.ra_stamp.specs.Message.{seq_of}
 use Rattle.ra_automaton.specs.State.{State}
-use Rattle.ra_automaton.proofs.SlotLemmas.{cases_same}
+use Rattle.ra_automaton.proofs.Apart.{cases_same}
 use Rattle.ra_world.proofs.Lists.{none_some}
 use Rattle.ra_world.proofs.Dialogs.{between}
 use Rattle.ra_world.proofs.Protocol.{IsNode}

@@ -18,7 +18,7 @@ use Rattle.ra_node.proofs.Handed.{handed_step}
 use Rattle.ra_node.specs.Turns.{AskTurn, LeaveTurn, ReceiveTurn}
 use Rattle.ra_node.specs.Node.{NodeState, resource_at}
 use Rattle.ra_node.specs.Carried.{IsSend}
-use Rattle.ra_automaton.proofs.SlotLemmas.{cases_same}
+use Rattle.ra_automaton.proofs.Apart.{cases_same}
 use Rattle.ra_node.proofs.Lookups.{same_or_apart}
 use Rattle.ra_world.proofs.Dialogs.{between, IsOf, between_none}
 use Rattle.ra_world.proofs.Protocol.{IsNode, IsPlaced, Protocol}

@@ -14,7 +14,7 @@ use Rattle.ra_automaton.specs.State.{State, HasNumber, IsConsistent}
 use Rattle.ra_automaton.specs.Steps.{others_of, later_of, Awaits, RequestStep, LeaveStep, Defers, RepliesAtOnce, TakesReply}
 use Rattle.ra_bag.specs.Bag.{TakesFirst}
 use Rattle.ra_world.proofs.Lists.{filter_taken, filter_left, takes_none}
-use Rattle.ra_automaton.proofs.SlotLemmas.{cases_same, tied, untied}
+use Rattle.ra_automaton.proofs.Apart.{cases_same, tied, untied}
 use Rattle.ra_world.proofs.Dialogs.{belongs, between, IsOf, belongs_at, between_none, reply_for, requests_to_one, requests_of_others, replies_to_one, replies_of_others}
 use Rattle.ra_world.proofs.Protocol.{IsNode, Dialog, IsPlaced, Protocol}
 use Rattle.ra_world.proofs.Asking.{more_between, none_between}

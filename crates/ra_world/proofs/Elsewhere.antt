@@ -3,7 +3,7 @@ use Rattle.std.proofs.Common.{eq-eqb, ◌≡◌, ◌≢◌, ◌↔◌, ℕ, ◌�
 use Rattle.std.specs.Prelude.{if◌then◌else◌}
 use Rattle.std.proofs.lemmas.Bool.{ne_eqb}
 use Rattle.std.proofs.lemmas.List.{append-nil}
-use Rattle.ra_automaton.proofs.SlotLemmas.{cases_same}
+use Rattle.ra_automaton.proofs.Apart.{cases_same}
 use Rattle.ra_node.specs.Node.{NodeState, opening_node}
 use Rattle.ra_node.specs.Events.{Event, Happening, NodeEvents}
 use Rattle.ra_world.specs.declared.step.Step.{Step}

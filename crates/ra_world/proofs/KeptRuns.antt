@@ -15,7 +15,7 @@ use Rattle.ra_world.specs.Traffic.{Move, TakesEach, LeavesUnderWay, IsUnderWay, 
 use Rattle.ra_world.specs.Run.{IsRun, IsFit, EndsWith, events_at, happened_at, with_node}
 use Rattle.ra_world.specs.Keeping.{nodes_of, Keeps}
 use Rattle.std.proofs.lemmas.Bool.{ne_eqb}
-use Rattle.ra_automaton.proofs.SlotLemmas.{cases_same}
+use Rattle.ra_automaton.proofs.Apart.{cases_same}
 use Rattle.std.specs.List.{remove}
 use Rattle.std.specs.Prelude.{AllPairs}
 use Rattle.ra_world.proofs.DifferentLists.{left_different, first_at}

@@ -9,7 +9,7 @@ use Rattle.ra_stamp.specs.Stamp.{IsEarlier}
 use Rattle.ra_node.specs.Resource.{Use}
 use Rattle.ra_node.specs.Resource.Use.{Nobody, WaitsBy, HoldsBy}
 use Rattle.ra_table.specs.Table.{LockTable, Loses, Excludes, TableStep}
-use Rattle.ra_automaton.proofs.SlotLemmas.{cases_same}
+use Rattle.ra_automaton.proofs.Apart.{cases_same}
 use Rattle.ra_world.proofs.Protocol.{IsNode}
 use Rattle.ra_world.proofs.Tables.{is_of, is_of_both, is_of_here, of, contains_of, of_contains, gains_end, of_gained, of_kept, takes_out}
 

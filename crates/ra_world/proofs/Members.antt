@@ -5,7 +5,7 @@ use Rattle.std.specs.Ordering.{nat_cmp}
 use Rattle.std.specs.Cmp.{nat_cmp_total}
 use Rattle.std.specs.FinSet as set
 use Rattle.std.proofs.lemmas.Bool.{false≢true}
-use Rattle.ra_automaton.proofs.SlotLemmas.{tied, untied}
+use Rattle.ra_automaton.proofs.Apart.{tied, untied}
 
 -- another one is awaited as before
 pub remains : (s : set.FinSet nat_cmp) (other node : ℕ) → node ≢ other → set.contains (set.remove s other) node ≡ set.contains s node

@@ -14,7 +14,7 @@ use Rattle.ra_world.specs.declared.step.Step.TheVariants.{Ask, Leave, Deliver, L
 use Rattle.ra_world.specs.Traffic.{Move, sent_by, taken_in, taken_by, lost_in, lost_by}
 use Rattle.ra_world.specs.Run.{events_at, happened_at, marks_of, AreFit}
 use Rattle.ra_world.specs.Quiet.{requests_in}
-use Rattle.ra_automaton.proofs.SlotLemmas.{cases_same}
+use Rattle.ra_automaton.proofs.Apart.{cases_same}
 use Rattle.ra_world.proofs.Lists.{none_some}
 
 -- ---- Lists of moves, one more at the end

@@ -6,7 +6,7 @@ use Rattle.ra_node.specs.Node.{NodeState, opening_node}
 use Rattle.ra_node.specs.Events.{Event, Happening, NodeEvent, NodeEvents}
 use Rattle.ra_world.specs.Traffic.{Move}
 use Rattle.ra_world.specs.Run.{events_at, happened_at, EndsWith, with_node}
-use Rattle.ra_automaton.proofs.SlotLemmas.{cases_same}
+use Rattle.ra_automaton.proofs.Apart.{cases_same}
 use Rattle.ra_world.proofs.Protocol.{IsNode, cases_node}
 use Rattle.ra_world.proofs.Cluster.{Turned}
 use Rattle.ra_world.proofs.Moves.{happens, happened_more, only_at}

@@ -14,7 +14,7 @@ use Rattle.ra_automaton.specs.declared.phase.Phase.TheVariants.{Idle, Waiting, I
 use Rattle.ra_automaton.specs.State.{State, IsConsistent}
 use Rattle.ra_automaton.specs.Steps.{Awaits, OwnGoesFirst}
 use Rattle.ra_world.proofs.Dialogs.{between}
-use Rattle.ra_automaton.proofs.SlotLemmas.{cases_same}
+use Rattle.ra_automaton.proofs.Apart.{cases_same}
 
 -- one of n nodes
 abbrev pub IsNode : ℕ → ℕ → Type 0

@@ -17,7 +17,7 @@ use Rattle.ra_automaton.specs.Steps.{later_of, Awaits, OwnGoesFirst, Defers, Rep
 use Rattle.ra_bag.specs.Bag.{TakesFirst}
 use Rattle.ra_world.proofs.Lists.{filter_taken, filter_left, takes_none, takes_one}
 use Rattle.ra_world.proofs.Dialogs.{belongs, between, IsOf, belongs_at, belongs_not, between_none}
-use Rattle.ra_automaton.proofs.SlotLemmas.{cases_same, tied, untied}
+use Rattle.ra_automaton.proofs.Apart.{cases_same, tied, untied}
 use Rattle.ra_world.proofs.Members.{remains, removed, nobody}
 use Rattle.ra_world.proofs.Protocol.{mode_in, IsNode, HasOwn, LetsPass, Dialog, IsPlaced, Protocol, Changes, changed}
 use Rattle.ra_world.proofs.Asking.{more_between, none_between}

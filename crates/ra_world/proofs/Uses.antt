@@ -16,7 +16,7 @@ use Rattle.ra_automaton.specs.Steps.{OwnGoesFirst}
 use Rattle.ra_node.specs.Resource.{Resource, use_in, use_of}
 use Rattle.ra_node.specs.Resource.Use.{Nobody, WaitsBy, HoldsBy}
 use Rattle.ra_node.specs.Node.{NodeState, resource_at}
-use Rattle.ra_automaton.proofs.SlotLemmas.{cases_same}
+use Rattle.ra_automaton.proofs.Apart.{cases_same}
 use Rattle.ra_world.proofs.Members.{nobody}
 use Rattle.ra_world.proofs.Protocol.{IsNode, HasOwn, LetsPass, Protocol}
 use Rattle.ra_world.proofs.Marking.{entry_in_use}

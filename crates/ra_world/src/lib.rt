@@ -11,9 +11,11 @@ mod lines;
 mod log;
 mod numbering;
 mod output;
+mod places;
 mod report;
 mod running;
 mod step;
+mod tally;
 mod world;
 
 pub use error::{NewError, NodeRefusal, ReadFault, RunError, StepError, WriteFault};
@@ -34,6 +36,3 @@ pub use report::Report;
 pub use running::run;
 pub use step::{Step, Steps};
 pub use world::World;
-
-#[cfg(test)]
-mod tests;

@@ -7,6 +7,7 @@ use crate::keeping::{
 };
 use crate::log::Log;
 use crate::numbering::{is_held_by, opening_nodes, place_of, queued_at, waiting_at};
+use crate::places::Places;
 use crate::{NewError, NodeRefusal, Report, Step, StepError, runs_go_on_where_steps_are_allowed};
 use ra_bag::Bag;
 use ra_node::{Node, Outcome, events_keep_a_node_consistent};
@@ -26,6 +27,8 @@ pub struct World {
     nodes: Vec<Node>,
     under_way: Bag,
     log: Log,
+    /// Where the messages under way stand, for finding them.
+    places: Places,
 }
 
 impl Model for World {
@@ -73,12 +76,14 @@ impl World {
             nodes: opened,
             under_way,
             log: Log::new(alloc),
+            places: Places::new(alloc),
         })
     }
 
     /// Makes a step, and answers what came of it: the messages that it sent, which are under way then, and its marks. By a
-    /// loss nothing is sent or marked. The cost is that of the node's event and of taking a message from those under way, and
-    /// beside these amortized constant: the steps so far are not looked at.
+    /// loss nothing is sent or marked. The cost is that of the node's event; of finding a message among those under way, on
+    /// average logarithmic in their number; and of closing up its place, linear in the distance from the nearer end. Beside
+    /// these it is amortized constant: the steps so far are not looked at.
     ///
     /// # Errors
     ///
@@ -188,8 +193,7 @@ impl World {
         self.log.len()
     }
 
-    /// Reports what came of the steps so far. The cost is linear in the number of marks and of the names that the nodes have
-    /// met.
+    /// Reports what came of the steps so far. The cost is linear in the number of marks and of nodes.
     ///
     /// # Errors
     ///
@@ -247,6 +251,7 @@ impl World {
             mode,
         };
         keep(&mut self.under_way, &mut self.log, &step, &outcome);
+        self.places.note(&step, &outcome);
         Ok(outcome)
     }
 
@@ -275,12 +280,9 @@ impl World {
         make_room(&mut self.under_way, &mut self.log, MAX_SENDS, MAX_MARKS)?;
         let left = &mut self.nodes[place];
         let outcome = left.leave(alloc, client, name)?;
-        keep(
-            &mut self.under_way,
-            &mut self.log,
-            &Step::Leave { node, client, name },
-            &outcome,
-        );
+        let step = Step::Leave { node, client, name };
+        keep(&mut self.under_way, &mut self.log, &step, &outcome);
+        self.places.note(&step, &outcome);
         Ok(outcome)
     }
 
@@ -293,7 +295,7 @@ impl World {
         kept_runs_go_on();
         runs_go_on_where_steps_are_allowed();
         events_keep_a_node_consistent();
-        let Some(at) = self.under_way.find(message, near) else {
+        let Some(at) = self.places.find(&self.under_way, message, near) else {
             return Err(StepError::NotUnderWay);
         };
         // What is under way is for one of the nodes, so there is always a place.
@@ -308,12 +310,9 @@ impl World {
             Err(_) => return Err(StepError::Memory),
         };
         self.under_way.take_at(at);
-        keep(
-            &mut self.under_way,
-            &mut self.log,
-            &Step::Deliver(*message),
-            &outcome,
-        );
+        let step = Step::Deliver(*message);
+        keep(&mut self.under_way, &mut self.log, &step, &outcome);
+        self.places.note(&step, &outcome);
         Ok(outcome)
     }
 
@@ -326,18 +325,15 @@ impl World {
         kept_runs_go_on();
         runs_go_on_where_steps_are_allowed();
         events_keep_a_node_consistent();
-        let Some(at) = self.under_way.find(message, near) else {
+        let Some(at) = self.places.find(&self.under_way, message, near) else {
             return Err(StepError::NotUnderWay);
         };
         make_room(&mut self.under_way, &mut self.log, 0, 0)?;
         let outcome = nothing(alloc);
         self.under_way.take_at(at);
-        keep(
-            &mut self.under_way,
-            &mut self.log,
-            &Step::Lose(*message),
-            &outcome,
-        );
+        let step = Step::Lose(*message);
+        keep(&mut self.under_way, &mut self.log, &step, &outcome);
+        self.places.note(&step, &outcome);
         Ok(outcome)
     }
 

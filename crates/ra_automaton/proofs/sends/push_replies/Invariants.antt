@@ -1,8 +1,10 @@
-use Rattle.std.proofs.Common.{◌≡◌, ◌++◌, map, take}
+use Rattle.std.proofs.Common.{◌≡◌, ◌-◌, ◌++◌, map, filter, get_or}
+use Rattle.std.specs.List.{range_with_len}
 use Rattle.ra_stamp.specs.declared.message.Message.TheVariants.{Reply}
-use Rattle.ra_automaton.specs.Slots.{filled_from}
+use Rattle.ra_automaton.specs.Words.{has_bit}
 use Rattle.ra_automaton.proofs.sends.push_replies.Given as goal
 
 abbrev pub invariant-loop-place : goal.invariant-loop-place
 invariant-loop-place l =
-    l.sends.items ≡ l.fn.sends.items ++ map (λ entry. Reply l.me entry.0 l.name entry.1) (filled_from 0 (take l.place l.deferred))
+    l.sends.items
+    ≡ l.fn.sends.items ++ map (λ node. Reply l.me node l.name (get_or l.numbers (node - 1) 0)) (filter (has_bit l.deferred) (range_with_len 1 l.place))

@@ -1,19 +1,21 @@
-use Rattle.std.proofs.Common.{◌≡◌, ℕ, suc, arith, add-one}
+use Rattle.std.proofs.Common.{◌≡◌, ℕ, suc, not, arith, add-one}
+use Rattle.std.specs.Prelude.{◌==◌}
 use Rattle.ra_stamp.specs.declared.message.Message.TheVariants.{Request}
-use Rattle.ra_automaton.proofs.Sent.{to_other, to_itself}
+use Rattle.ra_automaton.proofs.Sent.{to_passing, to_failing, is_other, is_itself}
 use Rattle.ra_automaton.proofs.sends.push_requests.Goals as goal
 use Rattle.ra_automaton.proofs.sends.push_requests.Goals.{then-number-get+in_ok-push, else-number-get}
 
 pub loop-place-preserved : goal.loop-place-preserved
 loop-place-preserved c =
     let f = λ (other : ℕ). Request c.args.me other c.args.name c.args.mode c.args.seq in
+    let p = λ (node : ℕ). not (node == c.args.me) in
     let n = c.loop-place.place in
     elim c.if-number-get.branch [
       | then-number-get+in_ok-push w ↦
           let here : w.node.result ≡ suc n = omega (arith, w.node.ensures) in
           rw (add-one, w.sends-is)
-          (to_other f c.args.me n c.args.sends.now.items c.loop-place.sends.items _ c.loop-place.invariant (λ e. w.if-number-get.true (omega (arith, e, c.get.ensures.value))) (rw here at w.in_ok-push.ensures.ok))
+          (to_passing f p n c.args.sends.now.items c.loop-place.sends.items _ c.loop-place.invariant (is_other n c.args.me (λ e. w.if-number-get.true (omega (arith, e, c.get.ensures.value)))) (rw here at w.in_ok-push.ensures.ok))
       | else-number-get w ↦
           rw (add-one, w.sends-is)
-          (to_itself f c.args.me n c.args.sends.now.items c.loop-place.sends.items c.loop-place.invariant (omega (arith, c.get.ensures.value, w.if-number-get.false)))
+          (to_failing f p n c.args.sends.now.items c.loop-place.sends.items c.loop-place.invariant (is_itself n c.args.me (omega (arith, c.get.ensures.value, w.if-number-get.false))))
     ]

@@ -1,10 +1,10 @@
-use Rattle.std.proofs.Common.{◌≡◌, ℕ, Option, List, length, subst, sym, ap, ◌∙◌}
-use Rattle.std.proofs.lemmas.List.{with_items_is}
+use Rattle.std.proofs.Common.{subst, sym, ap, ◌∙◌}
+use Rattle.std.specs.FinMap as finmap
 use Rattle.ra_automaton.specs.declared.phase.Phase.TheVariants.{Idle}
 use Rattle.ra_automaton.specs.State.{State, IsConsistent, IsInside}
-use Rattle.ra_automaton.specs.Slots.{filled}
 use Rattle.ra_automaton.specs.View.{state_of}
 use Rattle.ra_automaton.proofs.Consistent.{consistent_end}
+use Rattle.ra_automaton.proofs.WordLemmas.{map_of-zero}
 use Rattle.ra_automaton.proofs.automaton.Automaton.end.Goals as goal
 
 pub invariant_of-self : goal.invariant_of-self
@@ -12,10 +12,14 @@ invariant_of-self c =
     let old = state_of c.self.inside in
     let kept = c.self.invariant in
     let inside = subst (λ (s : State). IsInside s.phase) (sym c.self.view_is) c.requires in
-    let items = with_items_is c.self.inside.deferred c.unfill.new.slots (c.unfill.auto.slots ∙ c.deref_mut.ensures.len) in
-    let is = ap filled items ∙ c.unfill.ensures in
+    let none = map_of-zero c.self.inside.numbers.items in
     record {
-      awaited_slots = kept.awaited_slots;
-      deferred_slots = ap (λ (xs : List (Option ℕ)). length xs) items ∙ (c.unfill.auto.slots ∙ (ap (λ (xs : List (Option ℕ)). length xs) c.deref_mut.ensures.value ∙ kept.deferred_slots));
-      consistent = subst IsConsistent (λ i. record old { phase = Idle; deferred = sym is i }) (consistent_end old kept.consistent inside);
+      numbers = kept.numbers;
+      consistent = subst IsConsistent (λ i. record old { phase = Idle; deferred = sym none i }) (consistent_end old kept.consistent inside);
     }
+
+pub returns : goal.returns
+returns c =
+    let none = map_of-zero c.self.inside.numbers.items in
+    (λ i. record (state_of c.self.inside) { phase = Idle; deferred = none i })
+    ∙ ap (λ (s : State). record s { phase = Idle; deferred = finmap.empty }) c.self.view_is

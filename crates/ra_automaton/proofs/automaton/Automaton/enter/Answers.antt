@@ -1,23 +1,23 @@
-use Rattle.std.proofs.Common.{◌≡◌, Bool, List, length, subst, sym, ap, ◌∙◌}
+use Rattle.std.proofs.Common.{subst, sym, ap, ◌∙◌}
 use Rattle.std.specs.FinSet as set
-use Rattle.std.proofs.lemmas.List.{with_items_is}
 use Rattle.ra_automaton.specs.declared.phase.Phase.TheVariants.{Inside}
-use Rattle.ra_automaton.specs.State.{State, IsConsistent}
-use Rattle.ra_automaton.specs.Slots.{marked}
+use Rattle.ra_automaton.specs.State.{State, IsConsistent, entered_phase}
 use Rattle.ra_automaton.specs.View.{state_of}
 use Rattle.ra_automaton.proofs.Consistent.{consistent_enters}
+use Rattle.ra_automaton.proofs.WordLemmas.{set_of-zero}
 use Rattle.ra_automaton.proofs.automaton.Automaton.enter.Goals as goal
 
 pub invariant_of-self : goal.invariant_of-self
 invariant_of-self c =
     let old = state_of c.self.inside in
     let kept = c.self.invariant in
-    let items = with_items_is c.self.inside.awaited c.unmark.new.flags (c.unmark.auto.flags ∙ c.deref_mut.ensures.len) in
-    let last = subst (λ (s : State). set.remove s.awaited c.args.other ≡ set.empty) (sym c.self.view_is) c.requires.last in
-    let is = ap marked items ∙ (c.unmark.ensures ∙ (ap (λ (flags : List Bool). set.remove (marked flags) c.args.other) c.deref_mut.ensures.value ∙ last)) in
     record {
-      awaited_slots = ap (λ (xs : List Bool). length xs) items ∙ (c.unmark.auto.flags ∙ (ap (λ (xs : List Bool). length xs) c.deref_mut.ensures.value ∙ kept.awaited_slots));
-      deferred_slots = kept.deferred_slots;
-      consistent = subst IsConsistent (λ i. record old { phase = Inside c.in-Waiting.seq c.in-Waiting.mode; awaited = sym is i })
+      numbers = kept.numbers;
+      consistent = subst IsConsistent (λ i. record old { phase = Inside c.in-Waiting.seq c.in-Waiting.mode; awaited = sym set_of-zero i })
           (consistent_enters old c.in-Waiting.seq c.in-Waiting.mode kept.consistent c.in-Waiting.is);
     }
+
+pub returns-in-Waiting : goal.returns-in-Waiting
+returns-in-Waiting c =
+    (λ i. record (state_of c.self.inside) { phase = entered_phase (sym c.in-Waiting.is i); awaited = set_of-zero i })
+    ∙ ap (λ (s : State). record s { phase = entered_phase s.phase; awaited = set.empty }) c.self.view_is

@@ -1,28 +1,24 @@
-use Rattle.std.proofs.Common.{◌≡◌, ℕ, ◌+◌, Option, None, List, [], ◌++◌, map, get_or, subst, sym, ap, ◌∙◌, refl, rules}
+use Rattle.std.proofs.Common.{◌≡◌, ℕ, ◌+◌, List, [], ◌++◌, length, map, subst, sym, ap, ◌∙◌, refl, arith, rules}
 use Rattle.std.specs.FinMap as finmap
 use Rattle.ra_stamp.specs.declared.message.Message.TheVariants.{Request, Reply}
-use Rattle.ra_automaton.specs.Slots.{filled, filled_from}
 use Rattle.ra_automaton.specs.Steps.{LeaveStep, others_of}
+use Rattle.ra_automaton.specs.Words.{map_of}
 use Rattle.ra_automaton.specs.State.{State, IsConsistent, IsInside}
-use Rattle.ra_automaton.proofs.Consistent.{consistent_end, consistent_begins, no_node_zero, inside_is}
-use Rattle.ra_automaton.proofs.SlotLemmas.{get-filled, entries-filled}
-use Rattle.ra_automaton.specs.View.{state_of}
+use Rattle.ra_automaton.proofs.Consistent.{consistent_end, consistent_begins, inside_is}
+use Rattle.ra_automaton.proofs.Kept.{deferred_within}
 use Rattle.ra_automaton.proofs.automaton.Automaton.leave_and_request.Goals as goal
 
-pub push_replies-requires-clause-first : goal.push_replies-requires-clause-first
-push_replies-requires-clause-first c =
-    let slots = c.self.inside.deferred.items in
-    ap (λ (xs : List (Option ℕ)). get_or xs 0 None) c.deref.ensures.value
-    ∙ no_node_zero (state_of c.self.inside) _ c.self.invariant.consistent (get-filled slots 0)
+pub push_replies-requires-clause-numbered : goal.push_replies-requires-clause-numbered
+push_replies-requires-clause-numbered c node there =
+    omega (arith, deferred_within c.self.inside c.self.invariant node there, ap (λ (xs : List ℕ). length xs) c.deref.ensures.value)
 
 pub returns-clause-ok : goal.returns-clause-ok
 returns-clause-ok c =
-    let slots = c.self.inside.deferred.items in
     let inside : IsInside c.args.self.now.phase = search rules in
     let held = inside_is c.args.self.now.phase inside in
-    let sent : c.push_replies.new.sends.items ≡ [] ++ map (λ entry. Reply c.self.inside.me entry.0 c.self.inside.name entry.1) (filled_from 0 c.deref.result.now) = search rules in
-    let here : c.push_replies.new.sends.items ≡ map (λ entry. Reply c.self.inside.me entry.0 c.self.inside.name entry.1) (finmap.entries (filled slots)) =
-    sent ∙ ap (λ (es : List (ℕ × ℕ)). map (λ entry. Reply c.self.inside.me entry.0 c.self.inside.name entry.1) es) (ap (filled_from 0) c.deref.ensures.value ∙ sym (entries-filled slots)) in
+    let sent : c.push_replies.new.sends.items ≡ [] ++ map (λ entry. Reply c.self.inside.me entry.0 c.self.inside.name entry.1) (finmap.entries (map_of c.self.inside.deferred c.deref.result.now)) = search rules in
+    let here : c.push_replies.new.sends.items ≡ map (λ entry. Reply c.self.inside.me entry.0 c.self.inside.name entry.1) (finmap.entries (map_of c.self.inside.deferred c.self.inside.numbers.items)) =
+    sent ∙ ap (λ (numbers : List ℕ). map (λ entry. Reply c.self.inside.me entry.0 c.self.inside.name entry.1) (finmap.entries (map_of c.self.inside.deferred numbers))) c.deref.ensures.value in
     let sends = subst (λ (s : State). c.push_replies.new.sends.items ≡ map (λ entry. Reply s.me entry.0 s.name entry.1) (finmap.entries s.deferred)) c.self.view_is here in
     let leaves : LeaveStep c.args.self.now c.push_replies.new.sends.items c.end.new.self =
     record { seq = held.0; mode = held.1; inside = held.2; sends_are = sends; new_is = c.end.ensures } in

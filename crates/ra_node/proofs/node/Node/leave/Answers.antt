@@ -1,13 +1,13 @@
-use Rattle.std.proofs.Common.{rules, ◌≡◌, ℕ, List, IsErrOf, refl, sym, subst}
+use Rattle.std.proofs.Common.{rules, ◌≡◌, ℕ, ◌/◌, ◌^◌, List, length, IsErrOf, refl, sym, subst, arith}
 use Rattle.std.specs.Prelude.{IsOkUnless}
 use Rattle.indexmap.specs.IndexMap.{IndexMap}
 use Rattle.ra_stamp.specs.declared.entry.Entry.{Entry}
 use Rattle.ra_node.specs.declared.error.LeaveError.TheVariants.{NotHeld, Memory}
-use Rattle.ra_node.specs.Resource.{Resource, Holds}
-use Rattle.ra_node.specs.Node.{IsConsistentNode}
-use Rattle.ra_node.specs.View.{node_with}
+use Rattle.ra_node.specs.Resource.{Resource, Holds, waiting_at}
+use Rattle.ra_node.specs.View.{IsKept}
 use Rattle.ra_node.proofs.After.{left_at, nobody_holds}
 use Rattle.ra_node.proofs.NodeLemmas.{found, slot_is_consistent, missing}
+use Rattle.ra_node.proofs.Totals.{part, through, one_at_most, few_wait, few_queue}
 use Rattle.ra_node.proofs.node.Node.leave.Goals as goal
 
 pub returns-in_default-clause-not_held : goal.returns-in_default-clause-not_held
@@ -25,51 +25,76 @@ returns-in_default-clause-allowed c =
     let none = missing n.me n.nodes n.start n.slots.entries c.args.self.now c.self.view_is c.args.name (search rules) in
     (λ e. absurd (not_memory e), λ held. absurd (nobody_holds _ n.me n.nodes c.args.name n.start none.0 c.args.client held.0 held.1))
 
-pub leave-requires : goal.leave-requires
-leave-requires c =
+pub leave-outcome-requires : goal.leave-outcome-requires
+leave-outcome-requires c =
     let n = c.self.inside in
-    (slot_is_consistent n.me n.nodes n.start n.slots.entries c.args.self.now c.self.view_is c.args.name c.in-Some.slot.now c.self.invariant c.in-Some.ensures.value).once
+    (slot_is_consistent n.me n.nodes n.start n.slots.entries c.args.self.now c.self.view_is c.args.name c.in-Some.slot.now c.self.invariant.consistent c.in-Some.ensures.value).once
+
+pub overflow_sub-waiting : goal.overflow_sub-waiting
+overflow_sub-waiting c =
+    omega (arith, c.self.invariant.waiting, c.waiting.ensures, part waiting_at c.self.inside.slots.entries c.args.name c.in-Some.slot.now c.in-Some.ensures.value)
+
+pub overflow_sub-queued : goal.overflow_sub-queued
+overflow_sub-queued c =
+    omega (arith, c.self.invariant.queued, c.queued.ensures, part (λ r. length r.queue) c.self.inside.slots.entries c.args.name c.in-Some.slot.now c.in-Some.ensures.value)
+
+pub overflow_add-self : goal.overflow_add-self
+overflow_add-self c =
+    omega (arith, c.self.invariant.waiting, c.waiting-2.ensures, one_at_most c.leave-outcome.new.self.state.phase, few_wait c.self.inside.slots.entries c.len.ensures.unique, c.len.ensures.len, c.len.ensures.small)
+
+pub overflow_add-self-2 : goal.overflow_add-self-2
+overflow_add-self-2 c =
+    omega (arith, c.self.invariant.queued, c.queued-2.type_inv, few_queue c.self.inside.slots.entries c.len.ensures.unique c.self.invariant.counted, c.len.ensures.len, c.len.ensures.small)
 
 -- no slot is of this name, and none has changed
 pub invariant_of-self : goal.invariant_of-self
 invariant_of-self c =
     let n = c.self.inside in
-    subst (λ (m : IndexMap (List ℕ) Resource _). IsConsistentNode (node_with n.me n.nodes n.start m.entries)) (sym c.get_mut.follows.holds-at-none) c.self.invariant
+    subst (λ (m : IndexMap (List ℕ) Resource _). IsKept (record n { slots = m })) (sym c.get_mut.follows.holds-at-none) c.self.invariant
 
 pub invariant_of-self-2 : goal.invariant_of-self-2
 invariant_of-self-2 c =
     let n = c.self.inside in
-    let new = c.leave.new.self in
-    (left_at n.me n.nodes n.start n.slots (c.get_mut.follows.lender new) c.args.self.now c.self.view_is c.self.invariant c.in-Some.slot.now new c.leave.result c.leave.ensures.consistent c.leave.ensures.err c.args.client c.args.name
-    c.leave.ensures.ok c.in-Some.ensures.value (c.get_mut.follows.holds new)).consistent
+    let new = c.leave-outcome.new.self in
+    let slots = c.get_mut.follows.lender new in
+    let moves = λ (f : Resource → ℕ). through f n.slots slots c.args.name c.in-Some.slot.now new c.in-Some.ensures.value (c.get_mut.follows.holds new) in
+    let within = λ (f : Resource → ℕ). part f n.slots.entries c.args.name c.in-Some.slot.now c.in-Some.ensures.value in
+    let kept = c.self.invariant in
+    record {
+      consistent = (left_at n.me n.nodes n.start n.slots slots c.args.self.now c.self.view_is c.self.invariant.consistent c.in-Some.slot.now new c.leave-outcome.result c.leave-outcome.ensures.consistent c.leave-outcome.ensures.err c.args.client c.args.name
+          c.leave-outcome.ensures.ok c.in-Some.ensures.value (c.get_mut.follows.holds new)).consistent;
+      waiting = omega (arith, kept.waiting, moves waiting_at, within waiting_at, c.waiting.ensures, c.waiting-2.ensures);
+      queued = omega (arith, kept.queued, moves (λ r. length r.queue), within (λ r. length r.queue), c.queued.ensures, c.queued-2.ensures);
+      counted = omega (arith, kept.counted, moves (λ r. length r.queue / 2 ^ 64), c.queued-2.ensures, c.queued-2.type_inv);
+    }
 
 pub returns-clause-ok : goal.returns-clause-ok
 returns-clause-ok c =
     let n = c.self.inside in
-    let new = c.leave.new.self in
-    (left_at n.me n.nodes n.start n.slots (c.get_mut.follows.lender new) c.args.self.now c.self.view_is c.self.invariant c.in-Some.slot.now new c.leave.result c.leave.ensures.consistent c.leave.ensures.err c.args.client c.args.name
-    c.leave.ensures.ok c.in-Some.ensures.value (c.get_mut.follows.holds new)).ok
+    let new = c.leave-outcome.new.self in
+    (left_at n.me n.nodes n.start n.slots (c.get_mut.follows.lender new) c.args.self.now c.self.view_is c.self.invariant.consistent c.in-Some.slot.now new c.leave-outcome.result c.leave-outcome.ensures.consistent c.leave-outcome.ensures.err c.args.client c.args.name
+    c.leave-outcome.ensures.ok c.in-Some.ensures.value (c.get_mut.follows.holds new)).ok
 
 pub returns-clause-err : goal.returns-clause-err
 returns-clause-err c =
     let n = c.self.inside in
-    let new = c.leave.new.self in
-    (left_at n.me n.nodes n.start n.slots (c.get_mut.follows.lender new) c.args.self.now c.self.view_is c.self.invariant c.in-Some.slot.now new c.leave.result c.leave.ensures.consistent c.leave.ensures.err c.args.client c.args.name
-    c.leave.ensures.ok c.in-Some.ensures.value (c.get_mut.follows.holds new)).err
+    let new = c.leave-outcome.new.self in
+    (left_at n.me n.nodes n.start n.slots (c.get_mut.follows.lender new) c.args.self.now c.self.view_is c.self.invariant.consistent c.in-Some.slot.now new c.leave-outcome.result c.leave-outcome.ensures.consistent c.leave-outcome.ensures.err c.args.client c.args.name
+    c.leave-outcome.ensures.ok c.in-Some.ensures.value (c.get_mut.follows.holds new)).err
 
 pub returns-clause-consistent : goal.returns-clause-consistent
-returns-clause-consistent c = invariant_of-self-2 c
+returns-clause-consistent c = (invariant_of-self-2 c).consistent
 
 pub returns-clause-not_held : goal.returns-clause-not_held
 returns-clause-not_held c =
     let n = c.self.inside in
     let here = found n.me n.nodes n.start n.slots.entries c.args.self.now c.self.view_is c.args.name c.in-Some.slot.now c.in-Some.ensures.value in
     let Refused = λ (r : Resource). (entry : Entry) → Holds r c.args.client entry → ⊥ in
-    subst (λ (r : Resource). (IsErrOf c.leave.result NotHeld → Refused r) × (Refused r → IsErrOf c.leave.result NotHeld)) here c.leave.ensures.not_held
+    subst (λ (r : Resource). (IsErrOf c.leave-outcome.result NotHeld → Refused r) × (Refused r → IsErrOf c.leave-outcome.result NotHeld)) here c.leave-outcome.ensures.not_held
 
 pub returns-clause-allowed : goal.returns-clause-allowed
 returns-clause-allowed c =
     let n = c.self.inside in
     let here = found n.me n.nodes n.start n.slots.entries c.args.self.now c.self.view_is c.args.name c.in-Some.slot.now c.in-Some.ensures.value in
     let IsHeld = λ (r : Resource). (entry : Entry) × Holds r c.args.client entry in
-    subst (λ (r : Resource). (IsOkUnless c.leave.result Memory → IsHeld r) × (IsHeld r → IsOkUnless c.leave.result Memory)) here c.leave.ensures.allowed
+    subst (λ (r : Resource). (IsOkUnless c.leave-outcome.result Memory → IsHeld r) × (IsHeld r → IsOkUnless c.leave-outcome.result Memory)) here c.leave-outcome.ensures.allowed

@@ -14,7 +14,7 @@ returns-in_default-clause-tried c =
     let w = c.self.inside in
     let under = c.kept_runs_go_on.ensures.under_way w.start w.nodes.items w.under_way.items w.log.moves c.args.message.now c.self.invariant in
     let absent : Contains w.under_way.items c.args.message.now → ⊥ = c.in_default.ensures.none.0 refl in
-    (refl, with_cause w.start w.nodes.items w.log.moves c.args.self.now (Lose c.args.message.now) NotUnderWay c.self.view_is (λ on. absent (under.0 on)))
+    (c.self.view_is, with_cause w.start w.nodes.items w.log.moves c.args.self.now (Lose c.args.message.now) NotUnderWay c.self.view_is (λ on. absent (under.0 on)))
 
 pub returns-in_err-make_room-clause-tried : goal.returns-in_err-make_room-clause-tried
 returns-in_err-make_room-clause-tried c =

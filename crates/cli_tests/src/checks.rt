@@ -1,0 +1,389 @@
+//! The command `check`, and the traces that `sim` prints.
+use crate::helpers::{
+    Case, Refused, fails_at_each_byte, fails_in_fronts, is_answer, is_refusal, is_written, meets,
+    prints, refuses, repeated, run, run_line, run_taking, words_of, words_with,
+};
+use crate::sims::{A_DEADLOCK, A_QUEUE, A_WRITER, ONE_CLIENT, ONE_ORDER, TWO_CLIENTS};
+use std::alloc::Global;
+use std::sync::Wait;
+use std::thread::Threads;
+
+/// The trace of a client that locks and unlocks a name, at the first of two nodes.
+pub const ALONE: &str = "trace 1 2 0
+ask 1 1 r X
+request 1 1 r X 1
+deliver request 1 2 r X 1
+deliver reply 2 1 r 1
+enter 1 1 r X 1
+release 1 1 r
+leave 1 1 r X 1
+end
+";
+
+/// The trace of two clients that ask at once, at two of three nodes.
+const AT_ONCE: &str = "trace 1 3 0
+ask 1 1 r X
+request 1 1 r X 1
+ask 2 2 r X
+request 2 2 r X 1
+deliver request 1 2 r X 1
+deliver request 1 3 r X 1
+deliver request 2 1 r X 1
+deliver request 2 3 r X 1
+deliver reply 2 1 r 1
+deliver reply 3 1 r 1
+enter 1 1 r X 1
+release 1 1 r
+leave 1 1 r X 1
+deliver reply 3 2 r 1
+deliver reply 1 2 r 1
+enter 2 2 r X 1
+release 2 2 r
+leave 2 2 r X 1
+end
+";
+
+/// The trace of a client whose REQUEST is lost.
+const LOST: &str = "trace 1 2 0
+ask 1 1 r X
+request 1 1 r X 1
+lose request 1 2 r X 1
+end
+";
+
+/// Returns whether a script by listed choices has this trace, with status 3.
+fn has_trace<T: AllocGlobal + Threads + Wait + Sync>(
+    rt: &T,
+    choices: &str,
+    script: &str,
+    trace: &str,
+) -> bool {
+    let line = "ra sim --trace --policy listed --choices";
+    match words_with(rt.alloc(), line, choices) {
+        Some(words) => is_answer(&run(rt, words.as_slice(), script), 3, trace),
+        None => false,
+    }
+}
+
+#[test]
+fn sim_prints_the_trace_of_its_run(rt: HostRuntime) {
+    assert!(rt; prints(&rt, "ra sim --trace", ONE_CLIENT, 0, ALONE));
+    assert!(rt; prints(&rt, "ra sim --trace", TWO_CLIENTS, 0, AT_ONCE));
+    assert!(rt; has_trace(&rt, "c1 l0", ONE_CLIENT, LOST));
+}
+
+/// Traces, and what is said of them.
+const TRACES: &[Case] = &[
+    Case {
+        shows: "one client",
+        words: "ra check",
+        input: ALONE,
+        status: 0,
+        output: "valid\nrequests 1\nmessages 2\n",
+    },
+    Case {
+        shows: "two clients at once",
+        words: "ra check",
+        input: AT_ONCE,
+        status: 0,
+        output: "valid\nrequests 2\nmessages 8\n",
+    },
+    Case {
+        shows: "a REQUEST is lost",
+        words: "ra check",
+        input: LOST,
+        status: 0,
+        output: "valid\nrequests 1\nmessages 1\n",
+    },
+];
+
+#[test]
+fn traces_of_runs_are_valid(rt: HostRuntime) {
+    for case in TRACES {
+        assert!(rt; meets(&rt, case), "{}", case.shows);
+    }
+}
+
+/// A line, counted from 1, that is put in before the one that stands there, or stands in its place.
+struct Edit {
+    place: usize,
+    line: &'static str,
+    stays: bool,
+    /// What is said of the trace with the edit.
+    verdict: &'static str,
+}
+
+/// Adds a line of a trace and what the edit makes of it, and returns whether there was memory for it.
+fn push_edited(text: &mut String, old: &str, number: usize, edit: &Edit) -> bool {
+    if number == edit.place && text.push_str(edit.line).is_err() {
+        return false;
+    }
+    if edit.stays || number != edit.place {
+        text.push_str(old).is_ok() && text.push_str("\n").is_ok()
+    } else {
+        true
+    }
+}
+
+/// Makes a trace with an edit.
+fn edited(alloc: Global, trace: &str, edit: &Edit) -> Option<String> {
+    let mut text = String::new(alloc);
+    for (number, old) in trace.split_terminator('\n').enumerate() {
+        if !push_edited(&mut text, old, number + 1, edit) {
+            return None;
+        }
+    }
+    Some(text)
+}
+
+/// Returns whether the verdict, with status 3, is said of the two clients' trace with an edit.
+fn is_invalid<T: AllocGlobal + Threads + Wait + Sync>(rt: &T, edit: &Edit) -> bool {
+    match edited(rt.alloc(), AT_ONCE, edit) {
+        Some(trace) => prints(rt, "ra check", trace.as_str(), 3, edit.verdict),
+        None => false,
+    }
+}
+
+/// Edits by which a trace is none any more.
+const EDITS: &[Edit] = &[
+    Edit {
+        place: 13,
+        line: "enter 2 2 r X 1\n",
+        stays: true,
+        verdict: "invalid 13 Table\n",
+    },
+    Edit {
+        place: 12,
+        line: "",
+        stays: false,
+        verdict: "invalid 12 Marks\n",
+    },
+    Edit {
+        place: 8,
+        line: "deliver request 1 3 r X 1\n",
+        stays: true,
+        verdict: "invalid 8 NotUnderWay\n",
+    },
+    Edit {
+        place: 2,
+        line: "ask 4 1 r X\n",
+        stays: false,
+        verdict: "invalid 2 Refused\n",
+    },
+    Edit {
+        place: 20,
+        line: "",
+        stays: false,
+        verdict: "invalid 20 Line\n",
+    },
+];
+
+#[test]
+fn the_first_wrong_line_is_named(rt: HostRuntime) {
+    for edit in EDITS {
+        assert!(rt; is_invalid(&rt, edit), "{}", edit.verdict);
+    }
+}
+
+#[test]
+fn an_empty_text_is_no_trace(rt: HostRuntime) {
+    assert!(rt; prints(&rt, "ra check", "", 3, "invalid 1 Line\n"));
+}
+
+/// The trace of the client alone, with its fifth and sixth lines exchanged.
+const EXCHANGED: &str = "trace 1 2 0
+ask 1 1 r X
+request 1 1 r X 1
+deliver request 1 2 r X 1
+enter 1 1 r X 1
+deliver reply 2 1 r 1
+release 1 1 r
+leave 1 1 r X 1
+end
+";
+
+#[test]
+fn two_lines_that_are_exchanged_are_wrong_at_the_first(rt: HostRuntime) {
+    assert!(rt; prints(&rt, "ra check", EXCHANGED, 3, "invalid 5 Marks\n"));
+}
+
+/// The trace of the client alone, and a byte behind it.
+const FOLLOWED: &str = "trace 1 2 0
+ask 1 1 r X
+request 1 1 r X 1
+deliver request 1 2 r X 1
+deliver reply 2 1 r 1
+enter 1 1 r X 1
+release 1 1 r
+leave 1 1 r X 1
+end
+x";
+
+#[test]
+fn what_stands_behind_a_trace_is_a_wrong_line(rt: HostRuntime) {
+    assert!(rt; prints(&rt, "ra check", FOLLOWED, 3, "invalid 10 Line\n"));
+}
+
+/// Returns whether what these words print of a script, with this status, is a trace with this verdict.
+fn is_valid<T: AllocGlobal + Threads + Wait + Sync>(
+    rt: &T,
+    line: &str,
+    script: &str,
+    status: u8,
+    verdict: &str,
+) -> bool {
+    let Some(answered) = run_line(rt, line, script) else {
+        return false;
+    };
+    match str::from_utf8(answered.output.as_slice()) {
+        Ok(trace) => answered.status == status && prints(rt, "ra check", trace, 0, verdict),
+        Err(_) => false,
+    }
+}
+
+/// Returns whether it is so with status 0 by each of four policies.
+fn is_valid_by_each<T: AllocGlobal + Threads + Wait + Sync>(
+    rt: &T,
+    script: &str,
+    verdict: &str,
+) -> bool {
+    is_valid(rt, "ra sim --trace --policy oldest", script, 0, verdict)
+        && is_valid(rt, "ra sim --trace --policy newest", script, 0, verdict)
+        && is_valid(
+            rt,
+            "ra sim --trace --policy seeded --seed 1",
+            script,
+            0,
+            verdict,
+        )
+        && is_valid(
+            rt,
+            "ra sim --trace --policy seeded --seed 99",
+            script,
+            0,
+            verdict,
+        )
+}
+
+#[test]
+fn each_trace_that_sim_prints_is_valid(rt: HostRuntime) {
+    let (two, four) = (
+        "valid\nrequests 2\nmessages 8\n",
+        "valid\nrequests 4\nmessages 8\n",
+    );
+    assert!(rt; is_valid_by_each(&rt, TWO_CLIENTS, two) && is_valid_by_each(&rt, ONE_ORDER, four));
+    let (three, queued) = (
+        "valid\nrequests 3\nmessages 12\n",
+        "valid\nrequests 2\nmessages 4\n",
+    );
+    assert!(rt; is_valid_by_each(&rt, A_WRITER, three) && is_valid_by_each(&rt, A_QUEUE, queued));
+}
+
+#[test]
+fn the_trace_of_a_deadlock_is_valid(rt: HostRuntime) {
+    let verdict = "valid\nrequests 4\nmessages 6\n";
+    assert!(rt; is_valid(&rt, "ra sim --trace", A_DEADLOCK, 3, verdict));
+}
+
+const HELP: &str = "Check the trace of a run, line by line
+
+Usage: ra check
+
+Options:
+  -h, --help  Print help
+
+A trace, read from standard input, is the steps of a run, each on a line with its marks on the lines below it:
+  trace 1 2 0
+  ask 1 1 r X
+  request 1 1 r X 1
+  deliver request 1 2 r X 1
+  deliver reply 2 1 r 1
+  enter 1 1 r X 1
+  end
+The first line says how many nodes there are, and the number that each resource begins with.
+
+It prints `valid`, and how many requests and messages there were; or `invalid`, the first line that is wrong, and why:
+  Line         it is none, or stands where it may not
+  Refused      the client may not ask or leave
+  NotUnderWay  nobody sent the message, or it was taken already
+  Marks        the marks are not what came of the step
+  Table        a lock table does not allow the mark
+
+Example: ra sim --trace < script.toml | ra check
+
+Status 0: it is a run. Status 3: it is not. Status 2: the words are refused, or it has more than 16777216 bytes. Status 1: the
+input or the output failed.
+";
+
+#[test]
+fn help_on_check_prints_a_trace(rt: HostRuntime) {
+    assert!(rt; prints(&rt, "ra check --help", "", 0, HELP));
+}
+
+/// Words that are no check.
+const NO_CHECKS: &[Refused] = &[
+    Refused {
+        words: "ra check --trace",
+        input: ALONE,
+        word: "Usage",
+    },
+    Refused {
+        words: "ra check trace.txt",
+        input: ALONE,
+        word: "Usage",
+    },
+    Refused {
+        words: "ra check --policy oldest",
+        input: ALONE,
+        word: "Usage",
+    },
+];
+
+#[test]
+fn words_that_are_no_check_are_refused(rt: HostRuntime) {
+    for case in NO_CHECKS {
+        assert!(rt; refuses(&rt, case), "{}", case.words);
+    }
+}
+
+#[test]
+fn a_reader_that_fails_behind_any_byte_of_a_trace_is_a_fault(rt: HostRuntime) {
+    assert!(rt; fails_at_each_byte(&rt, "ra check", ALONE.as_bytes()));
+}
+
+#[test]
+fn a_writer_that_fails_has_a_front_of_the_verdict(rt: HostRuntime) {
+    let printed = "valid\nrequests 1\nmessages 2\n";
+    assert!(rt;
+        fails_in_fronts(&rt, "ra check", ALONE, printed)
+            && is_written(&rt, "ra check", ALONE, printed, 0)
+    );
+}
+
+/// Returns whether these letters are refused as too long a trace, and the last one is not read.
+fn is_too_long<T: AllocGlobal + Threads + Wait + Sync>(
+    rt: &T,
+    words: &[String],
+    letters: &str,
+) -> bool {
+    let mut bytes = letters.as_bytes();
+    let answered = run_taking(rt, words, &mut bytes);
+    is_refusal(&answered, "Limit") && bytes.len() == 1
+}
+
+/// Returns whether it is so for 16,777,218 letters and `ra check`.
+fn stops_at_the_limit<T: AllocGlobal + Threads + Wait + Sync>(rt: &T) -> bool {
+    let alloc = rt.alloc();
+    match (
+        words_of(alloc, "ra check"),
+        repeated(alloc, "", "aa", 8_388_609, ""),
+    ) {
+        (Some(words), Some(letters)) => is_too_long(rt, words.as_slice(), letters.as_str()),
+        _ => false,
+    }
+}
+
+#[test]
+fn a_trace_that_is_too_long_is_refused(rt: HostRuntime) {
+    assert!(rt; stops_at_the_limit(&rt));
+}

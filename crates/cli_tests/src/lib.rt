@@ -1,0 +1,15 @@
+//! Tests of `ra_cli`: the program, through `serve` and `answer`.
+#![tactic(auto)]
+
+#[cfg(test)]
+mod answers;
+#[cfg(test)]
+mod checks;
+#[cfg(test)]
+mod clusters;
+#[cfg(test)]
+mod helpers;
+#[cfg(test)]
+mod seeds;
+#[cfg(test)]
+mod sims;

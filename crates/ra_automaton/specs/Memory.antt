@@ -1,0 +1,10 @@
+-- Which messages take memory: those that a message goes out to at once.
+use Rattle.ra_stamp.specs.declared.message.Message.{Message}
+use Rattle.ra_stamp.specs.declared.message.Message.TheVariants.{Request, Reply}
+use Rattle.ra_automaton.specs.State.{State}
+use Rattle.ra_automaton.specs.Steps.{OwnGoesFirst}
+
+-- the message is a REQUEST, and the REPLY to it is not deferred
+abbrev pub IsRepliedAtOnce : State → Message → Type 0
+IsRepliedAtOnce old (Request from to name mode seq) = OwnGoesFirst old.phase old.me from seq mode → ⊥
+IsRepliedAtOnce old (Reply from to name seq) = ⊥

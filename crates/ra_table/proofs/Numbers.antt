@@ -1,0 +1,121 @@
+-- The highest numbers on names: what they answer, and how a grant raises them.
+use Rattle.std.proofs.Common.{◌≡◌, ℕ, zero, suc, ◌≤◌, Bool, true, false, cond, List, [], ◌∷◌, ◌++◌, Option, Some, None, Any, refl, sym, ap, ◌∙◌, subst, arith, inl, inr}
+use Rattle.std.specs.Prelude.{max, unwrap_or, ◌⊎◌}
+use Rattle.std.specs.Str.{bytes_eq}
+use Rattle.std.specs.Map.{lookup}
+use Rattle.std.proofs.lemmas.Bool.{false≢true, cases_lt}
+use Rattle.std.proofs.lemmas.Slice.Eq.{bytes_eq-Decides}
+use Rattle.ra_stamp.specs.declared.entry.Entry.{Entry}
+use Rattle.ra_table.specs.Highest.{highest_on, Reaches, AreHighest}
+
+-- ---- what the highest numbers answer
+
+-- the entry is on this name, and has this number or a greater one
+abbrev pub IsFrom : List ℕ → ℕ → Entry → Type 0
+IsFrom name number x = (x.name ≡ name) × (number ≤ x.stamp.seq)
+
+Any-tail : (P : Entry → Type 0) (x : Entry) (xs : List Entry) → Any P xs → Any P (x ∷ xs)
+Any-tail P x xs some = (suc some.0, some.1, omega arith, some.3, some.4)
+
+Any-cases : (P : Entry → Type 0) (x : Entry) (xs : List Entry) → Any P (x ∷ xs) → P x ⊎ Any P xs
+Any-cases P x xs (zero, y, lt, is, p) = inl (subst P (sym is) p)
+Any-cases P x xs (suc k, y, lt, is, p) = inr (k, y, omega arith, is, p)
+
+reaches_either : (h : Option ℕ) (n number : ℕ) → number ≤ max n (unwrap_or h 0) → (number ≤ n) ⊎ Reaches h number
+reaches_either None n number at = inl (omega arith)
+reaches_either (Some m) n number at =
+    elim (cases_lt n number) [
+      | inl above ↦ inr (omega arith)
+      | inr here ↦ inl here
+    ]
+
+reaches_rest : (h : Option ℕ) (n number : ℕ) → Reaches h number → number ≤ max n (unwrap_or h 0)
+reaches_rest None n number at = absurd at
+reaches_rest (Some m) n number at = omega arith
+
+Any-reached : (name : List ℕ) (number : ℕ) (es : List Entry) → Reaches (highest_on name es) number → Any (IsFrom name number) es
+Any-reached name number [] at = absurd at
+Any-reached name number (e ∷ es) at =
+    elim (bytes_eq e.name name) as (λ t. bytes_eq e.name name ≡ t → Reaches (cond t (Some (max e.stamp.seq (unwrap_or (highest_on name es) 0))) (highest_on name es)) number → Any (IsFrom name number) (e ∷ es)) [
+      | true ↦ λ same at. elim (reaches_either (highest_on name es) e.stamp.seq number at) [
+        | inl here ↦ (0, e, omega arith, refl, ((bytes_eq-Decides e.name name).0 same, here))
+        | inr rest ↦ Any-tail (IsFrom name number) e es (Any-reached name number es rest)
+      ]
+      | false ↦ λ apart at. Any-tail (IsFrom name number) e es (Any-reached name number es at)
+    ] refl at
+
+reached-Any : (name : List ℕ) (number : ℕ) (es : List Entry) → Any (IsFrom name number) es → Reaches (highest_on name es) number
+reached-Any name number [] some = absurd (omega (arith, some.2))
+reached-Any name number (e ∷ es) some =
+    elim (bytes_eq e.name name) as (λ t. bytes_eq e.name name ≡ t → Reaches (cond t (Some (max e.stamp.seq (unwrap_or (highest_on name es) 0))) (highest_on name es)) number) [
+      | true ↦ λ same. elim (Any-cases (IsFrom name number) e es some) [
+        | inl here ↦ omega (arith, here.1)
+        | inr rest ↦ reaches_rest (highest_on name es) e.stamp.seq number (reached-Any name number es rest)
+      ]
+      | false ↦ λ apart. elim (Any-cases (IsFrom name number) e es some) [
+        | inl here ↦ absurd (false≢true (sym apart ∙ (bytes_eq-Decides e.name name).1 here.0))
+        | inr rest ↦ reached-Any name number es rest
+      ]
+    ] refl
+
+-- what a look-up of a name finds answers whether a number is reached on it
+pub look_up_answers : (numbers : List (List ℕ × ℕ)) (granted : List Entry) (name : List ℕ) (number : ℕ) (found : Option ℕ) → found ≡ lookup (bytes_eq name) numbers → AreHighest numbers granted
+    → (Reaches found number → Any (IsFrom name number) granted) × (Any (IsFrom name number) granted → Reaches found number)
+look_up_answers numbers granted name number found is are =
+    let highest : found ≡ highest_on name granted = is ∙ are name in
+    let Reached : Option ℕ → Type 0 = λ h. Reaches h number in
+    (λ at. Any-reached name number granted (subst Reached highest at), λ some. subst Reached (sym highest) (reached-Any name number granted some))
+
+-- ---- one more entry
+
+step_push : (t b : Bool) (h h' : Option ℕ) (m n : ℕ) → h' ≡ cond b (Some (max n (unwrap_or h 0))) h
+    → cond t (Some (max m (unwrap_or h' 0))) h' ≡ cond b (Some (max n (unwrap_or (cond t (Some (max m (unwrap_or h 0))) h) 0))) (cond t (Some (max m (unwrap_or h 0))) h)
+step_push true true h h' m n is =
+    let swapped : max m (max n (unwrap_or h 0)) ≡ max n (max m (unwrap_or h 0)) = omega arith in
+    ap (λ (o : Option ℕ). Some (max m (unwrap_or o 0))) is ∙ ap (λ (x : ℕ). Some x) swapped
+step_push true false h h' m n is = ap (λ (o : Option ℕ). Some (max m (unwrap_or o 0))) is
+step_push false b h h' m n is = is
+
+highest_on-push : (name : List ℕ) (es : List Entry) (e : Entry)
+    → highest_on name (es ++ e ∷ []) ≡ cond (bytes_eq e.name name) (Some (max e.stamp.seq (unwrap_or (highest_on name es) 0))) (highest_on name es)
+highest_on-push name [] e = refl
+highest_on-push name (x ∷ xs) e =
+    step_push (bytes_eq x.name name) (bytes_eq e.name name) (highest_on name xs) (highest_on name (xs ++ e ∷ [])) x.stamp.seq e.stamp.seq (highest_on-push name xs e)
+
+max_reached : (h : Option ℕ) (n : ℕ) → Reaches h n → Some (max n (unwrap_or h 0)) ≡ h
+max_reached None n at = absurd at
+max_reached (Some m) n at =
+    let same : max n m ≡ m = omega arith in
+    ap (λ (x : ℕ). Some x) same
+
+max_not_reached : (h : Option ℕ) (n : ℕ) → (Reaches h n → ⊥) → Some (max n (unwrap_or h 0)) ≡ Some n
+max_not_reached None n none =
+    let same : max n 0 ≡ n = omega arith in
+    ap (λ (x : ℕ). Some x) same
+max_not_reached (Some m) n none =
+    let above : n ≤ m → ⊥ = none in
+    let same : max n m ≡ n = omega arith in
+    ap (λ (x : ℕ). Some x) same
+
+-- an entry whose number is reached leaves the highest numbers as they are
+pub highest_stay : (numbers : List (List ℕ × ℕ)) (granted : List Entry) (e : Entry) → AreHighest numbers granted → Any (IsFrom e.name e.stamp.seq) granted → AreHighest numbers (granted ++ e ∷ [])
+highest_stay numbers granted e are some name =
+    let h = highest_on name granted in
+    let stays : cond (bytes_eq e.name name) (Some (max e.stamp.seq (unwrap_or h 0))) h ≡ h =
+    elim (bytes_eq e.name name) as (λ t. bytes_eq e.name name ≡ t → cond t (Some (max e.stamp.seq (unwrap_or h 0))) h ≡ h) [
+      | true ↦ λ same. max_reached h e.stamp.seq (subst (λ (q : List ℕ). Reaches (highest_on q granted) e.stamp.seq) ((bytes_eq-Decides e.name name).0 same) (reached-Any e.name e.stamp.seq granted some))
+      | false ↦ λ apart. refl
+    ] refl in
+    are name ∙ sym (highest_on-push name granted e ∙ stays)
+
+-- an entry whose number is not reached has the highest number on its name from then on
+pub highest_rise : (numbers numbers' : List (List ℕ × ℕ)) (granted : List Entry) (e : Entry) → AreHighest numbers granted → (Any (IsFrom e.name e.stamp.seq) granted → ⊥)
+    → ((name : List ℕ) → lookup (bytes_eq name) numbers' ≡ cond (bytes_eq e.name name) (Some e.stamp.seq) (lookup (bytes_eq name) numbers)) → AreHighest numbers' (granted ++ e ∷ [])
+highest_rise numbers numbers' granted e are none finds name =
+    let h = highest_on name granted in
+    let rises : cond (bytes_eq e.name name) (Some (max e.stamp.seq (unwrap_or h 0))) h ≡ cond (bytes_eq e.name name) (Some e.stamp.seq) h =
+    elim (bytes_eq e.name name) as (λ t. bytes_eq e.name name ≡ t → cond t (Some (max e.stamp.seq (unwrap_or h 0))) h ≡ cond t (Some e.stamp.seq) h) [
+      | true ↦ λ same. max_not_reached h e.stamp.seq (λ at. none (Any-reached e.name e.stamp.seq granted (subst (λ (q : List ℕ). Reaches (highest_on q granted) e.stamp.seq) (sym ((bytes_eq-Decides e.name name).0 same)) at)))
+      | false ↦ λ apart. refl
+    ] refl in
+    finds name ∙ ap (λ (o : Option ℕ). cond (bytes_eq e.name name) (Some e.stamp.seq) o) (are name) ∙ sym (highest_on-push name granted e ∙ rises)

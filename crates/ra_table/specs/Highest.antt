@@ -1,0 +1,26 @@
+-- The highest number on each name.
+use Rattle.std.specs.Prelude.{◌≡◌, ℕ, ◌≤◌, List, [], ◌∷◌, Option, Some, None, max, unwrap_or, if◌then◌else◌}
+use Rattle.std.specs.Str.{bytes_eq}
+use Rattle.std.specs.Map.{lookup}
+use Rattle.ra_stamp.specs.declared.entry.Entry.{Entry}
+use Rattle.ra_table.specs.Laws.{IsConflictFree}
+
+-- the highest number of the entries on this name, if there are any
+abbrev pub highest_on : List ℕ → List Entry → Option ℕ
+highest_on name [] = None
+highest_on name (e ∷ es) =
+    if bytes_eq e.name name then Some (max e.stamp.seq (unwrap_or (highest_on name es) 0)) else highest_on name es
+
+-- there is a highest number, and it is this one or a greater one
+abbrev pub Reaches : Option ℕ → ℕ → Type 0
+Reaches None number = ⊥
+Reaches (Some highest) number = number ≤ highest
+
+-- a look-up of any name finds the highest number of these entries on it, and none where there are none
+abbrev pub AreHighest : List (List ℕ × ℕ) → List Entry → Type 0
+AreHighest numbers entries = (name : List ℕ) → lookup (bytes_eq name) numbers ≡ highest_on name entries
+
+-- what holds of each table: of its entries that hold, of those that were granted, and of the highest numbers it keeps
+pub record IsKept (holding granted : List Entry) (numbers : List (List ℕ × ℕ)) : Type 0 where
+  pub conflict_free : IsConflictFree holding
+  pub are_highest : AreHighest numbers granted

@@ -1,0 +1,11 @@
+//! Tests of `ra_trace` and `ra_script` through their public calls.
+#![tactic(auto)]
+
+#[cfg(test)]
+mod checks;
+#[cfg(test)]
+mod helpers;
+#[cfg(test)]
+mod scripts;
+#[cfg(test)]
+mod traces;

@@ -1,0 +1,28 @@
+//! What the tests of worlds and of schedules share.
+use ra_stamp::Name;
+use ra_world::Report;
+use std::alloc::Global;
+use std::fmt::Display;
+
+/// The name `r`.
+pub fn r() -> Name {
+    Name::new(b"r").unwrap()
+}
+
+/// Returns whether a value is printed so.
+pub fn prints<T: Display>(alloc: Global, value: &T, expected: &str) -> bool {
+    match value.to_string(alloc) {
+        Ok(text) => text.as_str() == expected,
+        Err(_) => false,
+    }
+}
+
+/// Returns whether so many requests and messages were made, and nothing is under way or lost, waits or is queued.
+pub fn is_quiet_after(report: &Report, requests: u128, sent: u128) -> bool {
+    report.requests == requests
+        && report.sent == sent
+        && report.under_way == 0
+        && report.lost == 0
+        && report.waiting == 0
+        && report.queued == 0
+}
