@@ -540,6 +540,19 @@ const NO_CHOICES: &[Listed] = &[
         status: 2,
         output: "refused NotEnabled\n",
     },
+    // Who is queued waits, and who has done all has nothing left.
+    Listed {
+        choices: "c1 c2 c2",
+        script: A_QUEUE,
+        status: 2,
+        output: "refused NotEnabled\n",
+    },
+    Listed {
+        choices: "c1 m0 m0 c1 c1",
+        script: ONE_CLIENT,
+        status: 2,
+        output: "refused NotEnabled\n",
+    },
     Listed {
         choices: "q1",
         script: ONE_CLIENT,

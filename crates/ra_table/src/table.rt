@@ -15,8 +15,8 @@ use std::marker::Model;
 /// The lock table: which entries wait, which hold, and which were granted so far. No two conflicting entries on
 /// one name hold. An entry that was granted is kept for ever, so the table grows with each grant.
 ///
-/// Beside the grants the table keeps the highest number granted so far on each name, since that number alone
-/// decides on a request, and looking at each grant would take ever longer. It finds the number by a fixed hash:
+/// Beside the grants the table keeps the highest number granted so far on each name. Of the grants a request is
+/// compared with that number alone, as looking at each would take ever longer. It is found by a fixed hash:
 /// among names that someone picked so that they collide, a look-up is linear in their number.
 #[derive(Debug, Drop)]
 pub struct Table {

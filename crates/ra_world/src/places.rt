@@ -9,12 +9,13 @@ use ra_node::Outcome;
 use ra_stamp::{Memory, Message};
 use std::alloc::Global;
 
-/// Where fewer messages are under way they are looked through.
+/// Where no more messages than these are under way, they are looked through.
 const FEW: u64 = 64;
 
-/// The messages under way by what they are, so that one need not be looked for among all. It is made where a message is looked
-/// for among many, and given up where it would take more memory than the messages do. What it tells is only where to look first: a
-/// world without it, or one where there was no memory for it, does the same in more time.
+/// The numbers of the messages under way, by which one is found without looking at all of them. They are learned where a message
+/// is looked for among many, and forgotten where more than three quarters of them are of messages that were taken, so that they
+/// stay linear in the messages. What they tell is only where to look first: a world without them, or one where there was no
+/// memory for them, does the same in more time.
 #[derive(Debug, Drop)]
 pub struct Places {
     /// Each message with its number, by which those under way are counted in the order of sending.
@@ -24,7 +25,7 @@ pub struct Places {
 }
 
 impl Places {
-    /// Makes what knows of no message. It does not allocate.
+    /// Makes the places of no messages. It does not allocate.
     pub fn new(alloc: Global) -> Places {
         Places {
             numbers: IndexMap::new(alloc),
@@ -47,7 +48,7 @@ impl Places {
     }
 
     /// Returns a place where a message that is equal to this one stands, or `None` where there is none. Among many messages the
-    /// cost is logarithmic, once they were all looked at.
+    /// cost is logarithmic on average, once they were all looked at, and linear where there is none such.
     fn search(&mut self, under_way: &Bag, message: &Message) -> Option<u64>
         ensures found { IfSome result (λ place. (place < length under_way.now.items)
             × (slice_index_or under_way.now.items place message.now ≡ message.now)) }
@@ -117,13 +118,13 @@ impl Places {
         }
     }
 
-    /// Returns whether most of the numbers are of messages that are not under way any more.
+    /// Returns whether more than three quarters of the numbers, of many, are of messages that are not under way any more.
     fn is_too_large(&self) -> bool {
         let many = self.taken.len() / 4;
         many > FEW && many > self.numbers.len() as u64
     }
 
-    /// Knows of no message any more.
+    /// Forgets all messages.
     fn forget(&mut self) {
         self.numbers.clear();
         self.taken.clear();

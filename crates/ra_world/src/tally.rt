@@ -2,8 +2,8 @@
 use ra_stamp::Memory;
 use std::alloc::Global;
 
-/// Numbers from 0 up, of which some are marked. How many are before each is told in logarithmic time, as a number is added or
-/// marked: P. M. Fenwick, Software: Practice and Experience 24(3), 1994.
+/// Numbers from 0 up, of which some are marked. To tell how many are marked before a number, to add one and to mark one take
+/// logarithmic time: P. M. Fenwick, Software: Practice and Experience 24(3), 1994.
 #[derive(Debug, Drop)]
 pub struct Tally {
     /// At place i - 1, how many are marked of the numbers below i down to i without its lowest bit.
@@ -71,7 +71,7 @@ impl Tally {
         }
     }
 
-    /// Has no number any more.
+    /// Takes all numbers out.
     pub fn clear(&mut self) {
         self.sums.clear();
     }

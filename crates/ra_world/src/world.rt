@@ -81,9 +81,10 @@ impl World {
     }
 
     /// Makes a step, and answers what came of it: the messages that it sent, which are under way then, and its marks. By a
-    /// loss nothing is sent or marked. The cost is that of the node's event; of finding a message among those under way, on
-    /// average logarithmic in their number; and of closing up its place, linear in the distance from the nearer end. Beside
-    /// these it is amortized constant: the steps so far are not looked at.
+    /// loss nothing is sent or marked. The cost is that of the node's event; of finding a message among those under way, which
+    /// is logarithmic in their number on average where there is memory to know where they stand, and linear where it is not
+    /// among them; and of closing up its place, linear in the distance from the nearer end. Beside these it is amortized
+    /// constant: the steps so far are not looked at.
     ///
     /// # Errors
     ///
@@ -144,7 +145,7 @@ impl World {
     }
 
     /// Returns whether `step` would make this step, memory aside. It does not allocate. The cost is that of looking at the
-    /// node's resource or for the message among those under way.
+    /// node's resource, or linear in the number of messages under way.
     pub fn accepts(&self, step: &Step) -> bool
         ensures value { IsTrue result ↔ GoesOn self.now.count self.now.start self.now.moves step.now }
         ensures run { IsRun self.now.count self.now.start self.now.moves }
