@@ -1,10 +1,14 @@
 //! What several files of tests use.
-use ra_cluster::{Book, Gate, Site};
+use ra_cluster::{Book, ClusterError, Gate, Settled, Site, run_cluster};
+use ra_schedule::Script;
 use ra_stamp::{Entry, Message, Mode, Name, NodeId, Stamp};
 use std::alloc::Global;
 use std::fmt::Display;
+use std::process::Abort;
 use std::sync::atomic::{AtomicU64, Ordering};
+use std::sync::{Mutex, Wait};
 use std::thread;
+use std::thread::Threads;
 
 /// How often a test looks for what another thread is to do, before it gives up.
 const MOST_LOOKS: u64 = 20_000_000;
@@ -139,4 +143,39 @@ impl Gate for Counting {
     fn inside(&self, _entry: &Entry) -> bool {
         self.inside
     }
+}
+
+/// What came of a script that threads did, or `None` where none was started.
+pub type Ran = Option<Result<Settled, ClusterError>>;
+
+/// Has threads do a script behind a gate, and puts what came of it where it is told.
+fn run_to_the_end<R: Threads + Wait + Abort + Sync, G: Gate>(
+    rt: &R,
+    alloc: Global,
+    script: &Script,
+    gate: &G,
+    there: &Mutex<Ran>,
+) {
+    let ended = AtomicU64::new(0);
+    let ended = &ended;
+    thread::scope(thread::scope_env(), rt, move |scope| {
+        let runs = scope.spawn(move || {
+            *there.lock(rt) = Some(run_cluster(rt, alloc, script, gate));
+            ended.fetch_add(1, Ordering::SeqCst);
+        });
+        // The scope would wait for ever for a cluster that does not end.
+        assert!(rt; runs.is_err() || comes_to(ended, 1), "the cluster ends");
+    })
+}
+
+/// Has threads do a script behind a gate, and returns what came of it. Where they do not end, the test ends after many looks.
+pub fn ran<R: Threads + Wait + Abort + Sync, G: Gate>(
+    rt: &R,
+    alloc: Global,
+    script: &Script,
+    gate: &G,
+) -> Ran {
+    let there = Mutex::new(None);
+    run_to_the_end(rt, alloc, script, gate, &there);
+    there.into_inner()
 }

@@ -1,6 +1,5 @@
 //! Tests of `ra_cluster` through its public calls: books, sites, clients that wait at a site, how books settle, and scripts that
-//! threads do. They stand here and not beside the code so that the two are proved side by side. The tests of private functions stand
-//! in `ra_cluster`.
+//! threads do. They stand here and not beside the code so that the two are proved side by side.
 #![tactic(auto)]
 
 #[cfg(test)]
@@ -8,10 +7,16 @@ mod books;
 #[cfg(test)]
 mod helpers;
 #[cfg(test)]
+mod outcomes;
+#[cfg(test)]
+mod plans;
+#[cfg(test)]
 mod scripts;
 #[cfg(test)]
 mod settling;
 #[cfg(test)]
 mod sites;
+#[cfg(test)]
+mod threads;
 #[cfg(test)]
 mod waiting;

@@ -1,11 +1,12 @@
 //! Scripts that threads do.
-use crate::helpers::{Counting, comes_to, prints};
+use crate::helpers::{Counting, comes_to, prints, ran};
 use Does::{Locks, Shares, Unlocks};
-use ra_cluster::{ClusterError, Gate, OpenGate, Settled, Stop, run_cluster};
+use ra_cluster::{ClusterError, Gate, OpenGate, Settled, Stop};
 use ra_schedule::{Op, Script};
 use ra_stamp::{Entry, Mode, Name, NodeId};
 use ra_world::{Report, report_text, run};
 use std::alloc::Global;
+use std::process::Abort;
 use std::sync::Wait;
 use std::sync::atomic::{AtomicU64, Ordering};
 use std::thread;
@@ -121,7 +122,7 @@ fn is_done(alloc: Global, nodes: u16, settled: &Settled, requests: u128, sent: u
 }
 
 /// Returns whether threads bring a script to its end behind a gate, with so many requests and messages.
-fn ends_behind<R: Threads + Wait + Sync, G: Gate>(
+fn ends_behind<R: Threads + Wait + Abort + Sync, G: Gate>(
     rt: &R,
     alloc: Global,
     script: &Script,
@@ -129,28 +130,28 @@ fn ends_behind<R: Threads + Wait + Sync, G: Gate>(
     requests: u128,
     sent: u128,
 ) -> bool {
-    match run_cluster(rt, alloc, script, gate) {
-        Ok(settled) => is_done(alloc, script.nodes(), &settled, requests, sent),
-        Err(_) => false,
+    match ran(rt, alloc, script, gate) {
+        Some(Ok(settled)) => is_done(alloc, script.nodes(), &settled, requests, sent),
+        _ => false,
     }
 }
 
 /// Returns whether threads do not bring a script to its end behind a gate, for this reason.
-fn fails_behind<R: Threads + Wait + Sync, G: Gate>(
+fn fails_behind<R: Threads + Wait + Abort + Sync, G: Gate>(
     rt: &R,
     alloc: Global,
     script: &Script,
     gate: &G,
     fault: ClusterError,
 ) -> bool {
-    match run_cluster(rt, alloc, script, gate) {
-        Ok(_) => false,
-        Err(found) => found == fault,
+    match ran(rt, alloc, script, gate) {
+        Some(Err(found)) => found == fault,
+        _ => false,
     }
 }
 
 /// Returns whether a client alone that does these is refused for this reason, before any step.
-fn is_refused<R: Threads + Wait + Sync>(
+fn is_refused<R: Threads + Wait + Abort + Sync>(
     rt: &R,
     alloc: Global,
     ops: &'static [Does],
@@ -178,7 +179,7 @@ fn names_out_of_order_or_kept_are_refused_before_any_step(rt: HostRuntime) {
 }
 
 /// Returns whether a client alone does these with so many requests, and the node steps once for each.
-fn is_done_alone<R: Threads + Wait + Sync>(
+fn is_done_alone<R: Threads + Wait + Abort + Sync>(
     rt: &R,
     alloc: Global,
     ops: &'static [Does],
@@ -232,11 +233,11 @@ fn is_of_two_writers(alloc: Global, settled: &Settled) -> bool {
 }
 
 /// Returns whether two writers of three nodes come to their end.
-fn two_writers_end<R: Threads + Wait + Sync>(rt: &R, alloc: Global) -> bool {
+fn two_writers_end<R: Threads + Wait + Abort + Sync>(rt: &R, alloc: Global) -> bool {
     match script_of(alloc, 3, TWO_WRITERS) {
-        Some(script) => match run_cluster(rt, alloc, &script, &OpenGate) {
-            Ok(settled) => is_of_two_writers(alloc, &settled),
-            Err(_) => false,
+        Some(script) => match ran(rt, alloc, &script, &OpenGate) {
+            Some(Ok(settled)) => is_of_two_writers(alloc, &settled),
+            _ => false,
         },
         None => false,
     }
@@ -248,7 +249,7 @@ fn two_writers_of_three_nodes(rt: HostRuntime) {
 }
 
 /// Returns whether these clients of so many nodes come to their end, with so many requests and messages.
-fn all_end<R: Threads + Wait + Sync>(
+fn all_end<R: Threads + Wait + Abort + Sync>(
     rt: &R,
     alloc: Global,
     nodes: u16,
@@ -426,7 +427,7 @@ struct Met {
 }
 
 /// Returns whether two clients meet, and come to their end.
-fn meet<R: Threads + Wait + Sync>(rt: &R, alloc: Global, met: &Met) -> bool {
+fn meet<R: Threads + Wait + Abort + Sync>(rt: &R, alloc: Global, met: &Met) -> bool {
     let gate = Meets::new(met.at);
     match script_of(alloc, met.nodes, &met.clients) {
         Some(script) => {
@@ -555,7 +556,7 @@ const FOUR_WRITERS: &[Client] = &[
 ];
 
 /// Returns whether four writers come to their end where each node steps alone.
-fn step_alone<R: Threads + Wait + Sync>(rt: &R, alloc: Global) -> bool {
+fn step_alone<R: Threads + Wait + Abort + Sync>(rt: &R, alloc: Global) -> bool {
     let gate = Alone {
         within: (AtomicU64::new(0), AtomicU64::new(0)),
     };
@@ -571,7 +572,7 @@ fn a_node_steps_under_its_lock(rt: HostRuntime) {
 }
 
 /// Returns whether a gate that lets so many steps pass, and either nobody or everybody be inside, stops a script.
-fn stops<R: Threads + Wait + Sync>(
+fn stops<R: Threads + Wait + Abort + Sync>(
     rt: &R,
     alloc: Global,
     script: &Script,
@@ -583,17 +584,22 @@ fn stops<R: Threads + Wait + Sync>(
 }
 
 /// Returns whether a gate that lets so many steps pass lets a script come to its end.
-fn passes<R: Threads + Wait + Sync>(rt: &R, alloc: Global, script: &Script, steps: u64) -> bool {
+fn passes<R: Threads + Wait + Abort + Sync>(
+    rt: &R,
+    alloc: Global,
+    script: &Script,
+    steps: u64,
+) -> bool {
     let gate = Counting::new(steps, true);
-    match run_cluster(rt, alloc, script, &gate) {
-        Ok(_) => true,
-        Err(_) => false,
+    match ran(rt, alloc, script, &gate) {
+        Some(Ok(_)) => true,
+        _ => false,
     }
 }
 
 /// Returns whether two writers are stopped by each gate that does not let all 12 steps pass, or nobody be inside: the run takes two
 /// asks, two leaves and eight frames that come.
-fn gates_stop<R: Threads + Wait + Sync>(rt: &R, alloc: Global) -> bool {
+fn gates_stop<R: Threads + Wait + Abort + Sync>(rt: &R, alloc: Global) -> bool {
     match script_of(alloc, 3, TWO_WRITERS) {
         Some(script) => {
             stops(rt, alloc, &script, u64::MAX, false)

@@ -154,7 +154,7 @@ fn a_grant_goes_before_a_fault(rt: HostRuntime) {
 
 /// Has client 1 lock a name at a site, client 2 ask for it there, the post closed, and client 1 leave the name. Returns whether
 /// client 1 may leave then, and puts what client 2 gets where it is told. At the end all sites are stopped, if they are not yet.
-fn leaves_behind_a_closed_post<R: Threads + Wait + Sync>(
+fn leaves_behind_a_closed_post<R: Threads + Wait + Abort + Sync>(
     rt: &R,
     alloc: Global,
     name: &Name,
@@ -163,8 +163,8 @@ fn leaves_behind_a_closed_post<R: Threads + Wait + Sync>(
     sites: &[Site],
     there: &Mutex<Answer>,
 ) -> bool {
-    let (x, gate) = (Mode::Exclusive, Counting::open());
-    let gate = &gate;
+    let (x, gate, ended) = (Mode::Exclusive, Counting::open(), AtomicU64::new(0));
+    let (gate, ended) = (&gate, &ended);
     if site
         .lock(rt, alloc, 1, *name, x, post, sites, gate)
         .is_err()
@@ -174,18 +174,20 @@ fn leaves_behind_a_closed_post<R: Threads + Wait + Sync>(
     thread::scope(thread::scope_env(), rt, move |scope| {
         let waits = scope.spawn(move || {
             *there.lock(rt) = Some(site.lock(rt, alloc, 2, *name, x, post, sites, gate));
+            ended.fetch_add(1, Ordering::SeqCst);
         });
         let asked = waits.is_ok() && comes_to(&gate.steps, 2);
         post.close(rt);
         let left = site.unlock(rt, alloc, 1, *name, post, sites, gate);
         // Where nothing else did, this ends the wait of client 2.
         stop_all(rt, sites, Stop::Spawn);
+        assert!(rt; waits.is_err() || comes_to(ended, 1), "client 2 is woken");
         asked && left.is_ok()
     })
 }
 
 /// Has two clients of node 1 of two do this, while the nodes take their frames.
-fn leaves_while_pumped<R: Threads + Wait + Sync>(
+fn leaves_while_pumped<R: Threads + Wait + Abort + Sync>(
     rt: &R,
     alloc: Global,
     name: &Name,
@@ -197,9 +199,14 @@ fn leaves_while_pumped<R: Threads + Wait + Sync>(
     let Some(first) = sites.first() else {
         return false;
     };
+    let ended = AtomicU64::new(0);
+    let ended = &ended;
     thread::scope(thread::scope_env(), rt, move |scope| {
         for (site, inbox) in sites.iter().zip(inboxes.iter()) {
-            let pumps = scope.spawn(move || site.pump(rt, alloc, inbox, post, sites, &OpenGate));
+            let pumps = scope.spawn(move || {
+                site.pump(rt, alloc, inbox, post, sites, &OpenGate);
+                ended.fetch_add(1, Ordering::SeqCst);
+            });
             if pumps.is_err() {
                 post.close(rt);
                 return false;
@@ -207,6 +214,7 @@ fn leaves_while_pumped<R: Threads + Wait + Sync>(
         }
         let left = leaves_behind_a_closed_post(rt, alloc, name, first, post, sites, there);
         post.close(rt);
+        assert!(rt; comes_to(ended, 2), "the pumps end");
         left
     })
 }
@@ -228,7 +236,10 @@ fn has_lost_the_second(books: &[Book]) -> bool {
 
 /// Returns whether a leave is taken behind a closed post, and the request that is stamped in its event waits for a node that does not
 /// get it.
-fn is_taken_behind_a_closed_post<R: Threads + Wait + Sync>(rt: &R, alloc: Global) -> Option<bool> {
+fn is_taken_behind_a_closed_post<R: Threads + Wait + Abort + Sync>(
+    rt: &R,
+    alloc: Global,
+) -> Option<bool> {
     let name = r()?;
     let sites = sites_of(alloc, 2, 0)?;
     let (post, inboxes) = Post::new(alloc, 2).ok()?;
@@ -287,7 +298,7 @@ fn hammer<R: Wait>(
 
 /// Has a client at each of two nodes lock and unlock one name, of which that of node 1 closes the post, and keeps the grants. Returns
 /// once all has ended, and whether all threads were started.
-fn closes_under_traffic<R: Threads + Wait + Sync>(
+fn closes_under_traffic<R: Threads + Wait + Abort + Sync>(
     rt: &R,
     alloc: Global,
     name: &Name,
@@ -296,16 +307,22 @@ fn closes_under_traffic<R: Threads + Wait + Sync>(
     sites: &[Site],
     grants: &Mutex<Vec<Grant>>,
 ) -> bool {
+    let ended = AtomicU64::new(0);
+    let ended = &ended;
     thread::scope(thread::scope_env(), rt, move |scope| {
         let closings = [Some(CLOSING), None];
         for ((site, inbox), closing) in sites.iter().zip(inboxes.iter()).zip(closings) {
-            let pumps = scope.spawn(move || site.pump(rt, alloc, inbox, post, sites, &OpenGate));
+            let pumps = scope.spawn(move || {
+                site.pump(rt, alloc, inbox, post, sites, &OpenGate);
+                ended.fetch_add(1, Ordering::SeqCst);
+            });
             let locks = scope.spawn(move || {
                 hammer(rt, alloc, name, site, post, sites, closing, grants);
                 // Where it came to no such turn, the pumps would wait for ever.
                 if closing.is_some() {
                     post.close(rt);
                 }
+                ended.fetch_add(1, Ordering::SeqCst);
             });
             if pumps.is_err() || locks.is_err() {
                 stop_all(rt, sites, Stop::Spawn);
@@ -313,6 +330,7 @@ fn closes_under_traffic<R: Threads + Wait + Sync>(
                 return false;
             }
         }
+        assert!(rt; comes_to(ended, 4), "the clients and the pumps end");
         true
     })
 }
@@ -335,7 +353,7 @@ fn settle_into_a_loss(alloc: Global, books: &[Book], grants: &[Grant]) -> bool {
 }
 
 /// Returns whether the books settle so where the post was closed, with each grant, those of node 1 up to the closing among them.
-fn settles_after_traffic<R: Threads + Wait + Sync>(rt: &R, alloc: Global) -> Option<bool> {
+fn settles_after_traffic<R: Threads + Wait + Abort + Sync>(rt: &R, alloc: Global) -> Option<bool> {
     let name = r()?;
     let sites = sites_of(alloc, 2, 0)?;
     let (post, inboxes) = Post::new(alloc, 2).ok()?;

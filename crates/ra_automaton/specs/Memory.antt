@@ -1,4 +1,4 @@
--- Which messages take memory: those that a message goes out to at once.
+-- Which messages take memory: those that are answered at once.
 use Rattle.ra_stamp.specs.declared.message.Message.{Message}
 use Rattle.ra_stamp.specs.declared.message.Message.TheVariants.{Request, Reply}
 use Rattle.ra_automaton.specs.State.{State}

@@ -49,7 +49,7 @@ pub fn remove(word: u64, node: NodeId) -> u64
     word & !bit_of(node)
 }
 
-/// Returns whether no node is in but at most this one.
+/// Returns whether no node but this one is in.
 #[inline(always)]
 pub fn is_only(word: u64, node: NodeId) -> bool
     ensures { IsTrue result ↔ (set.remove (set_of word) node ≡ set.empty) }

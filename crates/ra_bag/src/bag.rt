@@ -1,9 +1,9 @@
-ghost use Rattle.std.specs.Prelude.{◌≡◌, ◌≢◌, ◌+◌, ◌<◌, ◌≤◌, ◌↔◌, [], ◌++◌, length, slice_get, slice_index_or, Contains, Some, IsNone, IsSome, IsOk, IfOk, IfSome, OnOk, OnErr, IsTrue, ℕ};
+ghost use Rattle.std.specs.Prelude.{◌≡◌, ◌≢◌, ◌+◌, ◌≤◌, ◌↔◌, [], ◌++◌, take, drop, suc, length, slice_get, Contains, IsNone, IsSome, IsOk, IfOk, IfSome, OnOk, OnErr, IsTrue, ℕ};
 ghost use Rattle.std.specs.VecDeque.{deque_len, deque_capacity};
-ghost use Rattle.std.specs.List.{remove};
-ghost use Rattle.ra_stamp.specs.declared.message.Message.{Message};
-ghost use Rattle.ra_bag.specs.Bag.{TakesFirst};
+ghost use Rattle.ra_bag.specs.Bag.{TakesFirst, TakesOne, StandsIn, messages_in, HasEmpty};
 
+use crate::places::Places;
+use crate::slots::{append, at, clear, close_up, contains, has, make_room, nth, slot_of, take_out};
 use ra_stamp::{Memory, Message, Messages};
 use std::alloc::Global;
 use std::collections::VecDeque;
@@ -13,7 +13,12 @@ use std::marker::Model;
 /// and the spare, which is how many more messages there is room for already.
 #[derive(Debug, Drop)]
 pub struct Bag {
-    messages: VecDeque<Message>,
+    /// The messages, with an empty slot for each one that was taken from between others since the slots were closed up.
+    slots: VecDeque<Option<Message>>,
+    /// How many slots are empty.
+    empty: u64,
+    /// In which slots the messages stand, for finding them.
+    places: Places,
 }
 
 impl Model for Bag {
@@ -21,11 +26,14 @@ impl Model for Bag {
     ghost use Rattle.std.specs.VecDeque.{deque_len, deque_capacity};
     ghost use Rattle.ra_stamp.specs.declared.message.Message.{Message};
     ghost use Rattle.ra_stamp.specs.Sequence.{Listed};
+    ghost use Rattle.ra_bag.specs.Bag.{messages_in, HasEmpty};
 
     ghost Value = { Listed Message };
 
     ghost view = { λ b.
-        record { items = b.messages.items; spare = deque_capacity b.messages - deque_len b.messages } };
+        record { items = messages_in b.slots.items; spare = deque_capacity b.slots - deque_len b.slots } };
+
+    ghost invariant = { λ b. HasEmpty b.slots.items b.empty };
 }
 
 impl Bag {
@@ -38,7 +46,9 @@ impl Bag {
         ensures empty { IfOk result (λ bag. bag.items ≡ []) }
     {
         Ok(Bag {
-            messages: VecDeque::new(alloc),
+            slots: VecDeque::new(alloc),
+            empty: 0,
+            places: Places::new(alloc),
         })
     }
 
@@ -46,26 +56,18 @@ impl Bag {
     pub fn len(&self) -> u64
         ensures { result ≡ length self.now.items }
     {
-        self.messages.len() as u64
+        self.slots.len() as u64 - self.empty
     }
 
-    /// Returns the message at this place, counted from 0, or `None` past the end. It does not allocate.
+    /// Returns the message at this place, counted from 0, or `None` past the end. It does not allocate. The cost is constant where
+    /// no slot is empty, and else linear in the number of messages. Slots are emptied only once `find` had to look among many.
     pub fn at(&self, place: u64) -> Option<Message>
         ensures { result ≡ slice_get self.now.items place }
     {
-        self.messages.get(place as usize).copied()
-    }
-
-    /// Returns whether the message at this place, counted from 0, is equal to this one. It does not allocate.
-    #[inline(always)]
-    pub fn is_at(&self, place: u64, message: &Message) -> bool
-        ensures { IsTrue result ↔ ((place < length self.now.items)
-            × (slice_index_or self.now.items place message.now ≡ message.now)) }
-    {
-        match self.messages.get(place as usize) {
-            Some(other) => is_same(other, message),
-            None => false,
+        if self.empty > 0 {
+            return nth(&self.slots, place);
         }
+        at(&self.slots, place as usize)
     }
 
     /// Returns whether a message that is equal to this one is under way, in time linear in the number of
@@ -73,27 +75,36 @@ impl Bag {
     pub fn contains(&self, message: &Message) -> bool
         ensures { IsTrue result ↔ Contains self.now.items message.now }
     {
-        // Who delivers the newest asks for the last.
-        is_last(&self.messages, message) || place_of(&self.messages, message).is_some()
+        contains(&self.slots, message)
     }
 
-    /// Returns a place where a message that is equal to this one stands: the place `near` where one does, else the first one,
-    /// or `None` where there is none. The cost is constant in the first case, and else linear in the number of messages. It does
-    /// not allocate.
-    pub fn find(&self, message: &Message, near: u64) -> Option<u64>
-        ensures found { IfSome result (λ place. (place < length self.now.items)
-            × (slice_index_or self.now.items place message.now ≡ message.now)) }
-        ensures near { near < length self.now.items → slice_index_or self.now.items near message.now ≡ message.now
-            → result ≡ Some near }
-        ensures first { IfSome result (λ place. place ≢ near
-            → (k : ℕ) → k < place → slice_index_or self.now.items k message.now ≢ message.now) }
-        ensures none { IsNone result ↔ ¬ Contains self.now.items message.now }
+    /// Returns in which slot a message stands that is equal to this one, for `take_from`, or `None` where there is none.
+    ///
+    /// Where no slot is empty the one at the place `near` is looked at first, at constant cost. Else the cost is amortized constant on
+    /// average where all messages are different; where there is none such, or no memory to know where they stand, it is linear in
+    /// the number of messages.
+    #[inline(always)]
+    pub fn find(&mut self, message: &Message, near: u64) -> Option<u64>
+        ensures same { self.new ≡ self.old }
+        ensures found { IsSome result ↔ Contains self.old.items message.now }
     {
-        if self.is_at(near, message) {
+        if self.empty == 0 && has(&self.slots, near as usize, message) {
             return Some(near);
         }
-        let first = place_of(&self.messages, message)?;
-        Some(first as u64)
+        self.search(message)
+    }
+
+    /// Returns in which slot a message stands that is equal to this one.
+    fn search(&mut self, message: &Message) -> Option<u64>
+        ensures same { self.new ≡ self.old }
+        ensures found { IsSome result ↔ Contains self.old.items message.now }
+    {
+        let near = self.places.look_up(&self.slots, message);
+        if has(&self.slots, near, message) {
+            return Some(near as u64);
+        }
+        let slot = slot_of(&self.slots, message)?;
+        Some(slot as u64)
     }
 
     /// Makes room for this many more messages, in time linear in the number of messages. The messages stay, and
@@ -107,7 +118,7 @@ impl Bag {
         ensures ok { OnOk result (more ≤ self.new.spare) }
         ensures grows { self.old.spare ≤ self.new.spare }
     {
-        self.messages.reserve(more as usize)?;
+        self.slots.reserve(more as usize)?;
         Ok(())
     }
 
@@ -124,8 +135,9 @@ impl Bag {
         ensures spare { length messages.now.items ≤ self.old.spare
             → self.new.spare + length messages.now.items ≡ self.old.spare }
     {
-        make_room(&mut self.messages, messages.len() as usize)?;
-        append(&mut self.messages, messages.as_slice());
+        make_room(&mut self.slots, messages.len() as usize)?;
+        self.places.follow(self.slots.len(), messages.as_slice());
+        append(&mut self.slots, messages.as_slice());
         Ok(())
     }
 
@@ -138,96 +150,94 @@ impl Bag {
         ensures left { IsNone result → self.new ≡ self.old }
         ensures spare { self.old.spare ≤ self.new.spare }
     {
-        let place = place_of(&self.messages, message)?;
-        self.messages.remove(place)
+        let first = slot_of(&self.slots, message)?;
+        remove(
+            &mut self.slots,
+            &mut self.empty,
+            &mut self.places,
+            first,
+            message,
+        );
+        Some(*message)
     }
 
-    /// Takes the message at this place, counted from 0, or returns `None` past the end and leaves the bag. The cost is linear in
-    /// the distance from the nearer end. It does not allocate.
-    pub fn take_at(&mut self, place: u64) -> Option<Message>
-        ensures taken { result ≡ slice_get self.old.items place }
-        ensures left { place < length self.old.items → self.new.items ≡ remove self.old.items place }
-        ensures none { IsNone result → self.new ≡ self.old }
+    /// Takes a message that is equal to this one, at whichever place: the one in the slot that `find` told, where it still stands
+    /// there, else the first one. It does not allocate.
+    ///
+    /// In the first case the cost is amortized constant where it stands at an end, or where `find` had to look among many since the
+    /// slots were closed up last; else it is linear in the distance from the nearer end. In the second it is linear in the number
+    /// of messages.
+    #[inline(always)]
+    pub fn take_from(&mut self, slot: u64, message: &Message)
+        requires { Contains self.old.items message.now }
+        ensures taken { TakesOne self.old.items message.now self.new.items }
         ensures spare { self.old.spare ≤ self.new.spare }
     {
-        // Who delivers the oldest takes the first.
-        if place == 0 {
-            return self.messages.pop_front();
+        if has(&self.slots, slot as usize, message) {
+            remove(
+                &mut self.slots,
+                &mut self.empty,
+                &mut self.places,
+                slot as usize,
+                message,
+            );
+        } else {
+            self.take(message);
         }
-        self.messages.remove(place as usize)
     }
 }
 
-/// Makes room for this many more messages, where there is none yet.
-fn make_room(list: &mut VecDeque<Message>, more: usize) -> Result<(), Memory>
-    ensures same { list.new.items ≡ list.old.items }
-    ensures ok { OnOk result (deque_len list.new + more ≤ deque_capacity list.new) }
-    ensures enough { deque_len list.old + more ≤ deque_capacity list.old
-        → deque_capacity list.new ≡ deque_capacity list.old }
-    ensures err { OnErr result (deque_capacity list.new ≡ deque_capacity list.old) }
-    ensures succeeds { deque_len list.old + more ≤ deque_capacity list.old → IsOk result }
-{
-    // A list that has the room is left as it is, which `reserve` alone does not promise, nor that a refusal leaves the capacity.
-    if list.capacity() - list.len() < more {
-        list.reserve_exact(more.max(list.capacity()))?;
-    }
-    Ok(())
-}
-
-/// Puts messages at the end of a list that has room for them.
-fn append(list: &mut VecDeque<Message>, messages: &[Message])
-    requires { deque_len list.old + length messages.now ≤ deque_capacity list.old }
-    ensures items { list.new.items ≡ list.old.items ++ messages.now }
-    ensures capacity { deque_capacity list.new ≡ deque_capacity list.old }
-{
-    for message in messages {
-        list.push_back_reserved(*message);
-    }
-}
-
-/// Returns where the first message that is equal to this one stands. The list lies in two parts, which are gone through faster
-/// one after the other.
-fn place_of(messages: &VecDeque<Message>, message: &Message) -> Option<usize>
-    ensures absent { IsNone result ↔ ¬ Contains messages.now.items message.now }
-    ensures found { IfSome result (λ place. (place < length messages.now.items)
-        × (slice_index_or messages.now.items place message.now ≡ message.now)) }
-    ensures first { IfSome result (λ place. (k : ℕ) → k < place
-        → slice_index_or messages.now.items k message.now ≢ message.now) }
-    ensures taken { IfSome result (λ place. TakesFirst messages.now.items message.now (remove messages.now.items place)) }
-{
-    let (front, back) = messages.as_slices();
-    if let Some(place) = place_in(front, message) {
-        return Some(place);
-    }
-    let place = place_in(back, message)?;
-    Some(front.len() + place)
-}
-
-/// Returns where the first of these messages that is equal to this one stands.
-fn place_in(messages: &[Message], message: &Message) -> Option<usize>
-    ensures absent { IsNone result ↔ ¬ Contains messages.now message.now }
-    ensures found { IfSome result (λ place. (place < length messages.now)
-        × (slice_index_or messages.now place message.now ≡ message.now)) }
-    ensures first { IfSome result (λ place. (k : ℕ) → k < place
-        → slice_index_or messages.now k message.now ≢ message.now) }
-{
-    messages.iter().position(|other| is_same(other, message))
-}
-
-/// Returns whether the last message is equal to this one.
-fn is_last(messages: &VecDeque<Message>, message: &Message) -> bool
-    ensures { IsTrue result → Contains messages.now.items message.now }
-{
-    match messages.back() {
-        Some(last) => is_same(last, message),
-        None => false,
-    }
-}
-
-/// Returns whether two messages are equal. Most that are not differ in their numbers or nodes, which are looked at first.
+/// Takes the message, which stands in this slot, out of the slots. They are closed up where more than half of them are empty.
 #[inline(always)]
-fn is_same(a: &Message, b: &Message) -> bool
-    ensures { IsTrue result ↔ (a.now ≡ b.now) }
+fn remove(
+    slots: &mut VecDeque<Option<Message>>,
+    empty: &mut u64,
+    places: &mut Places,
+    slot: usize,
+    message: &Message,
+)
+    requires count { HasEmpty slots.old.items empty.old }
+    requires there { StandsIn slots.old.items message.now slot }
+    ensures count { HasEmpty slots.new.items empty.new }
+    ensures items { messages_in slots.new.items
+        ≡ messages_in (take slot slots.old.items) ++ messages_in (drop (suc slot) slots.old.items) }
+    ensures len { deque_len slots.new ≤ deque_len slots.old }
+    ensures capacity { deque_capacity slots.new ≡ deque_capacity slots.old }
 {
-    a.seq() == b.seq() && a.to() == b.to() && a.from() == b.from() && a == b
+    remove_slot(slots, empty, places, slot, message);
+    if *empty > slots.len() as u64 / 2 {
+        close_up(slots);
+        *empty = 0;
+        places.forget();
+    }
+}
+
+/// Removes the slot of a message, or only empties it where the places of the others are known and would change.
+#[inline(always)]
+fn remove_slot(
+    slots: &mut VecDeque<Option<Message>>,
+    empty: &mut u64,
+    places: &mut Places,
+    slot: usize,
+    message: &Message,
+)
+    requires count { HasEmpty slots.old.items empty.old }
+    requires there { StandsIn slots.old.items message.now slot }
+    ensures count { HasEmpty slots.new.items empty.new }
+    ensures items { messages_in slots.new.items
+        ≡ messages_in (take slot slots.old.items) ++ messages_in (drop (suc slot) slots.old.items) }
+    ensures len { deque_len slots.new ≤ deque_len slots.old }
+    ensures capacity { deque_capacity slots.new ≡ deque_capacity slots.old }
+{
+    places.take(message);
+    if slot == 0 {
+        // Who delivers the oldest takes the first.
+        slots.pop_front();
+        places.shift();
+    } else if slot + 1 == slots.len() || !places.are_known() {
+        take_out(slots, slot);
+    } else {
+        clear(slots, slot);
+        *empty += 1;
+    }
 }

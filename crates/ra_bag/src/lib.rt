@@ -2,5 +2,7 @@
 #![tactic(auto)]
 
 mod bag;
+mod places;
+mod slots;
 
 pub use bag::Bag;

@@ -8,7 +8,7 @@ ghost use Rattle.ra_cluster.specs.Plan.{MeetsPlan, IsQuietEnd};
 
 use crate::order::check_script;
 use crate::outcome::settle_script;
-use crate::threads::{Shared, run_threads};
+use crate::threads::{ScriptRun, run_threads};
 use crate::{Book, Gate, Grant, Post, Settled, Site, Stop};
 use ra_schedule::Script;
 use ra_stamp::{Memory, NodeId};
@@ -99,14 +99,14 @@ pub fn run_cluster<R: Threads + Wait + Sync, G: Gate>(
         return Err(ClusterError::Memory);
     };
     let grants = Mutex::new(Vec::new(alloc));
-    let shared = Shared {
+    let run = ScriptRun {
         script,
         sites: &sites,
         post: &post,
         grants: &grants,
         gate,
     };
-    run_threads(rt, alloc, &shared, &inboxes);
+    run_threads(rt, alloc, &run, &inboxes);
     let books = close_all(alloc, sites)?;
     let grants = grants.into_inner();
     settle_script(alloc, script, &books, &grants)

@@ -11,7 +11,7 @@
 //! - At the end it closes the post, joins the threads of the inboxes, closes the sites, and [`settle`] shows the run.
 //!
 //! The shortest program that does so stands in docs/EMBEDDING.md, with each line said. [`run_cluster`] does all of it for a
-//! script.
+//! script; [`run_threads`] and [`settle_script`] are two parts of it, for whoever makes the sites.
 #![tactic(auto)]
 
 mod book;
@@ -49,6 +49,7 @@ pub use event::{BookEvent, BookKind, Events};
 pub use gate::{Gate, OpenGate};
 pub use grant::Grant;
 pub use laws::{histories_are_determined, histories_go_on};
+pub use outcome::settle_script;
 pub use post::{Inbox, NewPostError, Post, SendError};
 pub use posted::Posted;
 pub use ra_node::NewError;
@@ -57,10 +58,4 @@ pub use settled::Settled;
 pub use settling::{is_cluster, settle};
 pub use site::{Site, SiteError};
 pub use stop::Stop;
-
-#[cfg(test)]
-mod outcome_tests;
-#[cfg(test)]
-mod test_helpers;
-#[cfg(test)]
-mod threads_tests;
+pub use threads::{ScriptRun, run_threads};

@@ -13,11 +13,19 @@ use ra_schedule::Script;
 use ra_world::Report;
 use std::alloc::Global;
 
-/// Settles the books of the nodes that did a script, and checks that the script was brought to its end.
+/// Settles the books of the nodes that did a script, with what its clients were granted, and checks that the script was brought to
+/// its end. The cost is that of `settle` and beside it, for each client, linear in the number of marks.
 ///
 /// # Errors
 ///
-/// Those of `run_cluster`, but for the first two.
+/// The first that holds, but that `Memory` may come before any but the first:
+///
+/// 1. `Fault`: a node was stopped, with the cause in the first such book.
+/// 2. `Settle`: the books are not those of the script's nodes with numbers that begin at 0, in order, or they do not settle.
+/// 3. `PlanUnmet`: the marks of a client are not those of its operations in order, or a client is queued.
+/// 4. `Lost`: a message was lost.
+/// 5. `UnderWay`: a message is under way.
+/// 6. `Memory`.
 pub fn settle_script(
     alloc: Global,
     script: &Script,

@@ -7,26 +7,35 @@ use std::sync::{Mutex, Wait};
 use std::thread;
 use std::thread::Threads;
 
-/// What the threads share.
+/// A script that threads do, and what they share.
 #[derive(Drop)]
-pub struct Shared<'a, G> {
+pub struct ScriptRun<'a, G> {
+    /// What the clients do.
     pub script: &'a Script,
+    /// The site of each node, in the order of the nodes.
     pub sites: &'a [Site],
+    /// What carries the frames between them.
     pub post: &'a Post,
     /// What the clients were granted, in any order.
     pub grants: &'a Mutex<Vec<Grant>>,
+    /// What each step and each client that is inside is shown to.
     pub gate: &'a G,
 }
 
-/// Runs a thread for each node and, while these run, one for each client. Once those of the clients have ended, the post is
-/// closed, on which those of the nodes end. The grants are kept.
+/// Runs a thread for each node, with its inbox, and, while these run, one for each client. Once those of the clients have ended,
+/// the post is closed, on which those of the nodes end. The grants are kept. [`settle_script`](crate::settle_script) tells what came
+/// of it, once the sites are closed.
+///
+/// A client whose site is stopped ends. Where a thread cannot be started, or a client's call is refused for another cause, all sites
+/// are stopped. A client whose node has no site does nothing, and a node without an inbox takes no frame. Nothing bounds how long the
+/// threads wait; a script that [`run_cluster`](crate::run_cluster) refuses may keep them waiting for ever.
 pub fn run_threads<R: Threads + Wait + Sync, G: Gate>(
     rt: &R,
     alloc: Global,
-    shared: &Shared<'_, G>,
+    run: &ScriptRun<'_, G>,
     inboxes: &[Inbox],
 ) {
-    let (sites, post, gate) = (shared.sites, shared.post, shared.gate);
+    let (sites, post, gate) = (run.sites, run.post, run.gate);
     thread::scope(thread::scope_env(), rt, move |nodes| {
         for (site, inbox) in sites.iter().zip(inboxes) {
             let started = nodes.spawn(move || site.pump(rt, alloc, inbox, post, sites, gate));
@@ -34,18 +43,18 @@ pub fn run_threads<R: Threads + Wait + Sync, G: Gate>(
                 stop_all(rt, sites, Stop::Spawn);
             }
         }
-        run_clients(rt, alloc, shared);
+        run_clients(rt, alloc, run);
         post.close(rt);
     })
 }
 
 /// Runs a thread for each client, and returns once they have ended.
-fn run_clients<R: Threads + Wait + Sync, G: Gate>(rt: &R, alloc: Global, shared: &Shared<'_, G>) {
+fn run_clients<R: Threads + Wait + Sync, G: Gate>(rt: &R, alloc: Global, run: &ScriptRun<'_, G>) {
     thread::scope(thread::scope_env(), rt, move |clients| {
-        for client in 1..=shared.script.clients() {
-            let started = clients.spawn(move || run_client(rt, alloc, shared, client));
+        for client in 1..=run.script.clients() {
+            let started = clients.spawn(move || run_client(rt, alloc, run, client));
             if started.is_err() {
-                stop_all(rt, shared.sites, Stop::Spawn);
+                stop_all(rt, run.sites, Stop::Spawn);
             }
         }
     })
@@ -53,12 +62,12 @@ fn run_clients<R: Threads + Wait + Sync, G: Gate>(rt: &R, alloc: Global, shared:
 
 /// Does the operations of a client one after the other, until one is refused. A refusal stops each site, unless the client's
 /// is stopped already.
-fn run_client<R: Wait, G: Gate>(rt: &R, alloc: Global, shared: &Shared<'_, G>, client: u32) {
-    let script = shared.script;
+fn run_client<R: Wait, G: Gate>(rt: &R, alloc: Global, run: &ScriptRun<'_, G>, client: u32) {
+    let script = run.script;
     let Some(node) = script.node_of(client) else {
         return;
     };
-    let Some(site) = shared.sites.get(usize::from(node.get()) - 1) else {
+    let Some(site) = run.sites.get(usize::from(node.get()) - 1) else {
         return;
     };
     let count = script.ops_of(client).unwrap_or(0);
@@ -66,8 +75,8 @@ fn run_client<R: Wait, G: Gate>(rt: &R, alloc: Global, shared: &Shared<'_, G>, c
         let Some(op) = script.op(client, place) else {
             return;
         };
-        if let Err(refused) = do_op(rt, alloc, shared, client, op, site) {
-            stop_after(rt, shared.sites, refused);
+        if let Err(refused) = do_op(rt, alloc, run, client, op, site) {
+            stop_after(rt, run.sites, refused);
             return;
         }
     }
@@ -81,16 +90,16 @@ fn run_client<R: Wait, G: Gate>(rt: &R, alloc: Global, shared: &Shared<'_, G>, c
 fn do_op<R: Wait, G: Gate>(
     rt: &R,
     alloc: Global,
-    shared: &Shared<'_, G>,
+    run: &ScriptRun<'_, G>,
     client: u32,
     op: Op,
     site: &Site,
 ) -> Result<(), SiteError> {
-    let (sites, post, gate) = (shared.sites, shared.post, shared.gate);
+    let (sites, post, gate) = (run.sites, run.post, run.gate);
     match op {
         Op::Lock(name, mode) => {
             let grant = site.lock(rt, alloc, client, name, mode, post, sites, gate)?;
-            if let Some(stop) = keep_grant(rt, grant, shared.grants, gate) {
+            if let Some(stop) = keep_grant(rt, grant, run.grants, gate) {
                 stop_all(rt, sites, stop);
                 return Err(SiteError::Stopped(stop));
             }

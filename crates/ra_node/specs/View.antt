@@ -11,7 +11,7 @@ node_with me nodes start slots = record { me = me; nodes = nodes; start = start;
 abbrev pub node_of : Inside → NodeState
 node_of n = node_with n.me n.nodes n.start n.slots.entries
 
--- 0 where each queue is shorter than 2^64, as one that was counted is
+-- 0 exactly where each queue is shorter than 2^64, as each queue in memory is
 abbrev pub excess_of : NodeState → ℕ
 excess_of n = sum_by (λ e. length e.1.queue / 2 ^ 64) (finmap.entries n.resources)
 

@@ -353,7 +353,7 @@ impl Node {
         let mut slot = Slot::new(alloc, self.me, self.nodes, message.name(), self.start)?;
         make_room(&mut self.slots)?;
         let outcome = slot.receive(alloc, message)?;
-        // No request waits at it and no client is queued, so that the totals stay. There is room for it.
+        // No request waits at it and no client is queued, so that the totals stay. There is room for the slot.
         self.slots.insert(message.name(), slot).unwrap();
         Ok(outcome)
     }

@@ -40,8 +40,8 @@ pub struct Summary {
 }
 
 /// Drives a cluster through a script, from numbers that begin at 0: at each turn the policy makes a choice, and what it
-/// stands for is done, until no choice is left. A turn costs time linear in the number of clients, and that of one step of the
-/// world; and for each client that is looked at, whether it may ask, in the queue of the name that it asks for. The steps take
+/// stands for is done, until no choice is left. A turn costs time linear in the number of clients, and that of
+/// `World::step_near`; and for each client that is looked at, whether it may ask, in the queue of the name that it asks for. The steps take
 /// memory linear in the number of turns.
 ///
 /// # Errors

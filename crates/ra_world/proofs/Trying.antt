@@ -5,7 +5,7 @@ use Rattle.std.specs.List.{remove}
 use Rattle.std.proofs.lemmas.List.{set-get_or, length-set, get_or_default}
 use Rattle.ra_stamp.specs.declared.message.Message.{Message}
 use Rattle.ra_stamp.specs.declared.entry.Mark.{Mark}
-use Rattle.ra_bag.specs.Bag.{TakesFirst}
+use Rattle.ra_bag.specs.Bag.{TakesFirst, TakesOne}
 use Rattle.ra_node.specs.declared.outcome.Outcome.{Outcome}
 use Rattle.ra_stamp.specs.declared.mode.Mode.{Mode}
 use Rattle.ra_stamp.specs.declared.entry.Entry.{Entry}
@@ -60,13 +60,13 @@ same_nodes start nodes moves moves' place old new at same is =
     let nodes_are : set nodes place new ≡ nodes = ap (set nodes place) (same ∙ at) ∙ set-get_or nodes place old in
     λ i. shown start (nodes_are i) (is i)
 
--- a message is taken at its place
-pub took_at : (before left new : List Message) (place : ℕ) (message : Message) → before ≡ left → place < length left
-    → (place < length before → new ≡ remove before place) → TakesFirst left message (remove left place)
+-- a message is taken, at the one place where it stands
+pub took_one : (before left new : List Message) (message : Message) → before ≡ left → TakesOne before message new
+    → ((place : ℕ) → place < length left → get_or left place message ≡ message → TakesFirst left message (remove left place))
     → TakesFirst left message new
-took_at before left new place message same within is takes =
-    let inside : place < length before = subst (λ (ms : List Message). place < length ms) (sym same) within in
-    subst (λ (ms : List Message). TakesFirst left message ms) (sym (is inside ∙ ap (λ (ms : List Message). remove ms place) same)) takes
+took_one before left new message same taken first =
+    let (place, within, is, gone) = subst (λ (ms : List Message). TakesOne ms message new) same taken in
+    subst (λ (ms : List Message). TakesFirst left message ms) (sym gone) (first place within is)
 
 -- one more move, of lists that are equal to these
 pub one_more : (moves before after : List Move) (step : Step) (sends sends' : List Message) (marks marks' : List Mark)

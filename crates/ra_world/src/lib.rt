@@ -11,11 +11,9 @@ mod lines;
 mod log;
 mod numbering;
 mod output;
-mod places;
 mod report;
 mod running;
 mod step;
-mod tally;
 mod world;
 
 pub use error::{NewError, NodeRefusal, ReadFault, RunError, StepError, WriteFault};

@@ -7,7 +7,6 @@ use crate::keeping::{
 };
 use crate::log::Log;
 use crate::numbering::{is_held_by, opening_nodes, place_of, queued_at, waiting_at};
-use crate::places::Places;
 use crate::{NewError, NodeRefusal, Report, Step, StepError, runs_go_on_where_steps_are_allowed};
 use ra_bag::Bag;
 use ra_node::{Node, Outcome, events_keep_a_node_consistent};
@@ -27,8 +26,6 @@ pub struct World {
     nodes: Vec<Node>,
     under_way: Bag,
     log: Log,
-    /// Where the messages under way stand, for finding them.
-    places: Places,
 }
 
 impl Model for World {
@@ -76,15 +73,13 @@ impl World {
             nodes: opened,
             under_way,
             log: Log::new(alloc),
-            places: Places::new(alloc),
         })
     }
 
     /// Makes a step, and answers what came of it: the messages that it sent, which are under way then, and its marks. By a
-    /// loss nothing is sent or marked. The cost is that of the node's event; of finding a message among those under way, which
-    /// is logarithmic in their number on average where there is memory to know where they stand, and linear where it is not
-    /// among them; and of closing up its place, linear in the distance from the nearer end. Beside these it is amortized
-    /// constant: the steps so far are not looked at.
+    /// loss nothing is sent or marked. The cost is that of the node's event, and beside it amortized constant on average, with
+    /// finding and taking a message: the steps so far are not looked at. Where the message is not under way, or there was no memory
+    /// to know where each stands, it is linear in the number of messages under way.
     ///
     /// # Errors
     ///
@@ -110,7 +105,8 @@ impl World {
     }
 
     /// Makes a step as `step` does. A message that is to be delivered or lost is looked for at the place `near` first, counted
-    /// from 0 in the order of sending, where it costs no search.
+    /// from 0 in the order of sending, where it costs no search. Where all messages so far were found so, taking one is linear in its
+    /// distance from the nearer end, and `message_at` takes constant time.
     ///
     /// # Errors
     ///
@@ -166,7 +162,8 @@ impl World {
     }
 
     /// Returns the message under way at this place, counted from 0 in the order of sending, or `None` past the end.
-    /// It does not allocate.
+    /// It does not allocate. The cost is constant where `step_near` found the messages taken so far at their places, and else at
+    /// most linear in the number of messages under way.
     pub fn message_at(&self, place: u64) -> Option<Message>
         ensures value { (left : List Message) × LeavesUnderWay self.now.moves left
             × (result ≡ slice_get left place) }
@@ -252,7 +249,6 @@ impl World {
             mode,
         };
         keep(&mut self.under_way, &mut self.log, &step, &outcome);
-        self.places.note(&step, &outcome);
         Ok(outcome)
     }
 
@@ -283,7 +279,6 @@ impl World {
         let outcome = left.leave(alloc, client, name)?;
         let step = Step::Leave { node, client, name };
         keep(&mut self.under_way, &mut self.log, &step, &outcome);
-        self.places.note(&step, &outcome);
         Ok(outcome)
     }
 
@@ -296,7 +291,7 @@ impl World {
         kept_runs_go_on();
         runs_go_on_where_steps_are_allowed();
         events_keep_a_node_consistent();
-        let Some(at) = self.places.find(&self.under_way, message, near) else {
+        let Some(slot) = self.under_way.find(message, near) else {
             return Err(StepError::NotUnderWay);
         };
         // What is under way is for one of the nodes, so there is always a place.
@@ -310,10 +305,9 @@ impl World {
             Ok(outcome) => outcome,
             Err(_) => return Err(StepError::Memory),
         };
-        self.under_way.take_at(at);
+        self.under_way.take_from(slot, message);
         let step = Step::Deliver(*message);
         keep(&mut self.under_way, &mut self.log, &step, &outcome);
-        self.places.note(&step, &outcome);
         Ok(outcome)
     }
 
@@ -326,15 +320,14 @@ impl World {
         kept_runs_go_on();
         runs_go_on_where_steps_are_allowed();
         events_keep_a_node_consistent();
-        let Some(at) = self.places.find(&self.under_way, message, near) else {
+        let Some(slot) = self.under_way.find(message, near) else {
             return Err(StepError::NotUnderWay);
         };
         make_room(&mut self.under_way, &mut self.log, 0, 0)?;
         let outcome = nothing(alloc);
-        self.under_way.take_at(at);
+        self.under_way.take_from(slot, message);
         let step = Step::Lose(*message);
         keep(&mut self.under_way, &mut self.log, &step, &outcome);
-        self.places.note(&step, &outcome);
         Ok(outcome)
     }
 

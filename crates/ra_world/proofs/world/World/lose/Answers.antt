@@ -1,19 +1,20 @@
 use Rattle.std.proofs.Common.{◌≡◌, ◌++◌, ◌∷◌, [], List, Contains, refl, sym, ap, ◌∙◌, subst}
 use Rattle.std.proofs.lemmas.List.{append-nil}
 use Rattle.ra_stamp.specs.declared.message.Message.{Message}
+use Rattle.ra_stamp.specs.Sequence.{Listed}
 use Rattle.ra_bag.specs.Bag.{TakesFirst}
 use Rattle.ra_world.specs.declared.step.Step.TheVariants.{Lose}
 use Rattle.ra_world.specs.declared.error.StepError.TheVariants.{NotUnderWay}
 use Rattle.ra_world.specs.Traffic.{Move}
 use Rattle.ra_world.specs.Keeping.{Keeps}
-use Rattle.ra_world.proofs.Trying.{shown, with_cause, short, took_at, one_more}
+use Rattle.ra_world.proofs.Trying.{shown, with_cause, short, took_one, one_more}
 use Rattle.ra_world.proofs.world.World.lose.Goals as goal
 
 pub returns-in_default-clause-tried : goal.returns-in_default-clause-tried
 returns-in_default-clause-tried c =
     let w = c.self.inside in
     let under = c.kept_runs_go_on.ensures.under_way w.start w.nodes.items w.under_way.items w.log.moves c.args.message.now c.self.invariant in
-    let absent : Contains w.under_way.items c.args.message.now → ⊥ = c.in_default.ensures.none.0 refl in
+    let absent : Contains w.under_way.items c.args.message.now → ⊥ = λ there. let some = c.in_default.ensures.found.1 there in absurd cc in
     (c.self.view_is, with_cause w.start w.nodes.items w.log.moves c.args.self.now (Lose c.args.message.now) NotUnderWay c.self.view_is (λ on. absent (under.0 on)))
 
 pub returns-in_err-make_room-clause-tried : goal.returns-in_err-make_room-clause-tried
@@ -21,8 +22,7 @@ returns-in_err-make_room-clause-tried c =
     let w = c.self.inside in
     let k = c.self.invariant in
     let under = c.kept_runs_go_on.ensures.under_way w.start w.nodes.items w.under_way.items w.log.moves c.args.message.now k in
-    let found = c.in-Some.ensures.found in
-    let there : Contains w.under_way.items c.args.message.now = (c.in-Some.at, found.0, found.1) in
+    let there : Contains w.under_way.items c.args.message.now = c.in-Some.ensures.found.0 refl in
     short w.start w.nodes.items w.log.moves c.args.self.now _ (Lose c.args.message.now) c.from_residual.result c.self.view_is
     (ap (shown w.start w.nodes.items) c.make_room.ensures.moves)
     ((c.runs_go_on_where_steps_are_allowed.ensures.lose _ w.start w.log.moves k.count k.run c.args.message.now).1 (under.1 there))
@@ -31,19 +31,18 @@ returns-in_err-make_room-clause-tried c =
 pub invariant_of-self-2 : goal.invariant_of-self-2
 invariant_of-self-2 c =
     let w = c.self.inside in
-    let found = c.in-Some.ensures.found in
-    let takes : TakesFirst w.under_way.items c.args.message.now c.take_at.new.self.items =
-    took_at c.make_room.new.under_way.items w.under_way.items c.take_at.new.self.items c.in-Some.at c.args.message.now c.make_room.ensures.messages found.0
-    c.take_at.ensures.left
-    (c.kept_runs_go_on.ensures.taken_at w.start w.nodes.items w.under_way.items w.log.moves c.args.message.now c.in-Some.at c.self.invariant found.0 found.1) in
-    let left : c.keep.new.under_way.items ≡ c.take_at.new.self.items =
-    c.keep.ensures.messages ∙ ap (λ (ms : List Message). c.take_at.new.self.items ++ ms) c.nothing-outcome.ensures.0 ∙ append-nil c.take_at.new.self.items in
+    let takes : TakesFirst w.under_way.items c.args.message.now c.take_from.new.self.items =
+    took_one c.make_room.new.under_way.items w.under_way.items c.take_from.new.self.items c.args.message.now (c.make_room.ensures.messages ∙ ap (λ (b : Listed Message). b.items) c.in-Some.ensures.same)
+    c.take_from.ensures.taken
+    (λ place. c.kept_runs_go_on.ensures.taken_at w.start w.nodes.items w.under_way.items w.log.moves c.args.message.now place c.self.invariant) in
+    let left : c.keep.new.under_way.items ≡ c.take_from.new.self.items =
+    c.keep.ensures.messages ∙ ap (λ (ms : List Message). c.take_from.new.self.items ++ ms) c.nothing-outcome.ensures.0 ∙ append-nil c.take_from.new.self.items in
     let moves : c.keep.new.log.moves ≡ w.log.moves ++ record { step = Lose c.args.message.now; sends = []; marks = [] } ∷ [] =
     one_more w.log.moves c.make_room.new.log.moves c.keep.new.log.moves (Lose c.args.message.now) c.nothing-outcome.result.sends.items [] c.nothing-outcome.result.marks.items []
     c.keep.ensures.moves c.make_room.ensures.moves c.nothing-outcome.ensures.0 c.nothing-outcome.ensures.1 in
     subst (λ (ms : List Message). Keeps w.start w.nodes.items ms c.keep.new.log.moves) (sym left)
-    (subst (λ (ms : List Move). Keeps w.start w.nodes.items c.take_at.new.self.items ms) (sym moves)
-    (c.kept_runs_go_on.ensures.loss w.start w.nodes.items w.under_way.items c.take_at.new.self.items w.log.moves c.args.message.now c.self.invariant takes))
+    (subst (λ (ms : List Move). Keeps w.start w.nodes.items c.take_from.new.self.items ms) (sym moves)
+    (c.kept_runs_go_on.ensures.loss w.start w.nodes.items w.under_way.items c.take_from.new.self.items w.log.moves c.args.message.now c.self.invariant takes))
 
 pub returns-clause-run : goal.returns-clause-run
 returns-clause-run c = (invariant_of-self-2 c).run

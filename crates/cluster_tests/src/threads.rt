@@ -1,15 +1,37 @@
 //! The threads that do a script, at sites that the test makes.
-use crate::test_helpers::{Does, USES_R, books_of, entry, r, script_of, two_sites};
-use crate::threads::{Shared, run_threads};
-use crate::{Book, Grant, OpenGate, Post, Site, Stop};
+use crate::helpers::{books_of, comes_to, entry, r, sites_of};
+use crate::plans::{Does, USES_R, script_of};
+use ra_cluster::{Book, Grant, Inbox, OpenGate, Post, ScriptRun, Site, Stop, run_threads};
 use ra_schedule::Script;
 use ra_stamp::{Mode, Name};
 use std::alloc::Global;
+use std::process::Abort;
+use std::sync::atomic::{AtomicU64, Ordering};
 use std::sync::{Mutex, Wait};
+use std::thread;
 use std::thread::Threads;
 
+/// Has threads do a script, and returns once they have ended.
+fn run_to_the_end<R: Threads + Wait + Abort + Sync>(
+    rt: &R,
+    alloc: Global,
+    run: &ScriptRun<'_, OpenGate>,
+    inboxes: &[Inbox],
+) {
+    let ended = AtomicU64::new(0);
+    let ended = &ended;
+    thread::scope(thread::scope_env(), rt, move |scope| {
+        let runs = scope.spawn(move || {
+            run_threads(rt, alloc, run, inboxes);
+            ended.fetch_add(1, Ordering::SeqCst);
+        });
+        // The scope would wait for ever for threads that do not end.
+        assert!(rt; runs.is_err() || comes_to(ended, 1), "the threads end");
+    })
+}
+
 /// Has threads do a script at these sites, and returns the grants that are kept.
-fn run_at<R: Threads + Wait + Sync>(
+fn run_at<R: Threads + Wait + Abort + Sync>(
     rt: &R,
     alloc: Global,
     script: &Script,
@@ -17,14 +39,14 @@ fn run_at<R: Threads + Wait + Sync>(
 ) -> Option<Vec<Grant>> {
     let (post, inboxes) = Post::new(alloc, script.nodes()).ok()?;
     let grants = Mutex::new(Vec::new(alloc));
-    let shared = Shared {
+    let run = ScriptRun {
         script,
         sites,
         post: &post,
         grants: &grants,
         gate: &OpenGate,
     };
-    run_threads(rt, alloc, &shared, &inboxes);
+    run_to_the_end(rt, alloc, &run, &inboxes);
     Some(grants.into_inner())
 }
 
@@ -47,10 +69,10 @@ const USES_R_TWICE: &[Does] = &[
 ];
 
 /// Returns whether both grants of a client are kept.
-fn keeps_both<R: Threads + Wait + Sync>(rt: &R, alloc: Global) -> Option<bool> {
+fn keeps_both<R: Threads + Wait + Abort + Sync>(rt: &R, alloc: Global) -> Option<bool> {
     let name = r()?;
     let script = script_of(alloc, 2, name, 1, USES_R_TWICE)?;
-    let sites = two_sites(alloc, 0)?;
+    let sites = sites_of(alloc, 2, 0)?;
     let grants = run_at(rt, alloc, &script, &sites)?;
     Some(are_both(&grants, name))
 }
@@ -75,7 +97,7 @@ fn have_faults(books: &[Book], first: Option<Stop>, second: Option<Stop>) -> boo
 
 /// Has a client at this node of two use `r` at these sites. Returns whether no grant is kept, and the books have no event and these
 /// faults then.
-fn ends_so<R: Threads + Wait + Sync>(
+fn ends_so<R: Threads + Wait + Abort + Sync>(
     rt: &R,
     alloc: Global,
     node: u16,
@@ -90,8 +112,8 @@ fn ends_so<R: Threads + Wait + Sync>(
 }
 
 /// Returns whether a client of node 2, which is stopped, stops no other.
-fn stops_no_other<R: Threads + Wait + Sync>(rt: &R, alloc: Global) -> Option<bool> {
-    let sites = two_sites(alloc, 0)?;
+fn stops_no_other<R: Threads + Wait + Abort + Sync>(rt: &R, alloc: Global) -> Option<bool> {
+    let sites = sites_of(alloc, 2, 0)?;
     sites.get(1)?.stop(rt, Stop::Clock);
     ends_so(rt, alloc, 2, sites, None, Some(Stop::Clock))
 }
@@ -102,8 +124,8 @@ fn a_client_of_a_stopped_node_stops_no_other(rt: HostRuntime) {
 }
 
 /// Returns whether a client of node 1 stops all where no number is left for any name.
-fn stops_all<R: Threads + Wait + Sync>(rt: &R, alloc: Global) -> Option<bool> {
-    let sites = two_sites(alloc, u64::MAX)?;
+fn stops_all<R: Threads + Wait + Abort + Sync>(rt: &R, alloc: Global) -> Option<bool> {
+    let sites = sites_of(alloc, 2, u64::MAX)?;
     let fault = Some(Stop::Exhausted);
     ends_so(rt, alloc, 1, sites, fault, fault)
 }

@@ -1,7 +1,7 @@
 //! What comes of books in which a script was done, or was not.
-use crate::outcome::settle_script;
-use crate::test_helpers::{Does, LOCKS_R, USES_R, adds_client, entry, r, script_of};
-use crate::{Book, ClusterError, Grant, Stop};
+use crate::helpers::{entry, r};
+use crate::plans::{Does, LOCKS_R, USES_R, adds_client, script_of};
+use ra_cluster::{Book, ClusterError, Grant, Stop, settle_script};
 use ra_frame::{Frame, encode};
 use ra_schedule::Script;
 use ra_stamp::{Message, Mode, Name, NodeId};

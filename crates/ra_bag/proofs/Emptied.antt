@@ -1,0 +1,226 @@
+-- Lists of slots, of which some are empty.
+use Rattle.std.proofs.Common.{◌≡◌, ◌≢◌, ◌<◌, ◌+◌, ◌-◌, ◌≤◌, ℕ, zero, suc, List, ◌∷◌, [], ◌++◌, length, get_or, set, take, drop, map, Contains, ◌↔◌, Option, Some, None, inl, inr, refl, sym, ap, ◌∙◌, subst, arith}
+use Rattle.std.specs.Prelude.{slice_get, IsNone, IsSome, IfSome}
+use Rattle.std.specs.Option.{is_some}
+use Rattle.std.specs.List.{filter, remove}
+use Rattle.ra_stamp.proofs.Places.{split_at}
+use Rattle.ra_stamp.specs.declared.message.Message.{Message}
+use Rattle.ra_bag.specs.Bag.{TakesFirst, TakesOne, messages_in, HasEmpty}
+use Rattle.std.proofs.lemmas.List.{length-append, set_split, length-take-le, length-drop, get_or_append_left, get_or-append-add, get_or-take, get_or_default, take_more, append-nil, length-map}
+use Rattle.std.proofs.lemmas.List.Elements.{filter_map-append}
+use Rattle.std.proofs.lemmas.Bool.Decides.{leb_tells}
+use Rattle.std.proofs.Math.Seq.{take-append_seam, get_or-append_right}
+
+pub in_both : (xs ys : List (Option Message)) → messages_in (xs ++ ys) ≡ messages_in xs ++ messages_in ys
+in_both xs ys = filter_map-append (λ slot. slot) xs ys
+
+-- the messages before a slot
+abbrev pub before : List (Option Message) → ℕ → List Message
+before slots i = messages_in (take i slots)
+
+-- and behind it
+abbrev pub behind : List (Option Message) → ℕ → List Message
+behind slots i = messages_in (drop (suc i) slots)
+
+-- what stands in a slot stands between what is before it and what is behind it
+pub split : (slots : List (Option Message)) (i : ℕ) (m : Message) → i < length slots → get_or slots i (Some m) ≡ Some m
+    → messages_in slots ≡ before slots i ++ m ∷ behind slots i
+split slots i m lt is = ap messages_in (split_at slots i (Some m) lt is) ∙ in_both (take i slots) (Some m ∷ drop (suc i) slots)
+
+pub emptied : (slots : List (Option Message)) (i : ℕ) → i < length slots → messages_in (set slots i None) ≡ before slots i ++ behind slots i
+emptied slots i lt = ap messages_in (set_split slots i None lt) ∙ in_both (take i slots) (None ∷ drop (suc i) slots)
+
+pub removed : (slots : List (Option Message)) (i : ℕ) → messages_in (remove slots i) ≡ before slots i ++ behind slots i
+removed slots i = in_both (take i slots) (drop (suc i) slots)
+
+pub in_filled : (ms : List Message) → messages_in (map Some ms) ≡ ms
+in_filled [] = refl
+in_filled (m ∷ ms) = ap (λ l. m ∷ l) (in_filled ms)
+
+-- ---- Which messages there are
+
+pub there_in : (slots : List (Option Message)) (m : Message) → Contains (messages_in slots) m → Contains slots (Some m)
+there_in [] m (k, lt, is) = absurd (omega (arith, lt))
+there_in (None ∷ slots) m there = let (j, less, same) = there_in slots m there in (suc j, omega (arith, less), same)
+there_in (Some x ∷ slots) m (zero, lt, is) = (0, omega arith, ap Some is)
+there_in (Some x ∷ slots) m (suc k, lt, is) = let (j, less, same) = there_in slots m (k, omega (arith, lt), is) in (suc j, omega (arith, less), same)
+
+pub at_seam : (front back : List Message) (m d : Message) → get_or (front ++ m ∷ back) (length front) d ≡ m
+at_seam [] back m d = refl
+at_seam (x ∷ front) back m d = at_seam front back m d
+
+pub out_there : (slots : List (Option Message)) (m : Message) (i : ℕ) → i < length slots → get_or slots i (Some m) ≡ Some m → Contains (messages_in slots) m
+out_there slots m i lt is =
+    let front = before slots i in
+    let back = behind slots i in
+    subst (λ (ms : List Message). Contains ms m) (sym (split slots i m lt is))
+    (length front, omega (arith, length-append front (m ∷ back)), at_seam front back m m)
+
+pub contains_both : (slots : List (Option Message)) (m : Message) → Contains slots (Some m) ↔ Contains (messages_in slots) m
+contains_both slots m = (λ there. out_there slots m there.0 there.1 there.2, there_in slots m)
+
+-- ---- What is taken
+
+pub takes_first : (slots : List (Option Message)) (i : ℕ) (m : Message) (new : List Message) → i < length slots → get_or slots i (Some m) ≡ Some m
+    → ((k : ℕ) → k < i → get_or slots k (Some m) ≢ Some m) → new ≡ before slots i ++ behind slots i → TakesFirst (messages_in slots) m new
+takes_first slots i m new lt is first new_is =
+    record {
+      front = before slots i;
+      back = behind slots i;
+      old_is = split slots i m lt is;
+      first = λ k d below e.
+          let (j, less, same) = there_in (take i slots) m (k, below, get_or_default (before slots i) k m d below ∙ e) in
+          let near : j < i = omega (arith, less, length-take-le i slots (omega (arith, lt))) in
+          first j near (sym (get_or-take i slots j (Some m) near) ∙ same);
+      new_is = new_is;
+    }
+
+drop_seam : (front back : List Message) (m : Message) → drop (suc (length front)) (front ++ m ∷ back) ≡ back
+drop_seam [] back m = refl
+drop_seam (x ∷ front) back m = drop_seam front back m
+
+one_of : (front back : List Message) (m : Message) → TakesOne (front ++ m ∷ back) m (front ++ back)
+one_of front back m = (
+  length front,
+  omega (arith, length-append front (m ∷ back)),
+  at_seam front back m m,
+  sym (ap (λ (ms : List Message). ms ++ drop (suc (length front)) (front ++ m ∷ back)) (take-append_seam front (m ∷ back))
+      ∙ ap (λ (ms : List Message). front ++ ms) (drop_seam front back m)),
+)
+
+pub takes_one : (slots : List (Option Message)) (i : ℕ) (m : Message) (new : List Message) → i < length slots → get_or slots i (Some m) ≡ Some m
+    → new ≡ before slots i ++ behind slots i → TakesOne (messages_in slots) m new
+takes_one slots i m new lt is new_is =
+    subst (λ (old : List Message). TakesOne old m new) (sym (split slots i m lt is))
+    (subst (λ (ms : List Message). TakesOne (before slots i ++ m ∷ behind slots i) m ms) (sym new_is) (one_of (before slots i) (behind slots i) m))
+
+-- ---- How many slots are empty
+
+-- one message is gone, and its slot too
+pub one_less : (slots new : List (Option Message)) (i : ℕ) (m : Message) (empty : ℕ) → i < length slots → get_or slots i (Some m) ≡ Some m
+    → HasEmpty slots empty → messages_in new ≡ before slots i ++ behind slots i → length new + 1 ≡ length slots → HasEmpty new empty
+one_less slots new i m empty lt is count new_is len =
+    omega (
+      arith,
+      count,
+      len,
+      ap length new_is,
+      ap length (split slots i m lt is),
+      length-append (before slots i) (behind slots i),
+      length-append (before slots i) (m ∷ behind slots i),
+    )
+
+-- one message is gone, and its slot is empty
+pub one_emptied : (slots new : List (Option Message)) (i : ℕ) (m : Message) (empty : ℕ) → i < length slots → get_or slots i (Some m) ≡ Some m
+    → HasEmpty slots empty → messages_in new ≡ before slots i ++ behind slots i → length new ≡ length slots → HasEmpty new (empty + 1)
+one_emptied slots new i m empty lt is count new_is len =
+    omega (
+      arith,
+      count,
+      len,
+      ap length new_is,
+      ap length (split slots i m lt is),
+      length-append (before slots i) (behind slots i),
+      length-append (before slots i) (m ∷ behind slots i),
+    )
+
+-- ---- Without the empty slots
+
+pub closed_up : (slots : List (Option Message)) → messages_in (filter is_some slots) ≡ messages_in slots
+closed_up [] = refl
+closed_up (None ∷ slots) = closed_up slots
+closed_up (Some m ∷ slots) = ap (λ l. m ∷ l) (closed_up slots)
+
+pub none_empty : (slots : List (Option Message)) → length (messages_in (filter is_some slots)) ≡ length (filter is_some slots)
+none_empty [] = refl
+none_empty (None ∷ slots) = none_empty slots
+none_empty (Some m ∷ slots) = ap suc (none_empty slots)
+
+-- ---- By places
+
+pub at_most : (slots : List (Option Message)) → length (messages_in slots) ≤ length slots
+at_most [] = omega arith
+at_most (None ∷ slots) = omega (arith, at_most slots)
+at_most (Some m ∷ slots) = omega (arith, at_most slots)
+
+pub at_full : (slots : List (Option Message)) (place : ℕ) (d : Option Message) → length (messages_in slots) ≡ length slots → place < length slots
+    → get_or slots place d ≡ slice_get (messages_in slots) place
+at_full [] place d full lt = absurd (omega (arith, lt))
+at_full (None ∷ slots) place d full lt = absurd (omega (arith, full, at_most slots))
+at_full (Some m ∷ slots) zero d full lt = refl
+at_full (Some m ∷ slots) (suc place) d full lt = at_full slots place d (omega (arith, full)) (omega (arith, lt))
+
+pub past_all : (ms : List Message) (place : ℕ) → length ms ≤ place → None ≡ slice_get ms place
+past_all [] place le = refl
+past_all (m ∷ ms) zero le = absurd (omega (arith, le))
+past_all (m ∷ ms) (suc place) le = past_all ms place (omega (arith, le))
+
+-- the message in a slot stands at the place that so many stand before
+pub at_slot : (slots : List (Option Message)) (i place : ℕ) (m : Message) → i < length slots → get_or slots i (Some m) ≡ Some m → length (before slots i) ≡ place
+    → Some m ≡ slice_get (messages_in slots) place
+at_slot [] i place m lt is len = absurd (omega (arith, lt))
+at_slot (None ∷ slots) zero place m lt is len = absurd cc
+at_slot (None ∷ slots) (suc i) place m lt is len = at_slot slots i place m (omega (arith, lt)) is len
+at_slot (Some x ∷ slots) zero zero m lt is len = sym is
+at_slot (Some x ∷ slots) zero (suc place) m lt is len = absurd (omega (arith, len))
+at_slot (Some x ∷ slots) (suc i) zero m lt is len = absurd (omega (arith, len))
+at_slot (Some x ∷ slots) (suc i) (suc place) m lt is len = at_slot slots i place m (omega (arith, lt)) is (omega (arith, len))
+
+-- how many stand before the next slot
+pub one_more_before : (slots : List (Option Message)) (i : ℕ) (m : Message) → i < length slots → get_or slots i (Some m) ≡ Some m
+    → length (before slots (i + 1)) ≡ length (before slots i) + 1
+one_more_before slots i m lt is =
+    ap (λ (l : List (Option Message)). length (messages_in l)) (take_more slots i (Some m) lt ∙ ap (λ (o : Option Message). take i slots ++ o ∷ []) is)
+    ∙ ap length (in_both (take i slots) (Some m ∷ [])) ∙ length-append (before slots i) (m ∷ [])
+
+pub none_more_before : (slots : List (Option Message)) (i : ℕ) (d : Option Message) → i < length slots → get_or slots i d ≡ None
+    → length (before slots (i + 1)) ≡ length (before slots i)
+none_more_before slots i d lt is =
+    ap (λ (l : List (Option Message)). length (messages_in l)) (take_more slots i d lt ∙ ap (λ (o : Option Message). take i slots ++ o ∷ []) is)
+    ∙ ap length (in_both (take i slots) (None ∷ [])) ∙ ap length (append-nil (before slots i))
+
+-- ---- In a list of two parts
+
+pub in_front : (front back : List (Option Message)) (m : Message) → Contains front (Some m) → Contains (messages_in (front ++ back)) m
+in_front front back m (k, lt, is) =
+    out_there (front ++ back) m k (omega (arith, lt, length-append front back)) (get_or_append_left front back (Some m) k lt ∙ is)
+
+pub in_back : (front back : List (Option Message)) (m : Message) → Contains back (Some m) → Contains (messages_in (front ++ back)) m
+in_back front back m (k, lt, is) =
+    out_there (front ++ back) m (length front + k) (omega (arith, lt, length-append front back)) (get_or-append-add front back k (Some m) ∙ is)
+
+pub in_neither : (front back : List (Option Message)) (m : Message) → (Contains front (Some m) → ⊥) → (Contains back (Some m) → ⊥)
+    → Contains (messages_in (front ++ back)) m → ⊥
+in_neither front back m no_front no_back there =
+    let (k, lt, is) = there_in (front ++ back) m there in
+    elim (leb_tells (length front) k) [
+      | inl past ↦ no_back (k - length front, omega (arith, past.1, lt, length-append front back), sym (get_or-append_right front back k (Some m) past.1) ∙ is)
+      | inr near ↦ no_front (k, near.1, sym (get_or_append_left front back (Some m) k near.1) ∙ is)
+    ]
+
+-- ---- What is put behind
+
+pub put_behind : (slots : List (Option Message)) (ms : List Message) → messages_in (slots ++ map Some ms) ≡ messages_in slots ++ ms
+put_behind slots ms = in_both slots (map Some ms) ∙ ap (λ (l : List Message). messages_in slots ++ l) (in_filled ms)
+
+pub count_behind : (slots : List (Option Message)) (ms : List Message) (empty : ℕ) → HasEmpty slots empty → HasEmpty (slots ++ map Some ms) empty
+count_behind slots ms empty count =
+    omega (arith, count, ap length (put_behind slots ms), length-append (messages_in slots) ms, length-append slots (map Some ms), length-map ms Some)
+
+pub first_is_one : (old : List Message) (m : Message) (new : List Message) → TakesFirst old m new → TakesOne old m new
+first_is_one old m new takes =
+    subst (λ (ms : List Message). TakesOne ms m new) (sym takes.old_is)
+    (subst (λ (ms : List Message). TakesOne (takes.front ++ m ∷ takes.back) m ms) (sym takes.new_is) (one_of takes.front takes.back m))
+
+pub one_is_taken : (taken : Option Message) (old new : List Message) (m : Message) → Contains old m → IfSome taken (λ t. (t ≡ m) × TakesFirst old m new)
+    → (IsNone taken → Contains old m → ⊥) → TakesOne old m new
+one_is_taken None old new m there some none = absurd (none refl there)
+one_is_taken (Some t) old new m there some none = first_is_one old m new some.1
+
+pub length_without : (slots : List (Option Message)) (i : ℕ) → i < length slots → length (remove slots i) + 1 ≡ length slots
+length_without slots i lt =
+    omega (arith, lt, length-append (take i slots) (drop (suc i) slots), length-take-le i slots (omega (arith, lt)), length-drop (suc i) slots)
+
+pub some_and_none : (slot : Option ℕ) → IsSome slot → IsNone slot → ⊥
+some_and_none None some none = absurd cc
+some_and_none (Some i) some none = absurd cc

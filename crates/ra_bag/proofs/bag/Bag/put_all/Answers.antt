@@ -1,0 +1,20 @@
+use Rattle.std.proofs.Common.{rules, ◌≡◌, ◌++◌, List, Option, Some, map, sym, ap, ◌∙◌, subst}
+use Rattle.ra_stamp.specs.declared.message.Message.{Message}
+use Rattle.ra_stamp.specs.Sequence.{Listed}
+use Rattle.ra_bag.specs.Bag.{messages_in, HasEmpty}
+use Rattle.ra_bag.proofs.Emptied.{put_behind, count_behind}
+use Rattle.ra_bag.proofs.bag.Bag.put_all.Goals as goal
+
+pub invariant_of-self-2 : goal.invariant_of-self-2
+invariant_of-self-2 c =
+    let w = c.self.inside in
+    let ms = c.args.messages.now.items in
+    let slots : c.append.new.slots.items ≡ w.slots.items ++ map Some ms = search rules in
+    subst (λ (l : List (Option Message)). HasEmpty l w.empty) (sym slots) (count_behind w.slots.items ms w.empty c.self.invariant)
+
+pub returns-clause-ok : goal.returns-clause-ok
+returns-clause-ok c =
+    let w = c.self.inside in
+    let ms = c.args.messages.now.items in
+    let slots : c.append.new.slots.items ≡ w.slots.items ++ map Some ms = search rules in
+    ap messages_in slots ∙ put_behind w.slots.items ms ∙ ap (λ (b : Listed Message). b.items ++ ms) c.self.view_is

@@ -1,0 +1,18 @@
+use Rattle.std.proofs.Common.{List, refl, ap, subst}
+use Rattle.ra_stamp.specs.Sequence.{Listed}
+use Rattle.ra_stamp.specs.declared.message.Message.{Message}
+use Rattle.ra_bag.specs.Bag.{TakesOne, messages_in}
+use Rattle.ra_bag.proofs.Emptied.{takes_one, one_is_taken}
+use Rattle.ra_bag.proofs.bag.Bag.take_from.Goals as goal
+
+pub returns-then-has-clause-taken : goal.returns-then-has-clause-taken
+returns-then-has-clause-taken c =
+    let slots = c.self.inside.slots.items in
+    let message = c.args.message.now in
+    let there = c.if-has.ensures.value.0 refl in
+    subst (λ (old : List Message). TakesOne old message (messages_in c.remove.new.slots.items)) (ap (λ (b : Listed Message). b.items) c.self.view_is)
+    (takes_one slots c.args.slot message (messages_in c.remove.new.slots.items) there.0 there.1 c.remove.ensures.items)
+
+pub returns-else-has-clause-taken : goal.returns-else-has-clause-taken
+returns-else-has-clause-taken c =
+    one_is_taken c.take.result c.args.self.now.items c.take.new.self.items c.args.message.now c.requires c.take.ensures.taken c.take.ensures.none.0

@@ -1,0 +1,95 @@
+//! In which slot a message stands.
+use indexmap::IndexMap;
+use ra_stamp::{Memory, Message};
+use std::alloc::Global;
+use std::collections::VecDeque;
+
+/// Where there are no more slots than these, they are looked through.
+const FEW: usize = 64;
+
+/// The slots of the messages in a bag, by which one is found without looking at all of them. They are learned where a message is
+/// looked for among many. What they tell is only where to look first: a bag without them, or one where there was no memory for
+/// them, does the same in more time.
+#[derive(Debug, Drop)]
+pub struct Places {
+    /// Each message with the number of its slot.
+    numbers: IndexMap<Message, u64>,
+    /// The number of the first slot.
+    first: u64,
+}
+
+impl Places {
+    /// Makes the places of no messages. It does not allocate.
+    pub fn new(alloc: Global) -> Places {
+        Places {
+            numbers: IndexMap::new(alloc),
+            first: 0,
+        }
+    }
+
+    /// Returns whether there are places, of which each tells its message's slot.
+    #[inline(always)]
+    pub fn are_known(&self) -> bool {
+        !self.numbers.is_empty()
+    }
+
+    /// Returns the slot of a message, as far as that is known, or 0. Where there are many slots they are learned first.
+    pub fn look_up(&mut self, slots: &VecDeque<Option<Message>>, message: &Message) -> usize {
+        if slots.len() > FEW && !self.are_known() {
+            self.learn(slots);
+        }
+        match self.numbers.get(message) {
+            Some(number) => number.wrapping_sub(self.first) as usize,
+            None => 0,
+        }
+    }
+
+    /// Learns the slot of each message.
+    fn learn(&mut self, slots: &VecDeque<Option<Message>>) {
+        self.forget();
+        let mut slot = 0u64;
+        for kept in slots {
+            if let Some(message) = kept {
+                if self.numbers.insert(*message, slot).is_err() {
+                    self.forget();
+                    return;
+                }
+            }
+            slot = slot.wrapping_add(1);
+        }
+    }
+
+    /// Learns the slots of these messages, which are put into the slots that begin with this one, where the others are known.
+    pub fn follow(&mut self, slot: usize, messages: &[Message]) {
+        if !self.are_known() {
+            return;
+        }
+        let mut number = self.first.wrapping_add(slot as u64);
+        for message in messages {
+            if self.numbers.insert(*message, number).is_err() {
+                self.forget();
+                return;
+            }
+            number = number.wrapping_add(1);
+        }
+    }
+
+    /// Forgets the place of a message that was taken.
+    pub fn take(&mut self, message: &Message) {
+        if self.are_known() {
+            let _ = self.numbers.swap_remove(message);
+        }
+    }
+
+    /// Notes that the first slot is gone.
+    pub fn shift(&mut self) {
+        self.first = self.first.wrapping_add(1);
+    }
+
+    /// Forgets all places.
+    pub fn forget(&mut self) {
+        // `clear` would take time linear in the largest number of places that there ever were.
+        self.numbers.truncate(0);
+        self.first = 0;
+    }
+}

@@ -1,0 +1,163 @@
+//! Messages in slots, of which some may be empty.
+ghost use Rattle.std.specs.Prelude.{◌≡◌, ◌≢◌, ◌+◌, ◌<◌, ◌≤◌, ◌↔◌, ◌++◌, length, map, take, drop, slice_get, slice_index_or, slice_set, Contains, Some, None, IsNone, IsSome, IfSome, IsOk, OnOk, OnErr, IsTrue, ℕ};
+ghost use Rattle.std.specs.List.{filter, remove};
+ghost use Rattle.std.specs.Option.{is_some};
+ghost use Rattle.std.specs.VecDeque.{deque_len, deque_capacity};
+ghost use Rattle.ra_bag.specs.Bag.{StandsIn, messages_in};
+
+use ra_stamp::{Memory, Message};
+use std::collections::VecDeque;
+
+/// Makes room for this many more slots, where there is none yet.
+pub fn make_room(slots: &mut VecDeque<Option<Message>>, more: usize) -> Result<(), Memory>
+    ensures same { slots.new.items ≡ slots.old.items }
+    ensures ok { OnOk result (deque_len slots.new + more ≤ deque_capacity slots.new) }
+    ensures enough { deque_len slots.old + more ≤ deque_capacity slots.old
+        → deque_capacity slots.new ≡ deque_capacity slots.old }
+    ensures err { OnErr result (deque_capacity slots.new ≡ deque_capacity slots.old) }
+    ensures succeeds { deque_len slots.old + more ≤ deque_capacity slots.old → IsOk result }
+{
+    // A list that has the room is left as it is, which `reserve` alone does not promise, nor that a refusal leaves the capacity.
+    if slots.capacity() - slots.len() < more {
+        slots.reserve_exact(more.max(slots.capacity()))?;
+    }
+    Ok(())
+}
+
+/// Puts messages into slots at the end, for which there is room.
+pub fn append(slots: &mut VecDeque<Option<Message>>, messages: &[Message])
+    requires { deque_len slots.old + length messages.now ≤ deque_capacity slots.old }
+    ensures items { slots.new.items ≡ slots.old.items ++ map Some messages.now }
+    ensures capacity { deque_capacity slots.new ≡ deque_capacity slots.old }
+{
+    for message in messages {
+        slots.push_back_reserved(Some(*message));
+    }
+}
+
+/// Returns whether a slot has a message that is equal to this one.
+#[inline(always)]
+pub fn has(slots: &VecDeque<Option<Message>>, slot: usize, message: &Message) -> bool
+    ensures value { IsTrue result ↔ StandsIn slots.now.items message.now slot }
+    ensures there { IsTrue result → Contains (messages_in slots.now.items) message.now }
+{
+    match slots.get(slot) {
+        Some(kept) => is_of(kept, message),
+        None => false,
+    }
+}
+
+/// Returns the first slot that has a message that is equal to this one. The slots lie in two parts, which are gone through faster
+/// one after the other.
+pub fn slot_of(slots: &VecDeque<Option<Message>>, message: &Message) -> Option<usize>
+    ensures some { IsSome result ↔ Contains (messages_in slots.now.items) message.now }
+    ensures found { IfSome result (StandsIn slots.now.items message.now) }
+    ensures first { IfSome result (λ slot. (k : ℕ) → k < slot
+        → slice_index_or slots.now.items k (Some message.now) ≢ Some message.now) }
+{
+    let (front, back) = slots.as_slices();
+    if let Some(slot) = slot_in(front, message) {
+        return Some(slot);
+    }
+    let slot = slot_in(back, message)?;
+    Some(front.len() + slot)
+}
+
+/// Returns the first of these slots that has a message that is equal to this one.
+fn slot_in(slots: &[Option<Message>], message: &Message) -> Option<usize>
+    ensures absent { IsNone result ↔ ¬ Contains slots.now (Some message.now) }
+    ensures found { IfSome result (StandsIn slots.now message.now) }
+    ensures first { IfSome result (λ slot. (k : ℕ) → k < slot
+        → slice_index_or slots.now k (Some message.now) ≢ Some message.now) }
+{
+    slots.iter().position(|kept| is_of(kept, message))
+}
+
+/// Returns whether a slot has a message that is equal to this one.
+pub fn contains(slots: &VecDeque<Option<Message>>, message: &Message) -> bool
+    ensures { IsTrue result ↔ Contains (messages_in slots.now.items) message.now }
+{
+    // Who delivers the newest asks for the last.
+    is_last(slots, message) || slot_of(slots, message).is_some()
+}
+
+/// Returns whether the last slot has a message that is equal to this one.
+fn is_last(slots: &VecDeque<Option<Message>>, message: &Message) -> bool
+    ensures { IsTrue result → Contains (messages_in slots.now.items) message.now }
+{
+    has(slots, slots.len().saturating_sub(1), message)
+}
+
+/// Returns the message at this place among those in the slots.
+pub fn nth(slots: &VecDeque<Option<Message>>, place: u64) -> Option<Message>
+    ensures { result ≡ slice_get (messages_in slots.now.items) place }
+{
+    let mut left = place;
+    for slot in 0..slots.len() {
+        if let Some(message) = slots[slot] {
+            if left == 0 {
+                return Some(message);
+            }
+            left -= 1;
+        }
+    }
+    None
+}
+
+/// Returns the message at this place, where no slot is empty.
+pub fn at(slots: &VecDeque<Option<Message>>, place: usize) -> Option<Message>
+    requires { length (messages_in slots.now.items) ≡ length slots.now.items }
+    ensures { result ≡ slice_get (messages_in slots.now.items) place }
+{
+    match slots.get(place) {
+        Some(kept) => *kept,
+        None => None,
+    }
+}
+
+/// Takes a slot out, in time linear in the distance from the nearer end.
+pub fn take_out(slots: &mut VecDeque<Option<Message>>, slot: usize)
+    requires { slot < length slots.old.items }
+    ensures items { slots.new.items ≡ remove slots.old.items slot }
+    ensures len { deque_len slots.new ≤ deque_len slots.old }
+    ensures capacity { deque_capacity slots.new ≡ deque_capacity slots.old }
+{
+    slots.remove(slot);
+}
+
+/// Empties a slot.
+pub fn clear(slots: &mut VecDeque<Option<Message>>, slot: usize)
+    requires { slot < length slots.old.items }
+    ensures items { slots.new.items ≡ slice_set slots.old.items slot None }
+    ensures capacity { deque_capacity slots.new ≡ deque_capacity slots.old }
+{
+    slots[slot] = None;
+}
+
+/// Removes the empty slots. The order of the others stays.
+pub fn close_up(slots: &mut VecDeque<Option<Message>>)
+    ensures items { slots.new.items ≡ filter is_some slots.old.items }
+    ensures len { deque_len slots.new ≤ deque_len slots.old }
+    ensures capacity { deque_capacity slots.new ≡ deque_capacity slots.old }
+{
+    slots.retain(|kept| kept.is_some());
+}
+
+/// Returns whether what a slot has is a message that is equal to this one.
+#[inline(always)]
+fn is_of(kept: &Option<Message>, message: &Message) -> bool
+    ensures { IsTrue result ↔ (kept.now ≡ Some message.now) }
+{
+    match kept {
+        Some(other) => is_same(other, message),
+        None => false,
+    }
+}
+
+/// Returns whether two messages are equal. Most that are not differ in their numbers or nodes, which are looked at first.
+#[inline(always)]
+fn is_same(a: &Message, b: &Message) -> bool
+    ensures { IsTrue result ↔ (a.now ≡ b.now) }
+{
+    a.seq() == b.seq() && a.to() == b.to() && a.from() == b.from() && a == b
+}
