@@ -273,6 +273,57 @@ fn readers_of_one_node_take_turns_first_in_first_out(rt: HostRuntime) {
     assert!(rt; grants_in_turn(rt.alloc()) == Some(true));
 }
 
+/// Forty writers ask for `r`, in this order. Returns whether the node took each.
+fn takes_forty(alloc: Global, node: &mut Node) -> bool {
+    for client in 1..41 {
+        if !takes_writer(alloc, node, client) {
+            return false;
+        }
+    }
+    true
+}
+
+/// Returns whether the node tells each of the forty that it is busy, and no other.
+fn refuses_forty(alloc: Global, node: &mut Node) -> bool {
+    for client in 1..41 {
+        if !refuses_ask(alloc, node, client, Mode::Exclusive, AskError::Busy) {
+            return false;
+        }
+    }
+    may_ask(node, 0, &r()) && may_ask(node, 41, &r())
+}
+
+/// Returns whether a client holds `r` by its own number, leaves, and may ask again, while the last one is still busy.
+fn takes_its_turn(alloc: Global, node: &mut Node, client: u32) -> bool {
+    is_held(node, &writer(1, client, u64::from(client)))
+        && may_not_ask(node, 40, AskError::Busy)
+        && takes_leave(alloc, node, client, r())
+        && may_ask(node, client, &r())
+}
+
+fn forty_take_their_turns(alloc: Global, node: &mut Node) -> bool {
+    for client in 1..41 {
+        if !takes_its_turn(alloc, node, client) {
+            return false;
+        }
+    }
+    true
+}
+
+fn knows_a_long_queue(alloc: Global) -> Option<bool> {
+    let mut node = node(alloc, 1, 1, 0)?;
+    let asked = takes_forty(alloc, &mut node) && node.queued() == 39;
+    let refused = refuses_forty(alloc, &mut node);
+    let left = forty_take_their_turns(alloc, &mut node) && is_free(&node);
+    let again = has_counts(&node, 0, 0) && takes_forty(alloc, &mut node);
+    Some(asked && refused && left && again && refuses_forty(alloc, &mut node))
+}
+
+#[test]
+fn a_long_queue_knows_its_clients(rt: HostRuntime) {
+    assert!(rt; knows_a_long_queue(rt.alloc()) == Some(true));
+}
+
 /// Returns whether, at node 1 of 2 that begins at the greatest number but two, client 1 enters with the greatest number but
 /// one, client 2 queues, and a REQUEST with the greatest number is deferred.
 fn gives_out_the_greatest_but_one(alloc: Global, node: &mut Node) -> bool {

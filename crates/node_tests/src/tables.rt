@@ -145,6 +145,31 @@ fn two_names_are_held_at_once(rt: HostRuntime) {
 }
 
 #[test]
+fn a_name_is_asked_for_again(rt: HostRuntime) {
+    let a = Name::new(b"a").expect(&rt, "a name");
+    let b = Name::new(b"b").expect(&rt, "a name");
+    let first = entry(1, 1, a, Mode::Exclusive, 1);
+    let other = entry(1, 1, b, Mode::Exclusive, 1);
+    let again = entry(2, 2, a, Mode::Exclusive, 2);
+    let calls = [
+        asks(&first, Ok(())),
+        enters(&first, Ok(())),
+        leaves(&first, Ok(())),
+        // Nobody waits or holds on the name, but it was met.
+        asks(&other, Ok(())),
+        can_enter(&again, false),
+        asks(&again, Ok(())),
+        enters(&other, Ok(())),
+        can_enter(&again, true),
+        enters(&again, Ok(())),
+        leaves(&other, Ok(())),
+        leaves(&again, Ok(())),
+        leaves(&again, Err(LeaveError::NotHeld)),
+    ];
+    check(&rt, rt.alloc(), &calls);
+}
+
+#[test]
 fn a_reader_waits_behind_an_earlier_writer(rt: HostRuntime) {
     let first = reader(1, 1, 1);
     let writer = writer(2, 2, 1);

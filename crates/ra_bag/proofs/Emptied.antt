@@ -6,7 +6,7 @@ use Rattle.std.specs.List.{filter, remove}
 use Rattle.ra_stamp.proofs.Places.{split_at}
 use Rattle.ra_stamp.specs.declared.message.Message.{Message}
 use Rattle.ra_bag.specs.Bag.{TakesFirst, TakesOne, messages_in, HasEmpty}
-use Rattle.std.proofs.lemmas.List.{length-append, set_split, length-take-le, length-drop, get_or_append_left, get_or-append-add, get_or-take, get_or_default, take_more, append-nil, length-map}
+use Rattle.std.proofs.lemmas.List.{length-append, set_split, length-take-le, length-drop, get_or_append_left, get_or-append-add, get_or-take, get_or_default, take_more, append-nil, drop_all, length-map}
 use Rattle.std.proofs.lemmas.List.Elements.{filter_map-append}
 use Rattle.std.proofs.lemmas.Bool.Decides.{leb_tells}
 use Rattle.std.proofs.Math.Seq.{take-append_seam, get_or-append_right}
@@ -32,6 +32,10 @@ emptied slots i lt = ap messages_in (set_split slots i None lt) ∙ in_both (tak
 
 pub removed : (slots : List (Option Message)) (i : ℕ) → messages_in (remove slots i) ≡ before slots i ++ behind slots i
 removed slots i = in_both (take i slots) (drop (suc i) slots)
+
+pub last_removed : (slots : List (Option Message)) (i : ℕ) → i + 1 ≡ length slots → messages_in (take i slots) ≡ before slots i ++ behind slots i
+last_removed slots i last =
+    sym (append-nil (before slots i)) ∙ ap (λ (ms : List Message). before slots i ++ ms) (sym (ap messages_in (drop_all (suc i) slots (omega (arith, last)))))
 
 pub in_filled : (ms : List Message) → messages_in (map Some ms) ≡ ms
 in_filled [] = refl

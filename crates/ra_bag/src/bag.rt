@@ -3,7 +3,10 @@ ghost use Rattle.std.specs.VecDeque.{deque_len, deque_capacity};
 ghost use Rattle.ra_bag.specs.Bag.{TakesFirst, TakesOne, StandsIn, messages_in, HasEmpty};
 
 use crate::places::Places;
-use crate::slots::{append, at, clear, close_up, contains, has, make_room, nth, slot_of, take_out};
+use crate::slots::{
+    append, at, clear, close_up, contains, has, make_room, nth, slot_of, take_first, take_last,
+    take_out,
+};
 use ra_stamp::{Memory, Message, Messages};
 use std::alloc::Global;
 use std::collections::VecDeque;
@@ -232,9 +235,12 @@ fn remove_slot(
     places.take(message);
     if slot == 0 {
         // Who delivers the oldest takes the first.
-        slots.pop_front();
+        take_first(slots);
         places.shift();
-    } else if slot + 1 == slots.len() || !places.are_known() {
+    } else if slot + 1 == slots.len() {
+        // Who delivers the newest takes the last.
+        take_last(slots);
+    } else if !places.are_known() {
         take_out(slots, slot);
     } else {
         clear(slots, slot);

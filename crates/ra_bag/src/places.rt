@@ -60,10 +60,15 @@ impl Places {
     }
 
     /// Learns the slots of these messages, which are put into the slots that begin with this one, where the others are known.
+    #[inline(always)]
     pub fn follow(&mut self, slot: usize, messages: &[Message]) {
-        if !self.are_known() {
-            return;
+        if self.are_known() {
+            self.add(slot, messages);
         }
+    }
+
+    /// Adds the slots of these messages, which are put into the slots that begin with this one.
+    fn add(&mut self, slot: usize, messages: &[Message]) {
         let mut number = self.first.wrapping_add(slot as u64);
         for message in messages {
             if self.numbers.insert(*message, number).is_err() {
@@ -75,13 +80,20 @@ impl Places {
     }
 
     /// Forgets the place of a message that was taken.
+    #[inline(always)]
     pub fn take(&mut self, message: &Message) {
         if self.are_known() {
-            let _ = self.numbers.swap_remove(message);
+            self.remove(message);
         }
     }
 
+    /// Removes the place of a message.
+    fn remove(&mut self, message: &Message) {
+        let _ = self.numbers.swap_remove(message);
+    }
+
     /// Notes that the first slot is gone.
+    #[inline(always)]
     pub fn shift(&mut self) {
         self.first = self.first.wrapping_add(1);
     }

@@ -1,5 +1,5 @@
 //! Messages in slots, of which some may be empty.
-ghost use Rattle.std.specs.Prelude.{◌≡◌, ◌≢◌, ◌+◌, ◌<◌, ◌≤◌, ◌↔◌, ◌++◌, length, map, take, drop, slice_get, slice_index_or, slice_set, Contains, Some, None, IsNone, IsSome, IfSome, IsOk, OnOk, OnErr, IsTrue, ℕ};
+ghost use Rattle.std.specs.Prelude.{◌≡◌, ◌≢◌, ◌+◌, ◌-◌, ◌<◌, ◌≤◌, ◌↔◌, ◌++◌, length, map, take, drop, slice_get, slice_index_or, slice_set, Contains, Some, None, IsNone, IsSome, IfSome, IsOk, OnOk, OnErr, IsTrue, ℕ};
 ghost use Rattle.std.specs.List.{filter, remove};
 ghost use Rattle.std.specs.Option.{is_some};
 ghost use Rattle.std.specs.VecDeque.{deque_len, deque_capacity};
@@ -105,6 +105,7 @@ pub fn nth(slots: &VecDeque<Option<Message>>, place: u64) -> Option<Message>
 }
 
 /// Returns the message at this place, where no slot is empty.
+#[inline(always)]
 pub fn at(slots: &VecDeque<Option<Message>>, place: usize) -> Option<Message>
     requires { length (messages_in slots.now.items) ≡ length slots.now.items }
     ensures { result ≡ slice_get (messages_in slots.now.items) place }
@@ -123,6 +124,26 @@ pub fn take_out(slots: &mut VecDeque<Option<Message>>, slot: usize)
     ensures capacity { deque_capacity slots.new ≡ deque_capacity slots.old }
 {
     slots.remove(slot);
+}
+
+/// Takes the first slot out, in constant time.
+pub fn take_first(slots: &mut VecDeque<Option<Message>>)
+    requires { 0 < length slots.old.items }
+    ensures items { slots.new.items ≡ drop 1 slots.old.items }
+    ensures len { deque_len slots.new ≤ deque_len slots.old }
+    ensures capacity { deque_capacity slots.new ≡ deque_capacity slots.old }
+{
+    slots.pop_front();
+}
+
+/// Takes the last slot out, in constant time.
+pub fn take_last(slots: &mut VecDeque<Option<Message>>)
+    requires { 0 < length slots.old.items }
+    ensures items { slots.new.items ≡ take (length slots.old.items - 1) slots.old.items }
+    ensures len { deque_len slots.new ≤ deque_len slots.old }
+    ensures capacity { deque_capacity slots.new ≡ deque_capacity slots.old }
+{
+    slots.pop_back();
 }
 
 /// Empties a slot.
@@ -159,5 +180,42 @@ fn is_of(kept: &Option<Message>, message: &Message) -> bool
 fn is_same(a: &Message, b: &Message) -> bool
     ensures { IsTrue result ↔ (a.now ≡ b.now) }
 {
-    a.seq() == b.seq() && a.to() == b.to() && a.from() == b.from() && a == b
+    match a {
+        Message::Request {
+            from,
+            to,
+            name,
+            mode,
+            seq,
+        } => match b {
+            Message::Request {
+                from: other_from,
+                to: other_to,
+                name: other_name,
+                mode: other_mode,
+                seq: other_seq,
+            } => {
+                seq == other_seq
+                    && to == other_to
+                    && from == other_from
+                    && mode == other_mode
+                    && name == other_name
+            }
+            Message::Reply { .. } => false,
+        },
+        Message::Reply {
+            from,
+            to,
+            name,
+            seq,
+        } => match b {
+            Message::Reply {
+                from: other_from,
+                to: other_to,
+                name: other_name,
+                seq: other_seq,
+            } => { seq == other_seq && to == other_to && from == other_from && name == other_name }
+            Message::Request { .. } => false,
+        },
+    }
 }

@@ -34,7 +34,7 @@ queues_as (q ∷ qs) c (suc k, lt, e) =
     let rest = queues_as qs c (k, omega (arith, lt), e) in
     (suc rest.0, rest.1, omega (arith, rest.2), rest.3, rest.4)
 
-queues_has : (queue : List Queued) (c : ℕ) → Any (λ q. q.client ≡ c) queue → Contains (map (λ q. q.client) queue) c
+pub queues_has : (queue : List Queued) (c : ℕ) → Any (λ q. q.client ≡ c) queue → Contains (map (λ q. q.client) queue) c
 queues_has queue c (k, q, lt, is, e) =
     (k, omega (arith, lt, length-map queue (λ (q : Queued). q.client)), get_or-map (λ (q : Queued). q.client) queue k q c lt ∙ ap (λ (q : Queued). q.client) is ∙ e)
 

@@ -5,6 +5,7 @@ pub mod Named
 pub mod Opening
 pub mod Sends
 pub mod Distinct
+pub mod Known
 pub mod Handing
 pub mod Kept
 pub mod Leading

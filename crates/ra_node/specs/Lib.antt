@@ -1,4 +1,5 @@
 pub mod Faults
+pub mod Queue
 pub mod Resource
 pub mod Turns
 pub mod Node

@@ -48,6 +48,7 @@ mod laws;
 mod marks;
 mod node;
 mod outcome;
+mod queue;
 mod queued;
 mod slot;
 

@@ -15,7 +15,8 @@ use std::marker::Model;
 ///
 /// Each call about a name finds it by a hash, in expected constant time however many names the node has met, and takes beside
 /// that what it says. The first call about a name may move all of them into a larger table, which is constant on average. The
-/// hash is a fixed one: among names that someone picked so that they collide, each look-up is linear in their number.
+/// hash is a fixed one: among names that someone picked so that they collide, each look-up is linear in their number. A client
+/// is found in a long queue by such a hash, too, and among few clients by looking at each.
 ///
 /// [`events_keep_a_node_consistent`](crate::events_keep_a_node_consistent) says more of what `ask`, `leave` and `receive`
 /// send and mark: to whom, with which numbers, how much at most, and that a node has at most one request on a name.
@@ -107,8 +108,9 @@ impl Node {
 
     /// Asks for a name for a client. Where no client of this node uses the name the request is made: a REQUEST to each
     /// other node, and the mark Requested, with the mark Entered behind it where there is no other node. Else the client
-    /// queues, and nothing is sent or marked. The cost is linear in the number of nodes and in the length of the name's
-    /// queue, too.
+    /// queues, and nothing is sent or marked. The cost is linear in the number of nodes, too, and for the client that queues
+    /// amortized constant on average. Where there was no memory to know the clients of a long queue, it is linear in the length
+    /// of the name's queue, too.
     ///
     /// # Errors
     ///
@@ -233,7 +235,8 @@ impl Node {
     }
 
     /// Returns whether a client may ask for a name now, as `ask` would answer, memory aside. It does not allocate. The cost
-    /// is linear in the length of the name's queue, too.
+    /// is constant on average, too, and linear in the length of the name's queue where there was no memory to know the
+    /// clients of a long one.
     ///
     /// # Errors
     ///

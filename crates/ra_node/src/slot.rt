@@ -1,14 +1,14 @@
-ghost use Rattle.std.specs.Prelude.{◌≡◌, ◌≢◌, ◌<◌, ◌≤◌, ◌⊎◌, ◌↔◌, ◌∷◌, [], length, take, IsTrue, IsErrOf, IsOk, IsOkUnless, IfOk, OnOk, OnErr, IfErr, AllPairs, Any, IsNone, IfSome};
+ghost use Rattle.std.specs.Prelude.{◌≡◌, ◌≢◌, ◌<◌, ◌≤◌, ◌⊎◌, ◌↔◌, ◌∷◌, [], length, take, IsTrue, IsErrOf, IsOk, IsOkUnless, IfOk, OnOk, OnErr, IfErr, AllPairs, IsNone, IfSome};
 ghost use Rattle.ra_stamp.specs.declared.entry.Entry.{Entry};
 ghost use Rattle.ra_node.specs.Resource.{entry_of};
 
 use crate::marks::{marks_for, push_request, push_reserved};
+use crate::queue::Queue;
 use crate::queued::Queued;
 use crate::{AskError, LeaveError, Outcome};
 use ra_automaton::{Automaton, Phase, Reaction, ReceiveError};
 use ra_stamp::{Entry, Mark, Marks, Memory, Message, Messages, Mode, Name, NodeId, Stamp};
 use std::alloc::Global;
-use std::collections::VecDeque;
 use std::marker::Model;
 
 /// One resource at this node, with the clients of the node that use it. Contracts see the resource.
@@ -18,7 +18,7 @@ pub struct Slot {
     /// The client whose request waits or is granted.
     client: Option<u32>,
     /// The clients behind it, the first one next.
-    queue: VecDeque<Queued>,
+    queue: Queue,
 }
 
 impl Model for Slot {
@@ -30,7 +30,7 @@ impl Model for Slot {
 
     ghost coded = { resource_code automata.the_row.coded clients.the_row.coded };
 
-    ghost view = { λ s. record { state = s.automaton; client = s.client; queue = s.queue.items } };
+    ghost view = { λ s. record { state = s.automaton; client = s.client; queue = s.queue } };
 }
 
 impl Slot {
@@ -62,7 +62,7 @@ impl Slot {
         Ok(Slot {
             automaton,
             client: None,
-            queue: VecDeque::new(alloc),
+            queue: Queue::new(alloc),
         })
     }
 
@@ -104,17 +104,11 @@ impl Slot {
     fn is_busy(&self, client: u32) -> bool
         ensures { IsTrue result ↔ IsBusy self.now client }
     {
-        self.client == Some(client) || self.is_queued(client)
+        self.client == Some(client) || self.queue.has(client)
     }
 
-    /// Returns whether the client is queued here.
-    fn is_queued(&self, client: u32) -> bool
-        ensures { IsTrue result ↔ Any (λ queued. queued.client ≡ client) self.now.queue }
-    {
-        self.queue.iter().any(|queued| queued.client == client)
-    }
-
-    /// Returns whether the client may ask here, memory aside, in time linear in the length of the queue.
+    /// Returns whether the client may ask here, memory aside, in expected constant time, or in time linear in the length of the
+    /// queue where there was no memory to know its clients.
     ///
     /// # Errors
     ///
@@ -138,7 +132,9 @@ impl Slot {
         Ok(())
     }
 
-    /// Asks for a client, which may ask: its request is made where nobody uses the resource, and else the client queues.
+    /// Asks for a client, which may ask: its request is made where nobody uses the resource, and else the client queues, in
+    /// amortized constant time on average, or in time linear in the length of the queue where there was no memory to know its
+    /// clients.
     ///
     /// # Errors
     ///
@@ -212,7 +208,7 @@ impl Slot {
     }
 
     /// Leaves for the client that holds and asks for `next`, the first of the queue, in one reaction: the deferred REPLYs
-    /// come first. A number must be left.
+    /// come first. A number must be left, and no client may stand here twice.
     ///
     /// # Errors
     ///
@@ -221,6 +217,7 @@ impl Slot {
         requires inside { IsInside self.old.state.phase }
         requires first { take 1 self.old.queue ≡ next ∷ [] }
         requires number_left { self.old.state.highest < greatest_number }
+        requires once { AllPairs (λ a b. a ≢ b) (clients_of self.old) }
         ensures ok { IfOk result (λ reaction. LeaveAndRequestStep self.old.state next.mode
             reaction.sends.items reaction.entered self.new.state) }
         ensures client { OnOk result (self.new.client ≡ Some next.client) }
@@ -312,6 +309,6 @@ impl Slot {
         if self.automaton.highest() == u64::MAX {
             return None;
         }
-        self.queue.front().copied()
+        self.queue.front()
     }
 }

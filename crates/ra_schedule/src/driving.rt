@@ -40,9 +40,9 @@ pub struct Summary {
 }
 
 /// Drives a cluster through a script, from numbers that begin at 0: at each turn the policy makes a choice, and what it
-/// stands for is done, until no choice is left. A turn costs time linear in the number of clients, and that of
-/// `World::step_near`; and for each client that is looked at, whether it may ask, in the queue of the name that it asks for. The steps take
-/// memory linear in the number of turns.
+/// stands for is done, until no choice is left. A turn costs time linear in the number of clients, on average, and that of
+/// `World::step_near`. Whether a client may ask takes time linear in the queue of the name that it asks for where there was no
+/// memory to know the clients of a long one. The steps take memory linear in the number of turns.
 ///
 /// # Errors
 ///

@@ -71,6 +71,7 @@ fn first_enabled(script: &Script, world: &World, clients: &[Progress], first: u3
 }
 
 /// Returns the choice that the policy makes next, or `None` at the end. No client before the place `first` is enabled.
+#[inline(always)]
 pub fn pick(
     script: &Script,
     policy: &Policy,

@@ -14,6 +14,13 @@ pub AllPairs-apart : {X : Type 0} (R : X → X → Type 0) (xs : List X) → Apa
 AllPairs-apart R [] apart = λ i j d lt within. absurd (omega arith)
 AllPairs-apart R (x ∷ xs) apart = AllPairs-cons R x xs apart.0 (AllPairs-apart R xs apart.1)
 
+pub Apart-from_pairs : {X : Type 0} (R : X → X → Type 0) (xs : List X) → AllPairs R xs → Apart R xs
+Apart-from_pairs R [] pairs = tt
+Apart-from_pairs R (x ∷ xs) pairs = (
+  λ k d lt. pairs 0 (suc k) d (omega arith) (omega (arith, lt)),
+  Apart-from_pairs R xs (λ i j d lt within. pairs (suc i) (suc j) d (omega (arith, lt)) (omega (arith, within))),
+)
+
 -- ---- each element
 
 pub All-put : {X : Type 0} (P : X → Type 0) (front back : List X) (x : X) → All P (front ++ back) → P x → All P (front ++ x ∷ back)
@@ -55,10 +62,10 @@ All-apart R flip (y ∷ front) back x apart =
 pub Contains-there : {X : Type 0} (front back : List X) (x : X) → Contains (front ++ x ∷ back) x
 Contains-there front back x = (length front, simp length-append (omega arith), get_or_at front x back x (length front) refl)
 
-Contains-tail : {X : Type 0} (x : X) (xs : List X) (y : X) → Contains xs y → Contains (x ∷ xs) y
+pub Contains-tail : {X : Type 0} (x : X) (xs : List X) (y : X) → Contains xs y → Contains (x ∷ xs) y
 Contains-tail x xs y at = (suc at.0, omega arith, at.2)
 
-Contains-cons_cases : {X : Type 0} (x : X) (xs : List X) (y : X) → Contains (x ∷ xs) y → (x ≡ y) ⊎ Contains xs y
+pub Contains-cons_cases : {X : Type 0} (x : X) (xs : List X) (y : X) → Contains (x ∷ xs) y → (x ≡ y) ⊎ Contains xs y
 Contains-cons_cases x xs y (zero, lt, is) = inl is
 Contains-cons_cases x xs y (suc k, lt, is) = inr (k, omega arith, is)
 

@@ -6,11 +6,13 @@ use Rattle.ra_stamp.specs.declared.entry.Entry.{Entry}
 use Rattle.ra_stamp.specs.declared.entry.Mark.{Mark}
 use Rattle.ra_stamp.specs.declared.entry.Mark.TheVariants.{Requested, Entered, Left}
 use Rattle.ra_stamp.specs.declared.mode.Mode.{Mode}
+use Rattle.ra_stamp.specs.declared.mode.Mode.TheVariants.{Shared, Exclusive}
 use Rattle.ra_stamp.specs.declared.stamp.Stamp.{Stamp}
 use Rattle.ra_stamp.specs.Mode.{Conflict}
 use Rattle.ra_stamp.specs.Stamp.{IsEarlier}
 use Rattle.ra_table.specs.Table.{LockTable, empty_table, Excludes, TableStep}
-use Rattle.ra_table.proofs.Apart.{Apart, All-put, All-taken, Apart-put, Apart-taken, All-apart}
+use Rattle.ra_table.specs.Laws.{IsConflictFree}
+use Rattle.ra_table.proofs.Apart.{Apart, AllPairs-apart, Apart-from_pairs, All-put, All-taken, Apart-put, Apart-taken, All-apart}
 use Rattle.ra_table.proofs.Sound.{NotOfOneNode, NotOfOneNode-flip, IsSoundTable, empty_is_sound, step_sound}
 
 -- the law that conflict does not depend on the order of the modes
@@ -43,6 +45,17 @@ step_conflict_free symmetric old new (Entered e) step free =
 step_conflict_free symmetric old new (Left e) step free =
     let before : Apart DoesNotExclude (step.2.0 ++ e ∷ step.2.1) = subst (Apart DoesNotExclude) step.2.3 free in
     rw step.2.2 (Apart-taken DoesNotExclude step.2.0 step.2.1 e before)
+
+-- whether two modes conflict does not depend on their order
+conflict_flips : ConflictIsSymmetric
+conflict_flips Shared Shared conflict = conflict
+conflict_flips Shared Exclusive conflict = conflict
+conflict_flips Exclusive Shared conflict = conflict
+conflict_flips Exclusive Exclusive conflict = conflict
+
+pub stays_conflict_free : (old new : LockTable) (mark : Mark) → TableStep old mark new → IsConflictFree old.holding → IsConflictFree new.holding
+stays_conflict_free old new mark step free =
+    AllPairs-apart DoesNotExclude new.holding (step_conflict_free conflict_flips old new mark step (Apart-from_pairs DoesNotExclude old.holding free))
 
 -- ---- those that wait are behind the grants
 

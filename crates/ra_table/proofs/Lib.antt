@@ -8,3 +8,6 @@ pub mod Counts
 pub mod History
 pub mod Next
 pub mod Numbers
+pub mod Joined
+pub mod Kept
+pub mod Checked

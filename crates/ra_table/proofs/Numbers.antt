@@ -14,10 +14,10 @@ use Rattle.ra_table.specs.Highest.{highest_on, Reaches, AreHighest}
 abbrev pub IsFrom : List ℕ → ℕ → Entry → Type 0
 IsFrom name number x = (x.name ≡ name) × (number ≤ x.stamp.seq)
 
-Any-tail : (P : Entry → Type 0) (x : Entry) (xs : List Entry) → Any P xs → Any P (x ∷ xs)
+pub Any-tail : (P : Entry → Type 0) (x : Entry) (xs : List Entry) → Any P xs → Any P (x ∷ xs)
 Any-tail P x xs some = (suc some.0, some.1, omega arith, some.3, some.4)
 
-Any-cases : (P : Entry → Type 0) (x : Entry) (xs : List Entry) → Any P (x ∷ xs) → P x ⊎ Any P xs
+pub Any-cases : (P : Entry → Type 0) (x : Entry) (xs : List Entry) → Any P (x ∷ xs) → P x ⊎ Any P xs
 Any-cases P x xs (zero, y, lt, is, p) = inl (subst P (sym is) p)
 Any-cases P x xs (suc k, y, lt, is, p) = inr (k, y, omega arith, is, p)
 

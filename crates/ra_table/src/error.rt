@@ -1,4 +1,5 @@
-use std::alloc::{AllocError, AllocFailed};
+use ra_stamp::Memory;
+use std::alloc::AllocError;
 use thiserror::Error;
 
 /// Why a request was refused.
@@ -15,13 +16,13 @@ pub enum RequestError {
     Memory,
 }
 
-impl<T: Drop> From<AllocFailed<T>> for RequestError {
+impl From<Memory> for RequestError {
     ghost use Rattle.std.specs.Prelude.{◌≡◌};
     ghost use Rattle.ra_table.specs.declared.error.RequestError.TheVariants.{Memory};
 
     ghost from_gives = { λ _ error. error ≡ Memory };
 
-    fn from(_refused: AllocFailed<T>) -> RequestError {
+    fn from(_refused: Memory) -> RequestError {
         RequestError::Memory
     }
 }
@@ -50,6 +51,17 @@ impl From<AllocError> for EnterError {
     ghost from_gives = { λ _ error. error ≡ Memory };
 
     fn from(_refused: AllocError) -> EnterError {
+        EnterError::Memory
+    }
+}
+
+impl From<Memory> for EnterError {
+    ghost use Rattle.std.specs.Prelude.{◌≡◌};
+    ghost use Rattle.ra_table.specs.declared.error.EnterError.TheVariants.{Memory};
+
+    ghost from_gives = { λ _ error. error ≡ Memory };
+
+    fn from(_refused: Memory) -> EnterError {
         EnterError::Memory
     }
 }

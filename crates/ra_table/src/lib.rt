@@ -4,6 +4,7 @@
 
 mod error;
 mod highest;
+mod lanes;
 mod laws;
 mod lists;
 mod table;

@@ -1,10 +1,10 @@
-//! What the lock table asks of its lists of entries.
-ghost use Rattle.std.specs.Prelude.{◌≡◌, ◌<◌, ◌↔◌, length, slice_index_or, Any, Contains, IsTrue, IsNone, IfSome};
+//! What the lock table asks of its lists of entries, and how an entry is put into one.
+ghost use Rattle.std.specs.Prelude.{◌≡◌, ◌<◌, ◌↔◌, ◌++◌, ◌∷◌, [], length, slice_index_or, Any, Contains, IsTrue, IsNone, IfSome, OnOk, OnErr};
 ghost use Rattle.ra_stamp.specs.Stamp.{IsEarlier};
 ghost use Rattle.ra_table.specs.Table.{Excludes};
 ghost use Rattle.ra_table.specs.Refusals.{SharesNodeAndName};
 
-use ra_stamp::{Entry, conflicts};
+use ra_stamp::{Entry, Memory, conflicts};
 
 /// Returns whether two entries are on one name, in modes that conflict.
 fn excludes(a: &Entry, b: &Entry) -> bool
@@ -41,4 +41,19 @@ pub fn place_of(list: &[Entry], entry: &Entry) -> Option<usize>
         × (slice_index_or list.now place entry.now ≡ entry.now)) }
 {
     list.iter().position(|other| other == entry)
+}
+
+/// Puts the entry at the end of a list of few, in which no room is kept for more: there are as many such lists as
+/// names, and most have one entry at most.
+///
+/// # Errors
+///
+/// `Memory`: the list is as before.
+pub fn push_exactly(list: &mut Vec<Entry>, entry: &Entry) -> Result<(), Memory>
+    ensures ok { OnOk result (list.new.items ≡ list.old.items ++ entry.now ∷ []) }
+    ensures err { OnErr result (list.new.items ≡ list.old.items) }
+{
+    list.reserve_exact(1)?;
+    list.push_reserved(*entry);
+    Ok(())
 }

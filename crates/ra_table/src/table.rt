@@ -1,11 +1,13 @@
-ghost use Rattle.std.specs.Prelude.{◌≡◌, ◌<◌, ◌↔◌, length, slice_index_or, Contains, IsTrue, IsOk, IsErrOf, IsOkUnless, IfOk, OnOk, OnErr};
+ghost use Rattle.std.specs.Prelude.{◌≡◌, ◌↔◌, Contains, IsTrue, IsOk, IsErrOf, IsOkUnless, IfOk, OnOk, OnErr};
 ghost use Rattle.ra_stamp.specs.declared.entry.Mark.{Mark};
 ghost use Rattle.ra_table.specs.Table.{empty_table, MayRequest, MayEnter, TableStep};
 ghost use Rattle.ra_table.specs.Refusals.{IsNodeBusy, IsNotAbove, IsHeld, HasEarlier};
 ghost use Rattle.ra_table.specs.Laws.{IsConflictFree};
+ghost use Rattle.ra_table.specs.Lanes.{on_name, StandsAt};
 
 use crate::error::{EnterError, LeaveError, RequestError};
 use crate::highest::{raise, reaches_number_of};
+use crate::lanes::Lanes;
 use crate::lists::{has_earlier, has_excluding, has_node_of, place_of};
 use indexmap::IndexMap;
 use ra_stamp::{Entry, Memory, Name};
@@ -13,15 +15,17 @@ use std::alloc::Global;
 use std::marker::Model;
 
 /// The lock table: which entries wait, which hold, and which were granted so far. No two conflicting entries on
-/// one name hold. An entry that was granted is kept for ever, so the table grows with each grant.
+/// one name hold. An entry that was granted is kept for ever, so the table grows with each grant. So is a name that
+/// was asked for, also once nobody waits or holds on it any more.
 ///
+/// The entries that wait and hold are kept by their names, so that a call looks at those on its entry's name alone.
 /// Beside the grants the table keeps the highest number granted so far on each name. Of the grants a request is
-/// compared with that number alone, as looking at each would take ever longer. It is found by a fixed hash:
+/// compared with that number alone, as looking at each would take ever longer. A name is found by a fixed hash:
 /// among names that someone picked so that they collide, a look-up is linear in their number.
 #[derive(Debug, Drop)]
 pub struct Table {
-    waiting: Vec<Entry>,
-    holding: Vec<Entry>,
+    /// The entries that wait and hold.
+    lanes: Lanes,
     granted: Vec<Entry>,
     /// The highest number granted so far on each name.
     highest: IndexMap<Name, u64>,
@@ -34,9 +38,9 @@ impl Model for Table {
     ghost Value = { LockTable };
 
     ghost view = { λ t.
-        record { waiting = t.waiting.items; holding = t.holding.items; granted = t.granted.items } };
+        record { waiting = t.lanes.waiting; holding = t.lanes.holding; granted = t.granted.items } };
 
-    ghost invariant = { λ t. IsKept t.holding.items t.granted.items t.highest.entries };
+    ghost invariant = { λ t. IsKept t.lanes.holding t.granted.items t.highest.entries };
 }
 
 impl Table {
@@ -50,14 +54,14 @@ impl Table {
         ensures empty { IfOk result (λ table. table ≡ empty_table) }
     {
         Ok(Table {
-            waiting: Vec::new(alloc),
-            holding: Vec::new(alloc),
+            lanes: Lanes::new(alloc),
             granted: Vec::new(alloc),
             highest: IndexMap::new(alloc),
         })
     }
 
-    /// Lets the entry wait, in expected time linear in the number of entries that wait and hold.
+    /// Lets the entry wait, in expected time linear in the number of entries that wait and hold on its name. Now and
+    /// then it moves all that is kept by names into more memory, which is constant on average.
     ///
     /// # Errors
     ///
@@ -68,7 +72,6 @@ impl Table {
     /// 3. `Memory`.
     ///
     /// Whichever comes, the table is as before.
-    #[tactic(auto, using(crate::proofs::Moves::moves))]
     pub fn request(&mut self, entry: Entry) -> Result<(), RequestError>
         ensures ok { OnOk result (TableStep self.old (Mark.Requested entry) self.new) }
         ensures err { OnErr result (self.new ≡ self.old) }
@@ -80,12 +83,12 @@ impl Table {
         ensures exclusive { IsConflictFree self.new.holding }
     {
         self.check_request(&entry)?;
-        self.waiting.push(entry)?;
+        self.lanes.wait(&entry)?;
         Ok(())
     }
 
     /// Grants an entry that waits, so that it holds, in expected time linear in the number of entries that wait and
-    /// hold. Now and then it moves all that was granted into more memory, which is constant on average.
+    /// hold on its name. Now and then it moves all that was granted into more memory, which is constant on average.
     ///
     /// # Errors
     ///
@@ -97,7 +100,6 @@ impl Table {
     /// 4. `Memory`.
     ///
     /// Whichever comes, the table is as before.
-    #[tactic(auto, using(crate::proofs::Moves::moves))]
     pub fn enter(&mut self, entry: &Entry) -> Result<(), EnterError>
         ensures ok { OnOk result (TableStep self.old (Mark.Entered entry.now) self.new) }
         ensures err { OnErr result (self.new ≡ self.old) }
@@ -112,22 +114,21 @@ impl Table {
         ensures exclusive { IsConflictFree self.new.holding }
     {
         let place = self.check_enter(entry)?;
-        self.holding.reserve(1)?;
         self.granted.reserve(1)?;
         self.highest.reserve(1)?;
-        self.waiting.remove(place);
-        self.holding.push_reserved(*entry);
+        // This is the last that can be refused.
+        self.lanes.grant(place, entry)?;
         self.granted.push_reserved(*entry);
         raise(&mut self.highest, entry);
         Ok(())
     }
 
-    /// Ends the hold of an entry, in time linear in the number of entries that hold. It does not allocate.
+    /// Ends the hold of an entry, in expected time linear in the number of entries that hold on its name. It does not
+    /// allocate.
     ///
     /// # Errors
     ///
     /// `NotHeld`: it does not hold. The table is as before.
-    #[tactic(auto, using(crate::proofs::Moves::moves))]
     pub fn leave(&mut self, entry: &Entry) -> Result<(), LeaveError>
         ensures ok { OnOk result (TableStep self.old (Mark.Left entry.now) self.new) }
         ensures err { OnErr result (self.new ≡ self.old) }
@@ -135,16 +136,17 @@ impl Table {
         ensures not_held { IsErrOf result LeaveError.NotHeld ↔ ¬ Contains self.old.holding entry.now }
         ensures exclusive { IsConflictFree self.new.holding }
     {
-        let Some(place) = place_of(&self.holding, entry) else {
+        let (_, holding) = self.lanes.on(&entry.name);
+        let Some(place) = place_of(holding, entry) else {
             return Err(LeaveError::NotHeld);
         };
-        self.holding.remove(place);
+        self.lanes.release(place, entry);
         Ok(())
     }
 
     /// Returns whether the entry may be granted now, memory aside: it waits, no conflicting entry on its name
-    /// holds, and none with an earlier stamp waits. It takes time linear in the number of entries that wait and
-    /// hold, and does not allocate.
+    /// holds, and none with an earlier stamp waits. It takes expected time linear in the number of entries that wait
+    /// and hold on its name, and does not allocate.
     pub fn can_enter(&self, entry: &Entry) -> bool
         ensures allowed { IsTrue result ↔ MayEnter self.now entry.now }
         ensures exclusive { IsConflictFree self.now.holding }
@@ -157,7 +159,8 @@ impl Table {
         ensures busy { IsTrue result ↔ IsNodeBusy self.now entry.now }
         ensures exclusive { IsConflictFree self.now.holding }
     {
-        has_node_of(&self.waiting, entry) || has_node_of(&self.holding, entry)
+        let (waiting, holding) = self.lanes.on(&entry.name);
+        has_node_of(waiting, entry) || has_node_of(holding, entry)
     }
 
     /// Checks whether the request may be made.
@@ -183,15 +186,14 @@ impl Table {
         Ok(())
     }
 
-    /// Returns where the entry waits, if it may be granted.
+    /// Returns where the entry waits among those on its name, if it may be granted.
     ///
     /// # Errors
     ///
     /// Those of `enter`, but for `Memory`.
-    #[tactic(auto, using(crate::proofs::Allowed::allowed))]
     fn check_enter(&self, entry: &Entry) -> Result<usize, EnterError>
-        ensures place { IfOk result (λ place. (place < length self.now.waiting)
-            × (slice_index_or self.now.waiting place entry.now ≡ entry.now)) }
+        ensures place { IfOk result (λ place.
+            StandsAt (on_name entry.now.name self.now.waiting) place entry.now) }
         ensures allowed { IsOk result ↔ MayEnter self.now entry.now }
         ensures not_waiting { IsErrOf result EnterError.NotWaiting ↔ ¬ Contains self.now.waiting entry.now }
         ensures held { IsErrOf result EnterError.Held
@@ -202,13 +204,14 @@ impl Table {
         ensures no_memory { ¬ IsErrOf result EnterError.Memory }
         ensures exclusive { IsConflictFree self.now.holding }
     {
-        let Some(place) = place_of(&self.waiting, entry) else {
+        let (waiting, holding) = self.lanes.on(&entry.name);
+        let Some(place) = place_of(waiting, entry) else {
             return Err(EnterError::NotWaiting);
         };
-        if has_excluding(&self.holding, entry) {
+        if has_excluding(holding, entry) {
             return Err(EnterError::Held);
         }
-        if has_earlier(&self.waiting, entry) {
+        if has_earlier(waiting, entry) {
             return Err(EnterError::Earlier);
         }
         Ok(place)

@@ -50,6 +50,7 @@ pub fn make_room(under_way: &mut Bag, log: &mut Log, sends: u64, marks: u64) -> 
 }
 
 /// Puts what a step sent under way and logs the step, where there is room for it.
+#[inline(always)]
 pub fn keep(under_way: &mut Bag, log: &mut Log, step: &Step, outcome: &Outcome)
     requires bag_room { length outcome.now.sends.items ≤ under_way.old.spare }
     requires log_room { HasRoom log.old (length outcome.now.marks.items) }

@@ -1,9 +1,21 @@
-use Rattle.std.proofs.Common.{◌+◌, List, Option, None, length, ap, ◌∙◌}
-use Rattle.std.proofs.lemmas.List.{length-set}
+use Rattle.std.proofs.Common.{rules, ◌≡◌, ◌+◌, ◌-◌, List, Option, None, length, take, ap, ◌∙◌, arith}
+use Rattle.std.proofs.lemmas.List.{length-set, length-take-le}
 use Rattle.ra_stamp.specs.declared.message.Message.{Message}
 use Rattle.ra_bag.specs.Bag.{messages_in}
-use Rattle.ra_bag.proofs.Emptied.{emptied, removed, length_without, one_less, one_emptied}
+use Rattle.ra_bag.proofs.Emptied.{emptied, removed, last_removed, length_without, one_less, one_emptied}
 use Rattle.ra_bag.proofs.bag.remove_slot.Goals as goal
+
+pub returns-then-slot-len-clause-count : goal.returns-then-slot-len-clause-count
+returns-then-slot-len-clause-count c =
+    let old = c.args.slots.now.items in
+    let slot = c.args.slot in
+    let there = c.requires.there in
+    let last : slot + 1 ≡ length old = search rules in
+    let before : length old - 1 ≡ slot = omega (arith, last) in
+    let new : c.take_last.new.slots.items ≡ take slot old = c.take_last.ensures.items ∙ ap (λ n. take n old) before in
+    one_less old c.take_last.new.slots.items slot c.args.message.now c.args.empty.now there.0 there.1 c.requires.count
+    (ap messages_in new ∙ last_removed old slot last)
+    (omega (arith, last, ap length new, length-take-le slot old (omega (arith, last))))
 
 pub returns-then-not-are_known-clause-items : goal.returns-then-not-are_known-clause-items
 returns-then-not-are_known-clause-items c = ap messages_in c.take_out.ensures.items ∙ removed c.args.slots.now.items c.args.slot

@@ -14,5 +14,5 @@ pub returns-else-eq : goal.returns-else-eq
 returns-else-eq c =
     let r = c.args.self.now in
     let is = busy_is r c.args.client in
-    let either : IsTrue c.is_queued.result ↔ ((r.client ≡ Some c.args.client) ⊎ Any (λ q. q.client ≡ c.args.client) r.queue) = search rules in
+    let either : IsTrue c.has.result ↔ ((r.client ≡ Some c.args.client) ⊎ Any (λ q. q.client ≡ c.args.client) r.queue) = search rules in
     (λ yes. is.1 (either.0 yes), λ busy. either.1 (is.0 busy))

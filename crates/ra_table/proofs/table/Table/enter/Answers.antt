@@ -1,30 +1,31 @@
-use Rattle.std.proofs.Common.{ℕ, List, [], ◌∷◌, ◌++◌, refl, sym, ap, ◌∙◌, subst}
-use Rattle.std.specs.List.{remove}
+use Rattle.std.proofs.Common.{◌≡◌, ℕ, List, [], ◌∷◌, ◌++◌, refl, sym, ap, ◌∙◌, subst}
 use Rattle.ra_stamp.specs.declared.entry.Entry.{Entry}
-use Rattle.ra_table.specs.Table.{LockTable, MayEnter}
+use Rattle.ra_stamp.specs.declared.entry.Mark.TheVariants.{Entered}
+use Rattle.ra_table.specs.Table.{LockTable, Gains, Loses}
 use Rattle.ra_table.specs.Highest.{AreHighest}
-use Rattle.ra_table.proofs.Moves.{step_entered, IsConflictFree-push}
+use Rattle.ra_table.proofs.Conflicts.{stays_conflict_free}
+use Rattle.ra_table.proofs.Moves.{Gains-push}
 use Rattle.ra_table.proofs.table.Table.enter.Goals as goal
-
-pub invariant_of-self-2 : goal.invariant_of-self-2
-invariant_of-self-2 c =
-    let push = λ (xs : List Entry). xs ++ c.args.entry.now ∷ [] in
-    let may : MayEnter c.args.self.now c.args.entry.now = c.in_ok-place.ensures.allowed.0 refl in
-    let holding-is = c.push_reserved.ensures.items ∙ ap push (c.reserve.ensures.items ∙ ap (λ (t : LockTable). t.holding) c.self.view_is) in
-    let granted-is = c.push_reserved-2.ensures.items ∙ ap push c.reserve-2.ensures.items in
-    let are : AreHighest c.reserve-3.new.self.entries c.self.inside.granted.items = subst (λ (ns : List (List ℕ × ℕ)). AreHighest ns c.self.inside.granted.items) (sym c.reserve-3.ensures.entries) c.self.invariant.are_highest in
-    record {
-      conflict_free = IsConflictFree-push c.args.self.now.holding _ c.args.entry.now c.in_ok-place.ensures.exclusive may.not_held holding-is;
-      are_highest = subst (AreHighest c.raise.new.highest.entries) (sym granted-is) (c.raise.ensures c.self.inside.granted.items are);
-    }
 
 pub returns-clause-ok : goal.returns-clause-ok
 returns-clause-ok c =
-    let push = λ (xs : List Entry). xs ++ c.args.entry.now ∷ [] in
-    step_entered c.args.self.now c.args.entry.now c.in_ok-place.place _ _ _
-    (c.in_ok-place.ensures.allowed.0 refl)
-    c.in_ok-place.ensures.place.0
-    c.in_ok-place.ensures.place.1
-    (c.remove.ensures.items ∙ ap (λ (t : LockTable). remove t.waiting c.in_ok-place.place) c.self.view_is)
-    (c.push_reserved.ensures.items ∙ ap push (c.reserve.ensures.items ∙ ap (λ (t : LockTable). t.holding) c.self.view_is))
-    (c.push_reserved-2.ensures.items ∙ ap push (c.reserve-2.ensures.items ∙ ap (λ (t : LockTable). t.granted) c.self.view_is))
+    let e = c.args.entry.now in
+    let granted-is : c.push_reserved.new.self.items ≡ c.args.self.now.granted ++ e ∷ [] = c.push_reserved.ensures.items ∙ ap (λ (xs : List Entry). xs ++ e ∷ []) (c.reserve.ensures.items ∙ ap (λ (t : LockTable). t.granted) c.self.view_is) in (
+      c.in_ok-place.ensures.allowed.0 refl,
+      subst (λ (es : List Entry). Loses es e c.grant.new.self.waiting) (ap (λ (t : LockTable). t.waiting) c.self.view_is) c.in_ok-grant.ensures.waiting,
+      subst (λ (es : List Entry). Gains es e c.grant.new.self.holding) (ap (λ (t : LockTable). t.holding) c.self.view_is) c.in_ok-grant.ensures.holding,
+      subst (Gains c.args.self.now.granted e) (sym granted-is) (Gains-push c.args.self.now.granted e),
+    )
+
+pub returns-clause-exclusive : goal.returns-clause-exclusive
+returns-clause-exclusive c = stays_conflict_free c.args.self.now _ (Entered c.args.entry.now) (returns-clause-ok c) c.in_ok-place.ensures.exclusive
+
+pub invariant_of-self-2 : goal.invariant_of-self-2
+invariant_of-self-2 c =
+    let e = c.args.entry.now in
+    let granted-is : c.push_reserved.new.self.items ≡ c.self.inside.granted.items ++ e ∷ [] = c.push_reserved.ensures.items ∙ ap (λ (xs : List Entry). xs ++ e ∷ []) c.reserve.ensures.items in
+    let are : AreHighest c.reserve-2.new.self.entries c.self.inside.granted.items = subst (λ (ns : List (List ℕ × ℕ)). AreHighest ns c.self.inside.granted.items) (sym c.reserve-2.ensures.entries) c.self.invariant.are_highest in
+    record {
+      conflict_free = returns-clause-exclusive c;
+      are_highest = subst (AreHighest c.raise.new.highest.entries) (sym granted-is) (c.raise.ensures c.self.inside.granted.items are);
+    }

@@ -1,0 +1,10 @@
+use Rattle.std.proofs.Common.{take}
+use Rattle.ra_node.specs.Queue.{AreClients}
+use Rattle.ra_node.proofs.queue.learn_all.Given as goal
+
+-- the clients so far are known
+abbrev pub invariant-loop-place : goal.invariant-loop-place
+invariant-loop-place l =
+    record {
+      known : AreClients l.known.keys (take l.place l.clients.items);
+    }

@@ -1,0 +1,16 @@
+-- How a queue knows its clients without going through it.
+use Rattle.std.specs.Prelude.{◌≡◌, ◌≢◌, ℕ, nat_eq, List, [], map, AllPairs}
+use Rattle.std.specs.List.{list_any}
+use Rattle.ra_node.specs.declared.queued.Queued.{Queued}
+
+-- no client is queued twice
+abbrev pub AreApart : List Queued → Type 0
+AreApart queue = AllPairs (λ a b. a ≢ b) (map (λ queued. queued.client) queue)
+
+-- these are the clients that are queued
+abbrev pub AreClients : List ℕ → List Queued → Type 0
+AreClients known queue = (client : ℕ) → list_any (nat_eq client) known ≡ list_any (λ queued. nat_eq client queued.client) queue
+
+-- no client is known, or all those that are queued and no other
+abbrev pub IsKnown : List ℕ → List Queued → Type 0
+IsKnown known queue = known ≢ [] → AreClients known queue

@@ -1,0 +1,49 @@
+-- How a table keeps the entries that wait and hold: in lanes, one for each name. No public contract speaks of lanes.
+use Rattle.std.specs.Prelude.{◌≡◌, ◌<◌, ℕ, List, [], ◌∷◌, ◌++◌, All, length, slice_index_or}
+use Rattle.std.specs.List.{filter, AllByRecursion, IsDistinct}
+use Rattle.std.specs.Map.{keys_of}
+use Rattle.std.specs.Str.{bytes_eq}
+use Rattle.ra_stamp.specs.declared.entry.Entry.{Entry}
+use Rattle.ra_table.specs.declared.lanes.Lane.{Lane}
+
+-- who waits and who holds, on whatever name
+pub record Standing : Type 0 where
+  pub waiting : List Entry
+  pub holding : List Entry
+
+abbrev pub nobody : Standing
+nobody = record { waiting = []; holding = [] }
+
+-- the entries on this name, in order
+abbrev pub on_name : List ℕ → List Entry → List Entry
+on_name name entries = filter (λ x. bytes_eq name x.name) entries
+
+-- the entry stands in the list at this place
+abbrev pub StandsAt : List Entry → ℕ → Entry → Type 0
+StandsAt entries place e = (place < length entries) × (slice_index_or entries place e ≡ e)
+
+module _ {X : Type 0} (part : X → List Entry) where
+  -- these parts of all lanes, one behind the other
+  abbrev pub joined : List (List ℕ × X) → List Entry
+  joined [] = []
+  joined (lane ∷ lanes) = part lane.1 ++ joined lanes
+
+  -- in this part of each lane are entries on its name alone
+  abbrev pub AreOnTheirNames : List (List ℕ × X) → Type 0
+  AreOnTheirNames lanes = AllByRecursion (λ lane. All (λ x. x.name ≡ lane.0) (part lane.1)) lanes
+
+abbrev pub waiting_of : Lane → List Entry
+waiting_of lane = lane.waiting.items
+
+abbrev pub holding_of : Lane → List Entry
+holding_of lane = lane.holding.items
+
+-- who waits and holds in these lanes
+abbrev pub standing_in : List (List ℕ × Lane) → Standing
+standing_in lanes = record { waiting = joined waiting_of lanes; holding = joined holding_of lanes }
+
+-- no name has two lanes, and each entry is in that of its name
+pub record IsSorted (lanes : List (List ℕ × Lane)) : Type 0 where
+  pub distinct : IsDistinct bytes_eq (keys_of lanes)
+  pub waiting : AreOnTheirNames waiting_of lanes
+  pub holding : AreOnTheirNames holding_of lanes
