@@ -8,9 +8,11 @@ use crate::sims::{
     ONE_CLIENT, ONE_CLIENT_PRINTED, ONE_ORDER, SIXTEEN_NODES, SIXTEEN_NODES_PRINTED, TWO_CLIENTS,
     TWO_NAMES, TWO_READERS,
 };
+use crate::threads::holds_in_a_thread;
 use ra_cluster::{ClusterError, Stop};
 use ra_script::ScriptError;
 use std::io;
+use std::process::Abort;
 use std::sync::Wait;
 use std::thread::Threads;
 
@@ -98,9 +100,9 @@ fn runs<T: AllocGlobal + Threads + Wait + Sync>(rt: &T, run: &Run) -> bool {
 }
 
 /// Returns whether it is so each time.
-fn always_runs<T: AllocGlobal + Threads + Wait + Sync>(rt: &T, run: &Run) -> bool {
+fn always_runs<T: AllocGlobal + Threads + Wait + Abort + Sync>(rt: &T, run: &Run) -> bool {
     for _ in 0..RUNS {
-        if !runs(rt, run) {
+        if !holds_in_a_thread(rt, || runs(rt, run)) {
             return false;
         }
     }
@@ -135,7 +137,11 @@ const ONE_OUTPUT: &[Case] = &[
 #[test]
 fn a_script_of_one_client_has_one_output(rt: HostRuntime) {
     for case in ONE_OUTPUT {
-        assert!(rt; meets(&rt, case), "{}", case.shows);
+        assert!(rt;
+            holds_in_a_thread(&rt, || meets(&rt, case)),
+            "{}",
+            case.shows
+        );
     }
 }
 
@@ -145,7 +151,7 @@ const NOTHING: &str = "requests 0\nmessages 0\nunder-way 0\nlost 0\nwaiting 0\nq
 #[test]
 fn a_script_of_no_operation_has_no_marks(rt: HostRuntime) {
     let idle = "nodes = 3\nclient = [{ node = 2, ops = [] }]";
-    assert!(rt; prints(&rt, "ra cluster", idle, 0, NOTHING));
+    assert!(rt; holds_in_a_thread(&rt, || prints(&rt, "ra cluster", idle, 0, NOTHING)));
 }
 
 /// Scripts whose marks come in an order that is up to the threads.
@@ -239,9 +245,12 @@ fn runs_with_writers_alone<T: AllocGlobal + Threads + Wait + Sync>(rt: &T, scrip
 }
 
 /// Returns whether it is so each time.
-fn always_has_writers_alone<T: AllocGlobal + Threads + Wait + Sync>(rt: &T, script: &str) -> bool {
+fn always_has_writers_alone<T: AllocGlobal + Threads + Wait + Abort + Sync>(
+    rt: &T,
+    script: &str,
+) -> bool {
     for _ in 0..RUNS {
-        if !runs_with_writers_alone(rt, script) {
+        if !holds_in_a_thread(rt, || runs_with_writers_alone(rt, script)) {
             return false;
         }
     }
@@ -279,9 +288,9 @@ fn takes_turns<T: AllocGlobal + Threads + Wait + Sync>(rt: &T) -> bool {
 }
 
 /// Returns whether it is so each time.
-fn always_takes_turns<T: AllocGlobal + Threads + Wait + Sync>(rt: &T) -> bool {
+fn always_takes_turns<T: AllocGlobal + Threads + Wait + Abort + Sync>(rt: &T) -> bool {
     for _ in 0..RUNS {
-        if !takes_turns(rt) {
+        if !holds_in_a_thread(rt, || takes_turns(rt)) {
             return false;
         }
     }
@@ -330,7 +339,11 @@ client = [{ node = 1, ops = [\"X r\"] }, { node = 1, ops = [\"S b\", \"S a\", \"
 #[test]
 fn names_are_locked_in_ascending_order_and_given_back(rt: HostRuntime) {
     for case in NO_ORDER {
-        assert!(rt; refuses(&rt, case), "{}", case.input);
+        assert!(rt;
+            holds_in_a_thread(&rt, || refuses(&rt, case)),
+            "{}",
+            case.input
+        );
     }
 }
 
@@ -356,7 +369,11 @@ const NO_OPERATIONS: &[Refused] = &[
 #[test]
 fn what_is_no_script_is_refused_first(rt: HostRuntime) {
     for case in NO_OPERATIONS {
-        assert!(rt; refuses(&rt, case), "{}", case.word);
+        assert!(rt;
+            holds_in_a_thread(&rt, || refuses(&rt, case)),
+            "{}",
+            case.word
+        );
     }
 }
 
@@ -387,7 +404,11 @@ const NO_DOCUMENTS: &[Refused] = &[
 #[test]
 fn what_is_no_document_of_a_script_is_refused(rt: HostRuntime) {
     for case in NO_DOCUMENTS {
-        assert!(rt; refuses(&rt, case), "{}", case.input);
+        assert!(rt;
+            holds_in_a_thread(&rt, || refuses(&rt, case)),
+            "{}",
+            case.input
+        );
     }
 }
 
@@ -410,9 +431,9 @@ fn fails_at_the_end<T: AllocGlobal + Threads + Wait + Sync>(rt: &T, script: &str
 
 #[test]
 fn a_fault_of_the_reader_comes_before_what_is_wrong_with_the_script(rt: HostRuntime) {
-    assert!(rt; fails_at_the_end(&rt, "nodes = "));
-    assert!(rt; fails_at_the_end(&rt, A_KEEPER));
-    assert!(rt; fails_at_the_end(&rt, TWO_NAMES));
+    assert!(rt; holds_in_a_thread(&rt, || fails_at_the_end(&rt, "nodes = ")));
+    assert!(rt; holds_in_a_thread(&rt, || fails_at_the_end(&rt, A_KEEPER)));
+    assert!(rt; holds_in_a_thread(&rt, || fails_at_the_end(&rt, TWO_NAMES)));
 }
 
 #[test]
@@ -420,7 +441,12 @@ fn a_writer_that_fails_has_a_front_of_what_the_threads_did(rt: HostRuntime) {
     assert!(rt; fails_in_fronts(&rt, "ra cluster", ONE_CLIENT, ONE_CLIENT_PRINTED));
     assert!(rt; fails_in_fronts(&rt, "ra cluster", TWO_NAMES, "refused OutOfOrder\n"));
     // It fails only where something is left to be written.
-    assert!(rt; is_written(&rt, "ra cluster", ONE_CLIENT, ONE_CLIENT_PRINTED, 0));
+    assert!(rt;
+        holds_in_a_thread(
+            &rt,
+            || is_written(&rt, "ra cluster", ONE_CLIENT, ONE_CLIENT_PRINTED, 0),
+        )
+    );
 }
 
 /// A refusal of a cluster, and its word.
@@ -486,7 +512,7 @@ fn each_refusal_of_a_cluster_is_printed_by_its_word(rt: HostRuntime) {
 fn each_refusal_of_a_script_to_be_run_is_printed_by_its_word(rt: HostRuntime) {
     assert!(rt; is_word(rt.alloc(), &ScriptError::Limit, "Limit"));
     assert!(rt; is_word(rt.alloc(), &ScriptError::Memory, "Memory"));
-    assert!(rt; fails_at_the_end(&rt, ONE_CLIENT));
+    assert!(rt; holds_in_a_thread(&rt, || fails_at_the_end(&rt, ONE_CLIENT)));
 }
 
 /// Words that are no run by threads.
@@ -526,7 +552,11 @@ const NO_CLUSTERS: &[Refused] = &[
 #[test]
 fn words_that_are_no_cluster_are_refused(rt: HostRuntime) {
     for case in NO_CLUSTERS {
-        assert!(rt; refuses(&rt, case), "{}", case.words);
+        assert!(rt;
+            holds_in_a_thread(&rt, || refuses(&rt, case)),
+            "{}",
+            case.words
+        );
     }
 }
 
@@ -563,5 +593,5 @@ threads, and Settle, PlanUnmet, Lost or UnderWay where what the nodes wrote down
 
 #[test]
 fn help_on_cluster_prints_a_script_and_its_conditions(rt: HostRuntime) {
-    assert!(rt; prints(&rt, "ra cluster --help", "", 0, HELP));
+    assert!(rt; holds_in_a_thread(&rt, || prints(&rt, "ra cluster --help", "", 0, HELP)));
 }

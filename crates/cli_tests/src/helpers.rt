@@ -1,9 +1,11 @@
 //! What several files of tests use.
+use crate::threads::holds_in_a_thread;
 use ra_cli::serve;
 use std::alloc::Global;
 use std::fmt::Display;
 use std::io;
 use std::io::{Read, Write};
+use std::process::Abort;
 use std::sync::Wait;
 use std::thread::Threads;
 
@@ -305,8 +307,9 @@ pub fn is_read_fault<T: AllocGlobal + Threads + Wait + Sync>(
     is_answer(&answered, 1, "refused Read\n") && is_left(reader.bytes, bytes, before_fault)
 }
 
-/// Returns whether it is so behind each of the bytes, and before the first.
-pub fn fails_at_each_byte<T: AllocGlobal + Threads + Wait + Sync>(
+/// Returns whether it is so behind each of the bytes, and before the first. Each time a thread finds it out, since the command may
+/// be one that waits for threads.
+pub fn fails_at_each_byte<T: AllocGlobal + Threads + Wait + Abort + Sync>(
     rt: &T,
     line: &str,
     bytes: &[u8],
@@ -314,14 +317,10 @@ pub fn fails_at_each_byte<T: AllocGlobal + Threads + Wait + Sync>(
     let Some(words) = words_of(rt.alloc(), line) else {
         return false;
     };
+    let words = words.as_slice();
+    let fault = io::ErrorKind::Interrupted;
     for place in 0..=bytes.len() {
-        if !is_read_fault(
-            rt,
-            words.as_slice(),
-            bytes,
-            place,
-            io::ErrorKind::Interrupted,
-        ) {
+        if !holds_in_a_thread(rt, || is_read_fault(rt, words, bytes, place, fault)) {
             return false;
         }
     }
@@ -350,8 +349,9 @@ fn leaves_a_front<T: AllocGlobal + Threads + Wait + Sync>(
     answered == status && is_front(writer.taken.as_slice(), printed, before_fault)
 }
 
-/// Returns whether this fault of a writer, behind any of these bytes but the last, is status 1 and leaves a front of them.
-fn fails_behind_each<T: AllocGlobal + Threads + Wait + Sync>(
+/// Returns whether this fault of a writer, behind any of these bytes but the last, is status 1 and leaves a front of them. Each
+/// time a thread finds it out, since the command may be one that waits for threads.
+fn fails_behind_each<T: AllocGlobal + Threads + Wait + Abort + Sync>(
     rt: &T,
     words: &[String],
     input: &str,
@@ -359,7 +359,10 @@ fn fails_behind_each<T: AllocGlobal + Threads + Wait + Sync>(
     fault: Option<io::ErrorKind>,
 ) -> bool {
     for place in 0..printed.len() {
-        if !leaves_a_front(rt, words, input, printed, place, fault, 1) {
+        if !holds_in_a_thread(
+            rt,
+            || leaves_a_front(rt, words, input, printed, place, fault, 1),
+        ) {
             return false;
         }
     }
@@ -367,7 +370,7 @@ fn fails_behind_each<T: AllocGlobal + Threads + Wait + Sync>(
 }
 
 /// Returns whether each fault of a writer, behind any of these bytes but the last, is status 1 and leaves a front of them.
-pub fn fails_in_fronts<T: AllocGlobal + Threads + Wait + Sync>(
+pub fn fails_in_fronts<T: AllocGlobal + Threads + Wait + Abort + Sync>(
     rt: &T,
     line: &str,
     input: &str,

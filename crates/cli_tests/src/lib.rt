@@ -13,3 +13,5 @@ mod helpers;
 mod seeds;
 #[cfg(test)]
 mod sims;
+#[cfg(test)]
+mod threads;

@@ -5,6 +5,7 @@ use crate::helpers::{
     is_refusal, is_word, is_written, meets, prints, refuses, refuses_input, repeated, run, run_on,
     words_of, words_with,
 };
+use crate::threads::holds_in_a_thread;
 use ra_cli::{CommandFault, refuse_words};
 use ra_schedule::DriveError;
 use ra_script::{ChoicesError, PerformError};
@@ -666,7 +667,7 @@ fn stops_at_the_limit<T: AllocGlobal + Threads + Wait + Sync>(rt: &T, line: &str
 fn a_text_that_is_too_long_is_refused_before_a_fault_behind_it(rt: HostRuntime) {
     assert!(rt; stops_at_the_limit(&rt, "ra sim"));
     assert!(rt; stops_at_the_limit(&rt, "ra sim --trace"));
-    assert!(rt; stops_at_the_limit(&rt, "ra cluster"));
+    assert!(rt; holds_in_a_thread(&rt, || stops_at_the_limit(&rt, "ra cluster")));
 }
 
 /// Returns whether `ra sim` refuses a text by `Limit` that is a piece so many times, with what stands before and behind.

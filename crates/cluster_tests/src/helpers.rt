@@ -24,6 +24,28 @@ pub fn comes_to(number: &AtomicU64, least: u64) -> bool {
     false
 }
 
+/// Returns whether this holds, which a thread finds out. Where the thread does not end, or none can be started, the test ends after
+/// many looks.
+pub fn holds_in_a_thread<R: Threads + Abort, F: FnOnce() -> bool + Send>(rt: &R, holds: F) -> bool
+    requires { F.pre holds }
+{
+    let ends = AtomicU64::new(0);
+    let ends = &ends;
+    let (is_so, ()) = thread::join(
+        rt,
+        move || -> bool
+            requires { F.pre holds }
+        {
+            let is_so = holds();
+            ends.fetch_add(1, Ordering::SeqCst);
+            is_so
+        },
+        // Without it `join` would wait for ever for a thread that does not end.
+        move || assert!(rt; comes_to(ends, 1), "the thread ends"),
+    );
+    is_so
+}
+
 /// Returns the name `r`.
 pub fn r() -> Option<Name> {
     Name::new(b"r").ok()

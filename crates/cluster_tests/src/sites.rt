@@ -1,5 +1,5 @@
 //! Sites, and the post between them.
-use crate::helpers::{Counting, books_of, entry, prints, r, request, sites_of};
+use crate::helpers::{Counting, books_of, entry, holds_in_a_thread, prints, r, request, sites_of};
 use Step::{
     ClosesPost, HasLeft, HasLeftOne, HasStepped, Locks, LosesAllInboxes, LosesInbox, Pumps,
     RefusesToLock, RefusesToSend, RefusesToUnlock, Sends, Stops, Unlocks,
@@ -386,7 +386,12 @@ fn a_frame_comes_to_its_node(rt: HostRuntime) {
         HasLeft(1, 2, 0),
         HasLeft(0, 1, 0),
     ];
-    assert!(rt; cluster_does(&rt, rt.alloc(), &steps, &[runs(0), runs(0)]));
+    assert!(rt;
+        holds_in_a_thread(
+            &rt,
+            || cluster_does(&rt, rt.alloc(), &steps, &[runs(0), runs(0)])
+        )
+    );
 }
 
 #[test]
@@ -400,7 +405,12 @@ fn a_closed_post_sends_nothing(rt: HostRuntime) {
         RefusesToSend(1, 3, SendError::Closed),
         ClosesPost,
     ];
-    assert!(rt; cluster_does(&rt, rt.alloc(), &steps, &[runs(0), runs(0)]));
+    assert!(rt;
+        holds_in_a_thread(
+            &rt,
+            || cluster_does(&rt, rt.alloc(), &steps, &[runs(0), runs(0)])
+        )
+    );
 }
 
 #[test]
@@ -414,7 +424,12 @@ fn one_node_is_let_in_at_once(rt: HostRuntime) {
         RefusesToLock(1, SiteError::Refused(BookError::Failed)),
         RefusesToUnlock(1, SiteError::Refused(BookError::Failed)),
     ];
-    assert!(rt; cluster_does(&rt, rt.alloc(), &steps, &[stopped(Stop::Gate, 2)]));
+    assert!(rt;
+        holds_in_a_thread(
+            &rt,
+            || cluster_does(&rt, rt.alloc(), &steps, &[stopped(Stop::Gate, 2)])
+        )
+    );
 }
 
 /// Returns whether the REQUEST to node 2 is the one frame that a book sent, at clock 1, and is lost.
@@ -492,7 +507,7 @@ fn loses_its_frame<R: Wait>(rt: &R, alloc: Global) -> bool {
 
 #[test]
 fn a_frame_that_is_not_taken_is_lost_and_stops_all(rt: HostRuntime) {
-    assert!(rt; loses_its_frame(&rt, rt.alloc()));
+    assert!(rt; holds_in_a_thread(&rt, || loses_its_frame(&rt, rt.alloc())));
 }
 
 /// Returns whether the frame that was sent at this place is lost, or is not.
@@ -543,8 +558,8 @@ fn tries_both<R: Wait>(
 
 #[test]
 fn each_frame_of_an_event_is_tried(rt: HostRuntime) {
-    assert!(rt; tries_both(&rt, rt.alloc(), 1, 3, true, false));
-    assert!(rt; tries_both(&rt, rt.alloc(), 2, 2, false, true));
+    assert!(rt; holds_in_a_thread(&rt, || tries_both(&rt, rt.alloc(), 1, 3, true, false)));
+    assert!(rt; holds_in_a_thread(&rt, || tries_both(&rt, rt.alloc(), 2, 2, false, true)));
 }
 
 #[test]
@@ -558,14 +573,14 @@ fn a_strange_frame_stops_all_and_ends_the_pump(rt: HostRuntime) {
         HasLeft(1, 2, 1),
     ];
     let ended = [stopped(Stop::Refused, 0), stopped(Stop::Refused, 0)];
-    assert!(rt; cluster_does(&rt, rt.alloc(), &steps, &ended));
+    assert!(rt; holds_in_a_thread(&rt, || cluster_does(&rt, rt.alloc(), &steps, &ended)));
 }
 
 #[test]
 fn a_frame_at_the_last_clock_stops_all(rt: HostRuntime) {
     let steps = [Sends(LAST_CLOCK, 1, 2), ClosesPost, Pumps(2)];
     let ended = [stopped(Stop::Clock, 0), stopped(Stop::Clock, 0)];
-    assert!(rt; cluster_does(&rt, rt.alloc(), &steps, &ended));
+    assert!(rt; holds_in_a_thread(&rt, || cluster_does(&rt, rt.alloc(), &steps, &ended)));
 }
 
 #[test]
@@ -580,7 +595,7 @@ fn the_pump_of_a_stopped_node_stops_no_other(rt: HostRuntime) {
         HasLeft(1, 2, 1),
     ];
     let ended = [runs(0), stopped(Stop::Gate, 0)];
-    assert!(rt; cluster_does(&rt, rt.alloc(), &steps, &ended));
+    assert!(rt; holds_in_a_thread(&rt, || cluster_does(&rt, rt.alloc(), &steps, &ended)));
 }
 
 #[test]
@@ -592,7 +607,7 @@ fn a_closed_gate_lets_nobody_ask(rt: HostRuntime) {
         HasLeft(1, 2, 0),
     ];
     let ended = [stopped(Stop::Gate, 0), stopped(Stop::Gate, 0)];
-    assert!(rt; does_from(&rt, rt.alloc(), 0, 0, &steps, &ended));
+    assert!(rt; holds_in_a_thread(&rt, || does_from(&rt, rt.alloc(), 0, 0, &steps, &ended)));
     // A node that was stopped before keeps its fault, and answers it.
     let steps = [
         Stops(1, Stop::Send),
@@ -602,7 +617,7 @@ fn a_closed_gate_lets_nobody_ask(rt: HostRuntime) {
         HasLeft(1, 2, 0),
     ];
     let ended = [stopped(Stop::Send, 0), stopped(Stop::Gate, 0)];
-    assert!(rt; does_from(&rt, rt.alloc(), 0, 0, &steps, &ended));
+    assert!(rt; holds_in_a_thread(&rt, || does_from(&rt, rt.alloc(), 0, 0, &steps, &ended)));
 }
 
 /// Returns whether the one book has ended so that client 1 still holds `r`.
@@ -629,7 +644,7 @@ fn keeps_inside<R: Wait>(rt: &R, alloc: Global) -> bool {
 
 #[test]
 fn a_closed_gate_lets_nobody_leave(rt: HostRuntime) {
-    assert!(rt; keeps_inside(&rt, rt.alloc()));
+    assert!(rt; holds_in_a_thread(&rt, || keeps_inside(&rt, rt.alloc())));
 }
 
 #[test]
@@ -643,20 +658,23 @@ fn a_closed_gate_lets_no_frame_in_and_ends_the_pump(rt: HostRuntime) {
         HasLeft(1, 2, 1),
     ];
     let ended = [stopped(Stop::Gate, 0), stopped(Stop::Gate, 0)];
-    assert!(rt; does_from(&rt, rt.alloc(), 0, 0, &steps, &ended));
+    assert!(rt; holds_in_a_thread(&rt, || does_from(&rt, rt.alloc(), 0, 0, &steps, &ended)));
 }
 
 #[test]
 fn a_name_with_no_number_left_is_refused(rt: HostRuntime) {
     let steps = [RefusesToLock(1, SiteError::Refused(BookError::Exhausted))];
     assert!(rt;
-        does_from(
+        holds_in_a_thread(
             &rt,
-            rt.alloc(),
-            u64::MAX,
-            u64::MAX,
-            &steps,
-            &[runs(0), runs(0)]
+            || does_from(
+                &rt,
+                rt.alloc(),
+                u64::MAX,
+                u64::MAX,
+                &steps,
+                &[runs(0), runs(0)]
+            )
         )
     );
 }

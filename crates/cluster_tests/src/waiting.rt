@@ -1,5 +1,5 @@
 //! Clients that wait at sites which threads share. These tests use public calls alone, and so stand here.
-use crate::helpers::{Counting, books_of, comes_to, entry, r, sites_of};
+use crate::helpers::{Counting, books_of, comes_to, entry, holds_in_a_thread, r, sites_of};
 use ra_cluster::{
     Book, BookError, Gate, Grant, Inbox, OpenGate, Post, Site, SiteError, Stop, is_cluster, settle,
 };
@@ -134,21 +134,26 @@ fn is_let_in<R: Threads + Wait + Abort + Sync>(rt: &R, alloc: Global, then: Then
 
 #[test]
 fn a_client_waits_for_another_of_its_node(rt: HostRuntime) {
-    assert!(rt; is_let_in(&rt, rt.alloc(), Then::Leaves));
+    assert!(rt; holds_in_a_thread(&rt, || is_let_in(&rt, rt.alloc(), Then::Leaves)));
 }
 
 /// Where client 2 was not yet asleep it need not be woken, and then this says less.
 #[test]
 fn a_stop_ends_the_wait(rt: HostRuntime) {
     let stopped = Some(Err(SiteError::Stopped(Stop::Refused)));
-    assert!(rt; locked_behind(&rt, rt.alloc(), Then::Stops) == stopped);
+    assert!(rt;
+        holds_in_a_thread(
+            &rt,
+            || locked_behind(&rt, rt.alloc(), Then::Stops) == stopped
+        )
+    );
 }
 
 /// The leave lets client 2 in, so it has its grant whatever comes before it looks. Mostly the stop does.
 #[test]
 fn a_grant_goes_before_a_fault(rt: HostRuntime) {
     for _ in 0..20u8 {
-        assert!(rt; is_let_in(&rt, rt.alloc(), Then::LeavesAndStops));
+        assert!(rt; holds_in_a_thread(&rt, || is_let_in(&rt, rt.alloc(), Then::LeavesAndStops)));
     }
 }
 
@@ -253,7 +258,12 @@ fn is_taken_behind_a_closed_post<R: Threads + Wait + Abort + Sync>(
 
 #[test]
 fn a_leave_is_taken_though_its_frame_is_lost(rt: HostRuntime) {
-    assert!(rt; is_taken_behind_a_closed_post(&rt, rt.alloc()) == Some(true));
+    assert!(rt;
+        holds_in_a_thread(
+            &rt,
+            || is_taken_behind_a_closed_post(&rt, rt.alloc()) == Some(true)
+        )
+    );
 }
 
 /// At which turn of the client of node 1 the post is closed.
@@ -367,5 +377,5 @@ fn settles_after_traffic<R: Threads + Wait + Abort + Sync>(rt: &R, alloc: Global
 
 #[test]
 fn books_settle_where_the_post_is_closed_under_traffic(rt: HostRuntime) {
-    assert!(rt; settles_after_traffic(&rt, rt.alloc()) == Some(true));
+    assert!(rt; holds_in_a_thread(&rt, || settles_after_traffic(&rt, rt.alloc()) == Some(true)));
 }
