@@ -8,4 +8,14 @@ mod frames;
 #[cfg(test)]
 mod helpers;
 #[cfg(test)]
+mod numbers;
+#[cfg(test)]
+mod refusals;
+#[cfg(test)]
+mod replies;
+#[cfg(test)]
+mod requests;
+#[cfg(test)]
 mod stamps;
+#[cfg(test)]
+mod steps;
