@@ -14,6 +14,11 @@ pub fn r() -> Name {
     Name::new(b"r").unwrap()
 }
 
+/// Returns the name `q`.
+pub fn q() -> Name {
+    Name::new(b"q").unwrap()
+}
+
 /// Returns a REQUEST on the name `r`, in the mode Exclusive.
 pub fn request(from: u16, to: u16, seq: u64) -> Message
     requires from { IsNodeNumber from }

@@ -4,8 +4,18 @@
 #[cfg(test)]
 mod bags;
 #[cfg(test)]
+mod calls;
+#[cfg(test)]
 mod helpers;
 #[cfg(test)]
+mod names;
+#[cfg(test)]
 mod nodes;
+#[cfg(test)]
+mod numbers;
+#[cfg(test)]
+mod queues;
+#[cfg(test)]
+mod refusals;
 #[cfg(test)]
 mod tables;
