@@ -2,8 +2,26 @@
 #![tactic(auto)]
 
 #[cfg(test)]
+mod acts;
+#[cfg(test)]
 mod helpers;
 #[cfg(test)]
+mod messages;
+#[cfg(test)]
+mod numbers;
+#[cfg(test)]
+mod plans;
+#[cfg(test)]
+mod printing;
+#[cfg(test)]
+mod runs;
+#[cfg(test)]
 mod schedules;
+#[cfg(test)]
+mod scripts;
+#[cfg(test)]
+mod seeds;
+#[cfg(test)]
+mod streams;
 #[cfg(test)]
 mod worlds;
