@@ -3,7 +3,7 @@ use crate::helpers::{
     Case, Refused, fails_at_each_byte, fails_in_fronts, is_answer, is_refusal, is_written, meets,
     prints, refuses, repeated, run, run_line, run_taking, words_of, words_with,
 };
-use crate::sims::{A_DEADLOCK, A_QUEUE, A_WRITER, ONE_CLIENT, ONE_ORDER, TWO_CLIENTS};
+use crate::scripts::{A_DEADLOCK, A_QUEUE, A_WRITER, ONE_CLIENT, ONE_ORDER, TWO_CLIENTS};
 use std::alloc::Global;
 use std::sync::Wait;
 use std::thread::Threads;

@@ -3,8 +3,8 @@ use crate::helpers::{
     Case, Refused, fails_in_fronts, is_answer, is_read_fault, is_word, is_written, meets, prints,
     refuses, run_line, words_of,
 };
-use crate::sims::{
-    A_DEADLOCK, A_KEEPER, A_QUEUE, A_QUEUE_PRINTED, A_WRITER, ALONE, ALONE_PRINTED, APART,
+use crate::scripts::{
+    A_DEADLOCK, A_KEEPER, A_QUEUE, A_QUEUE_PRINTED, A_WRITER, ALONE, ALONE_PRINTED, APART, NOTHING,
     ONE_CLIENT, ONE_CLIENT_PRINTED, ONE_ORDER, SIXTEEN_NODES, SIXTEEN_NODES_PRINTED, TWO_CLIENTS,
     TWO_NAMES, TWO_READERS,
 };
@@ -144,9 +144,6 @@ fn a_script_of_one_client_has_one_output(rt: HostRuntime) {
         );
     }
 }
-
-/// What is printed of a run in which nothing happened.
-const NOTHING: &str = "requests 0\nmessages 0\nunder-way 0\nlost 0\nwaiting 0\nqueued 0\n";
 
 #[test]
 fn a_script_of_no_operation_has_no_marks(rt: HostRuntime) {

@@ -6,12 +6,26 @@ mod answers;
 #[cfg(test)]
 mod checks;
 #[cfg(test)]
+mod choices;
+#[cfg(test)]
 mod clusters;
 #[cfg(test)]
+mod commands;
+#[cfg(test)]
+mod frames;
+#[cfg(test)]
 mod helpers;
+#[cfg(test)]
+mod refused_frames;
+#[cfg(test)]
+mod refused_scripts;
+#[cfg(test)]
+mod scripts;
 #[cfg(test)]
 mod seeds;
 #[cfg(test)]
 mod sims;
+#[cfg(test)]
+mod streams;
 #[cfg(test)]
 mod threads;

@@ -1,6 +1,6 @@
 //! The policy `seeded`.
 use crate::helpers::{Answered, has_status, run, run_line, words_with};
-use crate::sims::{A_WRITER, TWO_CLIENTS};
+use crate::scripts::{A_WRITER, TWO_CLIENTS};
 use std::alloc::Global;
 use std::sync::Wait;
 use std::thread::Threads;

@@ -5,17 +5,20 @@ use ra_stamp::{Entry, Message, Mode, Name, NodeId, Stamp};
 use std::alloc::Global;
 use std::fmt::Display;
 use std::process::Abort;
+use std::sync::Wait;
 use std::sync::atomic::{AtomicU64, Ordering};
-use std::sync::{Mutex, Wait};
 use std::thread;
 use std::thread::Threads;
 
 /// How often a test looks for what another thread is to do, before it gives up.
-const MOST_LOOKS: u64 = 20_000_000;
+const MOST_LOOKS: u64 = 5_000_000;
 
-/// Waits until the number is at least `least`, and returns whether it came to that.
-pub fn comes_to(number: &AtomicU64, least: u64) -> bool {
-    for _ in 0..MOST_LOOKS {
+/// How often it looks for the end of a thread that may wait so itself, and answers then.
+const MOST_LOOKS_FOR_THE_END: u64 = 20_000_000;
+
+/// Looks so often whether the number is at least `least`, and returns whether it came to that.
+fn comes_within(looks: u64, number: &AtomicU64, least: u64) -> bool {
+    for _ in 0..looks {
         if number.load(Ordering::SeqCst) >= least {
             return true;
         }
@@ -24,26 +27,34 @@ pub fn comes_to(number: &AtomicU64, least: u64) -> bool {
     false
 }
 
-/// Returns whether this holds, which a thread finds out. Where the thread does not end, or none can be started, the test ends after
-/// many looks.
-pub fn holds_in_a_thread<R: Threads + Abort, F: FnOnce() -> bool + Send>(rt: &R, holds: F) -> bool
-    requires { F.pre holds }
+/// Waits until the number is at least `least`, and returns whether it came to that.
+pub fn comes_to(number: &AtomicU64, least: u64) -> bool {
+    comes_within(MOST_LOOKS, number, least)
+}
+
+/// Returns what this gives, which a thread of its own does. Where the thread does not end, or none can be started, the test ends
+/// after many looks.
+pub fn in_a_thread<R: Threads + Abort, T: Send, F: FnOnce() -> T + Send>(rt: &R, does: F) -> T
+    requires { F.pre does }
 {
     let ends = AtomicU64::new(0);
     let ends = &ends;
-    let (is_so, ()) = thread::join(
+    let (given, ()) = thread::join(
         rt,
-        move || -> bool
-            requires { F.pre holds }
+        move || -> T
+            requires { F.pre does }
         {
-            let is_so = holds();
+            let given = does();
             ends.fetch_add(1, Ordering::SeqCst);
-            is_so
+            given
         },
         // Without it `join` would wait for ever for a thread that does not end.
-        move || assert!(rt; comes_to(ends, 1), "the thread ends"),
+        move || assert!(rt;
+            comes_within(MOST_LOOKS_FOR_THE_END, ends, 1),
+            "the thread ends"
+        ),
     );
-    is_so
+    given
 }
 
 /// Returns the name `r`.
@@ -167,37 +178,12 @@ impl Gate for Counting {
     }
 }
 
-/// What came of a script that threads did, or `None` where none was started.
-pub type Ran = Option<Result<Settled, ClusterError>>;
-
-/// Has threads do a script behind a gate, and puts what came of it where it is told.
-fn run_to_the_end<R: Threads + Wait + Abort + Sync, G: Gate>(
-    rt: &R,
-    alloc: Global,
-    script: &Script,
-    gate: &G,
-    there: &Mutex<Ran>,
-) {
-    let ended = AtomicU64::new(0);
-    let ended = &ended;
-    thread::scope(thread::scope_env(), rt, move |scope| {
-        let runs = scope.spawn(move || {
-            *there.lock(rt) = Some(run_cluster(rt, alloc, script, gate));
-            ended.fetch_add(1, Ordering::SeqCst);
-        });
-        // The scope would wait for ever for a cluster that does not end.
-        assert!(rt; runs.is_err() || comes_to(ended, 1), "the cluster ends");
-    })
-}
-
 /// Has threads do a script behind a gate, and returns what came of it. Where they do not end, the test ends after many looks.
 pub fn ran<R: Threads + Wait + Abort + Sync, G: Gate>(
     rt: &R,
     alloc: Global,
     script: &Script,
     gate: &G,
-) -> Ran {
-    let there = Mutex::new(None);
-    run_to_the_end(rt, alloc, script, gate, &there);
-    there.into_inner()
+) -> Result<Settled, ClusterError> {
+    in_a_thread(rt, move || run_cluster(rt, alloc, script, gate))
 }

@@ -5,6 +5,10 @@
 #[cfg(test)]
 mod books;
 #[cfg(test)]
+mod endings;
+#[cfg(test)]
+mod gates;
+#[cfg(test)]
 mod helpers;
 #[cfg(test)]
 mod outcomes;
@@ -16,6 +20,8 @@ mod scripts;
 mod settling;
 #[cfg(test)]
 mod sites;
+#[cfg(test)]
+mod steps;
 #[cfg(test)]
 mod threads;
 #[cfg(test)]

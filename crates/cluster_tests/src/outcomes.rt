@@ -1,10 +1,10 @@
 //! What comes of books in which a script was done, or was not.
-use crate::helpers::{entry, r};
-use crate::plans::{Does, LOCKS_R, USES_R, adds_client, script_of};
+use crate::helpers::{entry, r, request};
+use crate::plans::{Does, LOCKS_R, USES_R, adds_client, script_of_client};
 use ra_cluster::{Book, ClusterError, Grant, Stop, settle_script};
 use ra_frame::{Frame, encode};
 use ra_schedule::Script;
-use ra_stamp::{Message, Mode, Name, NodeId};
+use ra_stamp::{Mode, Name, NodeId};
 use std::alloc::Global;
 
 /// Returns whether books and grants settle into the end of a script, or do not for this reason.
@@ -150,14 +150,8 @@ fn the_fault_of_the_lowest_node_is_the_outcome(rt: HostRuntime) {
 }
 
 /// Returns the frame of a REQUEST from node 1 to node 2, at clock 1.
-fn request(name: Name) -> Option<Frame> {
-    let message = Message::Request {
-        from: NodeId::new(1)?,
-        to: NodeId::new(2)?,
-        name,
-        mode: Mode::Exclusive,
-        seq: 1,
-    };
+fn frame_of_request(name: Name) -> Option<Frame> {
+    let message = request(name, 1, 2, Mode::Exclusive)?;
     Some(Frame { clock: 1, message })
 }
 
@@ -177,7 +171,7 @@ fn second_takes(alloc: Global, books: &mut [Book]) -> bool {
     let Some(name) = r() else {
         return false;
     };
-    match (request(name), books.get_mut(1)) {
+    match (frame_of_request(name), books.get_mut(1)) {
         (Some(frame), Some(book)) => takes(alloc, book, &frame),
         _ => false,
     }
@@ -262,15 +256,10 @@ fn grants_of_one(alloc: Global, name: Name, events: u32) -> Option<Vec<Grant>> {
 }
 
 /// Makes the script of a node alone, in which client 1 has the first operations and client 2, where there is one, the second.
-fn script_of_one(
-    alloc: Global,
-    name: Name,
-    first: &[Does],
-    second: Option<&[Does]>,
-) -> Option<Script> {
-    let mut script = script_of(alloc, 1, name, 1, first)?;
+fn script_of_one(alloc: Global, first: &[Does], second: Option<&[Does]>) -> Option<Script> {
+    let mut script = script_of_client(alloc, 1, 1, first)?;
     let is_made = match second {
-        Some(second) => adds_client(alloc, &mut script, name, 1, second),
+        Some(second) => adds_client(alloc, &mut script, 1, second),
         None => true,
     };
     if is_made { Some(script) } else { None }
@@ -286,7 +275,7 @@ fn is_outcome(
     refusal: Option<ClusterError>,
 ) -> Option<bool> {
     let name = r()?;
-    let script = script_of_one(alloc, name, first, second)?;
+    let script = script_of_one(alloc, first, second)?;
     let books = books_of_one(alloc, name, events)?;
     let grants = grants_of_one(alloc, name, events)?;
     Some(has_outcome(alloc, &script, &books, &grants, refusal))
@@ -329,14 +318,15 @@ fn asks(alloc: Global, books: &mut [Book], name: Name) -> bool {
         return false;
     };
     match book.ask(alloc, 1, name, Mode::Exclusive) {
-        Ok(posted) => posted.frames.at(0).is_some() && posted.frames.at(0) == request(name),
+        Ok(posted) => posted.frames.at(0).is_some()
+            && posted.frames.at(0) == frame_of_request(name),
         Err(_) => false,
     }
 }
 
 /// The REQUEST of the first book is lost. Returns whether there is one.
 fn loses(books: &mut [Book], name: Name) -> bool {
-    match (request(name), books.first_mut()) {
+    match (frame_of_request(name), books.first_mut()) {
         (Some(frame), Some(book)) => book.mark_lost(&frame).is_ok(),
         _ => false,
     }
@@ -356,7 +346,7 @@ fn is_missed(alloc: Global, script: &Script, books: &mut [Book], name: Name) -> 
 /// Returns whether this is so of two nodes where a client of node 1 uses `r`.
 fn what_is_missing_is_missed(alloc: Global) -> Option<bool> {
     let name = r()?;
-    let script = script_of(alloc, 2, name, 1, USES_R)?;
+    let script = script_of_client(alloc, 2, 1, USES_R)?;
     let mut books = make_books(alloc, &[ONE, TWO])?;
     Some(is_missed(alloc, &script, &mut books, name))
 }
@@ -385,7 +375,7 @@ fn settles_its_grant(alloc: Global, script: &Script, books: &[Book], name: Name)
 /// Returns whether this is so of a node alone where a client locks `r`.
 fn grants_are_looked_for(alloc: Global) -> Option<bool> {
     let name = r()?;
-    let script = script_of(alloc, 1, name, 1, LOCKS_R)?;
+    let script = script_of_client(alloc, 1, 1, LOCKS_R)?;
     let books = books_of_one(alloc, name, 1)?;
     settles_its_grant(alloc, &script, &books, name)
 }

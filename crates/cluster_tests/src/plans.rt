@@ -1,55 +1,110 @@
-//! Scripts of clients that use `r`.
+//! Scripts of clients that use names of one letter.
+use Does::{Locks, Shares, Unlocks};
 use ra_schedule::{Op, Script};
 use ra_stamp::{Mode, Name};
 use std::alloc::Global;
 
-/// What a client does with `r`.
+/// What a client does with the name of one letter.
 #[derive(Clone, Copy)]
 pub enum Does {
-    /// It locks it in this mode.
-    Locks(Mode),
+    /// It locks it exclusively.
+    Locks(u8),
+    /// It locks it shared.
+    Shares(u8),
     /// It unlocks it.
-    Unlocks,
+    Unlocks(u8),
+}
+
+/// A client at a node, which does these.
+#[derive(Clone, Copy)]
+pub struct Client {
+    /// The number of its node.
+    pub node: u16,
+    /// What it does, in order.
+    pub ops: &'static [Does],
 }
 
 /// A client locks `r` exclusively.
-pub const LOCKS_R: &[Does] = &[Does::Locks(Mode::Exclusive)];
+pub const LOCKS_R: &[Does] = &[Locks(b'r')];
 
 /// A client locks `r` exclusively, and unlocks it.
-pub const USES_R: &[Does] = &[Does::Locks(Mode::Exclusive), Does::Unlocks];
+pub const USES_R: &[Does] = &[Locks(b'r'), Unlocks(b'r')];
 
-/// Adds an operation of the last client. Returns whether that succeeds.
-fn adds_op(script: &mut Script, name: Name, does: Does) -> bool {
-    let op = match does {
-        Does::Locks(mode) => Op::Lock(name, mode),
-        Does::Unlocks => Op::Unlock(name),
-    };
-    script.add_op(op).is_ok()
+/// A client locks `r` shared, and unlocks it.
+pub const READS_R: &[Does] = &[Shares(b'r'), Unlocks(b'r')];
+
+/// A client locks `a` exclusively, and unlocks it.
+pub const USES_A: &[Does] = &[Locks(b'a'), Unlocks(b'a')];
+
+/// A client locks `b` exclusively, and unlocks it.
+pub const USES_B: &[Does] = &[Locks(b'b'), Unlocks(b'b')];
+
+/// A client at nodes 1 and 2 each uses `r`.
+pub const TWO_WRITERS: &[Client] = &[
+    Client {
+        node: 1,
+        ops: USES_R,
+    },
+    Client {
+        node: 2,
+        ops: USES_R,
+    },
+];
+
+/// Returns the operation.
+fn op(does: Does) -> Option<Op> {
+    match does {
+        Locks(letter) => Some(Op::Lock(Name::new(&[letter]).ok()?, Mode::Exclusive)),
+        Shares(letter) => Some(Op::Lock(Name::new(&[letter]).ok()?, Mode::Shared)),
+        Unlocks(letter) => Some(Op::Unlock(Name::new(&[letter]).ok()?)),
+    }
 }
 
-/// Adds a client at a node to a script. Returns whether that succeeds.
-pub fn adds_client(
-    alloc: Global,
-    script: &mut Script,
-    name: Name,
-    node: u16,
-    ops: &[Does],
-) -> bool {
+/// Adds an operation of the last client. Returns whether that succeeds.
+fn adds_op(script: &mut Script, does: Does) -> bool {
+    match op(does) {
+        Some(op) => script.add_op(op).is_ok(),
+        None => false,
+    }
+}
+
+/// Adds a client at a node. Returns whether that succeeds.
+pub fn adds_client(alloc: Global, script: &mut Script, node: u16, ops: &[Does]) -> bool {
     if script.add_client(alloc, node).is_err() {
         return false;
     }
     for does in ops {
-        if !adds_op(script, name, *does) {
+        if !adds_op(script, *does) {
             return false;
         }
     }
     true
 }
 
-/// Makes the script of so many nodes with one client, at this node.
-pub fn script_of(alloc: Global, nodes: u16, name: Name, node: u16, ops: &[Does]) -> Option<Script> {
+/// Adds these clients. Returns whether that succeeds.
+fn adds_clients(alloc: Global, script: &mut Script, clients: &[Client]) -> bool {
+    for client in clients {
+        if !adds_client(alloc, script, client.node, client.ops) {
+            return false;
+        }
+    }
+    true
+}
+
+/// Makes the script of so many nodes with these clients.
+pub fn script_of(alloc: Global, nodes: u16, clients: &[Client]) -> Option<Script> {
     let mut script = Script::new(alloc, nodes).ok()?;
-    if adds_client(alloc, &mut script, name, node, ops) {
+    if adds_clients(alloc, &mut script, clients) {
+        Some(script)
+    } else {
+        None
+    }
+}
+
+/// Makes the script of so many nodes with one client, at this node.
+pub fn script_of_client(alloc: Global, nodes: u16, node: u16, ops: &[Does]) -> Option<Script> {
+    let mut script = Script::new(alloc, nodes).ok()?;
+    if adds_client(alloc, &mut script, node, ops) {
         Some(script)
     } else {
         None

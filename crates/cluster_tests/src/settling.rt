@@ -1,4 +1,4 @@
-//! The run into which books settle. These tests use public calls alone, and so stand here.
+//! The run into which books settle.
 use crate::helpers::{entry, prints, r, reply, request};
 use Done::{Asks, Hands, Leaves, Loses, Passes};
 use Mode::{Exclusive, Shared};

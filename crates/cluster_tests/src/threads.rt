@@ -1,34 +1,14 @@
 //! The threads that do a script, at sites that the test makes.
-use crate::helpers::{books_of, comes_to, entry, r, sites_of};
-use crate::plans::{Does, USES_R, script_of};
-use ra_cluster::{Book, Grant, Inbox, OpenGate, Post, ScriptRun, Site, Stop, run_threads};
+use crate::helpers::{books_of, entry, in_a_thread, r, sites_of};
+use crate::plans::Does::{Locks, Shares, Unlocks};
+use crate::plans::{Does, USES_R, script_of_client};
+use ra_cluster::{Book, Grant, OpenGate, Post, ScriptRun, Site, Stop, run_threads};
 use ra_schedule::Script;
 use ra_stamp::{Mode, Name};
 use std::alloc::Global;
 use std::process::Abort;
-use std::sync::atomic::{AtomicU64, Ordering};
 use std::sync::{Mutex, Wait};
-use std::thread;
 use std::thread::Threads;
-
-/// Has threads do a script, and returns once they have ended.
-fn run_to_the_end<R: Threads + Wait + Abort + Sync>(
-    rt: &R,
-    alloc: Global,
-    run: &ScriptRun<'_, OpenGate>,
-    inboxes: &[Inbox],
-) {
-    let ended = AtomicU64::new(0);
-    let ended = &ended;
-    thread::scope(thread::scope_env(), rt, move |scope| {
-        let runs = scope.spawn(move || {
-            run_threads(rt, alloc, run, inboxes);
-            ended.fetch_add(1, Ordering::SeqCst);
-        });
-        // The scope would wait for ever for threads that do not end.
-        assert!(rt; runs.is_err() || comes_to(ended, 1), "the threads end");
-    })
-}
 
 /// Has threads do a script at these sites, and returns the grants that are kept.
 fn run_at<R: Threads + Wait + Abort + Sync>(
@@ -46,7 +26,9 @@ fn run_at<R: Threads + Wait + Abort + Sync>(
         grants: &grants,
         gate: &OpenGate,
     };
-    run_to_the_end(rt, alloc, &run, &inboxes);
+    let run = &run;
+    let inboxes = &inboxes;
+    in_a_thread(rt, move || run_threads(rt, alloc, run, inboxes));
     Some(grants.into_inner())
 }
 
@@ -61,17 +43,12 @@ fn are_both(grants: &[Grant], name: Name) -> bool {
 }
 
 /// A client locks `r` exclusively and unlocks it, and then shared.
-const USES_R_TWICE: &[Does] = &[
-    Does::Locks(Mode::Exclusive),
-    Does::Unlocks,
-    Does::Locks(Mode::Shared),
-    Does::Unlocks,
-];
+const USES_R_TWICE: &[Does] = &[Locks(b'r'), Unlocks(b'r'), Shares(b'r'), Unlocks(b'r')];
 
 /// Returns whether both grants of a client are kept.
 fn keeps_both<R: Threads + Wait + Abort + Sync>(rt: &R, alloc: Global) -> Option<bool> {
     let name = r()?;
-    let script = script_of(alloc, 2, name, 1, USES_R_TWICE)?;
+    let script = script_of_client(alloc, 2, 1, USES_R_TWICE)?;
     let sites = sites_of(alloc, 2, 0)?;
     let grants = run_at(rt, alloc, &script, &sites)?;
     Some(are_both(&grants, name))
@@ -105,7 +82,7 @@ fn ends_so<R: Threads + Wait + Abort + Sync>(
     first: Option<Stop>,
     second: Option<Stop>,
 ) -> Option<bool> {
-    let script = script_of(alloc, 2, r()?, node, USES_R)?;
+    let script = script_of_client(alloc, 2, node, USES_R)?;
     let grants = run_at(rt, alloc, &script, &sites)?;
     let books = books_of(alloc, sites)?;
     Some(grants.is_empty() && have_faults(&books, first, second))

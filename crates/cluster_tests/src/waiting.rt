@@ -1,5 +1,5 @@
-//! Clients that wait at sites which threads share. These tests use public calls alone, and so stand here.
-use crate::helpers::{Counting, books_of, comes_to, entry, holds_in_a_thread, r, sites_of};
+//! Clients that wait at sites which threads share.
+use crate::helpers::{Counting, books_of, comes_to, entry, in_a_thread, r, sites_of};
 use ra_cluster::{
     Book, BookError, Gate, Grant, Inbox, OpenGate, Post, Site, SiteError, Stop, is_cluster, settle,
 };
@@ -134,7 +134,7 @@ fn is_let_in<R: Threads + Wait + Abort + Sync>(rt: &R, alloc: Global, then: Then
 
 #[test]
 fn a_client_waits_for_another_of_its_node(rt: HostRuntime) {
-    assert!(rt; holds_in_a_thread(&rt, || is_let_in(&rt, rt.alloc(), Then::Leaves)));
+    assert!(rt; in_a_thread(&rt, || is_let_in(&rt, rt.alloc(), Then::Leaves)));
 }
 
 /// Where client 2 was not yet asleep it need not be woken, and then this says less.
@@ -142,7 +142,7 @@ fn a_client_waits_for_another_of_its_node(rt: HostRuntime) {
 fn a_stop_ends_the_wait(rt: HostRuntime) {
     let stopped = Some(Err(SiteError::Stopped(Stop::Refused)));
     assert!(rt;
-        holds_in_a_thread(
+        in_a_thread(
             &rt,
             || locked_behind(&rt, rt.alloc(), Then::Stops) == stopped
         )
@@ -153,7 +153,7 @@ fn a_stop_ends_the_wait(rt: HostRuntime) {
 #[test]
 fn a_grant_goes_before_a_fault(rt: HostRuntime) {
     for _ in 0..20u8 {
-        assert!(rt; holds_in_a_thread(&rt, || is_let_in(&rt, rt.alloc(), Then::LeavesAndStops)));
+        assert!(rt; in_a_thread(&rt, || is_let_in(&rt, rt.alloc(), Then::LeavesAndStops)));
     }
 }
 
@@ -259,7 +259,7 @@ fn is_taken_behind_a_closed_post<R: Threads + Wait + Abort + Sync>(
 #[test]
 fn a_leave_is_taken_though_its_frame_is_lost(rt: HostRuntime) {
     assert!(rt;
-        holds_in_a_thread(
+        in_a_thread(
             &rt,
             || is_taken_behind_a_closed_post(&rt, rt.alloc()) == Some(true)
         )
@@ -377,5 +377,5 @@ fn settles_after_traffic<R: Threads + Wait + Abort + Sync>(rt: &R, alloc: Global
 
 #[test]
 fn books_settle_where_the_post_is_closed_under_traffic(rt: HostRuntime) {
-    assert!(rt; holds_in_a_thread(&rt, || settles_after_traffic(&rt, rt.alloc()) == Some(true)));
+    assert!(rt; in_a_thread(&rt, || settles_after_traffic(&rt, rt.alloc()) == Some(true)));
 }

@@ -31,7 +31,7 @@ const DONE: u8 = 0;
 /// The input or the output failed.
 const BROKEN: u8 = 1;
 
-/// The words or the input were refused, or memory ran out.
+/// The words or the input were refused, memory ran out, or threads did not bring a script to its end.
 const REFUSED: u8 = 2;
 
 /// The run ended with something left to do, or the trace is none.

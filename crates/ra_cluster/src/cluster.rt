@@ -29,7 +29,7 @@ pub enum ClusterError {
     /// A node was stopped, for this cause.
     #[error("Fault")]
     Fault(Stop),
-    /// What the nodes wrote down is no run of the cluster.
+    /// What the nodes wrote down is no run of the cluster, or not one in which each grant was given, and once.
     #[error("Settle")]
     Settle,
     /// What became of the clients' requests is not what the script says.
@@ -63,6 +63,9 @@ impl From<Memory> for ClusterError {
 /// Nothing bounds how long the threads wait. Each client takes its names in ascending order and holds none at its end, since
 /// clients that take names in different orders can wait for each other for ever.
 ///
+/// The cost is that of [`run_threads`], of [`settle_script`], and before them that of looking, for each lock of a client, through its
+/// operations up to the unlock.
+///
 /// # Errors
 ///
 /// The first that holds, but that `Memory` may come before any but the first two:
@@ -70,7 +73,7 @@ impl From<Memory> for ClusterError {
 /// 1. `OutOfOrder`: a client locks a name that is not above, by bytes, each name that it holds then. No thread was started.
 /// 2. `Unreleased`: a client holds a name at its end. No thread was started.
 /// 3. `Fault`: a node was stopped, with the cause at the lowest such node.
-/// 4. `Settle`: the books do not settle.
+/// 4. `Settle`: the books do not settle, or not with what the clients were granted.
 /// 5. `PlanUnmet`: the marks of a client are not those of its operations in order, or a client is queued.
 /// 6. `Lost`: a message was lost.
 /// 7. `UnderWay`: a message is under way.

@@ -7,8 +7,8 @@ pub trait Gate: Sync {
     /// thread has.
     fn step(&self, node: NodeId) -> bool;
 
-    /// Is called by the client threads of [`run_cluster`](crate::run_cluster) after each grant, with no lock held. The answer
-    /// `false` stops the cluster.
+    /// Is called by the client threads of [`run_threads`](crate::run_threads), and so of [`run_cluster`](crate::run_cluster), after
+    /// each grant, with no lock held. The answer `false` stops the cluster.
     fn inside(&self, entry: &Entry) -> bool;
 }
 

@@ -47,7 +47,8 @@ fn is_member(book: &Book, place: usize, count: usize, start: u64) -> bool
 /// then the loss of each frame that is flagged lost, by node and then in order of sending. So what [`run`] says of its steps
 /// holds of what happened at the nodes. With n events and frames sent, m grants and k books the cost is that of the run, and
 /// n log n, m log m and k n beside it. That of the run is linear in n, on average. Where there was no memory to know the
-/// clients of a long queue, each ask looks through its name's queue, too.
+/// clients of a long queue, each ask looks through its name's queue, too; and where there was none to know where each message under
+/// way stands, each frame that came looks through those under way.
 ///
 /// # Errors
 ///

@@ -31,7 +31,7 @@ pub enum SiteError {
 /// the post does not take is flagged as lost, and then each site is stopped, which ends all waiting of clients at them.
 ///
 /// Each such call costs what the book's call costs, the sending of the frames, and waking all clients that wait at the node,
-/// for whatever name.
+/// for whatever name; and for each frame that the post does not take, a look through all frames that the book has sent.
 #[derive(Drop)]
 pub struct Site {
     node: NodeId,
@@ -80,10 +80,13 @@ impl Site {
     ///
     /// # Errors
     ///
-    /// 1. `Refused`: the book refused it, as [`Book::ask`] says, with `Failed` where the node was stopped before. Nothing was
+    /// The first that comes:
+    ///
+    /// 1. `Stopped`: the gate answered `false`. Nothing was asked. The cause is the one that the node keeps, of an earlier stop
+    ///    where there was one.
+    /// 2. `Refused`: the book refused it, as [`Book::ask`] says, with `Failed` where the node was stopped before. Nothing was
     ///    asked.
-    /// 2. `Stopped`: the gate answered `false`, and nothing was asked; or the node was stopped while the client waited, and
-    ///    its request stands in the book.
+    /// 3. `Stopped`: the node was stopped while the client waited, and its request stands in the book.
     pub fn lock<R: Wait, G: Gate>(
         &self,
         rt: &R,
@@ -109,10 +112,11 @@ impl Site {
     ///
     /// # Errors
     ///
-    /// 1. `Refused`: the book refused it, as [`Book::leave`] says, with `Failed` where the node was stopped before. Nothing
-    ///    was given back.
-    /// 2. `Stopped`: the gate answered `false`, and nothing was given back. Where the book took the leave the answer is `Ok`,
-    ///    even if the node is stopped by then.
+    /// The first that holds, and nothing was given back. Where the book took the leave the answer is `Ok`, even if the node is
+    /// stopped by then.
+    ///
+    /// 1. `Stopped`: the gate answered `false`. The cause is the one that the node keeps, of an earlier stop where there was one.
+    /// 2. `Refused`: the book refused it, as [`Book::leave`] says, with `Failed` where the node was stopped before.
     pub fn unlock<R: Wait, G: Gate>(
         &self,
         rt: &R,

@@ -28,7 +28,8 @@ pub struct ScriptRun<'a, G> {
 ///
 /// A client whose site is stopped ends. Where a thread cannot be started, or a client's call is refused for another cause, all sites
 /// are stopped. A client whose node has no site does nothing, and a node without an inbox takes no frame. Nothing bounds how long the
-/// threads wait; a script that [`run_cluster`](crate::run_cluster) refuses may keep them waiting for ever.
+/// threads wait; a script that [`run_cluster`](crate::run_cluster) refuses may keep them waiting for ever. The cost is that of a thread
+/// for each node and each client, and of the calls of the sites.
 pub fn run_threads<R: Threads + Wait + Sync, G: Gate>(
     rt: &R,
     alloc: Global,

@@ -1,0 +1,112 @@
+//! Words that are no command, and the help that lists the commands.
+use crate::frames::REQUEST;
+use crate::helpers::{Refused, prints, refuses};
+use ra_cli::{CommandFault, refuse_words};
+use std::alloc::Global;
+
+/// Words that are no command.
+const NO_COMMANDS: &[Refused] = &[
+    Refused {
+        words: "ra",
+        input: REQUEST,
+        word: "Usage",
+    },
+    Refused {
+        words: "ra simulate",
+        input: REQUEST,
+        word: "Usage",
+    },
+    Refused {
+        words: "ra help",
+        input: REQUEST,
+        word: "Usage",
+    },
+    Refused {
+        words: "ra answer",
+        input: REQUEST,
+        word: "Usage",
+    },
+    Refused {
+        words: "ra answer --node 2",
+        input: REQUEST,
+        word: "Usage",
+    },
+    Refused {
+        words: "ra answer --nodes 3",
+        input: REQUEST,
+        word: "Usage",
+    },
+    Refused {
+        words: "ra answer --node 2 --nodes 3 --trace",
+        input: REQUEST,
+        word: "Usage",
+    },
+    Refused {
+        words: "ra answer --node 2 --nodes 3 2",
+        input: REQUEST,
+        word: "Usage",
+    },
+    Refused {
+        words: "ra answer --node two --nodes 3",
+        input: REQUEST,
+        word: "Usage",
+    },
+    Refused {
+        words: "ra answer --node 2 --nodes 65536",
+        input: REQUEST,
+        word: "Usage",
+    },
+    Refused {
+        words: "ra answer --node -1 --nodes 3",
+        input: REQUEST,
+        word: "Usage",
+    },
+    Refused {
+        words: "ra --node 2 --nodes 3",
+        input: REQUEST,
+        word: "Usage",
+    },
+];
+
+#[test]
+fn words_that_are_no_command_are_refused(rt: HostRuntime) {
+    for case in NO_COMMANDS {
+        assert!(rt; refuses(&rt, case), "{}", case.words);
+    }
+}
+
+const HELP: &str = "Lock named resources by messages alone
+
+Usage: ra <COMMAND>
+
+Commands:
+  answer   Answer one frame, a line of hexadecimal digits, as an idle node does
+  sim      Drive a cluster through a script, and print who asked, entered and left, and what it cost
+  cluster  Run a script by threads, and print who asked, entered and left, and what it cost
+  check    Check the trace of a run, line by line
+
+Options:
+  -h, --help  Print help
+
+Status 0: done. Status 1: the input or the output failed. Status 2: refused, by one line with the word that says why.
+Status 3: a run that ended with something left to do, or a trace that is none.
+";
+
+#[test]
+fn help_lists_the_commands(rt: HostRuntime) {
+    assert!(rt; prints(&rt, "ra --help", "", 0, HELP) && prints(&rt, "ra -h", "", 0, HELP));
+}
+
+/// Returns whether the fault of a command line that is not there is status 2, and printed so.
+fn is_fault(alloc: Global, fault: CommandFault, printed: &str) -> bool {
+    let mut output = Vec::new(alloc);
+    let status = refuse_words(&mut output, fault);
+    status == 2 && output.as_slice() == printed.as_bytes()
+}
+
+#[test]
+fn words_that_are_not_there_are_refused(rt: HostRuntime) {
+    let alloc = rt.alloc();
+    assert!(rt; is_fault(alloc, CommandFault::Usage, "refused Usage\n"));
+    assert!(rt; is_fault(alloc, CommandFault::Memory, "refused Memory\n"));
+}

@@ -1,0 +1,299 @@
+//! Scripts that threads do behind gates that hold them up, and gates that stop them.
+use crate::endings::{ends_behind, fails_behind};
+use crate::helpers::{Counting, comes_to, ran};
+use crate::plans::{Client, READS_R, TWO_WRITERS, USES_A, USES_B, USES_R, script_of};
+use ra_cluster::{ClusterError, Gate, Stop};
+use ra_schedule::Script;
+use ra_stamp::{Entry, NodeId};
+use std::alloc::Global;
+use std::process::Abort;
+use std::sync::Wait;
+use std::sync::atomic::{AtomicU64, Ordering};
+use std::thread;
+use std::thread::Threads;
+
+/// How the gate of two clients holds up the one until the other comes.
+#[derive(Clone, Copy, PartialEq, Eq)]
+enum Meeting {
+    /// Client 1 stays inside until client 2 is inside.
+    Inside,
+    /// Each client stays inside until the other is inside.
+    Both,
+    /// The first step of each node waits for a step of the other.
+    Steps,
+}
+
+/// A gate of two clients at nodes 1 and 2, which counts its calls.
+#[derive(Drop)]
+struct Meets {
+    at: Meeting,
+    /// At node 1 and at node 2.
+    steps: (AtomicU64, AtomicU64),
+    /// Of client 1 and of client 2.
+    insides: (AtomicU64, AtomicU64),
+    /// How often somebody waited in vain.
+    missed: AtomicU64,
+}
+
+impl Meets {
+    /// Makes a gate that was not called yet.
+    fn new(at: Meeting) -> Meets {
+        Meets {
+            at,
+            steps: (AtomicU64::new(0), AtomicU64::new(0)),
+            insides: (AtomicU64::new(0), AtomicU64::new(0)),
+            missed: AtomicU64::new(0),
+        }
+    }
+
+    /// Waits until this number is at least 1, and returns whether it came to that.
+    fn meets(&self, other: &AtomicU64) -> bool {
+        if comes_to(other, 1) {
+            return true;
+        }
+        self.missed.fetch_add(1, Ordering::SeqCst);
+        false
+    }
+
+    /// Returns whether nobody waited in vain, so that a cluster which goes on after the gate's `false` is found out too.
+    fn has_met(&self) -> bool {
+        self.missed.load(Ordering::SeqCst) == 0
+    }
+
+    /// Returns whether it was called so often for the steps of node 1 and node 2.
+    fn has_stepped(&self, one: u64, two: u64) -> bool {
+        self.steps.0.load(Ordering::SeqCst) == one && self.steps.1.load(Ordering::SeqCst) == two
+    }
+
+    /// Returns whether it was called once for each client inside.
+    fn has_seen_both(&self) -> bool {
+        self.insides.0.load(Ordering::SeqCst) == 1 && self.insides.1.load(Ordering::SeqCst) == 1
+    }
+}
+
+impl Gate for Meets {
+    fn step(&self, node: NodeId) -> bool {
+        let (own, other) = if node.get() == 1 {
+            (&self.steps.0, &self.steps.1)
+        } else {
+            (&self.steps.1, &self.steps.0)
+        };
+        let before = own.fetch_add(1, Ordering::SeqCst);
+        self.at != Meeting::Steps || before != 0 || self.meets(other)
+    }
+
+    fn inside(&self, entry: &Entry) -> bool {
+        let (own, other) = if entry.client == 1 {
+            (&self.insides.0, &self.insides.1)
+        } else {
+            (&self.insides.1, &self.insides.0)
+        };
+        own.fetch_add(1, Ordering::SeqCst);
+        let waits = match self.at {
+            Meeting::Inside => entry.client == 1,
+            Meeting::Both => true,
+            Meeting::Steps => false,
+        };
+        !waits || self.meets(other)
+    }
+}
+
+/// Two clients of so many nodes that meet so, with the messages that are sent and the steps of node 1 and node 2.
+#[derive(Clone, Copy)]
+struct Met {
+    at: Meeting,
+    nodes: u16,
+    clients: [Client; 2],
+    sent: u128,
+    one: u64,
+    two: u64,
+}
+
+/// Returns whether two clients meet, and come to their end.
+fn meet<R: Threads + Wait + Abort + Sync>(rt: &R, alloc: Global, met: &Met) -> bool {
+    let gate = Meets::new(met.at);
+    match script_of(alloc, met.nodes, &met.clients) {
+        Some(script) => {
+            ends_behind(rt, alloc, &script, &gate, 2, met.sent)
+                && gate.has_stepped(met.one, met.two)
+                && gate.has_seen_both()
+                && gate.has_met()
+        }
+        None => false,
+    }
+}
+
+#[test]
+fn readers_of_two_nodes_are_inside_together(rt: HostRuntime) {
+    let met = Met {
+        at: Meeting::Inside,
+        nodes: 2,
+        clients: [
+            Client {
+                node: 1,
+                ops: READS_R,
+            },
+            Client {
+                node: 2,
+                ops: READS_R,
+            },
+        ],
+        sent: 4,
+        one: 4,
+        two: 4,
+    };
+    assert!(rt; meet(&rt, rt.alloc(), &met));
+}
+
+#[test]
+fn two_nodes_step_at_once(rt: HostRuntime) {
+    let met = Met {
+        at: Meeting::Steps,
+        nodes: 2,
+        clients: [
+            Client {
+                node: 1,
+                ops: USES_A,
+            },
+            Client {
+                node: 2,
+                ops: USES_B,
+            },
+        ],
+        sent: 4,
+        one: 4,
+        two: 4,
+    };
+    assert!(rt; meet(&rt, rt.alloc(), &met));
+}
+
+/// While a client is inside, others of its node ask and are let in.
+#[test]
+fn a_client_is_inside_with_no_lock_held(rt: HostRuntime) {
+    let met = Met {
+        at: Meeting::Both,
+        nodes: 1,
+        clients: [
+            Client {
+                node: 1,
+                ops: USES_A,
+            },
+            Client {
+                node: 1,
+                ops: USES_B,
+            },
+        ],
+        sent: 0,
+        one: 4,
+        two: 0,
+    };
+    assert!(rt; meet(&rt, rt.alloc(), &met));
+}
+
+/// A gate of two nodes that stays in each step for some time, and stops the cluster where another step of the node comes meanwhile.
+#[derive(Drop)]
+struct Alone {
+    /// How many are in a step of node 1 and of node 2.
+    within: (AtomicU64, AtomicU64),
+}
+
+impl Gate for Alone {
+    fn step(&self, node: NodeId) -> bool {
+        let within = if node.get() == 1 {
+            &self.within.0
+        } else {
+            &self.within.1
+        };
+        let before = within.fetch_add(1, Ordering::SeqCst);
+        for _ in 0..1000u32 {
+            thread::yield_now();
+        }
+        // The one before is counted until it has gone, so of two that meet one at least sees the other.
+        let after = within.fetch_sub(1, Ordering::SeqCst);
+        before == 0 && after == 1
+    }
+
+    fn inside(&self, _entry: &Entry) -> bool {
+        true
+    }
+}
+
+/// Three clients of node 1 and one of node 2 use `r`.
+const FOUR_WRITERS: &[Client] = &[
+    Client {
+        node: 1,
+        ops: USES_R,
+    },
+    Client {
+        node: 1,
+        ops: USES_R,
+    },
+    Client {
+        node: 1,
+        ops: USES_R,
+    },
+    Client {
+        node: 2,
+        ops: USES_R,
+    },
+];
+
+/// Returns whether four writers come to their end where each node steps alone.
+fn step_alone<R: Threads + Wait + Abort + Sync>(rt: &R, alloc: Global) -> bool {
+    let gate = Alone {
+        within: (AtomicU64::new(0), AtomicU64::new(0)),
+    };
+    match script_of(alloc, 2, FOUR_WRITERS) {
+        Some(script) => ends_behind(rt, alloc, &script, &gate, 4, 8),
+        None => false,
+    }
+}
+
+#[test]
+fn a_node_steps_under_its_lock(rt: HostRuntime) {
+    assert!(rt; step_alone(&rt, rt.alloc()));
+}
+
+/// Returns whether a gate that lets so many steps pass, and either nobody or everybody be inside, stops a script.
+fn stops<R: Threads + Wait + Abort + Sync>(
+    rt: &R,
+    alloc: Global,
+    script: &Script,
+    steps: u64,
+    inside: bool,
+) -> bool {
+    let gate = Counting::new(steps, inside);
+    fails_behind(rt, alloc, script, &gate, ClusterError::Fault(Stop::Gate))
+}
+
+/// Returns whether a gate that lets so many steps pass lets a script come to its end.
+fn passes<R: Threads + Wait + Abort + Sync>(
+    rt: &R,
+    alloc: Global,
+    script: &Script,
+    steps: u64,
+) -> bool {
+    let gate = Counting::new(steps, true);
+    ran(rt, alloc, script, &gate).is_ok()
+}
+
+/// Returns whether two writers are stopped by each gate that does not let all 12 steps pass, or nobody be inside: the run takes two
+/// asks, two leaves and eight frames that come.
+fn gates_stop<R: Threads + Wait + Abort + Sync>(rt: &R, alloc: Global) -> bool {
+    match script_of(alloc, 3, TWO_WRITERS) {
+        Some(script) => {
+            stops(rt, alloc, &script, u64::MAX, false)
+                && stops(rt, alloc, &script, 0, true)
+                && stops(rt, alloc, &script, 1, true)
+                && stops(rt, alloc, &script, 5, true)
+                && stops(rt, alloc, &script, 11, true)
+                && passes(rt, alloc, &script, 12)
+        }
+        None => false,
+    }
+}
+
+#[test]
+fn a_gate_stops_the_cluster(rt: HostRuntime) {
+    assert!(rt; gates_stop(&rt, rt.alloc()));
+}

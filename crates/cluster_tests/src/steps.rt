@@ -1,0 +1,354 @@
+//! What a cluster of sites with a post does and shows, step by step.
+use crate::helpers::{Counting, books_of, entry, r, request, sites_of};
+use Step::{
+    ClosesPost, HasLeft, HasLeftOne, HasStepped, Locks, LosesAllInboxes, LosesInbox, Pumps,
+    RefusesToLock, RefusesToSend, RefusesToUnlock, Sends, Stops, Unlocks,
+};
+use ra_cluster::{
+    Book, BookEvent, BookKind, Inbox, OpenGate, Post, SendError, Site, SiteError, Stop,
+};
+use ra_frame::Frame;
+use ra_stamp::{Message, Mode, Name, NodeId};
+use std::alloc::Global;
+use std::sync::Wait;
+use std::sync::atomic::Ordering;
+
+/// What a cluster does or shows. All requests are for `r`, exclusively, with number 1, and all that lock it are client 1 of their
+/// node.
+#[derive(Clone, Copy)]
+pub enum Step {
+    /// The post sends a REQUEST of this clock between these nodes.
+    Sends(u64, u16, u16),
+    /// It does not send one of clock 1 between these nodes, for this reason.
+    RefusesToSend(u16, u16, SendError),
+    /// The post is closed.
+    ClosesPost,
+    /// The inbox at this place is gone, and those behind it are at one place less.
+    LosesInbox(usize),
+    /// All inboxes are gone.
+    LosesAllInboxes,
+    /// The site of this node is stopped for this cause.
+    Stops(u16, Stop),
+    /// The client of this node locks `r`.
+    Locks(u16),
+    /// It does not, for this reason.
+    RefusesToLock(u16, SiteError),
+    /// The client of this node unlocks `r`.
+    Unlocks(u16),
+    /// It does not, for this reason.
+    RefusesToUnlock(u16, SiteError),
+    /// The site of this node takes the frames of the inbox at its place.
+    Pumps(u16),
+    /// In the inbox at this place, that of this node, so many frames are left, which another site of the node takes. The post is
+    /// closed before.
+    HasLeft(usize, u16, u64),
+    /// Just the REQUEST of clock 1 from node 1 to node 2 is left in the inbox of node 2, likewise.
+    HasLeftOne,
+    /// The gate has counted so many steps.
+    HasStepped(u64),
+}
+
+/// A book at the end: its fault, and how many events it has.
+#[derive(Clone, Copy)]
+pub struct Ended {
+    /// What it was stopped for.
+    pub fault: Option<Stop>,
+    /// How many events it has.
+    pub events: u64,
+}
+
+/// The book of a node that is not stopped.
+pub fn runs(events: u64) -> Ended {
+    Ended {
+        fault: None,
+        events,
+    }
+}
+
+/// The book of a node that is stopped for this cause.
+pub fn stopped(stop: Stop, events: u64) -> Ended {
+    Ended {
+        fault: Some(stop),
+        events,
+    }
+}
+
+/// The sites of a cluster, its post with the inboxes, and its gate.
+#[derive(Drop)]
+struct Cluster {
+    nodes: u16,
+    sites: Vec<Site>,
+    post: Post,
+    inboxes: Vec<Inbox>,
+    gate: Counting,
+}
+
+/// Makes a cluster of so many nodes, whose numbers begin at `start` and whose gate lets so many steps pass.
+fn make_cluster(alloc: Global, nodes: u16, start: u64, most: u64) -> Option<Cluster> {
+    let sites = sites_of(alloc, nodes, start)?;
+    let (post, inboxes) = Post::new(alloc, nodes).ok()?;
+    let gate = Counting::new(most, true);
+    Some(Cluster {
+        nodes,
+        sites,
+        post,
+        inboxes,
+        gate,
+    })
+}
+
+/// Returns the site of a node.
+fn site(sites: &[Site], number: u16) -> Option<&Site> {
+    sites.get(usize::from(number).wrapping_sub(1))
+}
+
+/// Sends such a REQUEST of this clock between these nodes. Returns whether the refusal is this one.
+fn sends<R: Wait>(
+    rt: &R,
+    alloc: Global,
+    post: &Post,
+    clock: u64,
+    message: &Message,
+    refusal: Option<SendError>,
+) -> bool {
+    let message = *message;
+    let frame = Frame { clock, message };
+    if !frame.fits() {
+        return false;
+    }
+    match post.send(rt, alloc, &frame) {
+        Ok(()) => refusal.is_none(),
+        Err(found) => refusal == Some(found),
+    }
+}
+
+/// Returns whether a client is let in, or is not for this reason.
+fn locks<R: Wait>(
+    rt: &R,
+    alloc: Global,
+    all: &Cluster,
+    number: u16,
+    name: Name,
+    refusal: Option<SiteError>,
+) -> bool {
+    let Some(site) = site(&all.sites, number) else {
+        return false;
+    };
+    let mode = Mode::Exclusive;
+    match site.lock(rt, alloc, 1, name, mode, &all.post, &all.sites, &all.gate) {
+        Ok(grant) => refusal.is_none() && entry(name, number, 1, mode, 1) == Some(grant.entry),
+        Err(found) => refusal == Some(found),
+    }
+}
+
+/// Returns whether a client gives the name back, or does not for this reason.
+fn unlocks<R: Wait>(
+    rt: &R,
+    alloc: Global,
+    all: &Cluster,
+    number: u16,
+    name: Name,
+    refusal: Option<SiteError>,
+) -> bool {
+    let Some(site) = site(&all.sites, number) else {
+        return false;
+    };
+    match site.unlock(rt, alloc, 1, name, &all.post, &all.sites, &all.gate) {
+        Ok(()) => refusal.is_none(),
+        Err(found) => refusal == Some(found),
+    }
+}
+
+fn stops<R: Wait>(rt: &R, all: &Cluster, number: u16, stop: Stop) -> bool {
+    match site(&all.sites, number) {
+        Some(site) => {
+            site.stop(rt, stop);
+            true
+        }
+        None => false,
+    }
+}
+
+fn pumps<R: Wait>(rt: &R, alloc: Global, all: &Cluster, number: u16) -> bool {
+    let place = usize::from(number).wrapping_sub(1);
+    match (site(&all.sites, number), all.inboxes.get(place)) {
+        (Some(site), Some(inbox)) => {
+            site.pump(rt, alloc, inbox, &all.post, &all.sites, &all.gate);
+            true
+        }
+        _ => false,
+    }
+}
+
+/// Returns the book of a new site that takes all frames which are left in an inbox of a closed post: that of the node with this
+/// number, of so many.
+fn book_of_the_rest<R: Wait>(
+    rt: &R,
+    alloc: Global,
+    nodes: u16,
+    number: u16,
+    inbox: &Inbox,
+) -> Option<Book> {
+    let site = Site::new(alloc, NodeId::new(number)?, nodes, 0).ok()?;
+    let (post, _inboxes) = Post::new(alloc, nodes).ok()?;
+    site.pump(rt, alloc, inbox, &post, &[], &OpenGate);
+    Some(site.close())
+}
+
+fn has_left<R: Wait>(
+    rt: &R,
+    alloc: Global,
+    all: &Cluster,
+    place: usize,
+    number: u16,
+    frames: u64,
+) -> bool {
+    match all.inboxes.get(place) {
+        Some(inbox) => match book_of_the_rest(rt, alloc, all.nodes, number, inbox) {
+            Some(book) => book.events().len() == frames,
+            None => false,
+        },
+        None => false,
+    }
+}
+
+/// Returns whether a book has just the event that the message came, in a frame of clock 1.
+fn heard_once(book: &Book, message: &Message) -> bool {
+    let (clock, message) = (1, *message);
+    let kind = BookKind::Got(Frame { clock, message });
+    book.events().at(0) == Some(BookEvent { clock: 2, kind }) && book.events().len() == 1
+}
+
+fn has_left_one<R: Wait>(rt: &R, alloc: Global, all: &Cluster, message: &Message) -> bool {
+    match all.inboxes.get(1) {
+        Some(inbox) => match book_of_the_rest(rt, alloc, all.nodes, 2, inbox) {
+            Some(book) => heard_once(&book, message),
+            None => false,
+        },
+        None => false,
+    }
+}
+
+/// Returns the REQUEST between these nodes.
+pub fn asks(name: Name, from: u16, to: u16) -> Option<Message> {
+    request(name, from, to, Mode::Exclusive)
+}
+
+/// Returns whether a REQUEST of this clock between these nodes is sent, or is not for this reason.
+fn sends_between<R: Wait>(
+    rt: &R,
+    alloc: Global,
+    all: &Cluster,
+    name: Name,
+    clock: u64,
+    from: u16,
+    to: u16,
+    refusal: Option<SendError>,
+) -> bool {
+    match asks(name, from, to) {
+        Some(message) => sends(rt, alloc, &all.post, clock, &message, refusal),
+        None => false,
+    }
+}
+
+fn loses_inbox(all: &mut Cluster, place: usize) -> bool {
+    if place < all.inboxes.len() {
+        drop(all.inboxes.remove(place));
+        true
+    } else {
+        false
+    }
+}
+
+/// Returns whether a cluster does or shows this.
+fn does<R: Wait>(rt: &R, alloc: Global, all: &mut Cluster, name: Name, step: Step) -> bool {
+    match step {
+        Sends(clock, from, to) => sends_between(rt, alloc, all, name, clock, from, to, None),
+        RefusesToSend(from, to, fault) => {
+            sends_between(rt, alloc, all, name, 1, from, to, Some(fault))
+        }
+        ClosesPost => {
+            all.post.close(rt);
+            true
+        }
+        LosesInbox(place) => loses_inbox(all, place),
+        LosesAllInboxes => {
+            all.inboxes.clear();
+            true
+        }
+        Stops(number, stop) => stops(rt, all, number, stop),
+        Locks(number) => locks(rt, alloc, all, number, name, None),
+        RefusesToLock(number, fault) => locks(rt, alloc, all, number, name, Some(fault)),
+        Unlocks(number) => unlocks(rt, alloc, all, number, name, None),
+        RefusesToUnlock(number, fault) => unlocks(rt, alloc, all, number, name, Some(fault)),
+        Pumps(number) => pumps(rt, alloc, all, number),
+        HasLeft(place, number, frames) => has_left(rt, alloc, all, place, number, frames),
+        HasLeftOne => match asks(name, 1, 2) {
+            Some(message) => has_left_one(rt, alloc, all, &message),
+            None => false,
+        },
+        HasStepped(steps) => all.gate.steps.load(Ordering::SeqCst) == steps,
+    }
+}
+
+/// Returns whether a cluster does and shows all of this, in order.
+fn does_all<R: Wait>(rt: &R, alloc: Global, all: &mut Cluster, name: Name, steps: &[Step]) -> bool {
+    for step in steps {
+        if !does(rt, alloc, all, name, *step) {
+            return false;
+        }
+    }
+    true
+}
+
+/// Has a cluster do and show all of this, in order, and returns its books, or `None` where it does not. The cluster is of so many
+/// nodes, its numbers begin at `start`, and its gate lets so many steps pass.
+pub fn books_after<R: Wait>(
+    rt: &R,
+    alloc: Global,
+    nodes: u16,
+    start: u64,
+    most: u64,
+    steps: &[Step],
+) -> Option<Vec<Book>> {
+    let name = r()?;
+    let mut all = make_cluster(alloc, nodes, start, most)?;
+    if !does_all(rt, alloc, &mut all, name, steps) {
+        return None;
+    }
+    books_of(alloc, all.sites)
+}
+
+/// Returns whether the books have ended so, and there are no others.
+pub fn have_ended(books: &[Book], ended: &[Ended]) -> bool {
+    for (book, ended) in books.iter().zip(ended.iter()) {
+        if book.fault() != ended.fault || book.events().len() != ended.events {
+            return false;
+        }
+    }
+    books.len() == ended.len()
+}
+
+/// Returns whether a cluster of as many nodes as end so, whose numbers begin at `start` and whose gate lets so many steps pass, does
+/// and shows all of this, in order.
+pub fn does_from<R: Wait>(
+    rt: &R,
+    alloc: Global,
+    start: u64,
+    most: u64,
+    steps: &[Step],
+    ended: &[Ended],
+) -> bool {
+    let Ok(nodes) = u16::try_from(ended.len()) else {
+        return false;
+    };
+    match books_after(rt, alloc, nodes, start, most, steps) {
+        Some(books) => have_ended(&books, ended),
+        None => false,
+    }
+}
+
+/// The same from number 0, and all steps pass.
+pub fn cluster_does<R: Wait>(rt: &R, alloc: Global, steps: &[Step], ended: &[Ended]) -> bool {
+    does_from(rt, alloc, 0, u64::MAX, steps, ended)
+}
