@@ -41,4 +41,5 @@ pub mod Refusing
 mod NameText
 mod Written
 mod Elsewhere
+pub mod FittingRuns
 mod Pieces

@@ -1,6 +1,7 @@
 pub mod Traffic
 pub mod Numbers
 pub mod Run
+pub mod Fitting
 pub mod Quiet
 pub mod Below
 pub mod World

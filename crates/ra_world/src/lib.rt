@@ -3,6 +3,7 @@
 #![tactic(auto)]
 
 mod error;
+mod fitting;
 mod history;
 mod input;
 mod keeping;
@@ -17,6 +18,7 @@ mod step;
 mod world;
 
 pub use error::{NewError, NodeRefusal, ReadFault, RunError, StepError, WriteFault};
+pub use fitting::steps_that_fit_together_are_runs;
 pub use input::read_up_to;
 pub use laws::{
     fronts_of_runs_are_runs, marks_of_runs_are_numbered, marks_of_runs_are_table_runs,

@@ -1,0 +1,307 @@
+-- Steps that fit together are a run: going through them from the front, each is the next event of its node, and a message
+-- that it takes is under way.
+use Rattle.std.proofs.Common.{◌≡◌, ◌≢◌, ℕ, zero, suc, ◌≤◌, List, [], ◌∷◌, ◌++◌, map, take, length, All, Contains, refl, sym, ap, ◌∙◌, subst, append_assoc, arith, inl, inr}
+use Rattle.std.specs.Prelude.{flat_map}
+use Rattle.std.proofs.lemmas.List.{append-nil, length-append, length_push, length-map, map_push, take_all, flat_map_more, get_or_append_left, get_or_at}
+use Rattle.std.proofs.lemmas.List.Concat.{flat_map-append}
+use Rattle.std.proofs.lemmas.List.Elements.{All-head, All-tail, All-contains, Contains-append_left, Contains-append_right, Contains-append_cases}
+use Rattle.ra_stamp.specs.declared.message.Message.{Message}
+use Rattle.ra_stamp.specs.declared.entry.Mark.{Mark}
+use Rattle.ra_stamp.specs.Message.{from_of, to_of}
+use Rattle.ra_stamp.specs.NodeId.{IsNodeNumber}
+use Rattle.ra_bag.specs.Bag.{TakesFirst}
+use Rattle.ra_automaton.specs.State.{IsOtherNode}
+use Rattle.ra_automaton.proofs.Apart.{cases_same}
+use Rattle.ra_node.specs.Node.{NodeState, opening_node}
+use Rattle.ra_node.specs.Events.{Event, Happening, NodeEvent, NodeEvents}
+use Rattle.ra_node.specs.Events.Event.{Ask as AskedFor, Leave as GivenBack, Receive as Received}
+use Rattle.ra_world.specs.declared.step.Step.{Step}
+use Rattle.ra_world.specs.declared.step.Step.TheVariants.{Ask, Leave, Deliver, Lose}
+use Rattle.ra_world.specs.Traffic.{Move, TakesEach, LeavesUnderWay, IsUnderWay, sent_by, taken_in, taken_by}
+use Rattle.ra_world.specs.Run.{IsFit, IsRun, EndsWith, events_at, happened_at, with_node}
+use Rattle.ra_world.specs.Fitting.{sent_in, happened_by, WasSentBy, NamesNode, FitTogether}
+use Rattle.ra_world.proofs.Lists.{head_of, tail_of, none_some}
+use Rattle.ra_world.proofs.Moves.{happens, happened_more, at_node, only_at}
+use Rattle.ra_world.proofs.DifferentLists.{AreDifferent}
+use Rattle.ra_world.proofs.Protocol.{IsNode}
+use Rattle.ra_world.proofs.Nodes.{happens_here}
+use Rattle.ra_world.proofs.Runs.{nothing_happened}
+
+-- ---- The next happening of a node
+
+-- so many happenings of a list are before one of this event
+record IsNext (happenings : List Happening) (before : ℕ) (event : Event) : Type 0 where
+  this : Happening
+  later : List Happening
+  is : this.event ≡ event
+  parts : happenings ≡ take before happenings ++ this ∷ later
+  with_this : take (suc before) happenings ≡ take before happenings ++ this ∷ []
+
+next_of : (events : List Event) (event : Event) (more : List Event) (happenings : List Happening)
+    → map (λ h. h.event) happenings ≡ events ++ event ∷ more → IsNext happenings (length events) event
+next_of [] event more [] e = absurd (none_some e)
+next_of [] event more (h ∷ hs) e = record { this = h; later = hs; is = head_of e; parts = refl; with_this = refl }
+next_of (x ∷ events) event more [] e = absurd (none_some e)
+next_of (x ∷ events) event more (h ∷ hs) e =
+    let rest = next_of events event more hs (tail_of e) in
+    record {
+      this = rest.this;
+      later = rest.later;
+      is = rest.is;
+      parts = ap (λ (ys : List Happening). h ∷ ys) rest.parts;
+      with_this = ap (λ (ys : List Happening). h ∷ ys) rest.with_this;
+    }
+
+-- ---- What one more step adds
+
+events_more : (i : ℕ) (front : List Step) (step : Step) → flat_map (events_at i) (front ++ step ∷ []) ≡ flat_map (events_at i) front ++ events_at i step
+events_more i front step = sym (flat_map_more (events_at i) [] front step)
+
+-- to what the node did of which it is an event
+done_more : (happenings : List Happening) (i : ℕ) (front : List Step) (step : Step) (event : Event) → events_at i step ≡ event ∷ []
+    → (next : IsNext happenings (length (flat_map (events_at i) front)) event)
+    → happened_by happenings i (front ++ step ∷ []) ≡ happened_by happenings i front ++ next.this ∷ []
+done_more happenings i front step event here next =
+    let events = flat_map (events_at i) front in
+    let more : flat_map (events_at i) (front ++ step ∷ []) ≡ events ++ event ∷ [] = events_more i front step ∙ ap (λ (es : List Event). events ++ es) here in
+    let many : length (flat_map (events_at i) (front ++ step ∷ [])) ≡ suc (length events) = omega (arith, ap length more, length_push events event) in
+    ap (λ (k : ℕ). take k happenings) many ∙ next.with_this
+
+-- and to what another one did
+done_same : (happenings : List Happening) (i : ℕ) (front : List Step) (step : Step) → events_at i step ≡ []
+    → happened_by happenings i (front ++ step ∷ []) ≡ happened_by happenings i front
+done_same happenings i front step none =
+    let events = flat_map (events_at i) front in
+    ap (λ (es : List Event). take (length es) happenings) (events_more i front step ∙ ap (λ (es : List Event). events ++ es) none ∙ append-nil events)
+
+-- a move that is no event at a node adds nothing there
+nothing_more : (i : ℕ) (moves : List Move) (move : Move) → events_at i move.step ≡ [] → happened_at i (moves ++ move ∷ []) ≡ happened_at i moves
+nothing_more i moves move none =
+    happened_more i moves move
+    ∙ ap (λ (es : List Event). happened_at i moves ++ map (λ event. record { event = event; sends = move.sends; marks = move.marks }) es) none
+    ∙ append-nil (happened_at i moves)
+
+-- ---- What is under way
+
+-- what was sent at a node was sent by the moves
+sent_by_one : (move : Move) (message : Message) (events : List Event)
+    → Contains (sent_in (map (λ event. record { event = event; sends = move.sends; marks = move.marks }) events)) message → Contains move.sends message
+sent_by_one move message [] at = absurd (omega (arith, at.1))
+sent_by_one move message (event ∷ events) at =
+    elim (Contains-append_cases move.sends (sent_in (map (λ event. record { event = event; sends = move.sends; marks = move.marks }) events)) message at) [
+      | inl here ↦ here
+      | inr later ↦ sent_by_one move message events later
+    ]
+
+sent_at : (i : ℕ) (moves : List Move) (message : Message) → Contains (sent_in (happened_at i moves)) message → Contains (sent_by moves) message
+sent_at i [] message at = at
+sent_at i (move ∷ moves) message at =
+    let both : Contains (sent_in (happens i move) ++ sent_in (happened_at i moves)) message =
+    subst (λ (ms : List Message). Contains ms message) (flat_map-append (λ (h : Happening). h.sends) (happens i move) (happened_at i moves)) at
+    in
+    elim (Contains-append_cases (sent_in (happens i move)) (sent_in (happened_at i moves)) message both) [
+      | inl here ↦ Contains-append_left move.sends (sent_by moves) message (sent_by_one move message (events_at i move.step) here)
+      | inr later ↦ Contains-append_right move.sends (sent_by moves) message (sent_at i moves message later)
+    ]
+
+-- what the moves took their steps took
+taken_of : (moves : List Move) → taken_by moves ≡ flat_map taken_in (map (λ move. move.step) moves)
+taken_of [] = refl
+taken_of (move ∷ moves) = ap (λ (ms : List Message). taken_in move.step ++ ms) (taken_of moves)
+
+-- of different messages those before one are not that one
+others_before : (front back : List Message) (message : Message) → AreDifferent (front ++ message ∷ back) → All (λ m. m ≢ message) front
+others_before front back message different k d within is =
+    different k (length front) d within (omega (arith, length-append front (message ∷ back)))
+    (get_or_append_left front (message ∷ back) d k within ∙ is ∙ sym (get_or_at front message back d (length front) refl))
+
+-- where another message is taken, one that was there is still there
+stays_in : (old : List Message) (taken : Message) (new : List Message) (message : Message) → TakesFirst old taken new → taken ≢ message
+    → Contains old message → Contains new message
+stays_in old taken new message takes apart at =
+    subst (λ (ms : List Message). Contains ms message) (sym takes.new_is)
+    (elim (Contains-append_cases takes.front (taken ∷ takes.back) message (subst (λ (ms : List Message). Contains ms message) takes.old_is at)) [
+      | inl before ↦ Contains-append_left takes.front takes.back message before
+      | inr from ↦ Contains-append_right takes.front takes.back message (behind takes.back from)
+    ])
+  where
+    behind : (back : List Message) → Contains (taken ∷ back) message → Contains back message
+    behind back (zero, lt, is) = absurd (apart is)
+    behind back (suc k, lt, is) = (k, omega (arith, lt), is)
+
+left_in : (sent taken left : List Message) (message : Message) → TakesEach sent taken left → All (λ m. m ≢ message) taken
+    → Contains sent message → Contains left message
+left_in sent [] left message less other at = subst (λ (ms : List Message). Contains ms message) (sym less) at
+left_in sent (m ∷ taken) left message less other at =
+    left_in less.0 taken left message less.2 (All-tail (λ x. x ≢ message) m taken other)
+    (stays_in sent m less.0 message less.1 (All-head (λ x. x ≢ message) m taken other) at)
+
+-- ---- Step by step
+
+-- moves with these steps are a run, and in it happened at each node as much of this as there are events of it in the steps
+record GoneBy (n start : ℕ) (happened : ℕ → List Happening) (steps : List Step) : Type 0 where
+  moves : List Move
+  steps_are : map (λ move. move.step) moves ≡ steps
+  run : IsRun n start moves
+  nodes : ℕ → NodeState
+  ends : EndsWith n start moves nodes
+  each : (i : ℕ) → 1 ≤ i → i ≤ n → happened_at i moves ≡ happened_by (happened i) i steps
+
+none_gone : (n start : ℕ) (happened : ℕ → List Happening) → GoneBy n start happened []
+none_gone n start happened = record {
+  moves = [];
+  steps_are = refl;
+  run = nothing_happened n start;
+  nodes = λ i. opening_node i n start;
+  ends = λ i low high. refl;
+  each = λ i low high. refl;
+}
+
+module _
+    (splits : (front back : List Happening) (a c : NodeState) → NodeEvents a (front ++ back) c → (b : NodeState) × NodeEvents a front b × NodeEvents b back c)
+    (one_end : (old a b : NodeState) (happened : List Happening) → NodeEvents old happened a → NodeEvents old happened b → a ≡ b)
+    (exist : (n start : ℕ) (moves : List Move) → IsNodeNumber n → IsRun n start moves → (left : List Message) × LeavesUnderWay moves left)
+    (between : (n start : ℕ) (moves : List Move) (message : Message) → IsNodeNumber n → IsRun n start moves → IsUnderWay moves message
+    → ((1 ≤ to_of message) × (to_of message ≤ n)) × IsOtherNode (to_of message) n (from_of message))
+    (by_event : (n start : ℕ) (moves : List Move) (nodes : ℕ → NodeState) (i : ℕ) (event : Event) (move : Move) (new : NodeState)
+    → IsNodeNumber n → IsRun n start moves → EndsWith n start moves nodes
+    → 1 ≤ i → i ≤ n → IsFit n moves move.step move.sends move.marks → events_at i move.step ≡ event ∷ []
+    → NodeEvent (nodes i) event move.sends move.marks new
+    → IsRun n start (moves ++ move ∷ []) × EndsWith n start (moves ++ move ∷ []) (with_node nodes i new))
+    (by_loss : (n start : ℕ) (moves : List Move) (nodes : ℕ → NodeState) (message : Message)
+    → IsRun n start moves → EndsWith n start moves nodes → IsUnderWay moves message
+    → IsRun n start (moves ++ record { step = Lose message; sends = []; marks = [] } ∷ [])
+    × EndsWith n start (moves ++ record { step = Lose message; sends = []; marks = [] } ∷ []) nodes)
+    (n start : ℕ) (steps : List Step) (happened : ℕ → List Happening) (count : IsNodeNumber n) (fit : FitTogether n start steps happened)
+  where
+    module _ (front : List Step) (step : Step) (back : List Step) (parts : steps ≡ front ++ step ∷ back) (before : GoneBy n start happened front) where
+      names : NamesNode n step
+      names = All-contains (NamesNode n) (front ++ step ∷ back) step (subst (All (NamesNode n)) parts fit.named)
+          (Contains-append_right front (step ∷ back) step (0, omega arith, refl))
+
+      -- a message that the step takes is under way
+      other_taken : (message : Message) → taken_in step ≡ message ∷ [] → All (λ m. m ≢ message) (taken_by before.moves)
+      other_taken message takes =
+          let whole : flat_map taken_in steps ≡ flat_map taken_in front ++ message ∷ flat_map taken_in back =
+          ap (flat_map taken_in) parts ∙ flat_map-append taken_in front (step ∷ back)
+          ∙ ap (λ (ms : List Message). flat_map taken_in front ++ (ms ++ flat_map taken_in back)) takes
+          in
+          let others = others_before (flat_map taken_in front) (flat_map taken_in back) message (subst AreDifferent whole fit.once) in
+          subst (All (λ m. m ≢ message)) (sym (taken_of before.moves ∙ ap (flat_map taken_in) before.steps_are)) others
+
+      under_way : (message : Message) → taken_in step ≡ message ∷ [] → IsUnderWay before.moves message
+      under_way message takes =
+          let was = All-head (WasSentBy n happened front) message [] (subst (All (WasSentBy n happened front)) takes (fit.sent front step back parts)) in
+          let sent = sent_at was.0 before.moves message (subst (λ (hs : List Happening). Contains (sent_in hs) message) (sym (before.each was.0 was.1 was.2)) was.3) in
+          let left = exist n start before.moves count before.run in
+          (left.0, left.1, left_in (sent_by before.moves) (taken_by before.moves) left.0 message left.1 (other_taken message takes) sent)
+
+      -- the step is the next event of a node
+      module _ (p : ℕ) (within : IsNode n p) (event : Event) (here : events_at p step ≡ event ∷ []) where
+        next : IsNext (happened p) (length (flat_map (events_at p) front)) event
+        next = next_of (flat_map (events_at p) front) event (flat_map (events_at p) back) (happened p)
+            (fit.events p within.0 within.1 ∙ ap (flat_map (events_at p)) parts ∙ flat_map-append (events_at p) front (step ∷ back)
+            ∙ ap (λ (es : List Event). flat_map (events_at p) front ++ (es ++ flat_map (events_at p) back)) here)
+
+        abbrev move : Move
+        move = record { step = step; sends = next.this.sends; marks = next.this.marks }
+
+        happening : (new : NodeState) × NodeEvent (before.nodes p) event next.this.sends next.this.marks new
+        happening =
+            let opening = opening_node p n start in
+            let done = happened_by (happened p) p front in
+            let history = fit.nodes p within.0 within.1 in
+            let cut = splits done (next.this ∷ next.later) opening history.0 (subst (λ (hs : List Happening). NodeEvents opening hs history.0) next.parts history.1) in
+            let same : cut.0 ≡ before.nodes p = one_end opening cut.0 (before.nodes p) done cut.1
+            (subst (λ (hs : List Happening). NodeEvents opening hs (before.nodes p)) (before.each p within.0 within.1) (before.ends p within.0 within.1))
+            in
+            let new = cut.2.0 in
+            let at : NodeEvent (before.nodes p) next.this.event next.this.sends next.this.marks new =
+            subst (λ (s : NodeState). NodeEvent s next.this.event next.this.sends next.this.marks new) same cut.2.1
+            in
+            (new, subst (λ (e : Event). NodeEvent (before.nodes p) e next.this.sends next.this.marks new) next.is at)
+
+        happens_this : happens p move ≡ next.this ∷ []
+        happens_this = happens_here p move event here
+            ∙ ap (λ (e : Event). record { event = e; sends = next.this.sends; marks = next.this.marks } ∷ []) (sym next.is)
+
+        at_this : happened_at p (before.moves ++ move ∷ []) ≡ happened_by (happened p) p (front ++ step ∷ [])
+        at_this = happened_more p before.moves move ∙ (λ i. before.each p within.0 within.1 i ++ happens_this i)
+            ∙ sym (done_more (happened p) p front step event here next)
+
+        at_each : (i : ℕ) → 1 ≤ i → i ≤ n → happened_at i (before.moves ++ move ∷ []) ≡ happened_by (happened i) i (front ++ step ∷ [])
+        at_each i low high = elim (cases_same i p) [
+          | inl same ↦ subst (λ (k : ℕ). happened_at k (before.moves ++ move ∷ []) ≡ happened_by (happened k) k (front ++ step ∷ [])) (sym same) at_this
+          | inr apart ↦
+              let none = only_at p i step event here apart in
+              nothing_more i before.moves move none ∙ before.each i low high ∙ sym (done_same (happened i) i front step none)
+        ]
+
+        on_by_event : ((sends : List Message) (marks : List Mark) → IsFit n before.moves step sends marks) → GoneBy n start happened (front ++ step ∷ [])
+        on_by_event fits =
+            let on = by_event n start before.moves before.nodes p event move happening.0 count before.run before.ends within.0 within.1
+            (fits move.sends move.marks) here happening.1
+            in
+            record {
+              moves = before.moves ++ move ∷ [];
+              steps_are = map_push (λ (m : Move). m.step) before.moves move ∙ ap (λ (ss : List Step). ss ++ step ∷ []) before.steps_are;
+              run = on.0;
+              nodes = with_node before.nodes p happening.0;
+              ends = on.1;
+              each = at_each;
+            }
+
+    on_by_loss : (front : List Step) (message : Message) (back : List Step) → steps ≡ front ++ Lose message ∷ back → GoneBy n start happened front
+        → GoneBy n start happened (front ++ Lose message ∷ [])
+    on_by_loss front message back parts before =
+        let move : Move = record { step = Lose message; sends = []; marks = [] } in
+        let on = by_loss n start before.moves before.nodes message before.run before.ends (under_way front (Lose message) back parts before message refl) in
+        record {
+          moves = before.moves ++ move ∷ [];
+          steps_are = map_push (λ (m : Move). m.step) before.moves move ∙ ap (λ (ss : List Step). ss ++ Lose message ∷ []) before.steps_are;
+          run = on.0;
+          nodes = before.nodes;
+          ends = on.1;
+          each = λ i low high. nothing_more i before.moves move refl ∙ before.each i low high ∙ sym (done_same (happened i) i front (Lose message) refl);
+        }
+
+    -- one more step of any kind
+    one_on : (front : List Step) (step : Step) (back : List Step) → steps ≡ front ++ step ∷ back → GoneBy n start happened front
+        → GoneBy n start happened (front ++ step ∷ [])
+    one_on front (Ask node client name mode) back parts before =
+        let step = Ask node client name mode in
+        let event = AskedFor client name mode in
+        let within = names front step back parts before in
+        on_by_event front step back parts before node within event (at_node node event) (λ _ _. within)
+    one_on front (Leave node client name) back parts before =
+        let step = Leave node client name in
+        let event = GivenBack client name in
+        let within = names front step back parts before in
+        on_by_event front step back parts before node within event (at_node node event) (λ _ _. within)
+    one_on front (Deliver message) back parts before =
+        let step = Deliver message in
+        let event = Received message in
+        let was = under_way front step back parts before message refl in
+        let within = (between n start before.moves message count before.run was).0 in
+        on_by_event front step back parts before (to_of message) within event (at_node (to_of message) event) (λ _ _. was)
+    one_on front (Lose message) back parts before = on_by_loss front message back parts before
+
+    all_on : (back front : List Step) → steps ≡ front ++ back → GoneBy n start happened front → GoneBy n start happened (front ++ back)
+    all_on [] front parts before = subst (GoneBy n start happened) (sym (append-nil front)) before
+    all_on (step ∷ back) front parts before =
+        let again : front ++ step ∷ back ≡ (front ++ step ∷ []) ++ back = sym (append_assoc front (step ∷ []) back) in
+        subst (GoneBy n start happened) (sym again) (all_on back (front ++ step ∷ []) (parts ∙ again) (one_on front step back parts before))
+
+    all_gone : GoneBy n start happened steps
+    all_gone = all_on steps [] refl (none_gone n start happened)
+
+    -- all that happened at a node is what its events in the steps did
+    all_done : (i : ℕ) → 1 ≤ i → i ≤ n → happened_by (happened i) i steps ≡ happened i
+    all_done i low high =
+        take_all (length (flat_map (events_at i) steps)) (happened i)
+        (omega (arith, ap length (fit.events i low high), length-map (happened i) (λ (h : Happening). h.event)))
+
+    pub fit_is_run : (moves : List Move) × (map (λ move. move.step) moves ≡ steps) × IsRun n start moves
+        × ((i : ℕ) → 1 ≤ i → i ≤ n → happened_at i moves ≡ happened i)
+    fit_is_run =
+        (all_gone.moves, all_gone.steps_are, all_gone.run, λ i low high. all_gone.each i low high ∙ all_done i low high)

@@ -1,0 +1,29 @@
+//! Which lists of steps are runs, said by each node's own history and by where each message was sent. The function does
+//! nothing, and its contract is the law.
+ghost use Rattle.std.specs.Prelude.{◌≡◌, ◌≤◌, ℕ, List, map};
+ghost use Rattle.ra_stamp.specs.NodeId.{IsNodeNumber};
+ghost use Rattle.ra_node.specs.Events.{Happening};
+ghost use Rattle.ra_world.specs.declared.step.Step.{Step};
+ghost use Rattle.ra_world.specs.Traffic.{Move};
+ghost use Rattle.ra_world.specs.Run.{IsRun, WorldRun, happened_at};
+ghost use Rattle.ra_world.specs.Fitting.{FitTogether};
+
+use crate::laws::{messages_under_way_are_between_nodes, runs_go_on_by_events};
+use ra_node::{events_are_determined, events_go_on};
+
+/// Steps that fit together are a run. Where each client's step names a node that there is, the steps that name each node
+/// are the events of a history of that node, each message that a step takes was sent by an earlier one, and no message is
+/// taken twice, there are moves with these steps that are a run, and what happens at each node in it is that history.
+pub fn steps_that_fit_together_are_runs()
+    ensures run { (n start : ℕ) (steps : List Step) (happened : ℕ → List Happening)
+        → IsNodeNumber n → FitTogether n start steps happened → WorldRun n start steps }
+    ensures moves { (n start : ℕ) (steps : List Step) (happened : ℕ → List Happening)
+        → IsNodeNumber n → FitTogether n start steps happened
+        → (moves : List Move) × (map (λ move. move.step) moves ≡ steps) × IsRun n start moves
+        × ((i : ℕ) → 1 ≤ i → i ≤ n → happened_at i moves ≡ happened i) }
+{
+    events_go_on();
+    events_are_determined();
+    messages_under_way_are_between_nodes();
+    runs_go_on_by_events();
+}
