@@ -1,7 +1,7 @@
 //! The command `check`, and the traces that `sim` prints.
 use crate::helpers::{
-    Case, Refused, fails_at_each_byte, fails_in_fronts, is_answer, is_refusal, is_written, meets,
-    prints, refuses, repeated, run, run_line, run_taking, words_of, words_with,
+    Case, Refused, fails_at_each_byte, fails_in_fronts, is_answer, is_left, is_refusal, is_written,
+    meets, prints, refuses, run, run_line, run_taking, words_of, words_with,
 };
 use crate::scripts::{A_DEADLOCK, A_QUEUE, A_WRITER, ONE_CLIENT, ONE_ORDER, TWO_CLIENTS};
 use std::alloc::Global;
@@ -360,25 +360,47 @@ fn a_writer_that_fails_has_a_front_of_the_verdict(rt: HostRuntime) {
     );
 }
 
-/// Returns whether these letters are refused as too long a trace, and the last one is not read.
+/// Adds the line of a client that asks, which has 52 bytes, and returns whether there was memory for it.
+fn push_ask(alloc: Global, trace: &mut String, client: u32) -> bool {
+    match format!(in alloc; "ask 1 {client} a_name_that_has_thirty_two_bytes X\n") {
+        Ok(line) => trace.push_str(line.as_str()).is_ok(),
+        Err(_) => false,
+    }
+}
+
+/// Returns what is a front of a trace, and longer than a trace may be: one client enters, and many ask behind it.
+fn long_queue(alloc: Global) -> Option<String> {
+    let mut trace = "trace 1 1 0
+ask 1 1 a_name_that_has_thirty_two_bytes X
+request 1 1 a_name_that_has_thirty_two_bytes X 1
+enter 1 1 a_name_that_has_thirty_two_bytes X 1
+"
+        .to_string(alloc)
+        .ok()?;
+    for client in 1_000_000_000..1_000_322_640 {
+        if !push_ask(alloc, &mut trace, client) {
+            return None;
+        }
+    }
+    Some(trace)
+}
+
+/// Returns whether a trace is refused as too long, and one byte behind the limit is read.
 fn is_too_long<T: AllocGlobal + Threads + Wait + Sync>(
     rt: &T,
     words: &[String],
-    letters: &str,
+    trace: &[u8],
 ) -> bool {
-    let mut bytes = letters.as_bytes();
+    let mut bytes = trace;
     let answered = run_taking(rt, words, &mut bytes);
-    is_refusal(&answered, "Limit") && bytes.len() == 1
+    is_refusal(&answered, "Limit") && is_left(bytes, trace, 16_777_217)
 }
 
-/// Returns whether it is so for 16,777,218 letters and `ra check`.
+/// Returns whether it is so for a trace with no wrong line within the limit, and `ra check`.
 fn stops_at_the_limit<T: AllocGlobal + Threads + Wait + Sync>(rt: &T) -> bool {
     let alloc = rt.alloc();
-    match (
-        words_of(alloc, "ra check"),
-        repeated(alloc, "", "aa", 8_388_609, ""),
-    ) {
-        (Some(words), Some(letters)) => is_too_long(rt, words.as_slice(), letters.as_str()),
+    match (words_of(alloc, "ra check"), long_queue(alloc)) {
+        (Some(words), Some(trace)) => is_too_long(rt, words.as_slice(), trace.as_bytes()),
         _ => false,
     }
 }

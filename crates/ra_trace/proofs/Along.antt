@@ -1,145 +1,318 @@
--- How far a checker has come in a text.
-use Rattle.std.proofs.Common.{◌≡◌, ◌≢◌, ℕ, ◌+◌, ◌<◌, List, [], ◌∷◌, ◌++◌, length, refl, sym, ap, ◌∙◌, subst, inl, inr, arith, append_assoc, length-append}
-use Rattle.std.specs.Prelude.{flat_map, Result, Ok, IfOk}
-use Rattle.std.proofs.lemmas.Result.{IfOk-weaker}
-use Rattle.ra_trace.specs.declared.error.TraceError.{TraceError}
-use Rattle.std.proofs.lemmas.List.{append-nil}
+-- How far a checker has come in what it reads.
+use Rattle.std.proofs.Common.{◌≡◌, ◌≢◌, ◌⊎◌, ℕ, ◌+◌, ◌-◌, ◌≤◌, List, [], ◌∷◌, ◌++◌, length, Option, Some, None, refl, sym, ap, ◌∙◌, subst, inl, inr, arith, append_assoc, length-append}
+use Rattle.std.specs.Prelude.{flat_map, Result, Ok, Err}
+use Rattle.std.specs.Io.KnownBytes.{Consumes, IsAtEnd}
+use Rattle.std.proofs.lemmas.List.Elements.{All-nil}
 use Rattle.std.proofs.lemmas.Grind.{flat_map-append}
 use Rattle.ra_world.specs.Run.{marks_of}
 use Rattle.ra_world.specs.Quiet.{requests_in}
 use Rattle.ra_world.specs.Traffic.{sent_by}
+use Rattle.ra_trace.specs.declared.error.TraceError.{TraceError}
+use Rattle.ra_trace.specs.declared.error.TraceError.TheVariants.{Read, Limit, Memory}
 use Rattle.ra_trace.specs.declared.line.Line.{Line}
 use Rattle.ra_trace.specs.declared.line.Line.TheVariants.{First, Stepped, Marked, Last}
+use Rattle.ra_trace.specs.declared.reading.LineEnd.TheVariants.{Feed}
 use Rattle.ra_trace.specs.declared.verdict.Cause.{Cause}
 use Rattle.ra_trace.specs.declared.verdict.Cause.TheVariants as cause
 use Rattle.ra_trace.specs.declared.verdict.Verdict.{Verdict}
 use Rattle.ra_trace.specs.declared.verdict.Verdict.TheVariants.{Valid, Invalid}
 use Rattle.ra_trace.specs.declared.checker.Checker.{Checker}
-use Rattle.ra_trace.specs.TraceText.{IsLine, IsTrace, BeginsWith, line_text}
-use Rattle.ra_trace.specs.Verdict.{IsFront, IsFirst, IsVerdict}
+use Rattle.ra_trace.specs.TraceText.{IsLine, IsTrace, BeginsWith, line_text, trace_lines}
+use Rattle.ra_trace.specs.Verdict.{IsFront, IsFirst, IsWrong}
+use Rattle.ra_trace.specs.Reading.{IsWhole, AreRight, IsOpenLine, IsOpen, IsOver, HasRead, Judges, StopsWithin, Answers}
+use Rattle.ra_trace.specs.NextLine.{EndsSo, TakesBytes, FailsWithin, IsOverLine, HasNone, EndsText}
 use Rattle.ra_trace.specs.Checking.{due_of, StandsBehind, Takes, Refuses}
+use Rattle.ra_trace.specs.Below.{LawsBelow}
 use Rattle.ra_trace.proofs.Lines.{begins_once}
-use Rattle.ra_trace.proofs.Fronts.{front_and_last}
-use Rattle.ra_trace.proofs.Verdicts.{line_has_bytes}
+use Rattle.ra_trace.proofs.Fronts.{front_and_last, no_trace}
+use Rattle.ra_trace.proofs.Ends.{feed_is_over}
 
--- the lines so far, and what is left of the text behind them
-pub record IsAlong (text : List ℕ) (checker : Checker) (rest : List ℕ) (number : ℕ) : Type 0 where
+-- bytes that are taken after others are taken with them
+consumed_both : (old mid new : Option (List ℕ)) (first second : List ℕ) → Consumes old mid first → Consumes mid new second
+    → Consumes old new (first ++ second)
+consumed_both None mid new first second a b = tt
+consumed_both (Some xs) None new first second a b = absurd a
+consumed_both (Some xs) (Some ys) None first second a b = absurd b
+consumed_both (Some xs) (Some ys) (Some zs) first second a b =
+    a ∙ ap (λ (rest : List ℕ). first ++ rest) b ∙ sym (append_assoc first second zs)
+
+-- ---- Behind whole lines
+
+-- these lines were taken, and the text may still have so many bytes
+pub record IsBehind (limit left : ℕ) (old now : Option (List ℕ)) (front : List Line) : Type 0 where
+  pub taken : Consumes old now (flat_map line_text front)
+  pub room : length (flat_map line_text front) + left ≡ limit
+  pub right : AreRight front
+
+has_read : (limit left : ℕ) (old now new : Option (List ℕ)) (front : List Line) (bytes : List ℕ) → IsBehind limit left old now front
+    → Consumes now new bytes → length bytes ≤ left → HasRead limit old new front bytes
+has_read limit left old now new front bytes behind taken most = record {
+  taken = consumed_both old now new (flat_map line_text front) bytes behind.taken taken;
+  at_most = omega (arith, length-append (flat_map line_text front) bytes, behind.room, most);
+  right = behind.right;
+}
+
+-- an error of what comes next
+pub fails_behind : (limit left : ℕ) (old now new : Option (List ℕ)) (front : List Line) (bytes : List ℕ) (fault : TraceError)
+    → IsBehind limit left old now front → (IsWhole front → bytes ≡ []) → FailsWithin left now new bytes fault
+    → Answers limit old new (Err fault)
+fails_behind limit left old now new front bytes Read behind last (taken, opened) =
+    (front, bytes, has_read limit left old now new front bytes behind taken.0 taken.1, (opened, last))
+fails_behind limit left old now new front bytes Limit behind last (byte, taken, full, opened) = (
+  front,
+  bytes,
+  byte,
+  record {
+    taken = consumed_both old now new (flat_map line_text front) (bytes ++ byte ∷ []) behind.taken taken;
+    at_most = omega (arith, length-append (flat_map line_text front) (bytes ++ byte ∷ []), length-append bytes (byte ∷ []), behind.room, full);
+    right = behind.right;
+  },
+  omega (arith, length-append (flat_map line_text front) bytes, behind.room, full),
+  (opened, last),
+)
+fails_behind limit left old now new front bytes Memory behind last none = absurd none
+
+over_behind : (front : List Line) (bytes : List ℕ) → (IsWhole front → ⊥) → IsOverLine bytes → IsOver front bytes
+over_behind front bytes more (before, byte, opened, is, how) =
+    (before, byte, (opened, λ whole. absurd (more whole)), is, elim how [ inl feed ↦ inl feed | inr long ↦ inr (inl long) ])
+
+-- a verdict on bytes that no line begins
+none_behind : (limit left : ℕ) (old now new : Option (List ℕ)) (front : List Line) (bytes : List ℕ) (number : ℕ) (why : Cause)
+    → IsBehind limit left old now front → (IsWhole front → ⊥) → TakesBytes left now new bytes
+    → IsOverLine bytes ⊎ (IsOpenLine bytes × IsAtEnd new) → number ≡ length front + 1 → IsWrong front bytes why
+    → Judges limit old new (Invalid number why)
+none_behind limit left old now new front bytes number why behind more taken how is wrong = (
+  front,
+  bytes,
+  has_read limit left old now new front bytes behind taken.0 taken.1,
+  elim how [ inl over ↦ inl (over_behind front bytes more over) | inr (opened, ended) ↦ inr ((opened, λ whole. absurd (more whole)), ended) ],
+  (is, wrong),
+)
+
+-- want of memory behind a line
+no_memory_behind : (limit left : ℕ) (old now new : Option (List ℕ)) (front : List Line) (bytes : List ℕ) → IsBehind limit left old now front
+    → (IsWhole front → ⊥) → TakesBytes left now new bytes → IsOverLine bytes → StopsWithin limit old new
+no_memory_behind limit left old now new front bytes behind more taken over =
+    (front, bytes, has_read limit left old now new front bytes behind taken.0 taken.1, inl (over_behind front bytes more over))
+
+-- ---- The first line
+
+nothing_taken : (old : Option (List ℕ)) → Consumes old old []
+nothing_taken None = tt
+nothing_taken (Some bytes) = refl
+
+nothing_read : (limit : ℕ) (old : Option (List ℕ)) → IsBehind limit limit old old []
+nothing_read limit old = record { taken = nothing_taken old; room = omega arith; right = inl refl }
+
+no_line_is_whole : IsWhole [] → ⊥
+no_line_is_whole (n, start, moves, trace, is) = let none : [] ≡ trace_lines n start moves = is in cc
+
+pub fails_first : (limit : ℕ) (old new : Option (List ℕ)) (bytes : List ℕ) (fault : TraceError) → FailsWithin limit old new bytes fault → Answers limit old new (Err fault)
+fails_first limit old new bytes fault failed =
+    fails_behind limit limit old old new [] bytes fault (nothing_read limit old) (λ whole. absurd (no_line_is_whole whole)) failed
+
+-- no line begins the text
+pub none_first : (limit : ℕ) (old new : Option (List ℕ)) (bytes : List ℕ) → TakesBytes limit old new bytes
+    → HasNone bytes new → Judges limit old new (Invalid 1 cause.Line)
+none_first limit old new bytes taken none =
+    none_behind limit limit old old new [] bytes 1 cause.Line (nothing_read limit old) no_line_is_whole taken none.1 refl
+    (inl (refl, λ line rest begins first. none.0 line rest begins))
+
+-- another line than the first begins it
+pub other_first : (limit : ℕ) (old new : Option (List ℕ)) (bytes : List ℕ) (line : Line) → TakesBytes limit old new bytes
+    → BeginsWith bytes line [] → EndsSo Feed bytes new → (IsFirst line → ⊥) → Judges limit old new (Invalid 1 cause.Line)
+other_first limit old new bytes line taken begins ended other =
+    none_behind limit limit old old new [] bytes 1 cause.Line (nothing_read limit old) no_line_is_whole taken (inl (feed_is_over bytes new ended)) refl
+    (inl (refl, λ l r b first. other (subst IsFirst (begins_once bytes l line r [] b begins).0 first)))
+
+pub no_memory_first : (limit : ℕ) (old new : Option (List ℕ)) (bytes : List ℕ) → TakesBytes limit old new bytes
+    → EndsSo Feed bytes new → StopsWithin limit old new
+no_memory_first limit old new bytes taken ended =
+    no_memory_behind limit limit old old new [] bytes (nothing_read limit old) no_line_is_whole taken (feed_is_over bytes new ended)
+
+-- ---- The lines that come next
+
+-- the lines so far are right, the last one is not among them, and the checker stands behind them
+pub record IsAlong (limit left : ℕ) (old now : Option (List ℕ)) (checker : Checker) (number : ℕ) : Type 0 where
   pub front : List Line
-  pub text_is : text ≡ flat_map line_text front ++ rest
+  pub behind : IsBehind limit left old now front
   pub number_is : number ≡ length front + 1
   pub stands : StandsBehind checker front
 
-lines_and_one : (front : List Line) (line : Line) (behind : List ℕ)
-    → flat_map line_text front ++ (line_text line ++ behind) ≡ flat_map line_text (front ++ line ∷ []) ++ behind
-lines_and_one front line behind =
-    sym (append_assoc (flat_map line_text front) (line_text line) behind)
-    ∙ ap (λ (bytes : List ℕ). (flat_map line_text front ++ bytes) ++ behind) (sym (append-nil (line_text line)))
-    ∙ ap (λ (bytes : List ℕ). bytes ++ behind) (sym (flat_map-append line_text front (line ∷ [])))
+not_whole : LawsBelow → (limit left : ℕ) (old now : Option (List ℕ)) (checker : Checker) (number : ℕ)
+    → (along : IsAlong limit left old now checker number) → IsWhole along.front → ⊥
+not_whole laws limit left old now checker number along (n, start, moves, trace, is) =
+    no_trace laws checker.world.count checker.world.start checker.world.moves (due_of checker) n start moves along.front along.stands.front is
+
+-- one line more
+one_more : (front : List Line) (line : Line) (bytes : List ℕ) → bytes ≡ line_text line ++ []
+    → flat_map line_text front ++ bytes ≡ flat_map line_text (front ++ line ∷ [])
+one_more front line bytes is = ap (λ (xs : List ℕ). flat_map line_text front ++ xs) is ∙ sym (flat_map-append line_text front (line ∷ []))
+
+behind_one_more : (limit left : ℕ) (old now new : Option (List ℕ)) (front : List Line) (line : Line) (bytes : List ℕ)
+    → IsBehind limit left old now front → TakesBytes left now new bytes → BeginsWith bytes line [] → AreRight (front ++ line ∷ [])
+    → IsBehind limit (left - length bytes) old new (front ++ line ∷ [])
+behind_one_more limit left old now new front line bytes behind taken begins right =
+    let is = one_more front line bytes begins.1 in
+    record {
+      taken = subst (Consumes old new) is (consumed_both old now new (flat_map line_text front) bytes behind.taken taken.0);
+      room = omega (arith, ap length (sym is), length-append (flat_map line_text front) bytes, behind.room, taken.1);
+      right = right;
+    }
+
+stands_right : (checker : Checker) (front : List Line) → StandsBehind checker front → AreRight front
+stands_right checker front stands =
+    inr (inl (checker.world.count, checker.world.start, checker.world.moves, due_of checker, stands.front))
 
 -- behind the first line
-pub along_first : (text : List ℕ) (line : Line) (rest : List ℕ) (checker : Checker) → BeginsWith text line rest
-    → (IsLine line → StandsBehind checker (line ∷ [])) → IsAlong text checker rest 2
-along_first text line rest checker begins stands = record {
+pub along_first : (limit : ℕ) (old new : Option (List ℕ)) (bytes : List ℕ) (line : Line) (checker : Checker) → TakesBytes limit old new bytes → BeginsWith bytes line [] → (IsLine line → StandsBehind checker (line ∷ []))
+    → IsAlong limit (limit - length bytes) old new checker 2
+along_first limit old new bytes line checker taken begins stands = record {
   front = line ∷ [];
-  text_is = begins.1 ∙ ap (λ (bytes : List ℕ). bytes ++ rest) (sym (append-nil (line_text line)));
+  behind =
+      behind_one_more limit limit old old new [] line bytes (nothing_read limit old) taken begins
+      (stands_right checker (line ∷ []) (stands begins.0));
   number_is = refl;
   stands = stands begins.0;
 }
 
+along_by : (limit left : ℕ) (old now new : Option (List ℕ)) (checker after : Checker) (number : ℕ) (line : Line) (bytes : List ℕ)
+    → (along : IsAlong limit left old now checker number) → TakesBytes left now new bytes → BeginsWith bytes line []
+    → StandsBehind after (along.front ++ line ∷ []) → IsAlong limit (left - length bytes) old new after (number + 1)
+along_by limit left old now new checker after number line bytes along taken begins stands = record {
+  front = along.front ++ line ∷ [];
+  behind =
+      behind_one_more limit left old now new along.front line bytes along.behind taken begins
+      (stands_right after (along.front ++ line ∷ []) stands);
+  number_is = omega (arith, along.number_is, length-append along.front (line ∷ []));
+  stands = stands;
+}
+
 -- behind one more line, which was right and is not the last one
-pub along_more : (text : List ℕ) (old new : Checker) (rest behind : List ℕ) (number : ℕ) (line : Line) → IsAlong text old rest number
-    → BeginsWith rest line behind → line ≢ Last → Takes old line new → IsAlong text new behind (number + 1)
-along_more text old new rest behind number (First nodes start) along begins more takes = absurd takes
-along_more text old new rest behind number (Stepped step) along begins more takes = record {
-  front = along.front ++ Stepped step ∷ [];
-  text_is = along.text_is ∙ ap (λ (bytes : List ℕ). flat_map line_text along.front ++ bytes) begins.1 ∙ lines_and_one along.front (Stepped step) behind;
-  number_is = omega (arith, along.number_is, length-append along.front (Stepped step ∷ []));
-  stands = takes along.front begins.0 along.stands;
-}
-along_more text old new rest behind number (Marked mark) along begins more takes = record {
-  front = along.front ++ Marked mark ∷ [];
-  text_is = along.text_is ∙ ap (λ (bytes : List ℕ). flat_map line_text along.front ++ bytes) begins.1 ∙ lines_and_one along.front (Marked mark) behind;
-  number_is = omega (arith, along.number_is, length-append along.front (Marked mark ∷ []));
-  stands = takes along.front begins.0 along.stands;
-}
-along_more text old new rest behind number Last along begins more takes = absurd (more refl)
+pub along_more : (limit left : ℕ) (old now new : Option (List ℕ)) (checker after : Checker) (number : ℕ) (line : Line) (bytes : List ℕ)
+    → IsAlong limit left old now checker number → TakesBytes left now new bytes → BeginsWith bytes line [] → line ≢ Last
+    → Takes checker line after → IsAlong limit (left - length bytes) old new after (number + 1)
+along_more limit left old now new checker after number (First nodes start) bytes along taken begins more takes = absurd takes
+along_more limit left old now new checker after number (Stepped step) bytes along taken begins more takes =
+    along_by limit left old now new checker after number (Stepped step) bytes along taken begins (takes along.front begins.0 along.stands)
+along_more limit left old now new checker after number (Marked mark) bytes along taken begins more takes =
+    along_by limit left old now new checker after number (Marked mark) bytes along taken begins (takes along.front begins.0 along.stands)
+along_more limit left old now new checker after number Last bytes along taken begins more takes = absurd (more refl)
 
--- ---- Verdicts
+pub fails_next : LawsBelow → (limit left : ℕ) (old now new : Option (List ℕ)) (checker : Checker) (number : ℕ) (bytes : List ℕ) (fault : TraceError)
+    → IsAlong limit left old now checker number → FailsWithin left now new bytes fault → Answers limit old new (Err fault)
+fails_next laws limit left old now new checker number bytes fault along failed =
+    fails_behind limit left old now new along.front bytes fault along.behind
+    (λ whole. absurd (not_whole laws limit left old now checker number along whole)) failed
 
--- no line begins the text, or another one than the first
-pub wrong_first : (text : List ℕ) → ((line : Line) (rest : List ℕ) → BeginsWith text line rest → IsFirst line → ⊥) → IsVerdict text (Invalid 1 cause.Line)
-wrong_first text none = ([], text, refl, refl, inl (refl, none))
-
-pub other_first : (text : List ℕ) (line : Line) (rest : List ℕ) → BeginsWith text line rest → (IsFirst line → ⊥) → IsVerdict text (Invalid 1 cause.Line)
-other_first text line rest begins other =
-    wrong_first text (λ l r b first. other (subst IsFirst (begins_once text l line r rest b begins).0 first))
+-- no line comes next, and the last one has not come
+pub none_next : LawsBelow → (limit left : ℕ) (old now new : Option (List ℕ)) (checker : Checker) (number : ℕ) (bytes : List ℕ)
+    → IsAlong limit left old now checker number → TakesBytes left now new bytes → HasNone bytes new
+    → Judges limit old new (Invalid number cause.Line)
+none_next laws limit left old now new checker number bytes along taken none =
+    none_behind limit left old now new along.front bytes number cause.Line along.behind (not_whole laws limit left old now checker number along) taken
+    none.1 along.number_is
+    (inr (inl (
+      (checker.world.count, checker.world.start, checker.world.moves, due_of checker, along.stands.front),
+      λ line rest begins. absurd (none.0 line rest begins),
+    )))
 
 -- the checker refuses the next line
-pub wrong_next : (text : List ℕ) (checker : Checker) (rest behind : List ℕ) (number : ℕ) (line : Line) (why : Cause)
-    → IsAlong text checker rest number → BeginsWith rest line behind → Refuses checker line why → IsVerdict text (Invalid number why)
-wrong_next text checker rest behind number line why along begins refused =
-    (along.front, rest, along.text_is, along.number_is, refused along.front rest behind along.stands begins)
+pub wrong_next : LawsBelow → (limit left : ℕ) (old now new : Option (List ℕ)) (checker : Checker) (number : ℕ) (line : Line) (bytes : List ℕ)
+    (why : Cause) → IsAlong limit left old now checker number → TakesBytes left now new bytes → BeginsWith bytes line []
+    → EndsSo Feed bytes new → Refuses checker line why → Judges limit old new (Invalid number why)
+wrong_next laws limit left old now new checker number line bytes why along taken begins ended refused =
+    none_behind limit left old now new along.front bytes number why along.behind (not_whole laws limit left old now checker number along) taken
+    (inl (feed_is_over bytes new ended)) along.number_is (refused along.front bytes [] along.stands begins)
 
--- no line is left, and the last one has not come
-pub no_next : (text : List ℕ) (checker : Checker) (rest : List ℕ) (number : ℕ) → IsAlong text checker rest number
-    → ((line : Line) (behind : List ℕ) → BeginsWith rest line behind → ⊥) → IsVerdict text (Invalid number cause.Line)
-no_next text checker rest number along none = (
-  along.front,
-  rest,
-  along.text_is,
-  along.number_is,
-  inr (inl ((checker.world.count, checker.world.start, checker.world.moves, due_of checker, along.stands.front), λ line behind b. absurd (none line behind b))),
-)
+pub no_memory_next : LawsBelow → (limit left : ℕ) (old now new : Option (List ℕ)) (checker : Checker) (number : ℕ) (bytes : List ℕ)
+    → IsAlong limit left old now checker number → TakesBytes left now new bytes → EndsSo Feed bytes new → StopsWithin limit old new
+no_memory_next laws limit left old now new checker number bytes along taken ended =
+    no_memory_behind limit left old now new along.front bytes along.behind (not_whole laws limit left old now checker number along) taken
+    (feed_is_over bytes new ended)
+
+-- ---- Behind the last line
+
+-- the lines are a whole trace
+pub record IsDone (limit left : ℕ) (old now : Option (List ℕ)) (checker : Checker) (number : ℕ) : Type 0 where
+  pub front : List Line
+  pub behind : IsBehind limit left old now front
+  pub number_is : number ≡ length front + 1
+  pub trace : IsTrace checker.world.count checker.world.start checker.world.moves (flat_map line_text front)
+  pub lines : front ≡ trace_lines checker.world.count checker.world.start checker.world.moves
 
 front_at_end : (checker : Checker) (front : List Line) → StandsBehind checker front → due_of checker ≡ []
     → IsFront checker.world.count checker.world.start checker.world.moves [] front
 front_at_end checker front stands none =
     subst (λ ms. IsFront checker.world.count checker.world.start checker.world.moves ms front) none stands.front
 
--- the last line came, and nothing is left
-pub at_end : (text : List ℕ) (checker : Checker) (rest behind : List ℕ) (number : ℕ) → IsAlong text checker rest number
-    → BeginsWith rest Last behind → due_of checker ≡ [] → behind ≡ []
-    → IsVerdict text (Valid (requests_in (marks_of checker.world.moves)) (length (sent_by checker.world.moves)))
-at_end text checker rest behind number along begins none nothing =
+pub done_by_last : (limit left : ℕ) (old now new : Option (List ℕ)) (checker : Checker) (number : ℕ) (bytes : List ℕ)
+    → IsAlong limit left old now checker number → TakesBytes left now new bytes → BeginsWith bytes Last [] → due_of checker ≡ []
+    → IsDone limit (left - length bytes) old new checker (number + 1)
+done_by_last limit left old now new checker number bytes along taken begins none =
     let w = checker.world in
     let (lines, trace) = front_and_last w.count w.start w.moves along.front (front_at_end checker along.front along.stands none) in
-    let whole : text ≡ flat_map line_text (along.front ++ Last ∷ []) =
-    along.text_is ∙ ap (λ (bytes : List ℕ). flat_map line_text along.front ++ bytes) begins.1 ∙ lines_and_one along.front Last behind
-    ∙ ap (λ (bytes : List ℕ). flat_map line_text (along.front ++ Last ∷ []) ++ bytes) nothing ∙ append-nil (flat_map line_text (along.front ++ Last ∷ [])) in
-    (w.count, w.start, w.moves, subst (IsTrace w.count w.start w.moves) (sym whole) trace, refl, refl)
+    record {
+      front = along.front ++ Last ∷ [];
+      behind =
+          behind_one_more limit left old now new along.front Last bytes along.behind taken begins
+          (inr (inr (w.count, w.start, w.moves, trace, lines)));
+      number_is = omega (arith, along.number_is, length-append along.front (Last ∷ []));
+      trace = trace;
+      lines = lines;
+    }
 
--- the last line came, and something is left
-pub behind_end : (text : List ℕ) (checker : Checker) (rest behind : List ℕ) (number : ℕ) → IsAlong text checker rest number
-    → BeginsWith rest Last behind → due_of checker ≡ [] → behind ≢ [] → IsVerdict text (Invalid (number + 1) cause.Line)
-behind_end text checker rest behind number along begins none some =
-    let w = checker.world in
-    let (lines, trace) = front_and_last w.count w.start w.moves along.front (front_at_end checker along.front along.stands none) in (
-      along.front ++ Last ∷ [],
-      behind,
-      along.text_is ∙ ap (λ (bytes : List ℕ). flat_map line_text along.front ++ bytes) begins.1 ∙ lines_and_one along.front Last behind,
-      omega (arith, along.number_is, length-append along.front (Last ∷ [])),
-      inr (inr ((w.count, w.start, w.moves, trace, lines), some)),
+nothing_is_open : (front : List Line) → IsOpen front []
+nothing_is_open front = ((All-nil (λ byte. byte ≢ 10), omega arith), λ whole. refl)
+
+-- nothing stands behind it
+valid_at_end : (limit left : ℕ) (old now new : Option (List ℕ)) (checker : Checker) (number : ℕ) → IsDone limit left old now checker number
+    → Consumes now new [] → IsAtEnd new
+    → Judges limit old new (Valid (requests_in (marks_of checker.world.moves)) (length (sent_by checker.world.moves)))
+valid_at_end limit left old now new checker number done taken ended =
+    let w = checker.world in (
+      done.front,
+      [],
+      has_read limit left old now new done.front [] done.behind taken (omega arith),
+      inr (nothing_is_open done.front, ended),
+      (refl, (w.count, w.start, w.moves, done.trace, refl, refl)),
     )
 
--- the verdict behind the last line
-pub ended : (text : List ℕ) (checker : Checker) (rest behind : List ℕ) (number : ℕ) (result : Result Verdict TraceError)
-    → IsAlong text checker rest number → BeginsWith rest Last behind → due_of checker ≡ []
-    → (behind ≢ [] → result ≡ Ok (Invalid (number + 1) cause.Line))
-    → (behind ≡ [] → IfOk result (λ verdict. verdict ≡ Valid (requests_in (marks_of checker.world.moves)) (length (sent_by checker.world.moves))))
-    → IfOk result (IsVerdict text)
-ended text checker rest [] number result along begins none some nothing =
-    IfOk-weaker result _ (IsVerdict text) (λ verdict is. subst (IsVerdict text) (sym is) (at_end text checker rest [] number along begins none refl))
-    (nothing refl)
-ended text checker rest (byte ∷ bytes) number result along begins none some nothing =
-    let left : byte ∷ bytes ≢ [] = λ e. cc in
-    subst (λ (r : Result Verdict TraceError). IfOk r (IsVerdict text)) (sym (some left))
-    (behind_end text checker rest (byte ∷ bytes) number along begins none left)
+-- something does
+wrong_behind_end : (limit left : ℕ) (old now new : Option (List ℕ)) (checker : Checker) (number byte : ℕ)
+    → IsDone limit left old now checker number → 1 ≤ left → Consumes now new (byte ∷ []) → Judges limit old new (Invalid number cause.Line)
+wrong_behind_end limit left old now new checker number byte done some taken =
+    let w = checker.world in
+    let whole : IsWhole done.front = (w.count, w.start, w.moves, done.trace, done.lines) in
+    let more : byte ∷ [] ≢ [] = λ e. cc in (
+      done.front,
+      byte ∷ [],
+      has_read limit left old now new done.front (byte ∷ []) done.behind taken some,
+      inl ([], byte, nothing_is_open done.front, refl, inr (inr whole)),
+      (done.number_is, inr (inr (whole, more))),
+    )
 
--- ---- Each line is some bytes
+fails_at_end : (limit left : ℕ) (old now new : Option (List ℕ)) (checker : Checker) (number : ℕ) (fault : TraceError)
+    → IsDone limit left old now checker number → FailsWithin left now new [] fault → Answers limit old new (Err fault)
+fails_at_end limit left old now new checker number fault done failed =
+    fails_behind limit left old now new done.front [] fault done.behind (λ whole. refl) failed
 
-pub shorter : (text : List ℕ) (line : Line) (rest : List ℕ) → BeginsWith text line rest → length rest < length text
-shorter text line rest begins = at (line_text line) begins.1 (line_has_bytes line [])
-  where
-    at : (bytes : List ℕ) → text ≡ bytes ++ rest → ([] ≡ bytes ++ [] → ⊥) → length rest < length text
-    at [] is some = absurd (some refl)
-    at (x ∷ bytes) is some = omega (arith, ap length is, length-append bytes rest)
+no_memory_at_end : (limit left : ℕ) (old now new : Option (List ℕ)) (checker : Checker) (number : ℕ) → IsDone limit left old now checker number
+    → Consumes now new [] → StopsWithin limit old new
+no_memory_at_end limit left old now new checker number done taken =
+    (done.front, [], has_read limit left old now new done.front [] done.behind taken (omega arith), inr (nothing_is_open done.front))
+
+-- what comes behind the last line decides
+pub answers_at_end : (limit left : ℕ) (old now new : Option (List ℕ)) (checker : Checker) (number : ℕ) (result : Result Verdict TraceError)
+    → IsDone limit left old now checker number → EndsText left now new checker number result → Answers limit old new result
+answers_at_end limit left old now new checker number (Ok (Valid requests messages)) done (taken, ended, is, are) =
+    subst (λ (n : ℕ). Judges limit old new (Valid n messages)) (sym is)
+    (subst (λ (n : ℕ). Judges limit old new (Valid (requests_in (marks_of checker.world.moves)) n)) (sym are)
+    (valid_at_end limit left old now new checker number done taken ended))
+answers_at_end limit left old now new checker number (Ok (Invalid line why)) done (byte, some, taken, is, because) =
+    subst (λ (n : ℕ). Judges limit old new (Invalid n why)) (sym is)
+    (subst (λ (w : Cause). Judges limit old new (Invalid number w)) (sym because)
+    (wrong_behind_end limit left old now new checker number byte done some taken))
+answers_at_end limit left old now new checker number (Err Read) done failed = fails_at_end limit left old now new checker number Read done failed
+answers_at_end limit left old now new checker number (Err Limit) done failed = fails_at_end limit left old now new checker number Limit done failed
+answers_at_end limit left old now new checker number (Err Memory) done taken = no_memory_at_end limit left old now new checker number done taken

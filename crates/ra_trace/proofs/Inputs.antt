@@ -1,31 +1,164 @@
--- What a verdict on the bytes that were read says of the whole input.
-use Rattle.std.proofs.Common.{◌≡◌, ℕ, ◌≤◌, List, [], ◌++◌, length, Option, Some, None, refl, ap, subst, ◌∙◌, arith}
-use Rattle.std.specs.Prelude.{IfSome}
+-- What a verdict on what was read says of the whole input.
+use Rattle.std.proofs.Common.{◌≡◌, ◌≢◌, ◌↔◌, ℕ, ◌≤◌, List, [], ◌∷◌, ◌++◌, length, Option, Some, None, Result, Ok, Err, refl, sym, ap, subst, ◌∙◌, inl, inr, append_assoc}
+use Rattle.std.specs.Prelude.{IfOk, IfSome, flat_map}
+use Rattle.std.specs.Io.KnownBytes.{Consumes}
 use Rattle.std.proofs.lemmas.List.{append-nil}
-use Rattle.ra_world.specs.Input.{Reads}
 use Rattle.ra_world.specs.Traffic.{Move, sent_by}
 use Rattle.ra_world.specs.Run.{marks_of}
 use Rattle.ra_world.specs.Quiet.{requests_in}
+use Rattle.ra_trace.specs.declared.error.TraceError.{TraceError}
+use Rattle.ra_trace.specs.declared.line.Line.{Line}
+use Rattle.ra_trace.specs.declared.line.Line.TheVariants.{Stepped, Marked}
+use Rattle.ra_trace.specs.declared.verdict.Cause.{Cause}
+use Rattle.ra_trace.specs.declared.verdict.Cause.TheVariants as cause
 use Rattle.ra_trace.specs.declared.verdict.Verdict.{Verdict}
-use Rattle.ra_trace.specs.declared.verdict.Verdict.TheVariants.{Valid}
-use Rattle.ra_trace.specs.TraceText.{IsTrace}
-use Rattle.ra_trace.specs.Verdict.{IsVerdict}
+use Rattle.ra_trace.specs.declared.verdict.Verdict.TheVariants.{Valid, Invalid}
+use Rattle.ra_trace.specs.TraceText.{IsTrace, BeginsWith, line_text, trace_lines}
+use Rattle.ra_trace.specs.Verdict.{HasNoLine, IsWrong, IsVerdict}
+use Rattle.ra_trace.specs.Reading.{IsWhole, IsOver, Judges, Answers}
+use Rattle.ra_trace.specs.NextLine.{IsOverLine}
+use Rattle.ra_trace.specs.Below.{LawsBelow}
+use Rattle.ra_trace.proofs.Ends.{begins_before}
+use Rattle.ra_trace.proofs.Fronts.{no_trace}
 
--- all of a known input was read
-whole : (old new : Option (List ℕ)) (bytes : List ℕ) → Reads old new 16777217 bytes → length bytes ≤ 16777216 → IfSome old (λ input. input ≡ bytes)
-whole None new bytes h short = tt
-whole (Some input) None bytes h short = absurd h.taken
-whole (Some input) (Some rest) bytes h short =
-    let nothing : rest ≡ [] = h.ended (omega arith) in
-    h.taken ∙ ap (λ (xs : List ℕ). bytes ++ xs) nothing ∙ append-nil bytes
+-- ---- What is wrong stays wrong, whatever stands behind what was read
 
-pub trace_of_input : (old new : Option (List ℕ)) (bytes : List ℕ) (verdict : Verdict)
-    → ((text : List ℕ) (a b : Verdict) → IsVerdict text a → IsVerdict text b → a ≡ b)
-    → Reads old new 16777217 bytes → length bytes ≤ 16777216 → IsVerdict bytes verdict
+begins_more : (text more : List ℕ) (line : Line) (rest : List ℕ) → BeginsWith text line rest → BeginsWith (text ++ more) line (rest ++ more)
+begins_more text more line rest begins =
+    (begins.0, ap (λ (bytes : List ℕ). bytes ++ more) begins.1 ∙ append_assoc (line_text line) rest more)
+
+over_line : (front : List Line) (rest : List ℕ) → IsOver front rest → (IsWhole front → ⊥) → IsOverLine rest
+over_line front rest (before, byte, opened, is, how) more = (
+  before,
+  byte,
+  opened.0,
+  is,
+  elim how [ inl feed ↦ inl feed | inr other ↦ elim other [ inl long ↦ inr long | inr whole ↦ absurd (more whole) ] ],
+)
+
+some_bytes : (before : List ℕ) (byte : ℕ) (more : List ℕ) → (before ++ byte ∷ []) ++ more ≢ []
+some_bytes [] byte more e = absurd cc
+some_bytes (b ∷ before) byte more e = absurd cc
+
+no_line_goes_on : LawsBelow → (front : List Line) (rest more : List ℕ) → IsOver front rest → HasNoLine front rest → HasNoLine front (rest ++ more)
+no_line_goes_on laws front rest more over (inl (none, other)) =
+    let part : IsWhole front → ⊥ = λ whole. let clash : [] ≡ trace_lines whole.0 whole.1 whole.2 = sym none ∙ whole.4 in cc in
+    inl (
+      none,
+      λ line behind begins first.
+          let b = begins_before rest more line behind (over_line front rest over part) begins in other line b.0 b.1 first,
+    )
+no_line_goes_on laws front rest more over (inr (inl (there, any))) =
+    let part : IsWhole front → ⊥ = λ whole.
+    no_trace laws there.0 there.1 there.2 there.3 whole.0 whole.1 whole.2 front there.4 whole.4 in
+    inr (inl (
+      there,
+      λ line behind begins.
+          let b = begins_before rest more line behind (over_line front rest over part) begins in any line b.0 b.1,
+    ))
+no_line_goes_on laws front rest more (before, byte, opened, is, how) (inr (inr (trace, some))) =
+    inr (inr (trace, λ none. some_bytes before byte more (ap (λ (bytes : List ℕ). bytes ++ more) (sym is) ∙ none)))
+
+pub wrong_goes_on : LawsBelow → (front : List Line) (rest more : List ℕ) (why : Cause) → IsOver front rest → IsWrong front rest why
+    → IsWrong front (rest ++ more) why
+wrong_goes_on laws front rest more cause.Line over w = no_line_goes_on laws front rest more over w
+wrong_goes_on laws front rest more cause.Table over (n, start, moves, due, behind, mark, others, begins, refused) =
+    (n, start, moves, due, behind, mark, others ++ more, begins_more rest more (Marked mark) others begins, refused)
+wrong_goes_on laws front rest more cause.Marks over (n, start, moves, due, behind, line, others, begins, undue) =
+    (n, start, moves, due, behind, line, others ++ more, begins_more rest more line others begins, undue)
+wrong_goes_on laws front rest more cause.Refused over (n, start, moves, behind, step, others, begins, whose, stops) =
+    (n, start, moves, behind, step, others ++ more, begins_more rest more (Stepped step) others begins, whose, stops)
+wrong_goes_on laws front rest more cause.NotUnderWay over (n, start, moves, behind, step, others, begins, takes, stops) =
+    (n, start, moves, behind, step, others ++ more, begins_more rest more (Stepped step) others begins, takes, stops)
+
+-- ---- The whole input
+
+nothing_over : (front : List Line) (rest : List ℕ) → rest ≡ [] → IsOver front rest → ⊥
+nothing_over front rest none (before, byte, opened, is, how) =
+    some_bytes before byte [] (append-nil (before ++ byte ∷ []) ∙ (sym is ∙ none))
+
+-- what was read is all of a known input, where the text is valid
+record AllRead (limit : ℕ) (input : List ℕ) (new : Option (List ℕ)) (front : List Line) : Type 0 where
+  input_is : input ≡ flat_map line_text front
+  at_most : length input ≤ limit
+  taken : Consumes (Some input) new input
+
+all_read : (limit : ℕ) (input : List ℕ) (new : Option (List ℕ)) (requests messages : ℕ)
+    → (j : Judges limit (Some input) new (Valid requests messages)) → AllRead limit input new j.0
+all_read limit input None requests messages (front, rest, read, how, shows) = absurd read.taken
+all_read limit input (Some left) requests messages (front, rest, read, how, shows) =
+    elim how [
+      | inl over ↦ absurd (nothing_over front rest shows.0 over)
+      | inr (opened, ended) ↦
+          let taken : input ≡ flat_map line_text front ++ rest = read.taken ∙ ap (λ (bytes : List ℕ). (flat_map line_text front ++ rest) ++ bytes) ended
+          ∙ append-nil (flat_map line_text front ++ rest) in
+          record {
+            input_is = taken ∙ ap (λ (bytes : List ℕ). flat_map line_text front ++ bytes) shows.0 ∙ append-nil (flat_map line_text front);
+            at_most = subst (λ (bytes : List ℕ). length bytes ≤ limit) (sym taken) read.at_most;
+            taken = sym (append-nil input) ∙ ap (λ (bytes : List ℕ). input ++ bytes) (sym ended);
+          }
+    ]
+
+verdict_of_bytes : LawsBelow → (limit : ℕ) (input : List ℕ) (new : Option (List ℕ)) (verdict : Verdict) → Judges limit (Some input) new verdict
+    → IsVerdict input verdict
+verdict_of_bytes laws limit input new (Valid requests messages) j =
+    let all = all_read limit input new requests messages j in
+    subst (λ (text : List ℕ). IsVerdict text (Valid requests messages)) (sym all.input_is) j.4.1
+verdict_of_bytes laws limit input None (Invalid line why) (front, rest, read, how, shows) = absurd read.taken
+verdict_of_bytes laws limit input (Some left) (Invalid line why) (front, rest, read, how, shows) = (
+  front,
+  rest ++ left,
+  read.taken ∙ append_assoc (flat_map line_text front) rest left,
+  shows.0,
+  elim how [
+    | inl over ↦ wrong_goes_on laws front rest left why over shows.1
+    | inr (opened, ended) ↦ subst (λ (bytes : List ℕ). IsWrong front bytes why)
+        (sym (ap (λ (bytes : List ℕ). rest ++ bytes) ended ∙ append-nil rest)) shows.1
+  ],
+)
+
+pub verdict_of_input : LawsBelow → (limit : ℕ) (old new : Option (List ℕ)) (verdict : Verdict) → Judges limit old new verdict
+    → IfSome old (λ input. IsVerdict input verdict)
+verdict_of_input laws limit None new verdict j = tt
+verdict_of_input laws limit (Some input) new verdict j = verdict_of_bytes laws limit input new verdict j
+
+pub valid_input : (limit : ℕ) (old new : Option (List ℕ)) (verdict : Verdict) → Judges limit old new verdict
+    → IfSome old (λ input. (requests messages : ℕ) → verdict ≡ Valid requests messages → (length input ≤ limit) × Consumes old new input)
+valid_input limit None new verdict j = tt
+valid_input limit (Some input) new verdict j = λ requests messages is.
+    let all = all_read limit input new requests messages (subst (Judges limit (Some input) new) is j) in (all.at_most, all.taken)
+
+-- what was read has the verdict too
+pub alone : (limit : ℕ) (old new : Option (List ℕ)) (verdict : Verdict) → Judges limit old new verdict
+    → (taken : List ℕ) × IsVerdict taken verdict × (length taken ≤ limit) × Consumes old new taken
+alone limit old new (Valid requests messages) (front, rest, read, how, shows) =
+    let whole : flat_map line_text front ≡ flat_map line_text front ++ rest =
+    sym (ap (λ (bytes : List ℕ). flat_map line_text front ++ bytes) shows.0 ∙ append-nil (flat_map line_text front)) in
+    (flat_map line_text front ++ rest, subst (λ (text : List ℕ). IsVerdict text (Valid requests messages)) whole shows.1, read.at_most, read.taken)
+alone limit old new (Invalid line why) (front, rest, read, how, shows) =
+    (flat_map line_text front ++ rest, (front, rest, refl, shows.0, shows.1), read.at_most, read.taken)
+
+-- the text has no other verdict
+pub only_verdict : LawsBelow → ((text : List ℕ) (a b : Verdict) → IsVerdict text a → IsVerdict text b → a ≡ b)
+    → (limit : ℕ) (old new : Option (List ℕ)) (verdict : Verdict) → Judges limit old new verdict
+    → IfSome old (λ input. (other : Verdict) → IsVerdict input other ↔ (verdict ≡ other))
+only_verdict laws one limit None new verdict j = tt
+only_verdict laws one limit (Some input) new verdict j = λ other.
+    let is = verdict_of_bytes laws limit input new verdict j in
+    (one input verdict other is, λ same. subst (IsVerdict input) same is)
+
+pub trace_of_input : LawsBelow → ((text : List ℕ) (a b : Verdict) → IsVerdict text a → IsVerdict text b → a ≡ b)
+    → (limit : ℕ) (old new : Option (List ℕ)) (verdict : Verdict) → Judges limit old new verdict
     → IfSome old (λ input. (n start : ℕ) (moves : List Move) → IsTrace n start moves input
     → verdict ≡ Valid (requests_in (marks_of moves)) (length (sent_by moves)))
-trace_of_input None new bytes verdict one h short v = tt
-trace_of_input (Some input) new bytes verdict one h short v =
-    let is : input ≡ bytes = whole (Some input) new bytes h short in
-    λ n start moves trace. one bytes verdict (Valid (requests_in (marks_of moves)) (length (sent_by moves))) v
-    (n, start, moves, subst (IsTrace n start moves) is trace, refl, refl)
+trace_of_input laws one limit None new verdict j = tt
+trace_of_input laws one limit (Some input) new verdict j = λ n start moves trace.
+    one input verdict (Valid (requests_in (marks_of moves)) (length (sent_by moves))) (verdict_of_bytes laws limit input new verdict j)
+    (n, start, moves, trace, refl, refl)
+
+-- ---- Answers
+
+pub judged : (limit : ℕ) (old new : Option (List ℕ)) (result : Result Verdict TraceError) → Answers limit old new result
+    → IfOk result (Judges limit old new)
+judged limit old new (Ok verdict) answer = answer
+judged limit old new (Err fault) answer = tt

@@ -10,5 +10,7 @@ pub mod Fronts
 pub mod Verdicts
 pub mod Due
 pub mod Taking
+pub mod Lengths
+pub mod Ends
 pub mod Along
 pub mod Inputs

@@ -1,5 +1,5 @@
 -- How a line is read: at a word or two that say which one it is, and then field by field. It is what the code computes; the
--- contract of `split_line` says what it comes to.
+-- contract of `next_line` says what it comes to.
 use Rattle.std.specs.Prelude.{ℕ, ◌^◌, ◌-◌, Bool, not, ◌&&◌, ◌||◌, ◌==◌, nat_le, if◌then◌else◌, List, [], ◌∷◌, length, slice_index, Option, Some, None, option_map, option_and_then, codes}
 use Rattle.std.specs.Char.{is_ascii_digit}
 use Rattle.std.specs.List.{list_all}

@@ -4,4 +4,5 @@ pub mod TraceText
 pub mod Verdict
 pub mod Below
 pub mod Checking
-pub mod Faults
+pub mod Reading
+pub mod NextLine

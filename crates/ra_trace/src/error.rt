@@ -3,7 +3,7 @@ ghost use Rattle.ra_trace.specs.declared.error.TraceError.TheVariants as trace;
 ghost use Rattle.ra_trace.specs.declared.error.WriteTraceError.TheVariants as write;
 
 use ra_stamp::Memory;
-use ra_world::{ReadFault, RunError, WriteFault};
+use ra_world::{RunError, WriteFault};
 use std::alloc::AllocError;
 use thiserror::Error;
 
@@ -13,7 +13,7 @@ pub enum TraceError {
     /// The reader failed.
     #[error("Read")]
     Read,
-    /// The text has more than 16,777,216 bytes.
+    /// The text has more bytes than it may have: 16,777,216 for `check`.
     #[error("Limit")]
     Limit,
     /// Memory ran out.
@@ -33,19 +33,6 @@ pub enum WriteTraceError {
     /// The writer failed or took nothing, with bytes left to write.
     #[error("Write")]
     Write,
-}
-
-impl From<ReadFault> for TraceError {
-    ghost use Rattle.ra_trace.specs.Faults.{of_read};
-
-    ghost from_gives = { λ fault e. e ≡ of_read fault };
-
-    fn from(fault: ReadFault) -> TraceError {
-        match fault {
-            ReadFault::Read => TraceError::Read,
-            ReadFault::Memory => TraceError::Memory,
-        }
-    }
 }
 
 impl From<Memory> for TraceError {

@@ -14,7 +14,7 @@ mod tables;
 mod verdict;
 mod writing;
 
-pub use checking::check;
+pub use checking::{check, check_within};
 pub use error::{TraceError, WriteTraceError};
 pub use laws::{each_text_has_one_verdict, texts_tell_their_steps, traces_tell_their_runs};
 pub use verdict::{Cause, Verdict};

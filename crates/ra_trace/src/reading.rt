@@ -1,18 +1,125 @@
-//! A line of a trace, read from the front of a text.
-ghost use Rattle.std.specs.Prelude.{◌≢◌, List, ℕ, IfSome, IsNone};
-ghost use Rattle.ra_trace.specs.declared.line.Line.{Line};
+//! The next line of a trace, read byte by byte.
+ghost use Rattle.std.specs.Prelude.{◌≡◌, ℕ, ◌≤◌, ◌<◌, ◌∷◌, [], true, false, IfOk, IfErr, IfSome, IsNone, OnErr, OnOk};
+ghost use Rattle.std.specs.Io.KnownBytes.{Consumes, IsAtEnd, Keeps};
+ghost use Rattle.ra_trace.specs.declared.error.TraceError.{TraceError};
+ghost use Rattle.ra_trace.specs.declared.reading.LineEnd.TheVariants as end;
+ghost use Rattle.ra_trace.specs.NextLine.{EndsSo, TakesBytes, FailsWithin, HasNone};
+ghost use Rattle.ra_trace.specs.Reading.{IsOpenLine};
 ghost use Rattle.ra_trace.specs.TraceText.{BeginsWith};
 
-use crate::fields::cut;
+use crate::TraceError;
 use crate::forms::line_of;
 use crate::line::Line;
+use arrayvec::ArrayVec;
+use std::io::Read;
 
-/// Returns the line that begins the text, and what stands behind it, or `None` where none begins it. It does not allocate.
-/// The cost is linear in the text up to its first line feed.
-pub fn split_line(text: &[u8]) -> Option<(Line, &[u8])>
-    ensures some { IfSome result (λ split. BeginsWith text.now split.0 split.1.now) }
-    ensures none { IsNone result → (line : Line) (rest : List ℕ) → BeginsWith text.now line rest → ⊥ }
+/// The most bytes of a line that are read. The longest line has 78, its line feed among them.
+pub const MAX_LINE: usize = 128;
+
+/// The bytes of a line, as far as they were read.
+pub type LineBytes = ArrayVec<u8, MAX_LINE>;
+
+/// With what the bytes of a line end.
+#[derive(Clone, Copy, Debug, PartialEq, Eq)]
+pub enum LineEnd {
+    /// Their last one is a line feed.
+    Feed,
+    /// They are as many as are read of a line, and none is a line feed.
+    Length,
+    /// The input is at its end, and no line feed came.
+    Input,
+}
+
+/// Reads the next byte, or `None` at the end. It does not allocate.
+///
+/// # Errors
+///
+/// `Read`: the reader failed. It is not tried again.
+fn next_byte<R: Read>(reader: &mut R) -> Result<Option<u8>, TraceError>
+    ensures some { IfOk result (λ came. IfSome came (λ byte. Consumes (R.remaining reader.old) (R.remaining reader.new) (byte ∷ []))) }
+    ensures none { IfOk result (λ came. IsNone came
+        → Consumes (R.remaining reader.old) (R.remaining reader.new) [] × IsAtEnd (R.remaining reader.new)) }
+    ensures err { IfErr result (λ fault. fault ≡ TraceError.Read) }
+    ensures untaken { OnErr result (Consumes (R.remaining reader.old) (R.remaining reader.new) []) }
 {
-    let (line, rest) = cut(b'\n', text)?;
-    Some((line_of(line)?, rest))
+    let mut byte = [0; 1];
+    match reader.read(&mut byte) {
+        Ok(0) => Ok(None),
+        Ok(_) => Ok(Some(byte[0])),
+        Err(_) => Err(TraceError::Read),
+    }
+}
+
+/// Reads the bytes of the next line in place of those that are there: to its line feed, and at most 128 of them. A text may still
+/// have `left` bytes. It does not allocate.
+///
+/// # Errors
+///
+/// `Read`: the reader failed. `Limit`: there is a byte behind those that are left.
+fn read_line<R: Read>(
+    reader: &mut R,
+    bytes: &mut LineBytes,
+    left: usize,
+) -> Result<LineEnd, TraceError>
+    ensures taken { OnOk result (TakesBytes left (R.remaining reader.old) (R.remaining reader.new) bytes.new.items) }
+    ensures ended { IfOk result (λ end. EndsSo end bytes.new.items (R.remaining reader.new)) }
+    ensures failed { IfErr result (FailsWithin left (R.remaining reader.old) (R.remaining reader.new) bytes.new.items) }
+{
+    bytes.clear();
+    for _turn in 0..MAX_LINE {
+        let Some(byte) = next_byte(reader)? else {
+            return Ok(LineEnd::Input);
+        };
+        if bytes.len() >= left {
+            return Err(TraceError::Limit);
+        }
+        bytes.push(byte);
+        if byte == b'\n' {
+            return Ok(LineEnd::Feed);
+        }
+    }
+    Ok(LineEnd::Length)
+}
+
+/// Reads the next line, or answers `None` where what comes next is none: a line of another form, one of 128 bytes or more, or one
+/// that the end of the input cuts off. The bytes that were read are in the place of those that were there. A text may still have
+/// `left` bytes. It does not allocate, and the cost is linear in what it reads.
+///
+/// # Errors
+///
+/// `Read`: the reader failed. `Limit`: there is a byte behind those that are left.
+pub fn next_line<R: Read>(
+    reader: &mut R,
+    bytes: &mut LineBytes,
+    left: usize,
+) -> Result<Option<Line>, TraceError>
+    ensures taken { OnOk result (TakesBytes left (R.remaining reader.old) (R.remaining reader.new) bytes.new.items) }
+    ensures some { IfOk result (λ came. IfSome came (λ line. BeginsWith bytes.new.items line []
+        × EndsSo end.Feed bytes.new.items (R.remaining reader.new))) }
+    ensures none { IfOk result (λ came. IsNone came → HasNone bytes.new.items (R.remaining reader.new)) }
+    ensures failed { IfErr result (FailsWithin left (R.remaining reader.old) (R.remaining reader.new) bytes.new.items) }
+{
+    match read_line(reader, bytes, left)? {
+        LineEnd::Feed => Ok(line_of(&bytes[..bytes.len() - 1])),
+        LineEnd::Length | LineEnd::Input => Ok(None),
+    }
+}
+
+/// Returns whether the input is at its end, for which it reads one byte. A text may still have `left` bytes.
+///
+/// # Errors
+///
+/// `Read`: the reader failed. `Limit`: a byte came, and none is left.
+pub fn is_at_end<R: Read>(reader: &mut R, left: usize) -> Result<bool, TraceError>
+    ensures ended { IfOk result (λ ended. ended ≡ true
+        → Consumes (R.remaining reader.old) (R.remaining reader.new) [] × IsAtEnd (R.remaining reader.new)) }
+    ensures more { IfOk result (λ ended. ended ≡ false
+        → (1 ≤ left) × ((byte : ℕ) × Consumes (R.remaining reader.old) (R.remaining reader.new) (byte ∷ []))) }
+    ensures failed { IfErr result (FailsWithin left (R.remaining reader.old) (R.remaining reader.new) []) }
+{
+    match next_byte(reader)? {
+        None => Ok(true),
+        Some(_) if left == 0 => Err(TraceError::Limit),
+        Some(_) => Ok(false),
+    }
 }

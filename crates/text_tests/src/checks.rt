@@ -1,8 +1,7 @@
-use crate::helpers::{ONE_LOCK, TWO_LOCKS, gives, is_judged, is_valid, prints};
+//! What `check` finds wrong in a text.
+use crate::helpers::{ONE_LOCK, TWO_LOCKS, is_judged, is_valid, prints};
 use ra_trace::{Cause, TraceError, Verdict, check};
 use std::alloc::Global;
-use std::io;
-use std::io::Read;
 use std::process::Abort;
 
 /// A change of a text.
@@ -202,108 +201,6 @@ const NO_LINES: &[Case] = &[
 #[test]
 fn a_line_that_is_none_is_wrong_where_it_stands(rt: HostRuntime) {
     assert_wrong(&rt, NO_LINES, Cause::Line);
-}
-
-/// Gives one byte at a time. After so many reads it fails once, and then goes on.
-#[derive(Drop)]
-struct FailingReader<'a> {
-    bytes: &'a [u8],
-    before_fault: Option<usize>,
-}
-
-impl Read for FailingReader<'_> {
-    fn read(&mut self, buf: &mut [u8]) -> io::Result<usize> {
-        match self.before_fault {
-            Some(0) => {
-                self.before_fault = None;
-                return Err(io::ErrorKind::Interrupted.into());
-            }
-            Some(reads) => self.before_fault = Some(reads - 1),
-            None => {}
-        }
-        if self.bytes.is_empty() || buf.is_empty() {
-            return Ok(0);
-        }
-        buf[0] = self.bytes[0];
-        self.bytes = &self.bytes[1..];
-        Ok(1)
-    }
-}
-
-/// Returns whether what a reader gives is not checked, for this fault.
-fn fails<R: Read>(alloc: Global, reader: &mut R, wanted: TraceError) -> bool {
-    match check(alloc, reader) {
-        Ok(_) => false,
-        Err(fault) => fault == wanted,
-    }
-}
-
-/// Returns whether a reader that fails after so many reads has given so many bytes then, and no more.
-fn stops_after(alloc: Global, before_fault: usize) -> bool {
-    let mut reader = FailingReader {
-        bytes: ONE_LOCK.as_bytes(),
-        before_fault: Some(before_fault),
-    };
-    fails(alloc, &mut reader, TraceError::Read)
-        && ONE_LOCK.len().checked_sub(reader.bytes.len()) == Some(before_fault)
-}
-
-/// Returns whether a trace is read byte by byte.
-fn is_read_byte_by_byte(alloc: Global) -> bool {
-    let mut reader = FailingReader {
-        bytes: ONE_LOCK.as_bytes(),
-        before_fault: None,
-    };
-    let wanted = Verdict::Valid {
-        requests: 1,
-        messages: 2,
-    };
-    gives(alloc, &mut reader, wanted)
-}
-
-#[test]
-fn a_reader_that_failed_is_not_tried_again(rt: HostRuntime) {
-    for before_fault in 0..=ONE_LOCK.len() {
-        assert!(rt; stops_after(rt.alloc(), before_fault), "at {before_fault}");
-    }
-    assert!(rt; is_read_byte_by_byte(rt.alloc()));
-}
-
-/// Gives so many letters.
-#[derive(Drop)]
-struct Letters {
-    left: usize,
-}
-
-impl Read for Letters {
-    fn read(&mut self, buf: &mut [u8]) -> io::Result<usize> {
-        let count = self.left.min(buf.len());
-        buf[..count].fill(b'a');
-        self.left -= count;
-        Ok(count)
-    }
-}
-
-/// Returns whether a text of so many letters is read, and is no line.
-fn letters_are_read(alloc: Global, count: usize) -> bool {
-    let mut reader = Letters { left: count };
-    let wanted = Verdict::Invalid {
-        line: 1,
-        cause: Cause::Line,
-    };
-    gives(alloc, &mut reader, wanted)
-}
-
-/// Returns whether a text of so many letters is too long, and so many are left.
-fn letters_are_too_many(alloc: Global, count: usize, left: usize) -> bool {
-    let mut reader = Letters { left: count };
-    fails(alloc, &mut reader, TraceError::Limit) && reader.left == left
-}
-
-#[test]
-fn a_text_has_at_most_16777216_bytes(rt: HostRuntime) {
-    assert!(rt; letters_are_read(rt.alloc(), 16_777_216));
-    assert!(rt; letters_are_too_many(rt.alloc(), 16_777_218, 1));
 }
 
 #[test]

@@ -63,7 +63,7 @@ pub fn joined(alloc: Global, texts: &[&[u8]]) -> Option<Vec<u8>> {
 }
 
 /// Returns whether what a reader gives has this verdict.
-pub fn gives<R: Read>(alloc: Global, reader: &mut R, wanted: Verdict) -> bool {
+fn gives<R: Read>(alloc: Global, reader: &mut R, wanted: Verdict) -> bool {
     match check(alloc, reader) {
         Ok(verdict) => verdict == wanted,
         Err(_) => false,

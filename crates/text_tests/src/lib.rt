@@ -6,6 +6,8 @@ mod checks;
 #[cfg(test)]
 mod helpers;
 #[cfg(test)]
+mod readers;
+#[cfg(test)]
 mod scripts;
 #[cfg(test)]
 mod traces;

@@ -1,0 +1,52 @@
+use Rattle.std.proofs.Common.{◌≡◌, ◌≤◌, ℕ, Bool, true, false, List, length, Option, Some, None, inl, inr, arith, refl, subst, ◌∙◌}
+use Rattle.std.specs.Prelude.{IfSome}
+use Rattle.std.specs.Io.KnownBytes.{Consumes, Appends}
+use Rattle.ra_trace.specs.declared.verdict.Verdict.{Verdict}
+use Rattle.ra_trace.specs.declared.verdict.Verdict.TheVariants.{Valid, Invalid}
+use Rattle.ra_trace.specs.Verdict.{IsVerdict}
+use Rattle.ra_cli.specs.Checks.{Checks, is_valid, verdict_text}
+use Rattle.ra_cli.proofs.serving.judge.Goals as goal
+
+-- what is valid was read to its end
+read_to_end : (limit : ℕ) (input : List ℕ) (new : Option (List ℕ)) (verdict : Verdict) (valid : Bool)
+    → ((requests messages : ℕ) → verdict ≡ Valid requests messages → (length input ≤ limit) × Consumes (Some input) new input)
+    → is_valid verdict ≡ valid → valid ≡ true → Consumes (Some input) new input
+read_to_end limit input new (Valid requests messages) valid whole same is = (whole requests messages refl).1
+read_to_end limit input new (Invalid line why) valid whole same is = absurd cc
+
+checks : (limit : ℕ) (old new before after : Option (List ℕ)) (verdict : Verdict) (valid : Bool)
+    → IfSome old (λ input. IsVerdict input verdict)
+    → IfSome old (λ input. (requests messages : ℕ) → verdict ≡ Valid requests messages → (length input ≤ limit) × Consumes old new input)
+    → (taken : List ℕ) × IsVerdict taken verdict × (length taken ≤ limit) × Consumes old new taken
+    → is_valid verdict ≡ valid → Appends before after (verdict_text verdict) → Checks old new before after valid
+checks limit None new before after verdict valid ok whole alone same out = (tt, (alone.0, verdict, alone.1, same, out))
+checks limit (Some input) new before after verdict valid ok whole alone same out = (
+  (verdict, ok, same, (alone.0, alone.3), λ is. read_to_end limit input new verdict valid whole same is, out),
+  (alone.0, verdict, alone.1, same, out),
+)
+
+pub returns-in-Ok-verdict_text-clause-valid : goal.returns-in-Ok-verdict_text-clause-valid
+returns-in-Ok-verdict_text-clause-valid g c is =
+    let before = g.W.Write.contents c.args.writer.now in
+    let after = g.W.Write.contents c.written.new.writer in
+    elim c.written.ensures.value [
+      | inl all ↦ elim c.status_of.ensures [
+        | inl status ↦ checks 16777216 (g.R.Read.remaining c.args.reader.now) (g.R.Read.remaining c.check.new.reader) before after c.in-Ok.verdict true c.in-Ok.ensures.ok
+            c.in-Ok.ensures.valid c.in-Ok.ensures.alone status.1 (subst (Appends before after) (c.as_bytes.ensures.value ∙ c.in-Ok-verdict_text.ensures) all.1)
+        | inr status ↦ absurd (omega (arith, all.0, status.0, is))
+      ]
+      | inr front ↦ absurd (omega (arith, front.0, is))
+    ]
+
+pub returns-in-Ok-verdict_text-clause-invalid : goal.returns-in-Ok-verdict_text-clause-invalid
+returns-in-Ok-verdict_text-clause-invalid g c is =
+    let before = g.W.Write.contents c.args.writer.now in
+    let after = g.W.Write.contents c.written.new.writer in
+    elim c.written.ensures.value [
+      | inl all ↦ elim c.status_of.ensures [
+        | inl status ↦ absurd (omega (arith, all.0, status.0, is))
+        | inr status ↦ checks 16777216 (g.R.Read.remaining c.args.reader.now) (g.R.Read.remaining c.check.new.reader) before after c.in-Ok.verdict false c.in-Ok.ensures.ok
+            c.in-Ok.ensures.valid c.in-Ok.ensures.alone status.1 (subst (Appends before after) (c.as_bytes.ensures.value ∙ c.in-Ok-verdict_text.ensures) all.1)
+      ]
+      | inr front ↦ absurd (omega (arith, front.0, is))
+    ]

@@ -1,0 +1,55 @@
+-- What is read of the next line. No public contract speaks of it.
+use Rattle.std.specs.Prelude.{◌≡◌, ◌≢◌, ◌⊎◌, ℕ, ◌≤◌, List, [], ◌∷◌, ◌++◌, All, Option, Result, Ok, Err, length}
+use Rattle.std.specs.Io.KnownBytes.{Consumes, IsAtEnd}
+use Rattle.ra_world.specs.Quiet.{requests_in}
+use Rattle.ra_world.specs.Run.{marks_of}
+use Rattle.ra_world.specs.Traffic.{sent_by}
+use Rattle.ra_trace.specs.declared.error.TraceError.{TraceError}
+use Rattle.ra_trace.specs.declared.error.TraceError.TheVariants.{Read, Limit, Memory}
+use Rattle.ra_trace.specs.declared.checker.Checker.{Checker}
+use Rattle.ra_trace.specs.declared.line.Line.{Line}
+use Rattle.ra_trace.specs.declared.verdict.Cause.TheVariants as cause
+use Rattle.ra_trace.specs.declared.verdict.Verdict.{Verdict}
+use Rattle.ra_trace.specs.declared.verdict.Verdict.TheVariants.{Valid, Invalid}
+use Rattle.ra_trace.specs.declared.reading.LineEnd.{LineEnd}
+use Rattle.ra_trace.specs.declared.reading.LineEnd.TheVariants.{Feed, Length, Input}
+use Rattle.ra_trace.specs.TraceText.{BeginsWith}
+use Rattle.ra_trace.specs.Reading.{IsOpenLine}
+
+-- the bytes end so
+abbrev pub EndsSo : LineEnd → List ℕ → Option (List ℕ) → Type 0
+EndsSo Feed bytes new = (before : List ℕ) × IsOpenLine before × (bytes ≡ before ++ 10 ∷ [])
+EndsSo Length bytes new = All (λ byte. byte ≢ 10) bytes × (length bytes ≡ 128)
+EndsSo Input bytes new = IsOpenLine bytes × IsAtEnd new
+
+-- these bytes were taken, of as many as the text may still have
+abbrev pub TakesBytes : ℕ → Option (List ℕ) → Option (List ℕ) → List ℕ → Type 0
+TakesBytes left old new bytes = Consumes old new bytes × (length bytes ≤ left)
+
+-- the reader failed, or one byte more came than the text may still have, before the line was over
+abbrev pub FailsWithin : ℕ → Option (List ℕ) → Option (List ℕ) → List ℕ → TraceError → Type 0
+FailsWithin left old new bytes Read = TakesBytes left old new bytes × IsOpenLine bytes
+FailsWithin left old new bytes Limit =
+    (byte : ℕ) × Consumes old new (bytes ++ byte ∷ []) × (length bytes ≡ left) × IsOpenLine bytes
+FailsWithin left old new bytes Memory = ⊥
+
+-- one byte with which a line is over
+abbrev pub IsOverLine : List ℕ → Type 0
+IsOverLine bytes =
+    (before : List ℕ) × (byte : ℕ) × IsOpenLine before × (bytes ≡ before ++ byte ∷ []) × ((byte ≡ 10) ⊎ (length bytes ≡ 128))
+
+-- no line begins them, and none will whatever comes behind them
+abbrev pub HasNone : List ℕ → Option (List ℕ) → Type 0
+HasNone bytes new =
+    ((line : Line) (rest : List ℕ) → BeginsWith bytes line rest → ⊥) × (IsOverLine bytes ⊎ (IsOpenLine bytes × IsAtEnd new))
+
+-- What stands behind the last line of a trace whose run the checker knows: nothing, or one byte, with which the line of this number
+-- would begin.
+abbrev pub EndsText : ℕ → Option (List ℕ) → Option (List ℕ) → Checker → ℕ → Result Verdict TraceError → Type 0
+EndsText left old new checker number (Ok (Valid requests messages)) =
+    Consumes old new [] × IsAtEnd new × (requests ≡ requests_in (marks_of checker.world.moves)) × (messages ≡ length (sent_by checker.world.moves))
+EndsText left old new checker number (Ok (Invalid line why)) =
+    (byte : ℕ) × (1 ≤ left) × Consumes old new (byte ∷ []) × (line ≡ number) × (why ≡ cause.Line)
+EndsText left old new checker number (Err Read) = FailsWithin left old new [] Read
+EndsText left old new checker number (Err Limit) = FailsWithin left old new [] Limit
+EndsText left old new checker number (Err Memory) = Consumes old new []
