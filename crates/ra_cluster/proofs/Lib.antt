@@ -19,8 +19,17 @@ mod NodeSends
 mod Grants
 mod Clusters
 mod SettledReport
+mod Causes
 mod Holding
 mod Ordered
 mod Planned
+mod LockCounts
 mod Faults
 mod Truth
+mod Distinct
+mod Unsent
+mod Happened
+mod Deliveries
+mod LossesApart
+mod SentApart
+mod BooksFit

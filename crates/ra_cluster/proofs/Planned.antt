@@ -237,7 +237,7 @@ filter_some p (x ∷ xs) (suc k) d less is none =
       | inr drops ↦ filter_some p xs k d (omega arith) is (sym (skip_filter p x xs drops) ∙ none)
     ]
 
-filter_none : {X : Type 0} (p : X → Bool) (xs : List X) → ((k : ℕ) (d : X) → k < length xs → p (get_or xs k d) ≡ false) → filter p xs ≡ []
+pub filter_none : {X : Type 0} (p : X → Bool) (xs : List X) → ((k : ℕ) (d : X) → k < length xs → p (get_or xs k d) ≡ false) → filter p xs ≡ []
 filter_none p [] none = refl
 filter_none p (x ∷ xs) none =
     skip_filter p x xs (none 0 x (omega arith)) ∙ filter_none p xs (λ k d less. none (suc k) d (omega (arith, less)))

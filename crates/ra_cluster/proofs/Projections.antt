@@ -5,7 +5,7 @@ use Rattle.std.specs.List.{filter, flat_map}
 use Rattle.std.specs.List.Sorted.{IsPermutation}
 use Rattle.std.proofs.lemmas.Bool.{eq-eqb}
 use Rattle.std.proofs.lemmas.List.{map-append, append-nil, get_or-map, length-map}
-use Rattle.std.proofs.lemmas.List.Elements.{All-head, All-tail, All-map, All-contains}
+use Rattle.std.proofs.lemmas.List.Elements.{All-head, All-tail, All-map, All-weaker, All-contains}
 use Rattle.std.proofs.lemmas.List.Concat.{flat_map-append}
 use Rattle.std.proofs.lemmas.List.Sorted.{IsPermutation-refl}
 use Rattle.ra_stamp.specs.declared.message.Message.{Message}
@@ -43,7 +43,7 @@ lost_by_steps (m ∷ moves) = ap (λ (ms : List Message). lost_in m.step ++ ms) 
 
 -- ---- The losses
 
-nothing_by_losses : (i : ℕ) (ms : List Message) → flat_map (events_at i) (map (λ m. Lose m) ms) ≡ []
+pub nothing_by_losses : (i : ℕ) (ms : List Message) → flat_map (events_at i) (map (λ m. Lose m) ms) ≡ []
 nothing_by_losses i [] = refl
 nothing_by_losses i (m ∷ ms) = nothing_by_losses i ms
 
@@ -73,7 +73,7 @@ one_event i node (Asked client name mode) h = refl
 one_event i node (Gave client name) h = refl
 one_event i node (Got frame) h = ap (λ (n : ℕ). cond (eqb n i) (Received frame.message ∷ []) []) h
 
-projected : (i : ℕ) (placed : List Placed) → All (λ p. IsAddressed p.node p.event.kind) placed → flat_map (events_at i) (steps_of placed) ≡ map (λ e. node_event e.kind) (events_of i placed)
+pub projected : (i : ℕ) (placed : List Placed) → All (λ p. IsAddressed p.node p.event.kind) placed → flat_map (events_at i) (steps_of placed) ≡ map (λ e. node_event e.kind) (events_of i placed)
 projected i [] h = refl
 projected i (p ∷ placed) h =
     (λ j. one_event i p.node p.event.kind (All-head (λ p. IsAddressed p.node p.event.kind) p placed h) j ++ projected i placed (All-tail (λ p. IsAddressed p.node p.event.kind) p placed h) j)
@@ -115,8 +115,10 @@ among (p ∷ placed) (suc k) d low = by_test (eqb p.node (get_or placed k d).nod
     by_test true rest is = (suc is.0, omega (arith, is.1), is.2)
     by_test false rest is = is
 
-pub all_addressed : (books : List BookState) (placed : List Placed) → IsCluster books → All HasHistory books → IsSettledOrder books placed → All (λ p. IsAddressed p.node p.event.kind) placed
-all_addressed books placed cluster histories order k d low =
+-- what holds of the events of each book holds in the order
+pub all_placed : (P : ℕ → BookEvent → Type 0) (books : List BookState) (placed : List Placed) → IsCluster books → IsSettledOrder books placed
+    → ((k : ℕ) (d : BookState) → k < length books → All (P (get_or books k d).me) (get_or books k d).events) → All (λ p. P p.node p.event) placed
+all_placed P books placed cluster order each k d low =
     let p = get_or placed k d in
     let node = order.no_others k d low in
     let place : p.node - 1 < length books = omega (arith, node.0, node.1) in
@@ -126,10 +128,14 @@ all_addressed books placed cluster histories order k d low =
     let here : Contains b.events p.event =
     subst (λ (events : List BookEvent). Contains events p.event) (ap (λ (i : ℕ). events_of i placed) (sym me) ∙ order.each (p.node - 1) e place) (among placed k d low)
     in
-    let for : IsForThisNode (opening_node b.me b.nodes b.start) (node_event p.event.kind) =
-    All-contains (λ e. IsForThisNode (opening_node b.me b.nodes b.start) (node_event e.kind)) b.events p.event (for_this_node b (histories (p.node - 1) e place)) here
-    in
-    subst (λ (i : ℕ). IsAddressed i p.event.kind) me (addressed b p.event.kind for)
+    subst (λ (i : ℕ). P i p.event) me (All-contains (P b.me) b.events p.event (each (p.node - 1) e place) here)
+
+pub all_addressed : (books : List BookState) (placed : List Placed) → IsCluster books → All HasHistory books → IsSettledOrder books placed → All (λ p. IsAddressed p.node p.event.kind) placed
+all_addressed books placed cluster histories order =
+    all_placed (λ i e. IsAddressed i e.kind) books placed cluster order
+    (λ k d low.
+    let b = get_or books k d in
+    All-weaker (λ e. IsForThisNode (opening_node b.me b.nodes b.start) (node_event e.kind)) (λ e. IsAddressed b.me e.kind) (λ e. addressed b e.kind) b.events (for_this_node b (histories k d low)))
 
 -- ---- The settled run
 

@@ -6,27 +6,48 @@ use Rattle.std.proofs.lemmas.List.Elements.{All-weaker}
 use Rattle.ra_stamp.specs.declared.entry.Entry.{Entry}
 use Rattle.ra_stamp.specs.declared.entry.Mark.{Mark}
 use Rattle.ra_stamp.specs.declared.entry.Mark.TheVariants.{Entered}
+use Rattle.ra_stamp.specs.NodeId.{IsNodeNumber}
 use Rattle.ra_world.specs.declared.step.Step.{Step}
 use Rattle.ra_world.specs.declared.report.Report.{Report}
 use Rattle.ra_world.specs.Traffic.{Move}
-use Rattle.ra_world.specs.Run.{IsRun, marks_of}
+use Rattle.ra_world.specs.Run.{IsRun, WorldRun, marks_of}
 use Rattle.ra_world.specs.World.{Reports}
 use Rattle.ra_cluster.specs.declared.grant.Grant.{Grant}
 use Rattle.ra_cluster.specs.Book.{BookState, HasHistory}
 use Rattle.ra_cluster.specs.Settled.{IsCluster, IsSettledOrder, IsSettledRun, IsGranted, Placed, settled_steps, start_of}
+use Rattle.ra_cluster.proofs.BooksFit.{node_count}
 
 -- a run of these steps
 abbrev pub HasRun : ℕ → ℕ → List Step → Report → Type 0
 HasRun n start steps report = (moves : List Move) × (map (λ move. move.step) moves ≡ steps) × IsRun n start moves × Reports n start moves report
 
+-- the first book has the number of the books and their start
+same_count : (books : List BookState) (b : BookState) (n : ℕ) → IsCluster books → b ≡ get_or books 0 b → n ≡ b.nodes → n ≡ length books
+same_count books b n cluster is nodes =
+    let some : 1 ≤ length books = cluster.some in
+    nodes ∙ ap (λ (x : BookState). x.nodes) is ∙ cluster.one_count 0 b (omega arith)
+
+same_start : (books : List BookState) (b : BookState) (start : ℕ) → IsCluster books → b ≡ get_or books 0 b → start ≡ b.start → start ≡ start_of books
+same_start books b start cluster is starts =
+    let some : 1 ≤ length books = cluster.some in
+    starts ∙ ap (λ (x : BookState). x.start) is ∙ cluster.one_start 0 b (omega arith)
+
 -- the same, with the number of the books and their start
 pub run_of_all : (books : List BookState) (b : BookState) (n start : ℕ) (steps : List Step) (report : Report) → IsCluster books → b ≡ get_or books 0 b → n ≡ b.nodes → start ≡ b.start
     → HasRun n start steps report → HasRun (length books) (start_of books) steps report
 run_of_all books b n start steps report cluster is nodes starts has =
-    let some : 1 ≤ length books = cluster.some in
-    let count : n ≡ length books = nodes ∙ ap (λ (x : BookState). x.nodes) is ∙ cluster.one_count 0 b (omega arith) in
-    let first : start ≡ start_of books = starts ∙ ap (λ (x : BookState). x.start) is ∙ cluster.one_start 0 b (omega arith) in
-    subst (λ (n : ℕ). HasRun n (start_of books) steps report) count (subst (λ (s : ℕ). HasRun n s steps report) first has)
+    subst (λ (n : ℕ). HasRun n (start_of books) steps report) (same_count books b n cluster is nodes)
+    (subst (λ (s : ℕ). HasRun n s steps report) (same_start books b start cluster is starts) has)
+
+-- the steps of books that fit together are not refused, with the number of nodes and the start of the first one
+pub never_refused : (books : List BookState) (b : BookState) (n start : ℕ) (placed : List Placed) (steps : List Step) → IsCluster books → All HasHistory books → b ≡ get_or books 0 b → n ≡ b.nodes → start ≡ b.start
+    → steps ≡ settled_steps books placed → WorldRun (length books) (start_of books) (settled_steps books placed) → IsNodeNumber n × WorldRun n start steps
+never_refused books b n start placed steps cluster histories is nodes starts are runs = (
+  subst IsNodeNumber (sym (same_count books b n cluster is nodes)) (node_count books cluster histories),
+  subst (λ (m : ℕ). WorldRun m start steps) (sym (same_count books b n cluster is nodes))
+      (subst (λ (s : ℕ). WorldRun (length books) s steps) (sym (same_start books b start cluster is starts))
+      (subst (λ (ss : List Step). WorldRun (length books) (start_of books) ss) (sym are) runs)),
+)
 
 -- where all books start at 0, so does the cluster
 pub from_zero : (books : List BookState) → 1 ≤ length books → All (λ b. b.start ≡ 0) books → start_of books ≡ 0

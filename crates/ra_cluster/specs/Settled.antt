@@ -135,3 +135,7 @@ HasUnsent books = Any (λ f. WasSent books f → ⊥) (all_received books)
 -- a message came twice
 abbrev pub HasTwice : List BookState → Type 0
 HasTwice books = Repeats (map (λ f. f.message) (all_received books))
+
+-- each frame that came was sent and is not flagged lost, and no message came twice
+abbrev pub BooksFit : List BookState → Type 0
+BooksFit books = (HasUnsent books → ⊥) × (HasTwice books → ⊥)

@@ -1,10 +1,10 @@
-ghost use Rattle.std.specs.Prelude.{◌≡◌, ◌↔◌, ℕ, ◌≤◌, ◌<◌, ◌+◌, List, map, IsErrOf, IfOk, IfSome, vec_len, length};
+ghost use Rattle.std.specs.Prelude.{◌≡◌, ◌↔◌, ℕ, ◌≤◌, ◌<◌, ◌+◌, ◌-◌, ◌*◌, List, map, IsErrOf, IfOk, IfSome, vec_len, length};
 ghost use Rattle.ra_world.specs.Traffic.{Move};
 ghost use Rattle.ra_world.specs.Run.{IsRun};
 ghost use Rattle.ra_world.specs.World.{Reports};
 ghost use Rattle.ra_world.specs.MainTheorem.{MainTheorem};
 ghost use Rattle.ra_cluster.specs.Order.{IsOutOfOrder, IsUnreleased};
-ghost use Rattle.ra_cluster.specs.Plan.{MeetsPlan, IsQuietEnd};
+ghost use Rattle.ra_cluster.specs.Plan.{MeetsPlan, IsQuietEnd, locks_of};
 
 use crate::order::check_script;
 use crate::outcome::settle_script;
@@ -58,7 +58,8 @@ impl From<Memory> for ClusterError {
 
 /// Runs a script by threads: one for each node and one for each client, whose operations it does one after the other at the
 /// client's site. Once the threads of the clients have ended, the post is closed; once those of the nodes have ended, the books
-/// settle. The numbers begin at 0.
+/// settle. The numbers begin at 0. Where it is Ok, nobody waits or is queued, no message was lost or is under way, there are as many
+/// requests as locks in the script, and with N nodes 2(N-1) times as many messages.
 ///
 /// Nothing bounds how long the threads wait. Each client takes its names in ascending order and holds none at its end, since
 /// clients that take names in different orders can wait for each other for ever.
@@ -94,6 +95,11 @@ pub fn run_cluster<R: Threads + Wait + Sync, G: Gate>(
     ensures main_theorem { IfOk result (λ settled. MainTheorem script.now.nodes settled.report) }
     ensures plan { IfOk result (λ settled. MeetsPlan script.now settled.report.marks.items) }
     ensures ended { IfOk result (λ settled. IsQuietEnd settled.report) }
+    // Nobody waits, each lock of the script was requested, and two messages to or from each other node were sent for each.
+    ensures none_waits { IfOk result (λ settled. settled.report.waiting ≡ 0) }
+    ensures requests { IfOk result (λ settled. settled.report.requests ≡ locks_of script.now) }
+    ensures count { IfOk result (λ settled. settled.report.sent
+        ≡ 2 * (script.now.nodes - 1) * locks_of script.now) }
 {
     check_script(script)?;
     let sites = make_sites(alloc, script.nodes())?;

@@ -76,8 +76,7 @@ pub enum MarkLostError {
 /// Why books did not settle, in the order in which the causes are looked for.
 #[derive(Clone, Copy, Debug, PartialEq, Eq, Error)]
 pub enum SettleError {
-    /// A frame came that is not among the frames that its sender sent and that were not lost; or, which is looked for after
-    /// `Twice`, the steps are refused as a run.
+    /// A frame came that is not among the frames that its sender sent and that were not lost.
     #[error("NotSent")]
     NotSent,
     /// A message came twice.

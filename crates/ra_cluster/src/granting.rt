@@ -30,6 +30,7 @@ pub fn check_grants(alloc: Global, grants: &[Grant], marks: &[Mark]) -> Result<(
     ensures twice { IsErrOf result SettleError.GrantTwice → Repeats grants.now
         × All (λ g. Contains marks.now (Mark.Entered g.entry)) grants.now }
     ensures no_message { IsErrOf result SettleError.Twice → ⊥ }
+    ensures no_frame { IsErrOf result SettleError.NotSent → ⊥ }
 {
     let entered = entered_by(alloc, marks)?;
     for grant in grants {
@@ -59,6 +60,7 @@ fn check_once(alloc: Global, grants: &[Grant]) -> Result<(), SettleError>
     ensures twice { IsErrOf result SettleError.GrantTwice → Repeats grants.now }
     ensures not_missing { IsErrOf result SettleError.GrantMissing → ⊥ }
     ensures no_message { IsErrOf result SettleError.Twice → ⊥ }
+    ensures no_frame { IsErrOf result SettleError.NotSent → ⊥ }
 {
     let mut seen = BTreeSet::new(alloc);
     for grant in grants {

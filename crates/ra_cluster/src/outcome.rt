@@ -1,10 +1,10 @@
 //! What comes of a script that threads did.
-ghost use Rattle.std.specs.Prelude.{◌≡◌, ◌≢◌, ◌↔◌, ℕ, List, All, Some, map, length, IsTrue, IsErrOf, IsOk, IfOk};
+ghost use Rattle.std.specs.Prelude.{◌≡◌, ◌≢◌, ◌↔◌, ℕ, ◌-◌, ◌*◌, List, All, Some, map, length, IsTrue, IsErrOf, IsOk, IfOk};
 ghost use Rattle.ra_world.specs.Traffic.{Move};
 ghost use Rattle.ra_world.specs.Run.{IsRun};
 ghost use Rattle.ra_world.specs.World.{Reports};
 ghost use Rattle.ra_world.specs.MainTheorem.{MainTheorem};
-ghost use Rattle.ra_cluster.specs.Plan.{MeetsPlan, IsQuietEnd};
+ghost use Rattle.ra_cluster.specs.Plan.{MeetsPlan, IsQuietEnd, locks_of};
 ghost use Rattle.ra_cluster.specs.Outcome as spec;
 
 use crate::plan::meets_plan;
@@ -13,8 +13,10 @@ use ra_schedule::Script;
 use ra_world::Report;
 use std::alloc::Global;
 
-/// Settles the books of the nodes that did a script, with what its clients were granted, and checks that the script was brought to
-/// its end. The cost is that of `settle` and beside it, for each client, linear in the number of marks.
+/// Settles the books of the nodes that did a script, with what its clients were granted, and checks that the script was brought
+/// to its end. Then nobody waits or is queued, no message was lost or is under way, there are as many requests as locks in the
+/// script, and with N nodes 2(N-1) times as many messages. The cost is that of `settle` and beside it, for each client, linear
+/// in the number of marks.
 ///
 /// # Errors
 ///
@@ -39,6 +41,11 @@ pub fn settle_script(
     ensures main_theorem { IfOk result (λ settled. MainTheorem script.now.nodes settled.report) }
     ensures plan { IfOk result (λ settled. MeetsPlan script.now settled.report.marks.items) }
     ensures ended { IfOk result (λ settled. IsQuietEnd settled.report) }
+    // Nobody waits, each lock of the script was requested, and two messages to or from each other node were sent for each.
+    ensures none_waits { IfOk result (λ settled. settled.report.waiting ≡ 0) }
+    ensures requests { IfOk result (λ settled. settled.report.requests ≡ locks_of script.now) }
+    ensures count { IfOk result (λ settled. settled.report.sent
+        ≡ 2 * (script.now.nodes - 1) * locks_of script.now) }
     ensures fault { (stop : Stop) → IsErrOf result (ClusterError.Fault stop) ↔ (spec.first_fault books.now ≡ Some stop) }
     ensures in_order { IsErrOf result ClusterError.OutOfOrder → ⊥ }
     ensures released { IsErrOf result ClusterError.Unreleased → ⊥ }

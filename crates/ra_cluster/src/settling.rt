@@ -1,16 +1,17 @@
-ghost use Rattle.std.specs.Prelude.{◌≡◌, ◌≢◌, ◌↔◌, ◌⊎◌, ℕ, ◌+◌, List, All, AllPairs, map, length, IsTrue, IsErrOf, IfOk, OnOk};
+ghost use Rattle.std.specs.Prelude.{◌≡◌, ◌≢◌, ◌↔◌, ◌⊎◌, ℕ, ◌+◌, List, All, AllPairs, map, length, IsTrue, IsErrOf, IsOkUnless, IfOk, OnOk};
 ghost use Rattle.std.specs.List.{Any};
 ghost use Rattle.ra_world.specs.Traffic.{Move};
 ghost use Rattle.ra_world.specs.World.{Reports};
 ghost use Rattle.ra_world.specs.MainTheorem.{MainTheorem};
-ghost use Rattle.ra_cluster.specs.Settled.{IsCluster, IsSettledOrder, IsSettledRun, Placed, settled_steps, start_of, IsGranted, HasUnsent, HasTwice, Repeats};
+ghost use Rattle.ra_cluster.specs.Settled.{IsCluster, IsSettledOrder, IsSettledRun, Placed, settled_steps, start_of, IsGranted, HasUnsent, HasTwice, BooksFit, Repeats};
 
 use crate::granting::check_grants;
 use crate::losses::push_losses;
 use crate::ordering::steps_in_order;
 use crate::receipts::check_received;
 use crate::settled_runs::{
-    grants_of_settled_runs_are_in_the_books, settled_steps_make_settled_runs,
+    books_that_fit_together_settle, grants_of_settled_runs_are_in_the_books,
+    settled_steps_make_settled_runs,
 };
 use crate::{Book, Grant, SettleError, Settled};
 use ra_world::{RunError, run};
@@ -43,12 +44,13 @@ fn is_member(book: &Book, place: usize, count: usize, start: u64) -> bool
     number - 1 == place && usize::from(book.nodes()) == count && book.start() == start
 }
 
-/// Settles the books of a cluster into one run of it: the events of all books by clock, and those of one clock by node, and
-/// then the loss of each frame that is flagged lost, by node and then in order of sending. So what [`run`] says of its steps
-/// holds of what happened at the nodes. With n events and frames sent, m grants and k books the cost is that of the run, and
-/// n log n, m log m and k n beside it. That of the run is linear in n, on average. Where there was no memory to know the
-/// clients of a long queue, each ask looks through its name's queue, too; and where there was none to know where each message under
-/// way stands, each frame that came looks through those under way.
+/// Settles the books of a cluster into one run of it: the events of all books by clock, and those of one clock by node, and then
+/// the loss of each frame that is flagged lost, by node and then in order of sending. So what [`run`] says of its steps holds of
+/// what happened at the nodes. Books settle, memory aside, exactly where none of the first four errors below holds. With n
+/// events and frames sent, m grants and k books the cost is that of the run, and n log n, m log m and k n beside it. That of the
+/// run is linear in n, on average. Where there was no memory to know the clients of a long queue, each ask looks through its
+/// name's queue, too; and where there was none to know where each message under way stands, each frame that came looks through
+/// those under way.
 ///
 /// # Errors
 ///
@@ -57,10 +59,9 @@ fn is_member(book: &Book, place: usize, count: usize, start: u64) -> bool
 /// 1. `NotSent`: a frame came, with this clock and message, that is not among the frames that its sender sent and that are not
 ///    flagged lost.
 /// 2. `Twice`: a message came twice.
-/// 3. `NotSent` again: [`run`] refuses the steps, which is not yet shown never to happen.
-/// 4. `GrantMissing`: the entry of a grant has no Entered mark in its node's book.
-/// 5. `GrantTwice`: two grants are equal.
-/// 6. `Memory`, which may come before any of them.
+/// 3. `GrantMissing`: the entry of a grant has no Entered mark in its node's book.
+/// 4. `GrantTwice`: two grants are equal.
+/// 5. `Memory`, which may come before any of them.
 pub fn settle(alloc: Global, books: &[Book], grants: &[Grant]) -> Result<Settled, SettleError>
     requires { IsCluster books.now }
     // The steps are a settled run, and the report is that of the run.
@@ -70,29 +71,51 @@ pub fn settle(alloc: Global, books: &[Book], grants: &[Grant]) -> Result<Settled
     ensures main_theorem { IfOk result (λ settled. MainTheorem (length books.now) settled.report) }
     ensures steps { IfOk result (λ settled. (placed : List Placed) × IsSettledOrder books.now placed
         × (settled.steps.items ≡ settled_steps books.now placed)) }
+    ensures fit { OnOk result (BooksFit books.now) }
     ensures granted { OnOk result (All (λ grant. IsGranted books.now grant.entry) grants.now) }
     ensures once { OnOk result (AllPairs (λ a b. a ≢ b) grants.now) }
-    // Want of memory may come before any other refusal.
-    ensures not_sent { HasUnsent books.now → IsErrOf result SettleError.NotSent ⊎ IsErrOf result SettleError.Memory }
+    // Each refusal comes where its cause stands.
+    ensures not_sent { IsErrOf result SettleError.NotSent → HasUnsent books.now }
     ensures twice { IsErrOf result SettleError.Twice → HasTwice books.now × (HasUnsent books.now → ⊥) }
-    ensures found_twice { HasTwice books.now → IsErrOf result SettleError.NotSent ⊎ IsErrOf result SettleError.Twice
-        ⊎ IsErrOf result SettleError.Memory }
-    ensures missing { IsErrOf result SettleError.GrantMissing
-        → Any (λ grant. IsGranted books.now grant.entry → ⊥) grants.now }
-    ensures grant_twice { IsErrOf result SettleError.GrantTwice → Repeats grants.now
+    ensures missing { IsErrOf result SettleError.GrantMissing → BooksFit books.now
+        × Any (λ grant. IsGranted books.now grant.entry → ⊥) grants.now }
+    ensures grant_twice { IsErrOf result SettleError.GrantTwice → BooksFit books.now × Repeats grants.now
         × All (λ grant. IsGranted books.now grant.entry) grants.now }
+    // And where its cause stands it comes, but that want of memory may come before it.
+    ensures found_unsent { HasUnsent books.now → IsErrOf result SettleError.NotSent ⊎ IsErrOf result SettleError.Memory }
+    ensures found_twice { HasTwice books.now → (HasUnsent books.now → ⊥)
+        → IsErrOf result SettleError.Twice ⊎ IsErrOf result SettleError.Memory }
+    ensures found_missing { BooksFit books.now → Any (λ grant. IsGranted books.now grant.entry → ⊥) grants.now
+        → IsErrOf result SettleError.GrantMissing ⊎ IsErrOf result SettleError.Memory }
+    ensures found_grant_twice { BooksFit books.now → Repeats grants.now
+        → All (λ grant. IsGranted books.now grant.entry) grants.now
+        → IsErrOf result SettleError.GrantTwice ⊎ IsErrOf result SettleError.Memory }
+    ensures settles { BooksFit books.now → All (λ grant. IsGranted books.now grant.entry) grants.now
+        → AllPairs (λ a b. a ≢ b) grants.now → IsOkUnless result SettleError.Memory }
 {
     settled_steps_make_settled_runs();
     grants_of_settled_runs_are_in_the_books();
+    books_that_fit_together_settle();
     check_received(alloc, books)?;
     let mut steps = steps_in_order(alloc, books)?;
     push_losses(&mut steps, books)?;
     let first = &books[0];
     let report = match run(alloc, first.nodes(), first.start(), &steps) {
         Ok(report) => report,
-        Err(RunError::Memory) => return Err(SettleError::Memory),
-        Err(_) => return Err(SettleError::NotSent),
+        Err(refused) => return Err(refusal_of(refused)),
     };
     check_grants(alloc, grants, report.marks.as_slice())?;
     Ok(Settled { steps, report })
+}
+
+/// Returns why books do not settle where their run is refused. That of books which fit together is refused for want of memory
+/// alone, so that `settle` never has `NotSent` from here.
+fn refusal_of(refused: RunError) -> SettleError
+    ensures memory { refused ≡ RunError.Memory → result ≡ SettleError.Memory }
+    ensures not_sent { refused ≢ RunError.Memory → result ≡ SettleError.NotSent }
+{
+    match refused {
+        RunError::Memory => SettleError::Memory,
+        RunError::BadCount | RunError::Refused { .. } => SettleError::NotSent,
+    }
 }
