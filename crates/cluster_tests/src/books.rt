@@ -15,7 +15,7 @@ use ra_stamp::{Entry, Mark, Message, Mode, Name, NodeId};
 use std::alloc::Global;
 
 /// A REQUEST of number 1 from node 1 to node 2 for `r`, exclusively, at clock 1.
-const ASKS: [u8; 23] = [
+pub const ASKS: [u8; 23] = [
     1, 1, 1, 2, 1, 0, 0, 0, 0, 0, 0, 0, 1, 0, 0, 0, 0, 0, 0, 0, 1, 1, b'r',
 ];
 

@@ -293,7 +293,16 @@ fn gates_stop<R: Threads + Wait + Abort + Sync>(rt: &R, alloc: Global) -> bool {
     }
 }
 
+/// Returns whether two writers of as many nodes are stopped by a gate that lets nobody be inside.
+fn stops_inside<R: Threads + Wait + Abort + Sync>(rt: &R, alloc: Global) -> bool {
+    match script_of(alloc, 2, TWO_WRITERS) {
+        Some(script) => stops(rt, alloc, &script, u64::MAX, false),
+        None => false,
+    }
+}
+
 #[test]
 fn a_gate_stops_the_cluster(rt: HostRuntime) {
     assert!(rt; gates_stop(&rt, rt.alloc()));
+    assert!(rt; stops_inside(&rt, rt.alloc()));
 }

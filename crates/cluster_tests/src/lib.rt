@@ -5,6 +5,8 @@
 #[cfg(test)]
 mod books;
 #[cfg(test)]
+mod changed_frames;
+#[cfg(test)]
 mod endings;
 #[cfg(test)]
 mod gates;

@@ -425,6 +425,42 @@ fn events_of_one_clock_are_settled_by_node(rt: HostRuntime) {
     assert!(rt; settles(rt.alloc(), READ_AT_ONCE, &[first, second], &steps, text));
 }
 
+/// Returns whether the event at this place of a book has this clock.
+fn is_at_clock(book: &Book, place: u64, clock: u64) -> bool {
+    match book.events().at(place) {
+        Some(event) => event.clock == clock,
+        None => false,
+    }
+}
+
+/// Returns whether a book has four events, at the clocks 1 to 4.
+fn has_four_clocks(book: &Book) -> bool {
+    is_at_clock(book, 0, 1)
+        && is_at_clock(book, 1, 2)
+        && is_at_clock(book, 2, 3)
+        && is_at_clock(book, 3, 4)
+        && book.events().len() == 4
+}
+
+/// Returns whether it is so of the book of each node where both read at once.
+fn both_have_four_clocks(alloc: Global) -> bool {
+    let Some(name) = r() else {
+        return false;
+    };
+    match books_after(alloc, name, READ_AT_ONCE) {
+        Some(books) => match (books.first(), books.get(1)) {
+            (Some(one), Some(two)) => has_four_clocks(one) && has_four_clocks(two),
+            _ => false,
+        },
+        None => false,
+    }
+}
+
+#[test]
+fn who_reads_at_once_has_the_same_clocks(rt: HostRuntime) {
+    assert!(rt; both_have_four_clocks(rt.alloc()));
+}
+
 fn prints_all(alloc: Global) -> bool {
     prints(alloc, SettleError::NotSent, "NotSent")
         && prints(alloc, SettleError::Twice, "Twice")

@@ -235,6 +235,9 @@ fn a_strange_frame_stops_all_and_ends_the_pump(rt: HostRuntime) {
     ];
     let ended = [stopped(Stop::Refused, 0), stopped(Stop::Refused, 0)];
     assert!(rt; in_a_thread(&rt, || cluster_does(&rt, rt.alloc(), &steps, &ended)));
+    // It ends where the post stays open, too.
+    let steps = [Sends(1, 5, 2), Pumps(2)];
+    assert!(rt; in_a_thread(&rt, || cluster_does(&rt, rt.alloc(), &steps, &ended)));
 }
 
 #[test]

@@ -4,7 +4,7 @@ use ra_stamp::{Message, Mode, Name};
 use std::alloc::Global;
 
 /// A REQUEST of number 1 from node 1 to node 2 for `r`, exclusively, at clock 1.
-const ASKS: [u8; 23] = [
+pub const ASKS: [u8; 23] = [
     1, 1, 1, 2, 1, 0, 0, 0, 0, 0, 0, 0, 1, 0, 0, 0, 0, 0, 0, 0, 1, 1, b'r',
 ];
 
@@ -25,7 +25,7 @@ const LONGEST: [u8; 54] = [
 const LAST: u64 = 1 << 62;
 
 /// A place in a frame's bytes, and a byte that is put there.
-type Change = (usize, u8);
+pub type Change = (usize, u8);
 
 /// Returns a REQUEST from node 1 to node 2, exclusively.
 fn request(name: Name, clock: u64, seq: u64) -> Frame {
@@ -55,7 +55,7 @@ fn reply(name: Name, clock: u64, seq: u64) -> Frame {
 }
 
 /// Returns these bytes with the changes.
-fn with(bytes: &[u8; 23], changes: &[Change]) -> [u8; 23] {
+pub fn with(bytes: &[u8; 23], changes: &[Change]) -> [u8; 23] {
     let mut changed = *bytes;
     for &(place, byte) in changes {
         if place < changed.len() {
@@ -66,7 +66,7 @@ fn with(bytes: &[u8; 23], changes: &[Change]) -> [u8; 23] {
 }
 
 /// Returns whether the bytes are read as the frame.
-fn is_read(bytes: &[u8], frame: &Frame) -> bool {
+pub fn is_read(bytes: &[u8], frame: &Frame) -> bool {
     match decode(bytes) {
         Ok(read) => read == *frame,
         Err(_) => false,
@@ -74,7 +74,7 @@ fn is_read(bytes: &[u8], frame: &Frame) -> bool {
 }
 
 /// Returns whether the bytes are refused for this reason.
-fn is_refused(bytes: &[u8], fault: FrameError) -> bool {
+pub fn is_refused(bytes: &[u8], fault: FrameError) -> bool {
     match decode(bytes) {
         Ok(_) => false,
         Err(found) => found == fault,

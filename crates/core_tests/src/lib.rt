@@ -4,6 +4,8 @@
 #[cfg(test)]
 mod automata;
 #[cfg(test)]
+mod changed_frames;
+#[cfg(test)]
 mod frames;
 #[cfg(test)]
 mod helpers;

@@ -1,6 +1,6 @@
 use crate::helpers::{reply, request};
 use ra_bag::Bag;
-use ra_stamp::{Message, Messages};
+use ra_stamp::{Memory, Message, Messages};
 use std::alloc::Global;
 
 /// Returns a REQUEST of node 1 to node 2.
@@ -250,4 +250,18 @@ fn keeps_the_messages(alloc: Global) -> Option<bool> {
 #[test]
 fn room_changes_no_message(rt: HostRuntime) {
     assert!(rt; keeps_the_messages(rt.alloc()) == Some(true));
+}
+
+/// Returns whether more room than there is is refused, and the messages stay, with the next one behind them.
+fn refuses_room(alloc: Global) -> Option<bool> {
+    let mut bag = Bag::new(alloc).ok()?;
+    let put = puts_three(alloc, &mut bag);
+    let refused = bag.reserve(u64::MAX) == Err(Memory) && has_three(&bag);
+    let more = puts(alloc, &mut bag, &[replied()]);
+    Some(put && refused && more && has(&bag, &[asked(), replied(), asked(), replied()]))
+}
+
+#[test]
+fn more_room_than_there_is_is_refused(rt: HostRuntime) {
+    assert!(rt; refuses_room(rt.alloc()) == Some(true));
 }

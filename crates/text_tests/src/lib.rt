@@ -4,7 +4,11 @@
 #[cfg(test)]
 mod checks;
 #[cfg(test)]
+mod fronts;
+#[cfg(test)]
 mod helpers;
+#[cfg(test)]
+mod performing;
 #[cfg(test)]
 mod readers;
 #[cfg(test)]

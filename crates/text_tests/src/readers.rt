@@ -1,34 +1,7 @@
 //! How far `check` reads, and what comes of readers that fail or give a text in pieces.
-use crate::helpers::{ONE_LOCK, ONE_LOCK_LENGTH, TWO_LOCKS};
+use crate::helpers::{ONE_LOCK, ONE_LOCK_LENGTH, Pieces, TWO_LOCKS};
 use ra_trace::{Cause, TraceError, Verdict, check, check_within};
 use std::alloc::Global;
-use std::io;
-use std::io::Read;
-
-/// Gives so many bytes at a time, and at most so many in all. Then it fails once, and then goes on.
-#[derive(Drop)]
-struct Pieces<'a> {
-    bytes: &'a [u8],
-    size: usize,
-    before_fault: Option<usize>,
-}
-
-impl Read for Pieces<'_> {
-    fn read(&mut self, buf: &mut [u8]) -> io::Result<usize> {
-        let mut count = self.size.min(self.bytes.len()).min(buf.len());
-        if let Some(left) = self.before_fault {
-            if left == 0 {
-                self.before_fault = None;
-                return Err(io::ErrorKind::Interrupted.into());
-            }
-            count = count.min(left);
-            self.before_fault = Some(left - count);
-        }
-        buf[..count].copy_from_slice(&self.bytes[..count]);
-        self.bytes = &self.bytes[count..];
-        Ok(count)
-    }
-}
 
 /// What comes of a text.
 type Checked = Result<Verdict, TraceError>;

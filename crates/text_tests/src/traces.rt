@@ -1,14 +1,14 @@
 ghost use Rattle.ra_stamp.specs.NodeId.{IsNodeNumber};
 
 use crate::helpers::{
-    ONE_LOCK, ONE_LOCK_LENGTH, TWO_LOCKS, all_kinds, is_judged, is_valid, joined, prints, r,
+    FailingWriter, ONE_LOCK, ONE_LOCK_LENGTH, TWO_LOCKS, all_kinds, failing, is_judged, is_valid,
+    joined, prints, r,
 };
 use ra_stamp::{Message, Mode, NodeId};
 use ra_trace::{Cause, Verdict, WriteTraceError, write_trace};
 use ra_world::{NodeRefusal, RunError, Step, StepError, Steps};
 use std::alloc::Global;
 use std::io;
-use std::io::Write;
 use std::process::Abort;
 
 fn id(number: u16) -> NodeId
@@ -80,56 +80,6 @@ fn steps_of(alloc: Global, list: &[Step]) -> Option<Steps> {
         steps.push(*step).ok()?;
     }
     Some(steps)
-}
-
-/// Takes one byte at a time, and looks whether it is the one that comes next in a text. After so many bytes it fails once, or
-/// takes nothing once where there is no fault, and then goes on.
-#[derive(Drop)]
-struct FailingWriter<'a> {
-    /// What is left of the text.
-    left: &'a [u8],
-    /// Whether a byte came that was not the next one.
-    differs: bool,
-    before_fault: Option<usize>,
-    fault: Option<io::ErrorKind>,
-}
-
-impl Write for FailingWriter<'_> {
-    fn write(&mut self, buf: &[u8]) -> io::Result<usize> {
-        match self.before_fault {
-            Some(0) => {
-                self.before_fault = None;
-                return match self.fault {
-                    Some(kind) => Err(kind.into()),
-                    None => Ok(0),
-                };
-            }
-            Some(bytes) => self.before_fault = Some(bytes - 1),
-            None => {}
-        }
-        if buf.is_empty() {
-            return Ok(0);
-        }
-        match self.left {
-            [next, rest @ ..] if *next == buf[0] => self.left = rest,
-            _ => self.differs = true,
-        }
-        Ok(1)
-    }
-
-    fn flush(&mut self) -> io::Result<()> {
-        Ok(())
-    }
-}
-
-/// Returns a writer that looks for this text, and fails after so many bytes.
-fn failing(text: &str, before_fault: usize, fault: Option<io::ErrorKind>) -> FailingWriter<'_> {
-    FailingWriter {
-        left: text.as_bytes(),
-        differs: false,
-        before_fault: Some(before_fault),
-        fault,
-    }
 }
 
 /// Writes the trace of these steps, and returns the fault, or `None` where there is none.

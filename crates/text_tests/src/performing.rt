@@ -1,0 +1,137 @@
+//! How a script is performed by readers that fail while it is read, and by writers that fail while what comes of it is written.
+use crate::helpers::{FailingWriter, ONE_LOCK, ONE_LOCK_LENGTH, ONE_LOCK_SCRIPT, Pieces, failing};
+use Form::{Lines, Trace};
+use ra_schedule::Policy;
+use ra_script::{PerformError, perform, perform_trace};
+use std::alloc::Global;
+use std::io;
+
+/// The lines of the run of which the trace is [`ONE_LOCK`].
+const ONE_LOCK_LINES: &str = "request 1 1 r X 1
+enter 1 1 r X 1
+leave 1 1 r X 1
+requests 1
+messages 2
+under-way 0
+lost 0
+waiting 0
+queued 0
+";
+
+/// How many bytes these lines have.
+const ONE_LOCK_LINES_LENGTH: usize = 110;
+
+/// What is written of a run: the lines of its report, or its trace.
+#[derive(Clone, Copy)]
+enum Form {
+    Lines,
+    Trace,
+}
+
+/// Returns what is written of the script.
+fn text_of(form: Form) -> &'static str {
+    match form {
+        Lines => ONE_LOCK_LINES,
+        Trace => ONE_LOCK,
+    }
+}
+
+/// Returns a reader of the script that fails after so many bytes, or does not.
+fn script_reader(before_fault: Option<usize>) -> Pieces<'static> {
+    Pieces {
+        bytes: ONE_LOCK_SCRIPT.as_bytes(),
+        size: 1,
+        before_fault,
+    }
+}
+
+/// Performs a script from the oldest message on, and returns the fault, or `None` where there is none.
+fn fault_of(
+    alloc: Global,
+    reader: &mut Pieces<'_>,
+    writer: &mut FailingWriter<'_>,
+    form: Form,
+) -> Option<PerformError> {
+    let performed = match form {
+        Lines => perform(alloc, reader, writer, &Policy::Oldest),
+        Trace => perform_trace(alloc, reader, writer, &Policy::Oldest),
+    };
+    performed.err()
+}
+
+/// Returns whether the fault of a reader after so many bytes is named, and no byte is read after it and none written.
+fn fails_to_read(alloc: Global, form: Form, before_fault: usize) -> bool {
+    let mut reader = script_reader(Some(before_fault));
+    let mut writer = failing("", 1000, None);
+    fault_of(alloc, &mut reader, &mut writer, form) == Some(PerformError::Read)
+        && ONE_LOCK_SCRIPT.len().checked_sub(reader.bytes.len()) == Some(before_fault)
+        && !writer.differs
+}
+
+#[test]
+fn a_reader_that_fails_behind_any_byte_is_a_fault(rt: HostRuntime) {
+    for before_fault in 0..=ONE_LOCK_SCRIPT.len() {
+        assert!(rt;
+            fails_to_read(rt.alloc(), Lines, before_fault),
+            "at {before_fault}"
+        );
+        assert!(rt;
+            fails_to_read(rt.alloc(), Trace, before_fault),
+            "at {before_fault}"
+        );
+    }
+}
+
+/// Returns whether the fault of a writer after so many bytes is named, and just these are written.
+fn fails_to_write(
+    alloc: Global,
+    form: Form,
+    before_fault: usize,
+    fault: Option<io::ErrorKind>,
+) -> bool {
+    let text = text_of(form);
+    let mut reader = script_reader(None);
+    let mut writer = failing(text, before_fault, fault);
+    fault_of(alloc, &mut reader, &mut writer, form) == Some(PerformError::Write)
+        && text.len().checked_sub(writer.left.len()) == Some(before_fault)
+        && !writer.differs
+}
+
+/// Returns whether it is so for a fault that other writers would try again, and for a write that takes nothing.
+fn fails_to_write_each(alloc: Global, form: Form, before_fault: usize) -> bool {
+    fails_to_write(alloc, form, before_fault, Some(io::ErrorKind::Interrupted))
+        && fails_to_write(alloc, form, before_fault, None)
+}
+
+#[test]
+fn a_writer_that_fails_behind_any_byte_has_those_before(rt: HostRuntime) {
+    for before_fault in 0..ONE_LOCK_LINES_LENGTH {
+        assert!(rt;
+            fails_to_write_each(rt.alloc(), Lines, before_fault),
+            "at {before_fault}"
+        );
+    }
+    for before_fault in 0..ONE_LOCK_LENGTH {
+        assert!(rt;
+            fails_to_write_each(rt.alloc(), Trace, before_fault),
+            "at {before_fault}"
+        );
+    }
+}
+
+/// Returns whether all is written byte by byte, to a writer that would fail behind it.
+fn is_written_byte_by_byte(alloc: Global, form: Form, length: usize) -> bool {
+    let text = text_of(form);
+    let mut reader = script_reader(None);
+    let mut writer = failing(text, length, None);
+    fault_of(alloc, &mut reader, &mut writer, form).is_none()
+        && text.len() == length
+        && writer.left.is_empty()
+        && !writer.differs
+}
+
+#[test]
+fn a_writer_that_takes_one_byte_at_a_time_gets_all(rt: HostRuntime) {
+    assert!(rt; is_written_byte_by_byte(rt.alloc(), Lines, ONE_LOCK_LINES_LENGTH));
+    assert!(rt; is_written_byte_by_byte(rt.alloc(), Trace, ONE_LOCK_LENGTH));
+}
