@@ -199,11 +199,14 @@ impl Automaton {
         if !self.is_inside() {
             return Err(LeaveError::NotHeld);
         }
-        let mut sends = Messages::new(alloc);
-        push_replies(&mut sends, self.me, self.name, self.deferred, &self.numbers)?;
+        let mut sent = Messages::new(alloc);
+        push_replies(&mut sent, self.me, self.name, self.deferred, &self.numbers)?;
         self.end();
         let entered = false;
-        Ok(Reaction { sends, entered })
+        Ok(Reaction {
+            sends: sent,
+            entered,
+        })
     }
 
     /// Leaves the resource and makes a request, in one event: the REPLYs come first. A number must be left. The cost
@@ -226,10 +229,10 @@ impl Automaton {
         if !self.is_inside() {
             return Err(LeaveError::NotHeld);
         }
-        let seq = self.highest + 1;
+        let next = self.highest + 1;
         let mut sends = Messages::new(alloc);
         push_replies(&mut sends, self.me, self.name, self.deferred, &self.numbers)?;
-        push_requests(&mut sends, self.me, self.nodes, self.name, mode, seq)?;
+        push_requests(&mut sends, self.me, self.nodes, self.name, mode, next)?;
         self.end();
         let entered = self.begin(mode);
         Ok(Reaction { sends, entered })
@@ -248,7 +251,8 @@ impl Automaton {
         ensures value { result ≡ self.now.phase }
         ensures consistent { IsConsistent self.now }
     {
-        self.phase
+        let Automaton { phase, .. } = self;
+        *phase
     }
 
     /// Returns the highest number that the node has met, 0 to 2^64-1. It does not allocate.
@@ -256,7 +260,8 @@ impl Automaton {
         ensures value { result ≡ self.now.highest }
         ensures consistent { IsConsistent self.now }
     {
-        self.highest
+        let Automaton { highest, .. } = self;
+        *highest
     }
 
     /// Returns the resource's name. It does not allocate.
