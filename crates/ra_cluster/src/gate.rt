@@ -22,7 +22,8 @@ impl Gate for OpenGate {
     fn step(&self, _node: NodeId) -> bool
         ensures { result ≡ true }
     {
-        true
+        let goes_on = true;
+        goes_on
     }
 
     fn inside(&self, _entry: &Entry) -> bool
