@@ -22,13 +22,12 @@ impl Gate for OpenGate {
     fn step(&self, _node: NodeId) -> bool
         ensures { result ≡ true }
     {
-        let goes_on = true;
-        goes_on
+        true // No node is held up.
     }
 
     fn inside(&self, _entry: &Entry) -> bool
         ensures { result ≡ true }
     {
-        true
+        true // No client is.
     }
 }
