@@ -9,16 +9,8 @@ use Rattle.ra_world.specs.declared.error.StepError.{StepError}
 use Rattle.ra_world.specs.declared.error.StepError.TheVariants.{NoNode, NotUnderWay, Node, Memory}
 use Rattle.ra_world.specs.Traffic.{Move}
 use Rattle.ra_world.specs.Run.{IsRun, WorldRun, GoesOn}
-use Rattle.ra_world.specs.World.{WorldState, HasCause}
+use Rattle.ra_world.specs.World.{WorldState, HasCause, HasMade}
 use Rattle.ra_world.specs.Refused.{IsRefusedAt}
-
--- the world of these nodes has made these steps and no others
-pub record HasMade (n start : ℕ) (steps : List Step) (world : WorldState) : Type 0 where
-  pub number : IsNodeNumber n
-  pub count : world.count ≡ n
-  pub start_is : world.start ≡ start
-  pub made : map (λ (move : Move). move.step) world.moves ≡ steps
-  pub run : IsRun n start world.moves
 
 pub memory_or_not : (cause : StepError) → (cause ≡ Memory) ⊎ (cause ≢ Memory)
 memory_or_not NoNode = inr (λ e. cc)

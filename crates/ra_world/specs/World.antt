@@ -1,5 +1,6 @@
 -- A world as contracts see it, why it refuses a step, and what it reports.
-use Rattle.std.specs.Prelude.{◌≡◌, ℕ, ◌<◌, ◌≤◌, List, [], ◌∷◌, ◌++◌, length}
+use Rattle.std.specs.Prelude.{◌≡◌, ℕ, ◌<◌, ◌≤◌, List, [], ◌∷◌, ◌++◌, length, map}
+use Rattle.ra_stamp.specs.NodeId.{IsNodeNumber}
 use Rattle.ra_stamp.specs.declared.entry.Entry.{Entry}
 use Rattle.ra_stamp.specs.declared.entry.Mark.{Mark}
 use Rattle.ra_stamp.specs.declared.message.Message.{Message}
@@ -13,7 +14,7 @@ use Rattle.ra_world.specs.declared.error.StepError.{StepError}
 use Rattle.ra_world.specs.declared.error.StepError.TheVariants.{NoNode, NotUnderWay, Node, Memory}
 use Rattle.ra_world.specs.declared.report.Report.{Report}
 use Rattle.ra_world.specs.Traffic.{Move, LeavesUnderWay, IsUnderWay, sent_by, lost_by}
-use Rattle.ra_world.specs.Run.{EndsWith, marks_of, waiting_at_all, queued_at_all}
+use Rattle.ra_world.specs.Run.{IsRun, EndsWith, marks_of, waiting_at_all, queued_at_all}
 use Rattle.ra_world.specs.Quiet.{requests_in}
 
 -- how many nodes there are, the highest number that each resource begins with, and the steps so far with what came of
@@ -26,6 +27,14 @@ pub record WorldState : Type 0 where
 -- the world after one more step
 abbrev pub with_move : WorldState → Step → List Message → List Mark → WorldState
 with_move w step sends marks = record w { moves = w.moves ++ record { step = step; sends = sends; marks = marks } ∷ [] }
+
+-- the world of these nodes has made these steps and no others
+pub record HasMade (n start : ℕ) (steps : List Step) (world : WorldState) : Type 0 where
+  pub number : IsNodeNumber n
+  pub count : world.count ≡ n
+  pub start_is : world.start ≡ start
+  pub made : map (λ (move : Move). move.step) world.moves ≡ steps
+  pub run : IsRun n start world.moves
 
 -- a fact about a node that there is, at the end of a run
 pub record AtNode (n start : ℕ) (moves : List Move) (i : ℕ) (P : NodeState → Type 0) : Type 0 where

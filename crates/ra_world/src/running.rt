@@ -1,12 +1,12 @@
-ghost use Rattle.std.specs.Prelude.{◌≡◌, ◌≢◌, ◌↔◌, ℕ, List, map, IsErrOf, IsOkUnless, OnOk, IfOk};
+ghost use Rattle.std.specs.Prelude.{◌≡◌, ◌≢◌, ◌↔◌, ◌⊎◌, ℕ, List, [], map, IsErrOf, IsOkUnless, OnOk, IfOk, IfErr};
 ghost use Rattle.ra_stamp.specs.NodeId.{IsNodeNumber};
 ghost use Rattle.ra_world.specs.Traffic.{Move};
 ghost use Rattle.ra_world.specs.Run.{IsRun, WorldRun};
-ghost use Rattle.ra_world.specs.World.{Reports};
+ghost use Rattle.ra_world.specs.World.{HasMade, Reports};
 ghost use Rattle.ra_world.specs.MainTheorem.{MainTheorem};
 ghost use Rattle.ra_world.specs.Refused.{IsRefusedAt};
 
-use crate::{NewError, Report, RunError, StepError, Steps, World, fronts_of_runs_are_runs};
+use crate::{NewError, Report, RunError, Step, StepError, Steps, World, fronts_of_runs_are_runs};
 use std::alloc::Global;
 
 /// Makes a world of this many nodes, all of whose numbers begin at `start`, and steps it through a list of steps. The cost
@@ -32,13 +32,46 @@ pub fn run(alloc: Global, nodes: u16, start: u64, steps: &Steps) -> Result<Repor
     ensures allowed { IsNodeNumber nodes → WorldRun nodes start steps.now.items
         → IsOkUnless result RunError.Memory }
 {
+    let mut world = opened(alloc, nodes, start)?;
+    report_after(alloc, &mut world, steps.as_slice())
+}
+
+/// Makes the world in which a run begins.
+///
+/// # Errors
+///
+/// `BadCount`, `Memory`.
+fn opened(alloc: Global, nodes: u16, start: u64) -> Result<World, RunError>
+    ensures ok { IfOk result (λ world. world ≡ record { count = nodes; start = start; moves = [] }) }
+    ensures run { IfOk result (λ world. IsRun world.count world.start world.moves) }
+    ensures count { OnOk result (IsNodeNumber nodes) }
+    ensures bad_count { IsErrOf result RunError.BadCount ↔ (IsNodeNumber nodes → ⊥) }
+    ensures err { IfErr result (λ fault. (fault ≡ RunError.BadCount) ⊎ (fault ≡ RunError.Memory)) }
+{
+    match World::new(alloc, nodes, start) {
+        Ok(world) => Ok(world),
+        Err(NewError::BadCount) => Err(RunError::BadCount),
+        Err(NewError::Memory) => Err(RunError::Memory),
+    }
+}
+
+/// Steps a world, in which nothing has happened yet, through a list of steps, and reports what came of them.
+///
+/// # Errors
+///
+/// `Refused`, `Memory`, whichever comes first.
+fn report_after(alloc: Global, world: &mut World, steps: &[Step]) -> Result<Report, RunError>
+    requires opening { HasMade world.old.count world.old.start [] world.old }
+    ensures ok { IfOk result (λ report. (moves : List Move) × (map (λ move. move.step) moves ≡ steps.now)
+        × IsRun world.old.count world.old.start moves × Reports world.old.count world.old.start moves report) }
+    ensures main_theorem { IfOk result (MainTheorem world.old.count) }
+    ensures counted { IsErrOf result RunError.BadCount → ⊥ }
+    ensures refused { (place : ℕ) (cause : StepError) → IsErrOf result (RunError.Refused place cause)
+        → IsRefusedAt world.old.count world.old.start steps.now place cause }
+    ensures allowed { WorldRun world.old.count world.old.start steps.now → IsOkUnless result RunError.Memory }
+{
     fronts_of_runs_are_runs();
-    let mut world = match World::new(alloc, nodes, start) {
-        Ok(world) => world,
-        Err(NewError::BadCount) => return Err(RunError::BadCount),
-        Err(NewError::Memory) => return Err(RunError::Memory),
-    };
-    for (place, step) in steps.as_slice().iter().enumerate() {
+    for (place, step) in steps.iter().enumerate() {
         if let Err(cause) = world.step(alloc, step) {
             return Err(refused_at(place as u64 + 1, cause));
         }

@@ -1,42 +1,32 @@
-use Rattle.std.proofs.Common.{◌≡◌, ◌+◌, ℕ, List, sym, subst, refl, inl, inr}
+use Rattle.std.proofs.Common.{◌≡◌, ℕ, List, map, IsErrOf, IsOkUnless, IfOk, subst}
 use Rattle.ra_world.specs.declared.step.Step.{Step}
 use Rattle.ra_world.specs.declared.error.StepError.{StepError}
-use Rattle.ra_world.specs.Run.{WorldRun}
+use Rattle.ra_world.specs.declared.error.RunError.TheVariants.{Refused, Memory}
+use Rattle.ra_world.specs.declared.report.Report.{Report}
+use Rattle.ra_world.specs.Traffic.{Move}
+use Rattle.ra_world.specs.Run.{IsRun, WorldRun}
+use Rattle.ra_world.specs.World.{WorldState, Reports}
 use Rattle.ra_world.specs.Refused.{IsRefusedAt}
-use Rattle.ra_world.proofs.Refusing.{memory_or_not, no_run, refused_there}
 use Rattle.ra_world.proofs.running.run.Goals as goal
 
-pub returns-in-Err-clause-refused : goal.returns-in-Err-clause-refused
-returns-in-Err-clause-refused c place cause is =
-    let law = c.fronts_of_runs_are_runs.ensures in
-    let all = c.as_slice-step-items.result.now in
-    let made = c.loop-place.invariant in
-    let told = c.in-Err.ensures in
-    elim (memory_or_not c.in-Err.cause) [
-      | inl same ↦ let ends = c.refused_at.ensures.memory same in cc
-      | inr other ↦
-          let ends = c.refused_at.ensures.refused other in
-          let here : place ≡ c.loop-place.place + 1 = cc in
-          let this : c.in-Err.cause ≡ cause = cc in
-          let why = (told.refused c.in-Err.cause other).0 refl in
-          let there =
-          refused_there law.steps law.step c.args.nodes c.args.start c.loop-place.place all c.step-item.result c.loop-place.world made
-          c.loop-place-test.true c.step-item.is (λ on. other (told.allowed.1 on)) c.in-Err.cause why in (
-            made.number,
-            subst (λ (p : ℕ). IsRefusedAt c.args.nodes c.args.start c.args.steps.now.items p cause) (sym here)
-                (subst (λ (steps : List Step). IsRefusedAt c.args.nodes c.args.start steps (c.loop-place.place + 1) cause) c.as_slice-step-items.ensures
-                (subst (λ (why : StepError). IsRefusedAt c.args.nodes c.args.start all (c.loop-place.place + 1) why) this there)),
-          )
-    ]
+pub returns-clause-ok : goal.returns-clause-ok
+returns-clause-ok c =
+    subst (λ (steps : List Step). IfOk c.report_after.result (λ (report : Report). (moves : List Move) × (map (λ (move : Move). move.step) moves ≡ steps)
+    × IsRun c.args.nodes c.args.start moves × Reports c.args.nodes c.args.start moves report)) c.as_slice.ensures
+    (subst (λ (w : WorldState). IfOk c.report_after.result (λ (report : Report). (moves : List Move)
+    × (map (λ (move : Move). move.step) moves ≡ c.as_slice.result.now) × IsRun w.count w.start moves × Reports w.count w.start moves report))
+    c.in_ok-world.ensures.ok c.report_after.ensures.ok)
 
-pub returns-in-Err-clause-allowed : goal.returns-in-Err-clause-allowed
-returns-in-Err-clause-allowed c number run =
-    let law = c.fronts_of_runs_are_runs.ensures in
-    let all = c.as_slice-step-items.result.now in
-    elim (memory_or_not c.in-Err.cause) [
-      | inl same ↦ c.refused_at.ensures.memory same
-      | inr other ↦
-          absurd (no_run law.steps law.step c.args.nodes c.args.start c.loop-place.place all c.step-item.result c.loop-place.world
-          c.loop-place.invariant c.loop-place-test.true c.step-item.is (λ on. other (c.in-Err.ensures.allowed.1 on))
-          (subst (WorldRun c.args.nodes c.args.start) (sym c.as_slice-step-items.ensures) run))
-    ]
+pub returns-clause-refused : goal.returns-clause-refused
+returns-clause-refused c place cause is = (
+  c.in_ok-world.ensures.count,
+  subst (λ (steps : List Step). IsRefusedAt c.args.nodes c.args.start steps place cause) c.as_slice.ensures
+      (subst (λ (w : WorldState). IsRefusedAt w.count w.start c.as_slice.result.now place cause) c.in_ok-world.ensures.ok
+      (c.report_after.ensures.refused place cause is)),
+)
+
+pub returns-clause-allowed : goal.returns-clause-allowed
+returns-clause-allowed c number =
+    subst (λ (steps : List Step). WorldRun c.args.nodes c.args.start steps → IsOkUnless c.report_after.result Memory) c.as_slice.ensures
+    (subst (λ (w : WorldState). WorldRun w.count w.start c.as_slice.result.now → IsOkUnless c.report_after.result Memory) c.in_ok-world.ensures.ok
+    c.report_after.ensures.allowed)

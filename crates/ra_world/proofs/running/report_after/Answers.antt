@@ -1,0 +1,37 @@
+use Rattle.std.proofs.Common.{◌≡◌, ◌+◌, ℕ, sym, subst, refl, inl, inr}
+use Rattle.ra_world.specs.declared.step.Step.{Step}
+use Rattle.ra_world.specs.declared.error.StepError.{StepError}
+use Rattle.ra_world.specs.Refused.{IsRefusedAt}
+use Rattle.ra_world.proofs.Refusing.{memory_or_not, no_run, refused_there}
+use Rattle.ra_world.proofs.running.report_after.Goals as goal
+
+pub returns-in-Err-clause-refused : goal.returns-in-Err-clause-refused
+returns-in-Err-clause-refused c place cause is =
+    let law = c.fronts_of_runs_are_runs.ensures in
+    let all = c.args.steps.now in
+    let made = c.loop-place.invariant in
+    let told = c.in-Err.ensures in
+    elim (memory_or_not c.in-Err.cause) [
+      | inl same ↦ let ends = c.refused_at.ensures.memory same in cc
+      | inr other ↦
+          let ends = c.refused_at.ensures.refused other in
+          let here : place ≡ c.loop-place.place + 1 = cc in
+          let this : c.in-Err.cause ≡ cause = cc in
+          let why = (told.refused c.in-Err.cause other).0 refl in
+          let there =
+          refused_there law.steps law.step c.args.world.now.count c.args.world.now.start c.loop-place.place all c.index-steps-place.result c.loop-place.world made
+          c.loop-place-test.true c.index-steps-place.is (λ on. other (told.allowed.1 on)) c.in-Err.cause why in
+          subst (λ (p : ℕ). IsRefusedAt c.args.world.now.count c.args.world.now.start all p cause) (sym here)
+          (subst (λ (why : StepError). IsRefusedAt c.args.world.now.count c.args.world.now.start all (c.loop-place.place + 1) why) this there)
+    ]
+
+pub returns-in-Err-clause-allowed : goal.returns-in-Err-clause-allowed
+returns-in-Err-clause-allowed c run =
+    let law = c.fronts_of_runs_are_runs.ensures in
+    let all = c.args.steps.now in
+    elim (memory_or_not c.in-Err.cause) [
+      | inl same ↦ c.refused_at.ensures.memory same
+      | inr other ↦
+          absurd (no_run law.steps law.step c.args.world.now.count c.args.world.now.start c.loop-place.place all c.index-steps-place.result c.loop-place.world
+          c.loop-place.invariant c.loop-place-test.true c.index-steps-place.is (λ on. other (c.in-Err.ensures.allowed.1 on)) run)
+    ]
