@@ -3,7 +3,7 @@ ghost use Rattle.ra_cli.specs.Words.{IsHelpWord, OnHelp};
 
 use clap::error::ErrorKind;
 use clap::{Arg, ArgAction, ArgMatches, Command, Error as ParseError, value_parser};
-use std::alloc::Global;
+use std::alloc::{AllocError, Global};
 use thiserror::Error;
 
 /// The words for the policies.
@@ -135,60 +135,70 @@ pub enum CommandFault {
     Memory,
 }
 
-/// Makes the option of a number that must be given.
-fn number<'a>(alloc: Global, name: &'a str, help: &'a str) -> Arg<'a> {
+/// Makes an option with a value.
+fn valued<'a>(alloc: Global, name: &'a str, help: &'a str) -> Arg<'a> {
     Arg::new(alloc, name)
         .long(name)
         .help(help)
-        .required(true)
         .action(ArgAction::Set)
+}
+
+/// Makes the option of a number that must be given.
+fn number<'a>(alloc: Global, name: &'a str, help: &'a str) -> Arg<'a> {
+    valued(alloc, name, help)
+        .required(true)
         .value_parser(value_parser!(u16))
 }
 
+/// Makes the option `--policy`.
+fn policy_option<'a>(alloc: Global) -> Arg<'a> {
+    valued(alloc, "policy", "Who chooses what comes next")
+        .value_parser(POLICIES)
+        .default_value("oldest")
+}
+
+/// Makes the option `--seed`.
+fn seed_option<'a>(alloc: Global) -> Arg<'a> {
+    valued(alloc, "seed", "The seed of the policy seeded")
+        .value_parser(value_parser!(u64))
+        .default_value("0")
+}
+
+/// Makes the option `--choices`.
+fn choices_option<'a>(alloc: Global) -> Arg<'a> {
+    valued(alloc, "choices", "The choices of the policy listed")
+        .default_value("")
+        .hide_default_value(true)
+}
+
+/// Makes the option `--trace`.
+fn trace_option<'a>(alloc: Global) -> Arg<'a> {
+    Arg::new(alloc, "trace")
+        .long("trace")
+        .help("Print the trace of the run")
+        .action(ArgAction::SetTrue)
+}
+
 /// Makes the command `answer`.
-fn answer_command<'a>(alloc: Global) -> Result<Command<'a>, ParseError> {
-    let answer = Command::new(alloc, "answer")
+fn answer_command<'a>(alloc: Global) -> Result<Command<'a>, AllocError> {
+    Command::new(alloc, "answer")
         .about("Answer one frame, a line of hexadecimal digits, as an idle node does")
         .after_help(ANSWER_HELP)
         .arg(number(alloc, "node", "The number of the node that answers"))?
-        .arg(number(alloc, "nodes", "How many nodes there are, 1 to 16"))?;
-    Ok(answer)
+        .arg(number(alloc, "nodes", "How many nodes there are, 1 to 16"))
 }
 
 /// Makes the command `sim`.
-fn sim_command<'a>(alloc: Global) -> Result<Command<'a>, ParseError> {
-    let policy = Arg::new(alloc, "policy")
-        .long("policy")
-        .help("Who chooses what comes next")
-        .action(ArgAction::Set)
-        .value_parser(POLICIES)
-        .default_value("oldest");
-    let seed = Arg::new(alloc, "seed")
-        .long("seed")
-        .help("The seed of the policy seeded")
-        .action(ArgAction::Set)
-        .value_parser(value_parser!(u64))
-        .default_value("0");
-    let choices = Arg::new(alloc, "choices")
-        .long("choices")
-        .help("The choices of the policy listed")
-        .action(ArgAction::Set)
-        .default_value("")
-        .hide_default_value(true);
-    let trace = Arg::new(alloc, "trace")
-        .long("trace")
-        .help("Print the trace of the run")
-        .action(ArgAction::SetTrue);
-    let sim = Command::new(alloc, "sim")
+fn sim_command<'a>(alloc: Global) -> Result<Command<'a>, AllocError> {
+    Command::new(alloc, "sim")
         .about(
             "Drive a cluster through a script, and print who asked, entered and left, and what it cost",
         )
         .after_help(SIM_HELP)
-        .arg(policy)?
-        .arg(seed)?
-        .arg(choices)?
-        .arg(trace)?;
-    Ok(sim)
+        .arg(policy_option(alloc))?
+        .arg(seed_option(alloc))?
+        .arg(choices_option(alloc))?
+        .arg(trace_option(alloc))
 }
 
 /// Makes the command `check`.
@@ -205,50 +215,76 @@ fn cluster_command<'a>(alloc: Global) -> Command<'a> {
         .after_help(CLUSTER_HELP)
 }
 
-/// Makes the command line that `ra` understands.
-fn command<'a>(alloc: Global) -> Result<Command<'a>, ParseError> {
-    let answer = answer_command(alloc)?;
-    let sim = sim_command(alloc)?;
-    let ra = Command::new(alloc, "ra")
+/// Makes the program without its commands.
+fn program<'a>(alloc: Global) -> Command<'a> {
+    Command::new(alloc, "ra")
         .about("Lock named resources by messages alone")
         .after_help(STATUS_HELP)
         .disable_help_subcommand(true)
         .subcommand_required(true)
-        .subcommand(answer)?
-        .subcommand(sim)?
-        .subcommand(cluster_command(alloc))?
-        .subcommand(check_command(alloc))?;
-    Ok(ra)
+}
+
+/// Gives the program a command, where there was memory to make it.
+fn with_command<'a>(
+    program: Command<'a>,
+    made: Result<Command<'a>, AllocError>,
+) -> Result<Command<'a>, AllocError> {
+    program.subcommand(made?)
+}
+
+/// Makes the command line that `ra` understands. The commands are listed in this order.
+fn command<'a>(alloc: Global) -> Result<Command<'a>, AllocError> {
+    let ra = with_command(program(alloc), answer_command(alloc))?;
+    let ra = with_command(ra, sim_command(alloc))?;
+    let ra = with_command(ra, Ok(cluster_command(alloc)))?;
+    with_command(ra, Ok(check_command(alloc)))
+}
+
+/// Returns the task of the command `answer`.
+fn answer_task<'a>(answer: &ArgMatches<'a>) -> Option<Task<'a>>
+    ensures { IfSome result (λ task. OnHelp task ⊥) }
+{
+    let node = answer.get_one("node")?;
+    let nodes = answer.get_one("nodes")?;
+    Some(Task::Answer { node, nodes })
+}
+
+/// Returns the policy that the words of the command `sim` name.
+fn policy_name(sim: &ArgMatches) -> Option<PolicyName> {
+    Some(match sim.get_str("policy")? {
+        "newest" => PolicyName::Newest,
+        "seeded" => PolicyName::Seeded(sim.get_one("seed")?),
+        "listed" => PolicyName::Listed,
+        _ => PolicyName::Oldest,
+    })
+}
+
+/// Returns the task of the command `sim`.
+fn sim_task<'a>(sim: &ArgMatches<'a>) -> Option<Task<'a>>
+    ensures { IfSome result (λ task. OnHelp task ⊥) }
+{
+    let policy = policy_name(sim)?;
+    let choices = sim.get_str("choices")?;
+    let trace = sim.get_flag("trace");
+    Some(Task::Sim {
+        policy,
+        choices,
+        trace,
+    })
 }
 
 /// Returns the task of a command line that was understood, or `None` where it has no command.
 fn task_of<'a>(matches: &ArgMatches<'a>) -> Option<Task<'a>>
     ensures { IfSome result (λ task. OnHelp task ⊥) }
 {
-    if let Some(answer) = matches.subcommand_matches("answer") {
-        return Some(Task::Answer {
-            node: answer.get_one("node")?,
-            nodes: answer.get_one("nodes")?,
-        });
+    let (name, given) = matches.subcommand()?;
+    match name {
+        "answer" => answer_task(given),
+        "sim" => sim_task(given),
+        "cluster" => Some(Task::Cluster),
+        "check" => Some(Task::Check),
+        _ => None,
     }
-    if matches.subcommand_matches("check").is_some() {
-        return Some(Task::Check);
-    }
-    if matches.subcommand_matches("cluster").is_some() {
-        return Some(Task::Cluster);
-    }
-    let sim = matches.subcommand_matches("sim")?;
-    let policy = match sim.get_str("policy")? {
-        "newest" => PolicyName::Newest,
-        "seeded" => PolicyName::Seeded(sim.get_one("seed")?),
-        "listed" => PolicyName::Listed,
-        _ => PolicyName::Oldest,
-    };
-    Some(Task::Sim {
-        policy,
-        choices: sim.get_str("choices")?,
-        trace: sim.get_flag("trace"),
-    })
 }
 
 /// Returns whether a word asks for a text of help. It does not allocate.
@@ -273,20 +309,35 @@ pub fn parse<'a>(alloc: Global, words: &'a [String]) -> Result<Task<'a>, Command
     ensures help { IfOk result (λ task.
         OnHelp task (Any (λ word. IsHelpWord (string_bytes word)) words.now)) }
 {
-    let matches = match command(alloc) {
-        Ok(command) => command.try_get_matches_from(words),
-        Err(error) => Err(error),
+    let Ok(command) = command(alloc) else {
+        return Err(CommandFault::Memory);
     };
-    match matches {
+    match command.try_get_matches_from(words) {
         Ok(matches) => task_of(&matches).ok_or(CommandFault::Usage),
-        Err(error) => match error.kind() {
-            // No contract of the parser's says that it gives help only to those who ask.
-            ErrorKind::DisplayHelp if asks_for_help(words) => match format!(in alloc; "{error}") {
-                Ok(text) => Ok(Task::Help(text)),
-                Err(_) => Err(CommandFault::Memory),
-            },
-            ErrorKind::OutOfMemory => Err(CommandFault::Memory),
-            _ => Err(CommandFault::Usage),
+        Err(error) => help_of(alloc, words, &error),
+    }
+}
+
+/// Returns the text of help for which the words ask, where that is why the parser stopped.
+///
+/// # Errors
+///
+/// Those of `parse`.
+fn help_of<'a>(
+    alloc: Global,
+    words: &[String],
+    error: &ParseError,
+) -> Result<Task<'a>, CommandFault>
+    ensures { IfOk result (λ task.
+        OnHelp task (Any (λ word. IsHelpWord (string_bytes word)) words.now)) }
+{
+    match error.kind() {
+        // No contract of the parser's says that it gives help only to those who ask.
+        ErrorKind::DisplayHelp if asks_for_help(words) => match format!(in alloc; "{error}") {
+            Ok(text) => Ok(Task::Help(text)),
+            Err(_) => Err(CommandFault::Memory),
         },
+        ErrorKind::OutOfMemory => Err(CommandFault::Memory),
+        _ => Err(CommandFault::Usage),
     }
 }

@@ -68,6 +68,32 @@ fn written<W: Write>(writer: &mut W, text: &[u8], status: u8) -> u8
     }
 }
 
+/// Returns whether the writer failed, so that nothing more is to be written. It does not allocate.
+fn is_of_the_writer(refusal: Refusal) -> bool
+    ensures { (refusal ≡ Refusal.Answer AnswerError.Write) ⊎ (refusal ≡ Refusal.Perform PerformError.Write)
+        ⊎ (refusal ≡ Refusal.Cluster RunScriptError.Write) → result ≡ true }
+{
+    matches!(
+        refusal,
+        Refusal::Answer(AnswerError::Write)
+            | Refusal::Perform(PerformError::Write)
+            | Refusal::Cluster(RunScriptError::Write)
+    )
+}
+
+/// Returns the status of a refusal that is printed: 1 where the reader failed, and else 2. It does not allocate.
+fn refused_status(refusal: Refusal) -> u8
+    ensures { (1 ≤ result) × (result ≤ 2) }
+{
+    match refusal {
+        Refusal::Answer(AnswerError::Read)
+        | Refusal::Perform(PerformError::Read)
+        | Refusal::Check(TraceError::Read)
+        | Refusal::Cluster(RunScriptError::Read) => BROKEN,
+        _ => REFUSED,
+    }
+}
+
 /// Prints a refusal and returns its status. After a fault of the writer it prints nothing.
 pub fn refuse<W: Write>(alloc: Global, writer: &mut W, refusal: Refusal) -> u8
     ensures range { result ≤ 2 }
@@ -75,18 +101,11 @@ pub fn refuse<W: Write>(alloc: Global, writer: &mut W, refusal: Refusal) -> u8
     ensures unwritten { (refusal ≡ Refusal.Answer AnswerError.Write) ⊎ (refusal ≡ Refusal.Perform PerformError.Write)
         ⊎ (refusal ≡ Refusal.Cluster RunScriptError.Write) → (result ≡ 1) × (writer.new ≡ writer.old) }
 {
-    let status = match refusal {
-        Refusal::Answer(AnswerError::Write)
-        | Refusal::Perform(PerformError::Write)
-        | Refusal::Cluster(RunScriptError::Write) => return BROKEN,
-        Refusal::Answer(AnswerError::Read)
-        | Refusal::Perform(PerformError::Read)
-        | Refusal::Check(TraceError::Read)
-        | Refusal::Cluster(RunScriptError::Read) => BROKEN,
-        _ => REFUSED,
-    };
+    if is_of_the_writer(refusal) {
+        return BROKEN;
+    }
     match format!(in alloc; "refused {refusal}\n") {
-        Ok(line) => written(writer, line.as_bytes(), status),
+        Ok(line) => written(writer, line.as_bytes(), refused_status(refusal)),
         Err(_) => written(writer, b"refused Memory\n", REFUSED),
     }
 }

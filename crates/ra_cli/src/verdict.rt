@@ -1,6 +1,6 @@
 //! The lines of a verdict.
 ghost use Rattle.std.specs.Prelude.{◌≡◌, ◌++◌, string_bytes, IfOk, OnOk};
-ghost use Rattle.ra_world.specs.Lines.{field};
+ghost use Rattle.ra_trace.specs.declared.verdict.Verdict.{Verdict};
 ghost use Rattle.ra_cli.specs.Checks as spec;
 
 use ra_stamp::Memory;
@@ -21,6 +21,53 @@ fn word_of(cause: Cause) -> &'static str
     }
 }
 
+/// Adds the lines of a text that is a trace, of so many requests and messages.
+///
+/// # Errors
+///
+/// `Memory`: there is none for them. A front of them may have been added.
+fn push_valid(text: &mut String, requests: u128, messages: u128) -> Result<(), Memory>
+    ensures { OnOk result
+        (string_bytes text.new ≡ string_bytes text.old ++ spec.verdict_text (Verdict.Valid requests messages)) }
+{
+    text.push_str("valid\nrequests")?;
+    push_number(text, requests)?;
+    text.push_str("\nmessages")?;
+    push_number(text, messages)?;
+    text.push_str("\n")?;
+    Ok(())
+}
+
+/// Adds the line of a text that is none, with its first wrong line and why.
+///
+/// # Errors
+///
+/// `Memory`: there is none for it. A front of it may have been added.
+fn push_invalid(text: &mut String, line: u64, cause: Cause) -> Result<(), Memory>
+    ensures { OnOk result
+        (string_bytes text.new ≡ string_bytes text.old ++ spec.verdict_text (Verdict.Invalid line cause)) }
+{
+    text.push_str("invalid")?;
+    push_number(text, line)?;
+    push_field(text, word_of(cause))?;
+    text.push_str("\n")?;
+    Ok(())
+}
+
+/// Adds the lines of a verdict.
+///
+/// # Errors
+///
+/// `Memory`: there is none for them. A front of them may have been added.
+fn push_verdict(text: &mut String, verdict: &Verdict) -> Result<(), Memory>
+    ensures { OnOk result (string_bytes text.new ≡ string_bytes text.old ++ spec.verdict_text verdict.now) }
+{
+    match *verdict {
+        Verdict::Valid { requests, messages } => push_valid(text, requests, messages),
+        Verdict::Invalid { line, cause } => push_invalid(text, line, cause),
+    }
+}
+
 /// Returns the lines of a verdict: that the text is a trace, and how many requests and messages there are, or that it is none,
 /// and its first wrong line and why.
 ///
@@ -31,19 +78,6 @@ pub fn verdict_text(alloc: Global, verdict: &Verdict) -> Result<String, Memory>
     ensures { IfOk result (λ text. string_bytes text ≡ spec.verdict_text verdict.now) }
 {
     let mut text = String::new(alloc);
-    match verdict {
-        Verdict::Valid { requests, messages } => {
-            text.push_str("valid\nrequests")?;
-            push_number(&mut text, *requests)?;
-            text.push_str("\nmessages")?;
-            push_number(&mut text, *messages)?;
-        }
-        Verdict::Invalid { line, cause } => {
-            text.push_str("invalid")?;
-            push_number(&mut text, *line)?;
-            push_field(&mut text, word_of(*cause))?;
-        }
-    }
-    text.push_str("\n")?;
+    push_verdict(&mut text, verdict)?;
     Ok(text)
 }
