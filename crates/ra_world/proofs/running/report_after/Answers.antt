@@ -1,5 +1,4 @@
 use Rattle.std.proofs.Common.{◌≡◌, ◌+◌, ℕ, sym, subst, refl, inl, inr}
-use Rattle.ra_world.specs.declared.step.Step.{Step}
 use Rattle.ra_world.specs.declared.error.StepError.{StepError}
 use Rattle.ra_world.specs.Refused.{IsRefusedAt}
 use Rattle.ra_world.proofs.Refusing.{memory_or_not, no_run, refused_there}

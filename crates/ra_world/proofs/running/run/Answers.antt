@@ -1,7 +1,6 @@
-use Rattle.std.proofs.Common.{◌≡◌, ℕ, List, map, IsErrOf, IsOkUnless, IfOk, subst}
+use Rattle.std.proofs.Common.{◌≡◌, List, map, IsOkUnless, IfOk, subst}
 use Rattle.ra_world.specs.declared.step.Step.{Step}
-use Rattle.ra_world.specs.declared.error.StepError.{StepError}
-use Rattle.ra_world.specs.declared.error.RunError.TheVariants.{Refused, Memory}
+use Rattle.ra_world.specs.declared.error.RunError.TheVariants.{Memory}
 use Rattle.ra_world.specs.declared.report.Report.{Report}
 use Rattle.ra_world.specs.Traffic.{Move}
 use Rattle.ra_world.specs.Run.{IsRun, WorldRun}
