@@ -1,14 +1,18 @@
--- A leave and a request in one step of the automaton are a leave that hands over to the next client.
-use Rattle.std.proofs.Common.{◌≡◌, ℕ, Bool, List, ◌∷◌, Some, None, ◌+◌, refl, sym, ap, ◌∙◌}
+-- A leave and a request in one step of the automaton are a leave that hands over to the next client, and how a leave ends.
+use Rattle.std.proofs.Common.{◌≡◌, ℕ, Bool, List, ◌∷◌, Some, None, Result, Ok, Err, MatchResult, ◌+◌, refl, sym, ap, ◌∙◌, subst, inl, inr}
 use Rattle.ra_stamp.specs.declared.entry.Entry.{Entry}
 use Rattle.ra_stamp.specs.declared.entry.Mark.{Mark}
 use Rattle.ra_stamp.specs.declared.entry.Mark.TheVariants.{Left}
 use Rattle.ra_stamp.specs.declared.message.Message.{Message}
-use Rattle.ra_automaton.specs.State.{State}
+use Rattle.ra_automaton.specs.State.{State, IsConsistent}
 use Rattle.ra_automaton.specs.Steps.{LeaveAndRequestStep}
 use Rattle.ra_node.specs.declared.queued.Queued.{Queued}
+use Rattle.ra_node.specs.declared.error.LeaveError.{LeaveError}
+use Rattle.ra_node.specs.declared.error.LeaveError.TheVariants.{Memory}
+use Rattle.ra_node.specs.declared.outcome.Outcome.{Outcome}
+use Rattle.ra_node.specs.Faults.{IsLeaveRefusal}
 use Rattle.ra_node.specs.Resource.{Resource, Holds, entry_of, clients_of}
-use Rattle.ra_node.specs.Turns.{request_marks, next_entry, LeavesToNext}
+use Rattle.ra_node.specs.Turns.{request_marks, next_entry, LeaveTurn, LeavesToNobody, LeavesToNext}
 use Rattle.ra_node.proofs.Distinct.{Once, next_may_ask}
 
 pub hands_over : (old : Resource) (client : ℕ) (entry : Entry) (next : Queued) (sends : List Message) (marks : List Mark) (entered : Bool) (new : Resource) → Once (clients_of old) → Holds old client entry → old.queue ≡ next ∷ new.queue
@@ -34,3 +38,32 @@ hands_over old client entry next sends marks entered new once holds queue-was st
       sends_are = step.sends_are;
       marks_are = marks-are ∙ ap (λ (e : Entry). Left entry ∷ request_marks entered e) same;
     }
+
+-- ---- How a leave ends
+
+module _ (result : Result Outcome LeaveError) (old new : Resource) (client : ℕ) (held : Entry) (holds : Holds old client held) where
+  -- what a call did, or that memory was wanting and nothing changed
+  abbrev Ended : (Outcome → Type 0) → Type 0
+  Ended Did = MatchResult result (λ o. Did o × IsConsistent new.state) (λ fault. (fault ≡ Memory) × (new ≡ old))
+
+  -- how a leave ends
+  abbrev Leave : Type 0
+  Leave = MatchResult result (λ o. LeaveTurn old client o.sends.items o.marks.items new × IsConsistent new.state) (λ fault. IsLeaveRefusal old client fault × (new ≡ old))
+
+  ends_as : (Did : Outcome → Type 0) → Ended Did → ((o : Outcome) → Did o → LeaveTurn old client o.sends.items o.marks.items new) → Leave
+  ends_as Did ended turn = left_by result ended
+    where
+      left_by : (r : Result Outcome LeaveError) → MatchResult r (λ o. Did o × IsConsistent new.state) (λ fault. (fault ≡ Memory) × (new ≡ old))
+          → MatchResult r (λ o. LeaveTurn old client o.sends.items o.marks.items new × IsConsistent new.state) (λ fault. IsLeaveRefusal old client fault × (new ≡ old))
+      left_by (Ok o) ended = (turn o ended.0, ended.1)
+      left_by (Err fault) ended = (subst (λ (f : LeaveError). IsLeaveRefusal old client f) (sym ended.0) (held, holds), ended.1)
+
+  pub left_to_nobody : Ended (λ o. LeavesToNobody old held.client o.sends.items o.marks.items new) → Leave
+  left_to_nobody ended =
+      ends_as (λ o. LeavesToNobody old held.client o.sends.items o.marks.items new) ended
+      (λ o did. inl (subst (λ (k : ℕ). LeavesToNobody old k o.sends.items o.marks.items new) holds.client_is did))
+
+  pub left_to_next : Ended (λ o. LeavesToNext old held.client o.sends.items o.marks.items new) → Leave
+  left_to_next ended =
+      ends_as (λ o. LeavesToNext old held.client o.sends.items o.marks.items new) ended
+      (λ o did. inr (subst (λ (k : ℕ). LeavesToNext old k o.sends.items o.marks.items new) holds.client_is did))

@@ -15,6 +15,7 @@ pub mod EventLemmas
 pub mod EventsKept
 pub mod After
 mod Totals
+mod Refusals
 pub mod Determined
 pub mod Possible
 pub mod Chains

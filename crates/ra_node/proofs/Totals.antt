@@ -1,5 +1,5 @@
 -- Sums over all names, and what becomes of them where the resource of one name changes.
-use Rattle.std.proofs.Common.{◌≡◌, ℕ, ◌+◌, ◌*◌, ◌/◌, ◌^◌, ◌≤◌, Bool, true, false, cond, List, [], ◌∷◌, length, Option, Some, None, Result, Ok, Err, IfOk, OnErr, refl, sym, ap, ◌∙◌, subst, arith, inl, inr}
+use Rattle.std.proofs.Common.{◌≡◌, ℕ, ◌+◌, ◌*◌, ◌/◌, ◌^◌, ◌≤◌, Bool, true, false, cond, List, [], ◌∷◌, length, Option, Some, None, Result, Ok, Err, MatchResult, refl, sym, ap, ◌∙◌, subst, arith, inl, inr}
 use Rattle.std.specs.Prelude.{sum_by}
 use Rattle.std.specs.Str.{bytes_eq}
 use Rattle.std.specs.List.{IsDistinct}
@@ -12,14 +12,16 @@ use Rattle.indexmap.specs.IndexMap.{IndexMap, WritesThrough}
 use Rattle.ra_stamp.specs.declared.mode.Mode.{Mode}
 use Rattle.ra_stamp.specs.declared.message.Message.{Message}
 use Rattle.ra_stamp.specs.declared.message.Message.TheVariants.{Request, Reply}
-use Rattle.ra_automaton.specs.State.{State}
+use Rattle.ra_automaton.specs.State.{State, IsConsistent}
 use Rattle.ra_automaton.specs.Steps.{ReceiveStep}
 use Rattle.ra_node.specs.declared.outcome.Outcome.{Outcome}
 use Rattle.ra_node.specs.Resource.{Resource, waiting_in, waiting_at}
 use Rattle.ra_node.specs.Turns.{ReceiveTurn}
 use Rattle.ra_automaton.specs.declared.phase.Phase.{Phase}
 use Rattle.ra_automaton.specs.declared.phase.Phase.TheVariants.{Idle, Waiting, Inside}
-use Rattle.ra_node.proofs.After.{written_through}
+use Rattle.ra_node.specs.Node.{NodeState}
+use Rattle.ra_node.specs.View.{node_with, Finds}
+use Rattle.ra_node.proofs.After.{written_through, same_view}
 use Rattle.ra_node.proofs.Lookups.{names-Decides, same_name}
 use Rattle.ra_node.proofs.Named.{same_names, get_slot, updated, sum_of_slots, sum_of_insert, sum_of_none}
 
@@ -71,10 +73,6 @@ sum_moves f m name old new is =
     let now : sum_over f (finmap.insert m name new) ≡ f new + sum_over f rest = sym (ap (sum_over f) (put_over m name new)) ∙ sum_of_insert f rest name new (taken m name) in
     omega (arith, sum_is f m name old is, now)
 
--- a look-up among the slots afterwards finds the new resource at the name, and at all others what it found before
-abbrev Finds : List (List ℕ × Resource) → List (List ℕ × Resource) → List ℕ → Resource → Type 0
-Finds slots slots' name new = (q : List ℕ) → lookup (bytes_eq q) slots' ≡ cond (bytes_eq name q) (Some new) (lookup (bytes_eq q) slots)
-
 abbrev pub sum_at : (Resource → ℕ) → List (List ℕ × Resource) → ℕ
 sum_at f slots = sum_over f (finmap.from_entries slots)
 
@@ -94,11 +92,12 @@ pub through : {S : Type 0} (f : Resource → ℕ) (slots slots' : IndexMap (List
     → sum_at f slots'.entries + f old ≡ sum_at f slots.entries + f new
 through f slots slots' name old new was writes = moved f slots.entries slots'.entries name old new was (written_through slots slots' name old new was writes).finds
 
--- where the slot of a name comes
-pub come : (f : Resource → ℕ) (slots slots' : List (List ℕ × Resource)) (name : List ℕ) (new : Resource) → finmap.get (finmap.from_entries {R = slice_cmp nat_cmp} slots) name ≡ None → Finds slots slots' name new → sum_at f slots' ≡ f new + sum_at f slots
-come f slots slots' name new none finds =
-    let m = finmap.from_entries {R = slice_cmp nat_cmp} slots in
-    ap (sum_over f) (updated slots slots' name new finds) ∙ sum_of_insert f m name new none
+-- where the slot of a name comes, once room was made for it
+pub come : (f : Resource → ℕ) (me nodes start : ℕ) (before slots slots' : List (List ℕ × Resource)) (now : NodeState) (name : List ℕ) (new : Resource) → node_with me nodes start before ≡ now → slots ≡ before → finmap.get now.resources name ≡ None
+    → Finds slots slots' name new → sum_at f slots' ≡ f new + sum_at f before
+come f me nodes start before slots slots' now name new is same none finds =
+    let nowhere : finmap.get (finmap.from_entries {R = slice_cmp nat_cmp} slots) name ≡ None = ap (λ (m : NodeState). finmap.get m.resources name) (same_view me nodes start before slots now same is) ∙ none in
+    ap (sum_over f) (updated slots slots' name new finds) ∙ (sum_of_insert f (finmap.from_entries slots) name new nowhere ∙ ap (λ (es : List (List ℕ × Resource)). f new + sum_at f es) same)
 
 -- ---- Bounds
 
@@ -153,6 +152,6 @@ idle_stays old (Reply from to name seq) sends entered new step idle =
     not_both phase number mode e k = cc
 
 -- a message changes no queue
-pub queue_stays : {E : Type 0} (result : Result Outcome E) (old new : Resource) (message : Message) → IfOk result (λ o. ReceiveTurn old message o.sends.items o.marks.items new) → OnErr result (new ≡ old) → new.queue ≡ old.queue
-queue_stays (Ok outcome) old new message turn err = turn.queue_is
-queue_stays (Err fault) old new message turn err = ap (λ (r : Resource). r.queue) err
+pub queue_stays : {E : Type 0} (result : Result Outcome E) (Refused : E → Type 0) (old new : Resource) (message : Message) → MatchResult result (λ o. ReceiveTurn old message o.sends.items o.marks.items new × IsConsistent new.state) (λ fault. Refused fault × (new ≡ old)) → new.queue ≡ old.queue
+queue_stays (Ok outcome) Refused old new message ended = ended.0.queue_is
+queue_stays (Err fault) Refused old new message ended = ap (λ (r : Resource). r.queue) ended.1

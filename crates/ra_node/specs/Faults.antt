@@ -1,4 +1,6 @@
--- Which refusal of a node a refusal of its automaton becomes.
+-- Which refusal of a node a refusal of its automaton becomes, and why a client does not leave.
+use Rattle.std.specs.Prelude.{ℕ}
+use Rattle.ra_stamp.specs.declared.entry.Entry.{Entry}
 use Rattle.ra_automaton.specs.declared.error.RequestError.{RequestError}
 use Rattle.ra_automaton.specs.declared.error.RequestError.TheVariants as request
 use Rattle.ra_automaton.specs.declared.error.LeaveError.{LeaveError as LeaveRefusal}
@@ -7,6 +9,7 @@ use Rattle.ra_node.specs.declared.error.AskError.{AskError}
 use Rattle.ra_node.specs.declared.error.AskError.TheVariants as asking
 use Rattle.ra_node.specs.declared.error.LeaveError.{LeaveError}
 use Rattle.ra_node.specs.declared.error.LeaveError.TheVariants as leaving
+use Rattle.ra_node.specs.Resource.{Resource, Holds}
 
 abbrev pub ask_error_of : RequestError → AskError
 ask_error_of request.NotIdle = asking.Busy
@@ -16,3 +19,8 @@ ask_error_of request.Memory = asking.Memory
 abbrev pub leave_error_of : LeaveRefusal → LeaveError
 leave_error_of leave.NotHeld = leaving.NotHeld
 leave_error_of leave.Memory = leaving.Memory
+
+-- a client does not leave where it does not hold, or where it does and memory is wanting
+abbrev pub IsLeaveRefusal : Resource → ℕ → LeaveError → Type 0
+IsLeaveRefusal r client leaving.NotHeld = (entry : Entry) → Holds r client entry → ⊥
+IsLeaveRefusal r client leaving.Memory = (entry : Entry) × Holds r client entry

@@ -2,6 +2,7 @@ pub mod Faults
 pub mod Queue
 pub mod Resource
 pub mod Turns
+pub mod HandedOver
 pub mod Node
 pub mod Events
 pub mod Carried

@@ -1,5 +1,7 @@
 -- The slots of a node, by the names that it has met, as the map from names to resources. No public contract speaks of slots.
-use Rattle.std.specs.Prelude.{◌≡◌, ℕ, ◌/◌, ◌^◌, List, length, sum_by}
+use Rattle.std.specs.Prelude.{◌≡◌, ℕ, ◌/◌, ◌^◌, List, cond, Some, length, sum_by}
+use Rattle.std.specs.Str.{bytes_eq}
+use Rattle.std.specs.Map.{lookup}
 use Rattle.std.specs.FinMap as finmap
 use Rattle.ra_node.specs.Resource.{Resource}
 use Rattle.ra_node.specs.Node.{NodeState, waiting_count, queued_count, IsConsistentNode}
@@ -10,6 +12,11 @@ node_with me nodes start slots = record { me = me; nodes = nodes; start = start;
 
 abbrev pub node_of : Inside → NodeState
 node_of n = node_with n.me n.nodes n.start n.slots.entries
+
+-- a look-up among the slots afterwards finds the new resource at the name, and at all others what it found before
+abbrev pub Finds : List (List ℕ × Resource) → List (List ℕ × Resource) → List ℕ → Resource → Type 0
+Finds slots slots' name new =
+    (q : List ℕ) → lookup (bytes_eq q) slots' ≡ cond (bytes_eq name q) (Some new) (lookup (bytes_eq q) slots)
 
 -- 0 exactly where each queue is shorter than 2^64, as each queue in memory is
 abbrev pub excess_of : NodeState → ℕ

@@ -37,3 +37,16 @@ pub fn marks_for(alloc: Global, room: u64) -> Result<Marks, Memory>
     marks.reserve(room)?;
     Ok(marks)
 }
+
+/// Makes the list of the marks of a leave, with room for those of a request that is made and granted behind it.
+///
+/// # Errors
+///
+/// `Memory`.
+pub fn marks_of_leave(alloc: Global, held: Entry) -> Result<Marks, Memory>
+    ensures { IfOk result (λ marks. (marks.items ≡ Mark.Left held ∷ []) × (2 ≤ marks.spare)) }
+{
+    let mut marks = marks_for(alloc, 3)?;
+    push_reserved(&mut marks, Mark::Left(held));
+    Ok(marks)
+}

@@ -1,5 +1,8 @@
-ghost use Rattle.std.specs.Prelude.{◌≡◌, ◌≢◌, ◌<◌, ◌≤◌, ◌⊎◌, ◌↔◌, None, IsErrOf, IsOk, IsOkUnless, IfOk, OnOk, OnErr, IfErr, IsNone, IfSome};
+ghost use Rattle.std.specs.Prelude.{◌≡◌, ◌≢◌, ◌<◌, ◌≤◌, ◌⊎◌, ◌↔◌, None, IsErrOf, IsOk, IsOkUnless, IfOk, OnErr, MatchResult, IsNone, IfSome};
 ghost use Rattle.indexmap.specs.IndexMap.{spare};
+ghost use Rattle.ra_stamp.specs.NodeId.{IsNodeNumber};
+ghost use Rattle.ra_node.specs.Resource.{unmet};
+ghost use Rattle.ra_node.specs.View.{Finds};
 
 use crate::slot::Slot;
 use crate::{AskError, LeaveError, NewError, Outcome, ReceiveError};
@@ -50,26 +53,43 @@ impl Model for Node {
     ghost invariant = { IsKept };
 }
 
-/// Makes room for one more slot.
+/// Makes the slot of a name that no client and no message was about yet, and room for it.
 ///
 /// # Errors
 ///
 /// `Memory`: the slots are as before.
-fn make_room(slots: &mut IndexMap<Name, Slot>) -> Result<(), Memory>
+fn first_slot(
+    slots: &mut IndexMap<Name, Slot>,
+    alloc: Global,
+    me: NodeId,
+    nodes: u16,
+    name: Name,
+    start: u64,
+) -> Result<Slot, Memory>
+    requires count { IsNodeNumber nodes }
+    requires member { me ≤ nodes }
     ensures same { slots.new.entries ≡ slots.old.entries }
-    ensures room { OnOk result (1 ≤ spare slots.new) }
+    ensures made { IfOk result (λ slot. (slot ≡ unmet me nodes name start) × (1 ≤ spare slots.new)) }
 {
+    let slot = Slot::new(alloc, me, nodes, name, start)?;
     slots.reserve(1)?;
-    Ok(())
+    Ok(slot)
+}
+
+/// Puts in the slot of a name, for which there is room.
+fn put(slots: &mut IndexMap<Name, Slot>, name: Name, slot: Slot)
+    requires { 1 ≤ spare slots.old }
+    ensures { Finds slots.old.entries slots.new.entries name slot }
+{
+    slots.insert(name, slot).unwrap();
 }
 
 impl Node {
-    ghost use Rattle.ra_stamp.specs.NodeId.{IsNodeNumber};
     ghost use Rattle.ra_automaton.specs.State.{IsForNode};
     ghost use Rattle.ra_automaton.specs.Steps.{greatest_number};
     ghost use Rattle.std.specs.FinMap as map;
     ghost use Rattle.ra_stamp.specs.Message.{from_of, to_of, name_of};
-    ghost use Rattle.ra_node.specs.Resource.{unmet, IsBusy, Holds, holder_of};
+    ghost use Rattle.ra_node.specs.Resource.{IsBusy, Holds, holder_of};
     ghost use Rattle.ra_node.specs.Turns.{MayAsk};
     ghost use Rattle.ra_node.specs.Node.{opening_node, resource_at, waiting_count, queued_count, IsConsistentNode};
     ghost use Rattle.ra_node.specs.Events.{AskEvent, LeaveEvent, ReceiveEvent};
@@ -321,21 +341,19 @@ impl Node {
     ) -> Result<Outcome, AskError>
         requires first { map.get self.old.resources name ≡ None }
         requires allowed { MayAsk (resource_at self.old name) client }
-        ensures ok { IfOk result (λ outcome.
-            AskEvent self.old client name mode outcome.sends.items outcome.marks.items self.new) }
-        ensures memory { IfErr result (λ fault. fault ≡ AskError.Memory) }
-        ensures err { OnErr result (self.new ≡ self.old) }
+        ensures asked { MatchResult result
+            (λ outcome. AskEvent self.old client name mode outcome.sends.items outcome.marks.items self.new)
+            (λ fault. (fault ≡ AskError.Memory) × (self.new ≡ self.old)) }
         ensures consistent { IsConsistentNode self.new }
     {
-        let mut slot = Slot::new(alloc, self.me, self.nodes, name, self.start)?;
-        make_room(&mut self.slots)?;
+        let slots = &mut self.slots;
+        let mut slot = first_slot(slots, alloc, self.me, self.nodes, name, self.start)?;
         let outcome = slot.ask(alloc, client, mode)?;
         // The totals have room: there are fewer than 2^64 names.
         prove!(self.slots.len() < usize::MAX);
         self.waiting += slot.waiting();
         self.queued += slot.queued() as u128;
-        // There is room for it.
-        self.slots.insert(name, slot).unwrap();
+        put(&mut self.slots, name, slot);
         Ok(outcome)
     }
 
@@ -347,17 +365,17 @@ impl Node {
     fn receive_first(&mut self, alloc: Global, message: &Message) -> Result<Outcome, ReceiveError>
         requires first { map.get self.old.resources (name_of message.now) ≡ None }
         requires addressed { IsForNode self.old.me self.old.nodes message.now }
-        ensures ok { IfOk result (λ outcome.
-            ReceiveEvent self.old message.now outcome.sends.items outcome.marks.items self.new) }
-        ensures memory { IfErr result (λ fault. fault ≡ ReceiveError.Memory) }
-        ensures err { OnErr result (self.new ≡ self.old) }
+        ensures received { MatchResult result
+            (λ outcome. ReceiveEvent self.old message.now outcome.sends.items outcome.marks.items self.new)
+            (λ fault. (fault ≡ ReceiveError.Memory) × (self.new ≡ self.old)) }
         ensures consistent { IsConsistentNode self.new }
     {
-        let mut slot = Slot::new(alloc, self.me, self.nodes, message.name(), self.start)?;
-        make_room(&mut self.slots)?;
+        let name = message.name();
+        let slots = &mut self.slots;
+        let mut slot = first_slot(slots, alloc, self.me, self.nodes, name, self.start)?;
         let outcome = slot.receive(alloc, message)?;
-        // No request waits at it and no client is queued, so that the totals stay. There is room for the slot.
-        self.slots.insert(message.name(), slot).unwrap();
+        // No request waits at it and no client is queued, so that the totals stay.
+        put(slots, name, slot);
         Ok(outcome)
     }
 }

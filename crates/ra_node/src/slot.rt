@@ -1,8 +1,8 @@
-ghost use Rattle.std.specs.Prelude.{◌≡◌, ◌≢◌, ◌<◌, ◌≤◌, ◌⊎◌, ◌↔◌, ◌∷◌, [], length, take, IsTrue, IsErrOf, IsOk, IsOkUnless, IfOk, OnOk, OnErr, IfErr, AllPairs, IsNone, IfSome};
+ghost use Rattle.std.specs.Prelude.{◌≡◌, ◌≢◌, ◌<◌, ◌≤◌, ◌⊎◌, ◌↔◌, ◌∷◌, [], length, take, IsTrue, IsErrOf, IsOk, IfOk, MatchResult, AllPairs, IsNone, IfSome};
 ghost use Rattle.ra_stamp.specs.declared.entry.Entry.{Entry};
 ghost use Rattle.ra_node.specs.Resource.{entry_of};
 
-use crate::marks::{marks_for, push_request, push_reserved};
+use crate::marks::{marks_for, marks_of_leave, push_request, push_reserved};
 use crate::queue::Queue;
 use crate::queued::Queued;
 use crate::{AskError, LeaveError, Outcome};
@@ -37,9 +37,11 @@ impl Slot {
     ghost use Rattle.ra_stamp.specs.Message.{name_of};
     ghost use Rattle.ra_stamp.specs.NodeId.{IsNodeNumber};
     ghost use Rattle.ra_automaton.specs.State.{IsAddressed, IsConsistent, IsInside};
-    ghost use Rattle.ra_automaton.specs.Steps.{greatest_number, LeaveAndRequestStep};
+    ghost use Rattle.ra_automaton.specs.Steps.{greatest_number};
     ghost use Rattle.ra_node.specs.Resource.{unmet, holder_of, Holds, IsBusy, waiting_at, ClientFits, clients_of};
-    ghost use Rattle.ra_node.specs.Turns.{MayAsk, AskTurn, LeaveTurn, ReceiveTurn, next_entry};
+    ghost use Rattle.ra_node.specs.Turns.{MayAsk, AskTurn, AsksAtOnce, QueuesUp, LeaveTurn, LeavesToNobody, LeavesToNext, ReceiveTurn, next_entry};
+    ghost use Rattle.ra_node.specs.Faults.{IsLeaveRefusal};
+    ghost use Rattle.ra_node.specs.HandedOver.{IsHandedOver};
 
     /// Makes the slot of a resource that no client and no message was about yet, in time linear in the number of nodes.
     ///
@@ -141,19 +143,31 @@ impl Slot {
     /// `Memory`: the resource is as before.
     pub fn ask(&mut self, alloc: Global, client: u32, mode: Mode) -> Result<Outcome, AskError>
         requires { MayAsk self.old client }
-        ensures ok { IfOk result (λ outcome.
-            AskTurn self.old client mode outcome.sends.items outcome.marks.items self.new) }
-        ensures memory { IfErr result (λ fault. fault ≡ AskError.Memory) }
-        ensures err { OnErr result (self.new ≡ self.old) }
-        ensures consistent { OnOk result (IsConsistent self.new.state) }
+        ensures { MatchResult result
+            (λ outcome. AskTurn self.old client mode outcome.sends.items outcome.marks.items self.new
+            × IsConsistent self.new.state)
+            (λ fault. (fault ≡ AskError.Memory) × (self.new ≡ self.old)) }
     {
-        if self.automaton.phase() != Phase::Idle {
-            self.queue.push_back(Queued { client, mode })?;
-            return Ok(Outcome {
-                sends: Messages::new(alloc),
-                marks: Marks::new(alloc),
-            });
+        if self.automaton.phase() == Phase::Idle {
+            self.ask_at_once(alloc, client, mode)
+        } else {
+            self.queue_up(alloc, client, mode)
         }
+    }
+
+    /// Asks for a client, which may ask, while nobody uses the resource: its request is made.
+    ///
+    /// # Errors
+    ///
+    /// `Memory`: the resource is as before.
+    fn ask_at_once(&mut self, alloc: Global, client: u32, mode: Mode) -> Result<Outcome, AskError>
+        requires idle { self.old.state.phase ≡ Phase.Idle }
+        requires number_left { self.old.state.highest < greatest_number }
+        ensures { MatchResult result
+            (λ outcome. AsksAtOnce self.old client mode outcome.sends.items outcome.marks.items self.new
+            × IsConsistent self.new.state)
+            (λ fault. (fault ≡ AskError.Memory) × (self.new ≡ self.old)) }
+    {
         let mut marks = marks_for(alloc, 2)?;
         let requested = self.next_entry(client, mode);
         let reaction = self.automaton.request(alloc, mode)?;
@@ -162,6 +176,24 @@ impl Slot {
         Ok(Outcome {
             sends: reaction.sends,
             marks,
+        })
+    }
+
+    /// Queues a client behind all others, while the resource is in use.
+    ///
+    /// # Errors
+    ///
+    /// `Memory`: the resource is as before.
+    fn queue_up(&mut self, alloc: Global, client: u32, mode: Mode) -> Result<Outcome, AskError>
+        requires { self.old.state.phase ≢ Phase.Idle }
+        ensures { MatchResult result
+            (λ outcome. QueuesUp self.old client mode outcome.sends.items outcome.marks.items self.new)
+            (λ fault. (fault ≡ AskError.Memory) × (self.new ≡ self.old)) }
+    {
+        self.queue.push_back(Queued { client, mode })?;
+        Ok(Outcome {
+            sends: Messages::new(alloc),
+            marks: Marks::new(alloc),
         })
     }
 
@@ -175,31 +207,65 @@ impl Slot {
     /// 2. `Memory`.
     pub fn leave(&mut self, alloc: Global, client: u32) -> Result<Outcome, LeaveError>
         requires { AllPairs (λ a b. a ≢ b) (clients_of self.old) }
-        ensures ok { IfOk result (λ outcome.
-            LeaveTurn self.old client outcome.sends.items outcome.marks.items self.new) }
-        ensures not_held { IsErrOf result LeaveError.NotHeld
-            ↔ ((entry : Entry) → Holds self.old client entry → ⊥) }
-        ensures allowed { IsOkUnless result LeaveError.Memory
-            ↔ ((entry : Entry) × Holds self.old client entry) }
-        ensures err { OnErr result (self.new ≡ self.old) }
-        ensures consistent { OnOk result (IsConsistent self.new.state) }
+        ensures { MatchResult result
+            (λ outcome. LeaveTurn self.old client outcome.sends.items outcome.marks.items self.new
+            × IsConsistent self.new.state)
+            (λ fault. IsLeaveRefusal self.old client fault × (self.new ≡ self.old)) }
     {
         let Some(held) = self.held_by(client) else {
             return Err(LeaveError::NotHeld);
         };
-        let mut marks = marks_for(alloc, 3)?;
-        let Some(next) = self.next() else {
-            let reaction = self.automaton.leave(alloc)?;
-            self.client = None;
-            push_reserved(&mut marks, Mark::Left(held));
-            return Ok(Outcome {
-                sends: reaction.sends,
-                marks,
-            });
-        };
+        match self.next() {
+            Some(next) => self.leave_to_next(alloc, held, next),
+            None => self.leave_to_nobody(alloc, held),
+        }
+    }
+
+    /// Leaves by the request that is granted, and nobody asks.
+    ///
+    /// # Errors
+    ///
+    /// `Memory`: the resource is as before.
+    fn leave_to_nobody(&mut self, alloc: Global, held: Entry) -> Result<Outcome, LeaveError>
+        requires holds { holder_of self.old ≡ Some held }
+        requires nobody { (self.old.queue ≡ []) ⊎ (greatest_number ≤ self.old.state.highest) }
+        ensures { MatchResult result
+            (λ outcome. LeavesToNobody self.old held.client outcome.sends.items outcome.marks.items self.new
+            × IsConsistent self.new.state)
+            (λ fault. (fault ≡ LeaveError.Memory) × (self.new ≡ self.old)) }
+    {
+        let marks = marks_of_leave(alloc, held)?;
+        let reaction = self.automaton.leave(alloc)?;
+        self.client = None;
+        Ok(Outcome {
+            sends: reaction.sends,
+            marks,
+        })
+    }
+
+    /// Leaves by the request that is granted, and `next`, the first of the queue, asks. No client may stand here twice.
+    ///
+    /// # Errors
+    ///
+    /// `Memory`: the resource is as before.
+    fn leave_to_next(
+        &mut self,
+        alloc: Global,
+        held: Entry,
+        next: Queued,
+    ) -> Result<Outcome, LeaveError>
+        requires holds { holder_of self.old ≡ Some held }
+        requires first { take 1 self.old.queue ≡ next ∷ [] }
+        requires number_left { self.old.state.highest < greatest_number }
+        requires once { AllPairs (λ a b. a ≢ b) (clients_of self.old) }
+        ensures { MatchResult result
+            (λ outcome. LeavesToNext self.old held.client outcome.sends.items outcome.marks.items self.new
+            × IsConsistent self.new.state)
+            (λ fault. (fault ≡ LeaveError.Memory) × (self.new ≡ self.old)) }
+    {
+        let mut marks = marks_of_leave(alloc, held)?;
         let requested = self.next_entry(next.client, next.mode);
         let reaction = self.hand_over(alloc, next)?;
-        push_reserved(&mut marks, Mark::Left(held));
         push_request(&mut marks, &requested, reaction.entered);
         Ok(Outcome {
             sends: reaction.sends,
@@ -218,13 +284,10 @@ impl Slot {
         requires first { take 1 self.old.queue ≡ next ∷ [] }
         requires number_left { self.old.state.highest < greatest_number }
         requires once { AllPairs (λ a b. a ≢ b) (clients_of self.old) }
-        ensures ok { IfOk result (λ reaction. LeaveAndRequestStep self.old.state next.mode
-            reaction.sends.items reaction.entered self.new.state) }
-        ensures client { OnOk result (self.new.client ≡ Some next.client) }
-        ensures queue { OnOk result (self.old.queue ≡ next ∷ self.new.queue) }
-        ensures memory { IfErr result (λ fault. fault ≡ LeaveError.Memory) }
-        ensures err { OnErr result (self.new ≡ self.old) }
-        ensures consistent { OnOk result (IsConsistent self.new.state) }
+        ensures { MatchResult result
+            (λ reaction. IsHandedOver self.old next reaction.sends.items reaction.entered self.new
+            × IsConsistent self.new.state)
+            (λ fault. (fault ≡ LeaveError.Memory) × (self.new ≡ self.old)) }
     {
         let handed = self.automaton.leave_and_request(alloc, next.mode)?;
         self.queue.pop_front();
@@ -241,11 +304,10 @@ impl Slot {
         requires name { name_of message.now ≡ self.old.state.name }
         requires addressed { IsAddressed self.old.state message.now }
         requires client { ClientFits self.old.state.phase self.old.client }
-        ensures ok { IfOk result (λ outcome.
-            ReceiveTurn self.old message.now outcome.sends.items outcome.marks.items self.new) }
-        ensures memory { IfErr result (λ fault. fault ≡ ReceiveError.Memory) }
-        ensures err { OnErr result (self.new ≡ self.old) }
-        ensures consistent { OnOk result (IsConsistent self.new.state) }
+        ensures { MatchResult result
+            (λ outcome. ReceiveTurn self.old message.now outcome.sends.items outcome.marks.items self.new
+            × IsConsistent self.new.state)
+            (λ fault. (fault ≡ ReceiveError.Memory) × (self.new ≡ self.old)) }
     {
         // Most messages let nobody enter, and then there is no mark to make room for.
         let room = if self.automaton.lets_enter(message) {

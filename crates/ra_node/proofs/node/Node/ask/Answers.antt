@@ -1,18 +1,42 @@
-use Rattle.std.proofs.Common.{ℕ, ◌/◌, ◌^◌, length, rules, sym, subst, arith}
+use Rattle.std.proofs.Common.{rules, ◌≡◌, ℕ, ◌/◌, ◌^◌, List, length, Result, Err, IfOk, OnErr, refl, sym, ap, subst, arith}
+use Rattle.indexmap.specs.IndexMap.{IndexMap}
+use Rattle.ra_node.specs.declared.error.AskError.{AskError}
+use Rattle.ra_node.specs.declared.outcome.Outcome.{Outcome}
 use Rattle.ra_node.specs.Resource.{Resource, waiting_at}
 use Rattle.ra_node.specs.Turns.{MayAsk}
-use Rattle.ra_node.proofs.After.{asked_at}
+use Rattle.ra_node.specs.Node.{NodeState, resource_at}
+use Rattle.ra_node.specs.Events.{AskEvent}
+use Rattle.ra_node.proofs.After.{asked_at, kept_as, same_view, seen_from}
 use Rattle.ra_node.proofs.NodeLemmas.{found, absent_in}
+use Rattle.ra_node.proofs.Refusals.{AskTells, asked_tells, refused_tells}
 use Rattle.ra_node.proofs.Totals.{part, through, one_at_most, few_wait, few_queue}
 use Rattle.ra_node.proofs.node.Node.ask.Goals as goal
+
+-- ---- The client may not ask
+
+refused : (c : goal.After-from_residual) → AskTells c.from_residual.result (resource_at c.args.self.now c.args.name) c.args.client
+refused c =
+    let fault = c.in_err-may_ask.field-0.0 in
+    let told = c.in_err-may_ask.ensures in
+    let is : c.from_residual.result ≡ Err fault = search rules in
+    let r = resource_at c.args.self.now c.args.name in
+    subst (λ (result : Result Outcome AskError). AskTells result r c.args.client) (sym is) (refused_tells fault r c.args.client (record { allowed = told.allowed; busy = told.busy; exhausted = told.exhausted; no_memory = told.no_memory }))
+
+pub returns-in_err-may_ask-clause-busy : goal.returns-in_err-may_ask-clause-busy
+returns-in_err-may_ask-clause-busy c = (refused c).busy
+
+pub returns-in_err-may_ask-clause-exhausted : goal.returns-in_err-may_ask-clause-exhausted
+returns-in_err-may_ask-clause-exhausted c = (refused c).exhausted
+
+pub returns-in_err-may_ask-clause-allowed : goal.returns-in_err-may_ask-clause-allowed
+returns-in_err-may_ask-clause-allowed c = (refused c).allowed
+
+-- ---- At a slot
 
 pub ask-outcome-requires : goal.ask-outcome-requires
 ask-outcome-requires c =
     let n = c.self.inside in
     subst (λ (r : Resource). MayAsk r c.args.client) (sym (found n.me n.nodes n.start n.slots.entries c.args.self.now c.self.view_is c.args.name c.in-Some.slot.now c.in-Some.ensures.value)) (search rules)
-
-pub ask_first-requires-clause-first : goal.ask_first-requires-clause-first
-ask_first-requires-clause-first c = absent_in c.self.inside.slots c.get_mut.follows.lender-at-none c.args.name c.get_mut.follows.holds-at-none c.in-None.ensures.value
 
 pub overflow_sub-waiting : goal.overflow_sub-waiting
 overflow_sub-waiting c =
@@ -39,8 +63,7 @@ invariant_of-self c =
     let within = λ (f : Resource → ℕ). part f n.slots.entries c.args.name c.in-Some.slot.now c.in-Some.ensures.value in
     let kept = c.self.invariant in
     record {
-      consistent = (asked_at n.me n.nodes n.start n.slots slots c.args.self.now c.self.view_is c.self.invariant.consistent c.in-Some.slot.now new c.ask-outcome.result c.ask-outcome.ensures.consistent c.ask-outcome.ensures.err c.args.client c.args.name c.args.mode
-          c.ask-outcome.ensures.ok c.in-Some.ensures.value (c.get_mut.follows.holds new)).consistent;
+      consistent = (asked_at n.me n.nodes n.start n.slots slots c.args.self.now c.self.view_is kept.consistent c.in-Some.slot.now new c.ask-outcome.result _ c.args.client c.args.name c.args.mode c.ask-outcome.ensures c.in-Some.ensures.value (c.get_mut.follows.holds new)).consistent;
       waiting = omega (arith, kept.waiting, moves waiting_at, within waiting_at, c.waiting.ensures, c.waiting-in-Some.ensures);
       queued = omega (arith, kept.queued, moves (λ r. length r.queue), within (λ r. length r.queue), c.queued.ensures, c.queued-in-Some.ensures);
       counted = omega (arith, kept.counted, moves (λ r. length r.queue / 2 ^ 64), c.queued-in-Some.ensures, c.queued-in-Some.type_inv);
@@ -51,16 +74,68 @@ returns-in-Some-clause-ok c =
     let n = c.self.inside in
     let new = c.ask-outcome.new.self in
     let slots = c.get_mut.follows.lender new in
-    (asked_at n.me n.nodes n.start n.slots slots c.args.self.now c.self.view_is c.self.invariant.consistent c.in-Some.slot.now new c.ask-outcome.result c.ask-outcome.ensures.consistent c.ask-outcome.ensures.err c.args.client c.args.name c.args.mode
-    c.ask-outcome.ensures.ok c.in-Some.ensures.value (c.get_mut.follows.holds new)).ok
+    (asked_at n.me n.nodes n.start n.slots slots c.args.self.now c.self.view_is c.self.invariant.consistent c.in-Some.slot.now new c.ask-outcome.result _ c.args.client c.args.name c.args.mode c.ask-outcome.ensures c.in-Some.ensures.value (c.get_mut.follows.holds new)).ok
 
 pub returns-in-Some-clause-err : goal.returns-in-Some-clause-err
 returns-in-Some-clause-err c =
     let n = c.self.inside in
     let new = c.ask-outcome.new.self in
     let slots = c.get_mut.follows.lender new in
-    (asked_at n.me n.nodes n.start n.slots slots c.args.self.now c.self.view_is c.self.invariant.consistent c.in-Some.slot.now new c.ask-outcome.result c.ask-outcome.ensures.consistent c.ask-outcome.ensures.err c.args.client c.args.name c.args.mode
-    c.ask-outcome.ensures.ok c.in-Some.ensures.value (c.get_mut.follows.holds new)).err
+    (asked_at n.me n.nodes n.start n.slots slots c.args.self.now c.self.view_is c.self.invariant.consistent c.in-Some.slot.now new c.ask-outcome.result _ c.args.client c.args.name c.args.mode c.ask-outcome.ensures c.in-Some.ensures.value (c.get_mut.follows.holds new)).err
 
 pub returns-in-Some-clause-consistent : goal.returns-in-Some-clause-consistent
 returns-in-Some-clause-consistent c = (invariant_of-self c).consistent
+
+tells : (c : goal.After-self-in-Some-2-1) → AskTells c.ask-outcome.result (resource_at c.args.self.now c.args.name) c.args.client
+tells c = asked_tells c.ask-outcome.result (resource_at c.args.self.now c.args.name) c.args.client _ _ (c.in_ok-may_ask.ensures.allowed.0 refl) c.ask-outcome.ensures
+
+pub returns-in-Some-clause-busy : goal.returns-in-Some-clause-busy
+returns-in-Some-clause-busy c = (tells c).busy
+
+pub returns-in-Some-clause-exhausted : goal.returns-in-Some-clause-exhausted
+returns-in-Some-clause-exhausted c = (tells c).exhausted
+
+pub returns-in-Some-clause-allowed : goal.returns-in-Some-clause-allowed
+returns-in-Some-clause-allowed c = (tells c).allowed
+
+-- ---- At a name that nothing was about yet
+
+pub invariant_of-self-in-None : goal.invariant_of-self-in-None
+invariant_of-self-in-None c =
+    let n = c.self.inside in
+    let none = c.get_mut.follows.holds-at-none in
+    kept_as n (record n { slots = c.get_mut.follows.lender-at-none }) refl (ap (λ (m : IndexMap (List ℕ) Resource _). m.entries) none) c.self.invariant
+
+pub ask_first-requires-clause-first : goal.ask_first-requires-clause-first
+ask_first-requires-clause-first c = absent_in c.self.inside.slots c.get_mut.follows.lender-at-none c.args.name c.get_mut.follows.holds-at-none c.in-None.ensures.value
+
+pub ask_first-requires-clause-allowed : goal.ask_first-requires-clause-allowed
+ask_first-requires-clause-allowed c =
+    let n = c.self.inside in
+    let view = same_view n.me n.nodes n.start n.slots.entries c.get_mut.follows.lender-at-none.entries c.args.self.now (ap (λ (m : IndexMap (List ℕ) Resource _). m.entries) c.get_mut.follows.holds-at-none) c.self.view_is in
+    subst (λ (m : NodeState). MayAsk (resource_at m c.args.name) c.args.client) (sym view) (c.in_ok-may_ask.ensures.allowed.0 refl)
+
+first_seen : (c : goal.After-ask_first) → IfOk c.ask_first.result (λ o. AskEvent c.args.self.now c.args.client c.args.name c.args.mode o.sends.items o.marks.items c.ask_first.new.self) × OnErr c.ask_first.result (c.ask_first.new.self ≡ c.args.self.now)
+first_seen c =
+    let n = c.self.inside in
+    let new = c.ask_first.new.self in
+    let view = same_view n.me n.nodes n.start n.slots.entries c.get_mut.follows.lender-at-none.entries c.args.self.now (ap (λ (m : IndexMap (List ℕ) Resource _). m.entries) c.get_mut.follows.holds-at-none) c.self.view_is in
+    seen_from c.ask_first.result _ (λ (m : NodeState) (o : Outcome). AskEvent m c.args.client c.args.name c.args.mode o.sends.items o.marks.items new) _ c.args.self.now new view c.ask_first.ensures.asked
+
+pub returns-in-None-clause-ok : goal.returns-in-None-clause-ok
+returns-in-None-clause-ok c = (first_seen c).0
+
+pub returns-in-None-clause-err : goal.returns-in-None-clause-err
+returns-in-None-clause-err c = (first_seen c).1
+
+first_tells : (c : goal.After-ask_first) → AskTells c.ask_first.result (resource_at c.args.self.now c.args.name) c.args.client
+first_tells c = asked_tells c.ask_first.result (resource_at c.args.self.now c.args.name) c.args.client _ _ (c.in_ok-may_ask.ensures.allowed.0 refl) c.ask_first.ensures.asked
+
+pub returns-in-None-clause-busy : goal.returns-in-None-clause-busy
+returns-in-None-clause-busy c = (first_tells c).busy
+
+pub returns-in-None-clause-exhausted : goal.returns-in-None-clause-exhausted
+returns-in-None-clause-exhausted c = (first_tells c).exhausted
+
+pub returns-in-None-clause-allowed : goal.returns-in-None-clause-allowed
+returns-in-None-clause-allowed c = (first_tells c).allowed

@@ -1,12 +1,12 @@
-use Rattle.std.proofs.Common.{rules, ◌≡◌, ℕ, ◌/◌, ◌^◌, List, length, IsErrOf, refl, sym, subst, arith}
-use Rattle.std.specs.Prelude.{IsOkUnless}
+use Rattle.std.proofs.Common.{rules, ◌≡◌, ℕ, ◌/◌, ◌^◌, List, length, refl, sym, subst, arith}
 use Rattle.indexmap.specs.IndexMap.{IndexMap}
-use Rattle.ra_stamp.specs.declared.entry.Entry.{Entry}
 use Rattle.ra_node.specs.declared.error.LeaveError.TheVariants.{NotHeld, Memory}
-use Rattle.ra_node.specs.Resource.{Resource, Holds, waiting_at}
+use Rattle.ra_node.specs.Resource.{Resource, waiting_at}
 use Rattle.ra_node.specs.View.{IsKept}
 use Rattle.ra_node.proofs.After.{left_at, nobody_holds}
 use Rattle.ra_node.proofs.NodeLemmas.{found, slot_is_consistent, missing}
+use Rattle.ra_node.specs.Node.{resource_at}
+use Rattle.ra_node.proofs.Refusals.{LeaveTells, left_tells}
 use Rattle.ra_node.proofs.Totals.{part, through, one_at_most, few_wait, few_queue}
 use Rattle.ra_node.proofs.node.Node.leave.Goals as goal
 
@@ -61,8 +61,7 @@ invariant_of-self-2 c =
     let within = λ (f : Resource → ℕ). part f n.slots.entries c.args.name c.in-Some.slot.now c.in-Some.ensures.value in
     let kept = c.self.invariant in
     record {
-      consistent = (left_at n.me n.nodes n.start n.slots slots c.args.self.now c.self.view_is c.self.invariant.consistent c.in-Some.slot.now new c.leave-outcome.result c.leave-outcome.ensures.consistent c.leave-outcome.ensures.err c.args.client c.args.name
-          c.leave-outcome.ensures.ok c.in-Some.ensures.value (c.get_mut.follows.holds new)).consistent;
+      consistent = (left_at n.me n.nodes n.start n.slots slots c.args.self.now c.self.view_is c.self.invariant.consistent c.in-Some.slot.now new c.leave-outcome.result _ c.args.client c.args.name c.leave-outcome.ensures c.in-Some.ensures.value (c.get_mut.follows.holds new)).consistent;
       waiting = omega (arith, kept.waiting, moves waiting_at, within waiting_at, c.waiting.ensures, c.waiting-2.ensures);
       queued = omega (arith, kept.queued, moves (λ r. length r.queue), within (λ r. length r.queue), c.queued.ensures, c.queued-2.ensures);
       counted = omega (arith, kept.counted, moves (λ r. length r.queue / 2 ^ 64), c.queued-2.ensures, c.queued-2.type_inv);
@@ -72,29 +71,25 @@ pub returns-clause-ok : goal.returns-clause-ok
 returns-clause-ok c =
     let n = c.self.inside in
     let new = c.leave-outcome.new.self in
-    (left_at n.me n.nodes n.start n.slots (c.get_mut.follows.lender new) c.args.self.now c.self.view_is c.self.invariant.consistent c.in-Some.slot.now new c.leave-outcome.result c.leave-outcome.ensures.consistent c.leave-outcome.ensures.err c.args.client c.args.name
-    c.leave-outcome.ensures.ok c.in-Some.ensures.value (c.get_mut.follows.holds new)).ok
+    (left_at n.me n.nodes n.start n.slots (c.get_mut.follows.lender new) c.args.self.now c.self.view_is c.self.invariant.consistent c.in-Some.slot.now new c.leave-outcome.result _ c.args.client c.args.name c.leave-outcome.ensures c.in-Some.ensures.value (c.get_mut.follows.holds new)).ok
 
 pub returns-clause-err : goal.returns-clause-err
 returns-clause-err c =
     let n = c.self.inside in
     let new = c.leave-outcome.new.self in
-    (left_at n.me n.nodes n.start n.slots (c.get_mut.follows.lender new) c.args.self.now c.self.view_is c.self.invariant.consistent c.in-Some.slot.now new c.leave-outcome.result c.leave-outcome.ensures.consistent c.leave-outcome.ensures.err c.args.client c.args.name
-    c.leave-outcome.ensures.ok c.in-Some.ensures.value (c.get_mut.follows.holds new)).err
+    (left_at n.me n.nodes n.start n.slots (c.get_mut.follows.lender new) c.args.self.now c.self.view_is c.self.invariant.consistent c.in-Some.slot.now new c.leave-outcome.result _ c.args.client c.args.name c.leave-outcome.ensures c.in-Some.ensures.value (c.get_mut.follows.holds new)).err
 
 pub returns-clause-consistent : goal.returns-clause-consistent
 returns-clause-consistent c = (invariant_of-self-2 c).consistent
 
-pub returns-clause-not_held : goal.returns-clause-not_held
-returns-clause-not_held c =
+tells : (c : goal.After-self-3-1) → LeaveTells c.leave-outcome.result (resource_at c.args.self.now c.args.name) c.args.client
+tells c =
     let n = c.self.inside in
     let here = found n.me n.nodes n.start n.slots.entries c.args.self.now c.self.view_is c.args.name c.in-Some.slot.now c.in-Some.ensures.value in
-    let Refused = λ (r : Resource). (entry : Entry) → Holds r c.args.client entry → ⊥ in
-    subst (λ (r : Resource). (IsErrOf c.leave-outcome.result NotHeld → Refused r) × (Refused r → IsErrOf c.leave-outcome.result NotHeld)) here c.leave-outcome.ensures.not_held
+    subst (λ (r : Resource). LeaveTells c.leave-outcome.result r c.args.client) here (left_tells c.leave-outcome.result c.in-Some.slot.now c.args.client c.leave-outcome.new.self _ c.leave-outcome.ensures)
+
+pub returns-clause-not_held : goal.returns-clause-not_held
+returns-clause-not_held c = (tells c).not_held
 
 pub returns-clause-allowed : goal.returns-clause-allowed
-returns-clause-allowed c =
-    let n = c.self.inside in
-    let here = found n.me n.nodes n.start n.slots.entries c.args.self.now c.self.view_is c.args.name c.in-Some.slot.now c.in-Some.ensures.value in
-    let IsHeld = λ (r : Resource). (entry : Entry) × Holds r c.args.client entry in
-    subst (λ (r : Resource). (IsOkUnless c.leave-outcome.result Memory → IsHeld r) × (IsHeld r → IsOkUnless c.leave-outcome.result Memory)) here c.leave-outcome.ensures.allowed
+returns-clause-allowed c = (tells c).allowed

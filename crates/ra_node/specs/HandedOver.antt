@@ -1,0 +1,13 @@
+-- The one step in which the client that holds leaves and the next one asks. No public contract speaks of it.
+use Rattle.std.specs.Prelude.{◌≡◌, Bool, List, ◌∷◌, Some}
+use Rattle.ra_stamp.specs.declared.message.Message.{Message}
+use Rattle.ra_automaton.specs.Steps.{LeaveAndRequestStep}
+use Rattle.ra_node.specs.declared.queued.Queued.{Queued}
+use Rattle.ra_node.specs.Resource.{Resource}
+
+-- the automaton leaves and asks for the first client of the queue, which is then the current one
+pub record IsHandedOver (old : Resource) (next : Queued) (sends : List Message) (entered : Bool) (new : Resource)
+    : Type 0 where
+  pub step : LeaveAndRequestStep old.state next.mode sends entered new.state
+  pub client_is : new.client ≡ Some next.client
+  pub queue_was : old.queue ≡ next ∷ new.queue
