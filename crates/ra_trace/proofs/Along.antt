@@ -1,12 +1,13 @@
 -- How far a checker has come in what it reads.
 use Rattle.std.proofs.Common.{◌≡◌, ◌≢◌, ◌⊎◌, ℕ, ◌+◌, ◌-◌, ◌≤◌, List, [], ◌∷◌, ◌++◌, length, Option, Some, None, refl, sym, ap, ◌∙◌, subst, inl, inr, arith, append_assoc, length-append}
-use Rattle.std.specs.Prelude.{flat_map, Result, Ok, Err}
+use Rattle.std.specs.Prelude.{flat_map, Result, Ok, Err, IfOk, IfErr, IfSome, IsNone}
 use Rattle.std.specs.Io.KnownBytes.{Consumes, IsAtEnd}
 use Rattle.std.proofs.lemmas.List.Elements.{All-nil}
 use Rattle.std.proofs.lemmas.Grind.{flat_map-append}
 use Rattle.ra_world.specs.Run.{marks_of}
 use Rattle.ra_world.specs.Quiet.{requests_in}
 use Rattle.ra_world.specs.Traffic.{sent_by}
+use Rattle.ra_trace.specs.declared.checking.Next.{Next}
 use Rattle.ra_trace.specs.declared.error.TraceError.{TraceError}
 use Rattle.ra_trace.specs.declared.error.TraceError.TheVariants.{Read, Limit, Memory}
 use Rattle.ra_trace.specs.declared.line.Line.{Line}
@@ -17,15 +18,16 @@ use Rattle.ra_trace.specs.declared.verdict.Cause.TheVariants as cause
 use Rattle.ra_trace.specs.declared.verdict.Verdict.{Verdict}
 use Rattle.ra_trace.specs.declared.verdict.Verdict.TheVariants.{Valid, Invalid}
 use Rattle.ra_trace.specs.declared.checker.Checker.{Checker}
-use Rattle.ra_trace.specs.TraceText.{IsLine, IsTrace, BeginsWith, line_text, trace_lines}
+use Rattle.ra_trace.specs.TraceText.{IsLine, BeginsWith, line_text, trace_lines}
 use Rattle.ra_trace.specs.Verdict.{IsFront, IsFirst, IsWrong}
 use Rattle.ra_trace.specs.Reading.{IsWhole, AreRight, IsOpenLine, IsOpen, IsOver, HasRead, Judges, StopsWithin, Answers}
 use Rattle.ra_trace.specs.NextLine.{EndsSo, TakesBytes, FailsWithin, IsOverLine, HasNone, EndsText}
 use Rattle.ra_trace.specs.Checking.{due_of, StandsBehind, Takes, Refuses}
+use Rattle.ra_trace.specs.Along.{IsBehind, IsAlong, IsDone, Opens, Judged, Turns, SomeTaken}
 use Rattle.ra_trace.specs.Below.{LawsBelow}
 use Rattle.ra_trace.proofs.Lines.{begins_once}
 use Rattle.ra_trace.proofs.Fronts.{front_and_last, no_trace}
-use Rattle.ra_trace.proofs.Ends.{feed_is_over}
+use Rattle.ra_trace.proofs.Ends.{feed_is_over, some_bytes_at_feed}
 
 -- bytes that are taken after others are taken with them
 consumed_both : (old mid new : Option (List ℕ)) (first second : List ℕ) → Consumes old mid first → Consumes mid new second
@@ -37,12 +39,6 @@ consumed_both (Some xs) (Some ys) (Some zs) first second a b =
     a ∙ ap (λ (rest : List ℕ). first ++ rest) b ∙ sym (append_assoc first second zs)
 
 -- ---- Behind whole lines
-
--- these lines were taken, and the text may still have so many bytes
-pub record IsBehind (limit left : ℕ) (old now : Option (List ℕ)) (front : List Line) : Type 0 where
-  pub taken : Consumes old now (flat_map line_text front)
-  pub room : length (flat_map line_text front) + left ≡ limit
-  pub right : AreRight front
 
 has_read : (limit left : ℕ) (old now new : Option (List ℕ)) (front : List Line) (bytes : List ℕ) → IsBehind limit left old now front
     → Consumes now new bytes → length bytes ≤ left → HasRead limit old new front bytes
@@ -132,13 +128,6 @@ no_memory_first limit old new bytes taken ended =
 
 -- ---- The lines that come next
 
--- the lines so far are right, the last one is not among them, and the checker stands behind them
-pub record IsAlong (limit left : ℕ) (old now : Option (List ℕ)) (checker : Checker) (number : ℕ) : Type 0 where
-  pub front : List Line
-  pub behind : IsBehind limit left old now front
-  pub number_is : number ≡ length front + 1
-  pub stands : StandsBehind checker front
-
 not_whole : LawsBelow → (limit left : ℕ) (old now : Option (List ℕ)) (checker : Checker) (number : ℕ)
     → (along : IsAlong limit left old now checker number) → IsWhole along.front → ⊥
 not_whole laws limit left old now checker number along (n, start, moves, trace, is) =
@@ -175,6 +164,16 @@ along_first limit old new bytes line checker taken begins stands = record {
   number_is = refl;
   stands = stands begins.0;
 }
+
+-- what the first line comes to
+pub opens_by : (limit : ℕ) (old new : Option (List ℕ)) (bytes : List ℕ) (line : Line) (result : Result (Option Checker) TraceError)
+    → TakesBytes limit old new bytes → BeginsWith bytes line [] → EndsSo Feed bytes new
+    → IfOk result (λ opened. IfSome opened (λ checker. IsLine line → StandsBehind checker (line ∷ [])))
+    → IfOk result (λ opened. IsNone opened → IsFirst line → ⊥) → IfErr result (λ fault. fault ≡ Memory) → Opens limit old new bytes result
+opens_by limit old new bytes line (Ok (Some checker)) taken begins ended some none err = along_first limit old new bytes line checker taken begins some
+opens_by limit old new bytes line (Ok None) taken begins ended some none err = other_first limit old new bytes line taken begins ended (none refl)
+opens_by limit old new bytes line (Err fault) taken begins ended some none err =
+    subst (λ (why : TraceError). Answers limit old new (Err why)) (sym err) (no_memory_first limit old new bytes taken ended)
 
 along_by : (limit left : ℕ) (old now new : Option (List ℕ)) (checker after : Checker) (number : ℕ) (line : Line) (bytes : List ℕ)
     → (along : IsAlong limit left old now checker number) → TakesBytes left now new bytes → BeginsWith bytes line []
@@ -233,23 +232,15 @@ no_memory_next laws limit left old now new checker number bytes along taken ende
 
 -- ---- Behind the last line
 
--- the lines are a whole trace
-pub record IsDone (limit left : ℕ) (old now : Option (List ℕ)) (checker : Checker) (number : ℕ) : Type 0 where
-  pub front : List Line
-  pub behind : IsBehind limit left old now front
-  pub number_is : number ≡ length front + 1
-  pub trace : IsTrace checker.world.count checker.world.start checker.world.moves (flat_map line_text front)
-  pub lines : front ≡ trace_lines checker.world.count checker.world.start checker.world.moves
-
 front_at_end : (checker : Checker) (front : List Line) → StandsBehind checker front → due_of checker ≡ []
     → IsFront checker.world.count checker.world.start checker.world.moves [] front
 front_at_end checker front stands none =
     subst (λ ms. IsFront checker.world.count checker.world.start checker.world.moves ms front) none stands.front
 
-pub done_by_last : (limit left : ℕ) (old now new : Option (List ℕ)) (checker : Checker) (number : ℕ) (bytes : List ℕ)
+done_by : (limit left : ℕ) (old now new : Option (List ℕ)) (checker : Checker) (number : ℕ) (bytes : List ℕ)
     → IsAlong limit left old now checker number → TakesBytes left now new bytes → BeginsWith bytes Last [] → due_of checker ≡ []
     → IsDone limit (left - length bytes) old new checker (number + 1)
-done_by_last limit left old now new checker number bytes along taken begins none =
+done_by limit left old now new checker number bytes along taken begins none =
     let w = checker.world in
     let (lines, trace) = front_and_last w.count w.start w.moves along.front (front_at_end checker along.front along.stands none) in
     record {
@@ -261,6 +252,35 @@ done_by_last limit left old now new checker number bytes along taken begins none
       trace = trace;
       lines = lines;
     }
+
+done_by_last : (limit left : ℕ) (old now new : Option (List ℕ)) (checker after : Checker) (number : ℕ) (bytes : List ℕ)
+    → IsAlong limit left old now checker number → TakesBytes left now new bytes → BeginsWith bytes Last [] → Takes checker Last after
+    → IsDone limit (left - length bytes) old new after (number + 1)
+done_by_last limit left old now new checker after number bytes along taken begins takes =
+    subst (λ (c : Checker). IsDone limit (left - length bytes) old new c (number + 1)) (sym takes.0)
+    (done_by limit left old now new checker number bytes along taken begins takes.1)
+
+-- what the line comes to that was read
+pub turns_by : LawsBelow → (limit left : ℕ) (old now new : Option (List ℕ)) (checker after : Checker) (number : ℕ) (line : Line) (bytes : List ℕ)
+    (result : Result Next TraceError) → IsAlong limit left old now checker number → TakesBytes left now new bytes → BeginsWith bytes line []
+    → EndsSo Feed bytes new → Judged checker line after result → Turns limit left old new after number bytes result
+turns_by laws limit left old now new checker after number line bytes (Ok Next.Right) along taken begins ended is =
+    along_more limit left old now new checker after number line bytes along taken begins is.0 is.1
+turns_by laws limit left old now new checker after number line bytes (Ok Next.Last) along taken begins ended is =
+    done_by_last limit left old now new checker after number bytes along taken (subst (λ (l : Line). BeginsWith bytes l []) is.0 begins)
+    (subst (λ (l : Line). Takes checker l after) is.0 is.1)
+turns_by laws limit left old now new checker after number line bytes (Ok (Next.Wrong why)) along taken begins ended is =
+    wrong_next laws limit left old now new checker number line bytes why along taken begins ended is
+turns_by laws limit left old now new checker after number line bytes (Err fault) along taken begins ended is =
+    subst (λ (why : TraceError). Answers limit old new (Err why)) (sym is) (no_memory_next laws limit left old now new checker number bytes along taken ended)
+
+-- such a line took some bytes
+pub some_taken_by : (left : ℕ) (now new : Option (List ℕ)) (bytes : List ℕ) (result : Result Next TraceError) → TakesBytes left now new bytes
+    → EndsSo Feed bytes new → IfOk result (λ next. SomeTaken left bytes next)
+some_taken_by left now new bytes (Ok Next.Right) taken ended = (some_bytes_at_feed bytes new ended, taken.1)
+some_taken_by left now new bytes (Ok Next.Last) taken ended = (some_bytes_at_feed bytes new ended, taken.1)
+some_taken_by left now new bytes (Ok (Next.Wrong why)) taken ended = tt
+some_taken_by left now new bytes (Err fault) taken ended = tt
 
 nothing_is_open : (front : List Line) → IsOpen front []
 nothing_is_open front = ((All-nil (λ byte. byte ≢ 10), omega arith), λ whole. refl)

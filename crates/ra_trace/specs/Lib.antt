@@ -6,3 +6,4 @@ pub mod Below
 pub mod Checking
 pub mod Reading
 pub mod NextLine
+pub mod Along

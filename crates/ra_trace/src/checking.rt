@@ -1,9 +1,10 @@
-ghost use Rattle.std.specs.Prelude.{◌≡◌, ◌↔◌, ◌<◌, ◌≤◌, ◌+◌, ◌∷◌, ℕ, List, [], length, true, false, IfOk, IfErr, IfSome, IsErrOf};
+ghost use Rattle.std.specs.Prelude.{◌≡◌, ◌↔◌, ◌<◌, ◌≤◌, ◌+◌, ◌-◌, ◌∷◌, ℕ, List, Option, [], length, true, false, IfOk, IfErr, IfSome, IsNone, IsErrOf};
 ghost use Rattle.std.specs.Io.KnownBytes.{Consumes, IsAtEnd};
 ghost use Rattle.ra_world.specs.Quiet.{requests_in};
 ghost use Rattle.ra_world.specs.Run.{marks_of};
 ghost use Rattle.ra_world.specs.Traffic.{Move, sent_by};
 ghost use Rattle.ra_trace.specs.declared.verdict.Verdict.{Verdict};
+ghost use Rattle.ra_trace.specs.Along.{IsAlong, Judged, Opens, SomeTaken, Turns};
 ghost use Rattle.ra_trace.specs.NextLine.{EndsText};
 ghost use Rattle.ra_trace.specs.Reading.{Answers, Judges, ReadsOn, PassesLimit, StopsWithin};
 ghost use Rattle.ra_trace.specs.TraceText.{IsTrace};
@@ -19,6 +20,17 @@ use std::io::Read;
 
 /// The most bytes that a text may have.
 const MAX_TEXT: u64 = 16_777_216;
+
+/// What the next line is.
+#[derive(Clone, Copy)]
+enum Next {
+    /// It is right, and not the last one.
+    Right,
+    /// It is right, and the last one.
+    Last,
+    /// It is wrong.
+    Wrong(Cause),
+}
 
 /// Returns that this line is none that may stand there.
 fn wrong_at(line: u64) -> Verdict
@@ -51,6 +63,101 @@ fn ending<R: Read>(
     }
 }
 
+/// Takes the first line, and answers the checker that stands behind it, or `None` where none comes that may begin a trace.
+///
+/// # Errors
+///
+/// `Read`, `Limit`, `Memory`.
+fn take_first<R: Read>(
+    alloc: Global,
+    reader: &mut R,
+    bytes: &mut LineBytes,
+    limit: usize,
+) -> Result<Option<Checker>, TraceError>
+    ensures opened { Opens limit (R.remaining reader.old) (R.remaining reader.new) bytes.new.items result }
+    ensures within { IfOk result (λ opened. length bytes.new.items ≤ limit) }
+{
+    match next_line(reader, bytes, limit)? {
+        Some(line) => Checker::behind_first(alloc, &line),
+        None => Ok(None),
+    }
+}
+
+/// Has the checker take a line, and says what it is.
+///
+/// # Errors
+///
+/// `Memory`.
+fn judge(alloc: Global, checker: &mut Checker, line: &Line) -> Result<Next, TraceError>
+    ensures { Judged checker.old line.now checker.new result }
+{
+    match (checker.take(alloc, line)?, line) {
+        (Some(cause), _) => Ok(Next::Wrong(cause)),
+        (None, Line::Last) => Ok(Next::Last),
+        (None, _) => Ok(Next::Right),
+    }
+}
+
+/// Reads the next line, has the checker take it, and says what it is. The text may still have `left` bytes.
+///
+/// # Errors
+///
+/// `Read`, `Limit`, `Memory`.
+fn take_next<R: Read>(
+    alloc: Global,
+    reader: &mut R,
+    bytes: &mut LineBytes,
+    checker: &mut Checker,
+    left: usize,
+) -> Result<Next, TraceError>
+    ensures turned { (limit number : ℕ) (old : Option (List ℕ))
+        → IsAlong limit left old (R.remaining reader.old) checker.old number
+        → Turns limit left old (R.remaining reader.new) checker.new number bytes.new.items result }
+    ensures some { IfOk result (λ next. SomeTaken left bytes.new.items next) }
+{
+    traces_rest_on_runs();
+    match next_line(reader, bytes, left)? {
+        Some(line) => judge(alloc, checker, &line),
+        None => Ok(Next::Wrong(Cause::Line)),
+    }
+}
+
+/// Returns the verdict of a text whose first line these bytes are, and behind it the checker stands.
+///
+/// # Errors
+///
+/// `Read`, `Limit`, `Memory`.
+fn verdict_behind<R: Read>(
+    alloc: Global,
+    reader: &mut R,
+    bytes: &mut LineBytes,
+    checker: &mut Checker,
+    limit: usize,
+) -> Result<Verdict, TraceError>
+    requires most { limit ≤ 16777216 }
+    requires within { length bytes.old.items ≤ limit }
+    ensures { (old : Option (List ℕ))
+        → IsAlong limit (limit - length bytes.old.items) old (R.remaining reader.old) checker.old 2
+        → Answers limit old (R.remaining reader.new) result }
+{
+    let mut left = limit - bytes.len();
+    let mut number = 2;
+    loop {
+        let next = take_next(alloc, reader, bytes, checker, left)?;
+        if let Next::Wrong(cause) = next {
+            return Ok(Verdict::Invalid {
+                line: number,
+                cause,
+            });
+        }
+        number += 1;
+        left -= bytes.len();
+        if let Next::Last = next {
+            return ending(alloc, reader, checker, left, number);
+        }
+    }
+}
+
 /// Returns the verdict of a text of at most `limit` bytes, line by line: at the first wrong line, or where the text is at its end.
 ///
 /// # Errors
@@ -60,30 +167,11 @@ fn verdict_of<R: Read>(alloc: Global, reader: &mut R, limit: usize) -> Result<Ve
     requires { limit ≤ 16777216 }
     ensures { Answers limit (R.remaining reader.old) (R.remaining reader.new) result }
 {
-    traces_rest_on_runs();
     let mut bytes = LineBytes::new();
-    let Some(first) = next_line(reader, &mut bytes, limit)? else {
-        return Ok(wrong_at(1));
-    };
-    let Some(mut checker) = Checker::behind_first(alloc, &first)? else {
-        return Ok(wrong_at(1));
-    };
-    let mut left = limit - bytes.len();
-    let mut number = 2;
-    while let Some(line) = next_line(reader, &mut bytes, left)? {
-        if let Some(cause) = checker.take(alloc, &line)? {
-            return Ok(Verdict::Invalid {
-                line: number,
-                cause,
-            });
-        }
-        number += 1;
-        left -= bytes.len();
-        if let Line::Last = line {
-            return ending(alloc, reader, &checker, left, number);
-        }
+    match take_first(alloc, reader, &mut bytes, limit)? {
+        Some(mut checker) => verdict_behind(alloc, reader, &mut bytes, &mut checker, limit),
+        None => Ok(wrong_at(1)),
     }
-    Ok(wrong_at(number))
 }
 
 /// Checks the text of a trace: says that it is the trace of a run, or which line is the first wrong one and why. It goes line by

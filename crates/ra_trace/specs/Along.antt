@@ -1,0 +1,62 @@
+-- How far a checker has come in what it reads. No public contract speaks of it.
+use Rattle.std.specs.Prelude.{◌≡◌, ◌≢◌, ℕ, ◌+◌, ◌-◌, ◌≤◌, List, Option, Some, None, Result, Ok, Err, flat_map, length}
+use Rattle.std.specs.Io.KnownBytes.{Consumes}
+use Rattle.ra_trace.specs.declared.error.TraceError.{TraceError}
+use Rattle.ra_trace.specs.declared.error.TraceError.TheVariants.{Memory}
+use Rattle.ra_trace.specs.declared.checker.Checker.{Checker}
+use Rattle.ra_trace.specs.declared.checking.Next.{Next}
+use Rattle.ra_trace.specs.declared.checking.Next.TheVariants.{Right, Last, Wrong}
+use Rattle.ra_trace.specs.declared.line.Line.{Line}
+use Rattle.ra_trace.specs.declared.line.Line.TheVariants as line
+use Rattle.ra_trace.specs.declared.verdict.Cause.TheVariants as cause
+use Rattle.ra_trace.specs.declared.verdict.Verdict.TheVariants.{Invalid}
+use Rattle.ra_trace.specs.TraceText.{IsTrace, line_text, trace_lines}
+use Rattle.ra_trace.specs.Reading.{AreRight, Judges, Answers}
+use Rattle.ra_trace.specs.Checking.{StandsBehind, Takes, Refuses}
+
+-- these lines were taken, and the text may still have so many bytes
+pub record IsBehind (limit left : ℕ) (old now : Option (List ℕ)) (front : List Line) : Type 0 where
+  pub taken : Consumes old now (flat_map line_text front)
+  pub room : length (flat_map line_text front) + left ≡ limit
+  pub right : AreRight front
+
+-- the lines so far are right, the last one is not among them, and the checker stands behind them
+pub record IsAlong (limit left : ℕ) (old now : Option (List ℕ)) (checker : Checker) (number : ℕ) : Type 0 where
+  pub front : List Line
+  pub behind : IsBehind limit left old now front
+  pub number_is : number ≡ length front + 1
+  pub stands : StandsBehind checker front
+
+-- the lines are a whole trace
+pub record IsDone (limit left : ℕ) (old now : Option (List ℕ)) (checker : Checker) (number : ℕ) : Type 0 where
+  pub front : List Line
+  pub behind : IsBehind limit left old now front
+  pub number_is : number ≡ length front + 1
+  pub trace : IsTrace checker.world.count checker.world.start checker.world.moves (flat_map line_text front)
+  pub lines : front ≡ trace_lines checker.world.count checker.world.start checker.world.moves
+
+-- what comes of the first line: the checker stands behind it, or it is wrong, or a fault came
+abbrev pub Opens : ℕ → Option (List ℕ) → Option (List ℕ) → List ℕ → Result (Option Checker) TraceError → Type 0
+Opens limit old new bytes (Ok (Some checker)) = IsAlong limit (limit - length bytes) old new checker 2
+Opens limit old new bytes (Ok None) = Judges limit old new (Invalid 1 cause.Line)
+Opens limit old new bytes (Err fault) = Answers limit old new (Err fault)
+
+-- what a checker says of a line
+abbrev pub Judged : Checker → Line → Checker → Result Next TraceError → Type 0
+Judged checker given after (Ok Right) = (given ≢ line.Last) × Takes checker given after
+Judged checker given after (Ok Last) = (given ≡ line.Last) × Takes checker given after
+Judged checker given after (Ok (Wrong why)) = Refuses checker given why
+Judged checker given after (Err fault) = fault ≡ Memory
+
+-- what comes of the line of this number: the checker stands behind it, or the trace is over, or the line is wrong, or a fault came
+abbrev pub Turns : ℕ → ℕ → Option (List ℕ) → Option (List ℕ) → Checker → ℕ → List ℕ → Result Next TraceError → Type 0
+Turns limit left old new after number bytes (Ok Right) = IsAlong limit (left - length bytes) old new after (number + 1)
+Turns limit left old new after number bytes (Ok Last) = IsDone limit (left - length bytes) old new after (number + 1)
+Turns limit left old new after number bytes (Ok (Wrong why)) = Judges limit old new (Invalid number why)
+Turns limit left old new after number bytes (Err fault) = Answers limit old new (Err fault)
+
+-- a line that is right has some bytes, and no more than the text may still have
+abbrev pub SomeTaken : ℕ → List ℕ → Next → Type 0
+SomeTaken left bytes Right = (1 ≤ length bytes) × (length bytes ≤ left)
+SomeTaken left bytes Last = (1 ≤ length bytes) × (length bytes ≤ left)
+SomeTaken left bytes (Wrong why) = Unit {0}
