@@ -4,6 +4,7 @@ pub mod Lines
 pub mod Names
 pub mod Rows
 pub mod Spelled
+pub mod Passing
 pub mod Told
 pub mod Traced
 pub mod Fronts

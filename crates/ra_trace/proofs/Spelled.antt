@@ -1,5 +1,5 @@
 -- What is read is how it is written.
-use Rattle.std.proofs.Common.{◌≡◌, ◌^◌, ◌<◌, ◌≤◌, ◌-◌, ℕ, ◌==◌, false, List, [], ◌∷◌, ◌++◌, Option, Some, None, option_map, option_and_then, refl, sym, ap, subst, ◌∙◌, inl, inr, arith, codes, lit<}
+use Rattle.std.proofs.Common.{◌≡◌, ◌^◌, ◌<◌, ◌≤◌, ◌-◌, ℕ, ◌==◌, false, List, [], ◌∷◌, ◌++◌, Option, Some, None, option_map, refl, sym, ap, subst, ◌∙◌, inl, inr, arith, codes, lit<}
 use Rattle.std.specs.Fmt.{decimal}
 use Rattle.std.specs.Str.{bytes_eq}
 use Rattle.std.proofs.lemmas.Bool.{cases_Bool, ne_eqb}
@@ -11,7 +11,7 @@ use Rattle.ra_stamp.specs.NodeId.{IsNodeNumber}
 use Rattle.ra_stamp.specs.declared.mode.Mode.{Mode}
 use Rattle.ra_stamp.specs.declared.mode.Mode.TheVariants.{Shared, Exclusive}
 use Rattle.ra_world.specs.Lines.{mode_letter}
-use Rattle.ra_trace.specs.Forms.{cut, fields, number_within, node_of, client_of, start_of, seq_of, is_name, name_of, mode_of}
+use Rattle.ra_trace.specs.Forms.{cut, before, fields, number_within, node_of, client_of, start_of, seq_of, is_name, name_of, mode_of}
 use Rattle.ra_trace.specs.TraceText.{IsClientNumber, IsSeq}
 use Rattle.ra_trace.proofs.Cuts.{IsFree, mapped, cut-append, cut-only}
 use Rattle.ra_trace.proofs.Decimals.{number_within-only, number_within-decimal, IsFree-decimal}
@@ -28,17 +28,29 @@ pub record ReadsField {A : Type 0} (read : List ℕ → Option A) (Is : A → Ty
   pub reads : Reads read Is spell
   pub no_space : (x : A) → Is x → IsFree 32 (spell x)
 
+-- a field, and what stands behind the space behind it
+before_only : {A : Type 0} (f : List ℕ → Option A) (P : A → Type 0) (s : A → List ℕ) → ReadsField f P s
+    → (text : List ℕ) (front : A × List ℕ) → before f text ≡ Some front → P front.0 × (text ≡ s front.0 ++ 32 ∷ front.1)
+before_only f P s F text front e =
+    option_and_then_some (λ parts. option_map (λ field. (field, parts.1)) (f parts.0)) (cut 32 text) front e (λ parts cut-is e1.
+    let m = mapped (λ field. (field, parts.1)) (f parts.0) front e1 in
+    let a = F.reads.only parts.0 m.0 m.1 in
+    subst (λ q. P q.0 × (text ≡ s q.0 ++ 32 ∷ q.1)) m.2 (a.0, cut-only 32 text parts cut-is ∙ ap (λ (xs : List ℕ). xs ++ 32 ∷ parts.1) a.1))
+
+before_each : {A : Type 0} (f : List ℕ → Option A) (P : A → Type 0) (s : A → List ℕ) → ReadsField f P s
+    → (x : A) (rest : List ℕ) → P x → before f (s x ++ 32 ∷ rest) ≡ Some (x, rest)
+before_each f P s F x rest h = rw (cut-append 32 (s x) rest (F.no_space x h), F.reads.each x h)
+
 pub reads_fields : {A B : Type 0} (f : List ℕ → Option A) (P : A → Type 0) (s : A → List ℕ) (g : List ℕ → Option B) (Q : B → Type 0) (t : B → List ℕ)
     → ReadsField f P s → Reads g Q t → Reads (fields f g) (λ p. P p.0 × Q p.1) (λ p. s p.0 ++ 32 ∷ t p.1)
 reads_fields f P s g Q t F G = record {
   only = λ text p e.
-      option_and_then_some (λ parts. option_and_then (λ field. option_map (λ rest. (field, rest)) (g parts.1)) (f parts.0)) (cut 32 text) p e (λ parts cut-is e1.
-      option_and_then_some (λ field. option_map (λ rest. (field, rest)) (g parts.1)) (f parts.0) p e1 (λ field field-is e2.
-      let m = mapped (λ rest. (field, rest)) (g parts.1) p e2 in
-      let a = F.reads.only parts.0 field field-is in
-      let b = G.only parts.1 m.0 m.1 in
-      subst (λ q. (P q.0 × Q q.1) × (text ≡ s q.0 ++ 32 ∷ t q.1)) m.2 ((a.0, b.0), (cut-only 32 text parts cut-is ∙ (ap (λ (xs : List ℕ). xs ++ 32 ∷ parts.1) a.1 ∙ ap (λ (ys : List ℕ). s field ++ 32 ∷ ys) b.1)))));
-  each = λ p h. rw (cut-append 32 (s p.0) (t p.1) (F.no_space p.0 h.0), F.reads.each p.0 h.0, G.each p.1 h.1);
+      option_and_then_some (λ front. option_map (λ rest. (front.0, rest)) (g front.1)) (before f text) p e (λ front front-is e1.
+      let m = mapped (λ rest. (front.0, rest)) (g front.1) p e1 in
+      let a = before_only f P s F text front front-is in
+      let b = G.only front.1 m.0 m.1 in
+      subst (λ q. (P q.0 × Q q.1) × (text ≡ s q.0 ++ 32 ∷ t q.1)) m.2 ((a.0, b.0), (a.1 ∙ ap (λ (ys : List ℕ). s front.0 ++ 32 ∷ ys) b.1)));
+  each = λ p h. rw (before_each f P s F p.0 (t p.1) h.0, G.each p.1 h.1);
   no_feed = λ p h. All-append (λ b. (b == 10) ≡ false) (s p.0) (32 ∷ t p.1) (F.reads.no_feed p.0 h.0)
       (All-cons (λ b. (b == 10) ≡ false) 32 (t p.1) refl (G.no_feed p.1 h.1));
 }

@@ -14,6 +14,12 @@ use Rattle.ra_stamp.specs.declared.message.Message.{Message}
 use Rattle.ra_stamp.specs.declared.message.Message.TheVariants.{Request, Reply}
 use Rattle.ra_world.specs.declared.step.Step.{Step}
 use Rattle.ra_world.specs.declared.step.Step.TheVariants.{Ask, Leave, Deliver, Lose}
+use Rattle.ra_trace.specs.declared.forms.Way.{Way}
+use Rattle.ra_trace.specs.declared.forms.Way.TheVariants.{Delivered, Lost}
+use Rattle.ra_trace.specs.declared.forms.Change.{Change}
+use Rattle.ra_trace.specs.declared.forms.Change.TheVariants as change
+use Rattle.ra_trace.specs.declared.forms.Kind.{Kind}
+use Rattle.ra_trace.specs.declared.forms.Kind.TheVariants as kind
 use Rattle.ra_trace.specs.declared.line.Line.{Line}
 use Rattle.ra_trace.specs.declared.line.Line.TheVariants.{First, Stepped, Marked, Last}
 
@@ -63,10 +69,13 @@ behind [] text = Some text
 behind (w ∷ words) [] = None
 behind (w ∷ words) (b ∷ text) = if w == b then behind words text else None
 
+-- the field before the first space, and what stands behind it
+abbrev pub before : {A : Type 0} → (List ℕ → Option A) → List ℕ → Option (A × List ℕ)
+before read text = option_and_then (λ parts. option_map (λ field. (field, parts.1)) (read parts.0)) (cut 32 text)
+
 -- the field before the first space, and the others behind it
 abbrev pub fields : {A B : Type 0} → (List ℕ → Option A) → (List ℕ → Option B) → List ℕ → Option (A × B)
-fields read others text =
-    option_and_then (λ parts. option_and_then (λ field. option_map (λ rest. (field, rest)) (others parts.1)) (read parts.0)) (cut 32 text)
+fields read others text = option_and_then (λ front. option_map (λ rest. (front.0, rest)) (others front.1)) (before read text)
 
 abbrev pub first_in : List ℕ → Option Line
 first_in text = option_map (λ f. First f.0 f.1) (fields node_of start_of text)
@@ -99,6 +108,26 @@ entry_in text =
 abbrev pub last_in : List ℕ → Option Line
 last_in [] = Some Last
 last_in (b ∷ text) = None
+
+-- what becomes of a message, and of a request
+abbrev pub sent_line : Way → Message → Line
+sent_line Delivered message = Stepped (Deliver message)
+sent_line Lost message = Stepped (Lose message)
+
+abbrev pub entry_line : Change → Entry → Line
+entry_line change.Requested entry = Marked (Requested entry)
+entry_line change.Entered entry = Marked (Entered entry)
+entry_line change.Left entry = Marked (Left entry)
+
+-- how what stands behind the first words of such a line is read
+abbrev pub read_as : Kind → List ℕ → Option Line
+read_as kind.First = first_in
+read_as kind.Ask = λ rest. option_map Stepped (ask_in rest)
+read_as kind.Leave = λ rest. option_map Stepped (leave_in rest)
+read_as (kind.Request way) = λ rest. option_map (sent_line way) (request_in rest)
+read_as (kind.Reply way) = λ rest. option_map (sent_line way) (reply_in rest)
+read_as (kind.Mark change) = λ rest. option_map (entry_line change) (entry_in rest)
+read_as kind.Last = last_in
 
 -- a form of lines: how they begin, and how the rest is read
 pub record Form : Type 0 where

@@ -4,7 +4,7 @@ ghost use Rattle.ra_trace.specs.Forms as spec;
 
 use crate::fields::{client_of, cut, mode_of, name_of, node_of, seq_of, start_of};
 use crate::line::Line;
-use ra_stamp::{Entry, Mark, Message, Stamp};
+use ra_stamp::{Entry, Mark, Message, Mode, Name, NodeId, Stamp};
 use ra_world::Step;
 
 /// Returns what stands behind these words, or `None` where the text doesn't begin with them.
@@ -15,60 +15,121 @@ fn behind<'a>(words: &[u8], text: &'a [u8]) -> Option<&'a [u8]>
     text.strip_prefix(words)
 }
 
+/// Reads a node before a space, and returns what stands behind it.
+fn node_before(text: &[u8]) -> Option<(NodeId, &[u8])>
+    ensures { MatchOption result (spec.before spec.node_of text.now ≡ None)
+        (λ front. spec.before spec.node_of text.now ≡ Some (front.0, front.1.now)) }
+{
+    let (field, rest) = cut(b' ', text)?;
+    let node = node_of(field)?;
+    Some((node, rest))
+}
+
+/// Reads a client before a space, and returns what stands behind it.
+fn client_before(text: &[u8]) -> Option<(u32, &[u8])>
+    ensures { MatchOption result (spec.before spec.client_of text.now ≡ None)
+        (λ front. spec.before spec.client_of text.now ≡ Some (front.0, front.1.now)) }
+{
+    let (field, rest) = cut(b' ', text)?;
+    let client = client_of(field)?;
+    Some((client, rest))
+}
+
+/// Reads a name and a mode.
+fn name_and_mode_of(text: &[u8]) -> Option<(Name, Mode)>
+    ensures { result ≡ spec.fields spec.name_of spec.mode_of text.now }
+{
+    let (name, mode) = cut(b' ', text)?;
+    let name = name_of(name)?;
+    let mode = mode_of(mode)?;
+    Some((name, mode))
+}
+
+/// Reads a name and a number.
+fn name_and_seq_of(text: &[u8]) -> Option<(Name, u64)>
+    ensures { result ≡ spec.fields spec.name_of spec.seq_of text.now }
+{
+    let (name, seq) = cut(b' ', text)?;
+    let name = name_of(name)?;
+    let seq = seq_of(seq)?;
+    Some((name, seq))
+}
+
+/// Reads a mode and a number.
+fn mode_and_seq_of(text: &[u8]) -> Option<(Mode, u64)>
+    ensures { result ≡ spec.fields spec.mode_of spec.seq_of text.now }
+{
+    let (mode, seq) = cut(b' ', text)?;
+    let mode = mode_of(mode)?;
+    let seq = seq_of(seq)?;
+    Some((mode, seq))
+}
+
+/// Reads a name, and a mode and a number.
+fn name_mode_and_seq_of(text: &[u8]) -> Option<(Name, (Mode, u64))>
+    ensures { result ≡ spec.fields spec.name_of (spec.fields spec.mode_of spec.seq_of) text.now }
+{
+    let (name, rest) = cut(b' ', text)?;
+    let name = name_of(name)?;
+    let rest = mode_and_seq_of(rest)?;
+    Some((name, rest))
+}
+
 /// Reads how many nodes there are, and the number that each resource begins with.
 fn first_of(text: &[u8]) -> Option<Line>
     ensures { result ≡ spec.first_in text.now }
 {
-    let (nodes, start) = cut(b' ', text)?;
-    let nodes = node_of(nodes)?;
+    let Some((nodes, start)) = node_before(text) else {
+        return None;
+    };
     let start = start_of(start)?;
     Some(Line::First { nodes, start })
 }
 
 /// Reads node, client, name and mode.
-fn ask_of(text: &[u8]) -> Option<Step>
-    ensures { result ≡ spec.ask_in text.now }
+fn ask_of(text: &[u8]) -> Option<Line>
+    ensures { result ≡ spec.read_as Kind.Ask text.now }
 {
-    let (node, rest) = cut(b' ', text)?;
-    let node = node_of(node)?;
-    let (client, rest) = cut(b' ', rest)?;
-    let client = client_of(client)?;
-    let (name, mode) = cut(b' ', rest)?;
-    let name = name_of(name)?;
-    let mode = mode_of(mode)?;
-    Some(Step::Ask {
+    let Some((node, rest)) = node_before(text) else {
+        return None;
+    };
+    let Some((client, rest)) = client_before(rest) else {
+        return None;
+    };
+    let (name, mode) = name_and_mode_of(rest)?;
+    Some(Line::Stepped(Step::Ask {
         node,
         client,
         name,
         mode,
-    })
+    }))
 }
 
 /// Reads node, client and name.
-fn leave_of(text: &[u8]) -> Option<Step>
-    ensures { result ≡ spec.leave_in text.now }
+fn leave_of(text: &[u8]) -> Option<Line>
+    ensures { result ≡ spec.read_as Kind.Leave text.now }
 {
-    let (node, rest) = cut(b' ', text)?;
-    let node = node_of(node)?;
-    let (client, name) = cut(b' ', rest)?;
-    let client = client_of(client)?;
+    let Some((node, rest)) = node_before(text) else {
+        return None;
+    };
+    let Some((client, name)) = client_before(rest) else {
+        return None;
+    };
     let name = name_of(name)?;
-    Some(Step::Leave { node, client, name })
+    Some(Line::Stepped(Step::Leave { node, client, name }))
 }
 
 /// Reads sender, receiver, name, mode and number.
 fn request_of(text: &[u8]) -> Option<Message>
     ensures { result ≡ spec.request_in text.now }
 {
-    let (from, rest) = cut(b' ', text)?;
-    let from = node_of(from)?;
-    let (to, rest) = cut(b' ', rest)?;
-    let to = node_of(to)?;
-    let (name, rest) = cut(b' ', rest)?;
-    let name = name_of(name)?;
-    let (mode, seq) = cut(b' ', rest)?;
-    let mode = mode_of(mode)?;
-    let seq = seq_of(seq)?;
+    let Some((from, rest)) = node_before(text) else {
+        return None;
+    };
+    let Some((to, rest)) = node_before(rest) else {
+        return None;
+    };
+    let (name, (mode, seq)) = name_mode_and_seq_of(rest)?;
     Some(Message::Request {
         from,
         to,
@@ -82,13 +143,13 @@ fn request_of(text: &[u8]) -> Option<Message>
 fn reply_of(text: &[u8]) -> Option<Message>
     ensures { result ≡ spec.reply_in text.now }
 {
-    let (from, rest) = cut(b' ', text)?;
-    let from = node_of(from)?;
-    let (to, rest) = cut(b' ', rest)?;
-    let to = node_of(to)?;
-    let (name, seq) = cut(b' ', rest)?;
-    let name = name_of(name)?;
-    let seq = seq_of(seq)?;
+    let Some((from, rest)) = node_before(text) else {
+        return None;
+    };
+    let Some((to, rest)) = node_before(rest) else {
+        return None;
+    };
+    let (name, seq) = name_and_seq_of(rest)?;
     Some(Message::Reply {
         from,
         to,
@@ -101,15 +162,13 @@ fn reply_of(text: &[u8]) -> Option<Message>
 fn entry_of(text: &[u8]) -> Option<Entry>
     ensures { result ≡ spec.entry_in text.now }
 {
-    let (node, rest) = cut(b' ', text)?;
-    let node = node_of(node)?;
-    let (client, rest) = cut(b' ', rest)?;
-    let client = client_of(client)?;
-    let (name, rest) = cut(b' ', rest)?;
-    let name = name_of(name)?;
-    let (mode, seq) = cut(b' ', rest)?;
-    let mode = mode_of(mode)?;
-    let seq = seq_of(seq)?;
+    let Some((node, rest)) = node_before(text) else {
+        return None;
+    };
+    let Some((client, rest)) = client_before(rest) else {
+        return None;
+    };
+    let (name, (mode, seq)) = name_mode_and_seq_of(rest)?;
     Some(Entry {
         name,
         stamp: Stamp { seq, node },
@@ -129,34 +188,123 @@ fn last_of(text: &[u8]) -> Option<Line>
     }
 }
 
-/// Reads the line of the form that the text begins like: each row says how a form begins, and how the rest is read.
-macro_rules! first_that_begins {
-    ($text:ident; $($words:literal $rest:ident => $line:expr;)*) => {{
-        $(
-            if let Some($rest) = behind($words, $text) {
-                return Some($line);
-            }
-        )*
-        None
-    }};
+/// What becomes of a message.
+#[derive(Clone, Copy)]
+enum Way {
+    Delivered,
+    Lost,
 }
+
+impl Way {
+    /// Returns the line of this message.
+    fn line_of(self, message: Message) -> Line
+        ensures { result ≡ spec.sent_line self message }
+    {
+        match self {
+            Way::Delivered => Line::Stepped(Step::Deliver(message)),
+            Way::Lost => Line::Stepped(Step::Lose(message)),
+        }
+    }
+}
+
+/// What becomes of a request.
+#[derive(Clone, Copy)]
+enum Change {
+    Requested,
+    Entered,
+    Left,
+}
+
+impl Change {
+    /// Returns the line of this entry.
+    fn line_of(self, entry: Entry) -> Line
+        ensures { result ≡ spec.entry_line self entry }
+    {
+        match self {
+            Change::Requested => Line::Marked(Mark::Requested(entry)),
+            Change::Entered => Line::Marked(Mark::Entered(entry)),
+            Change::Left => Line::Marked(Mark::Left(entry)),
+        }
+    }
+}
+
+/// What a line is, and so how it goes on behind its first words.
+#[derive(Clone, Copy)]
+enum Kind {
+    First,
+    Ask,
+    Leave,
+    Request(Way),
+    Reply(Way),
+    Mark(Change),
+    Last,
+}
+
+/// Reads the line of a request.
+fn request_line(way: Way, text: &[u8]) -> Option<Line>
+    ensures { result ≡ spec.read_as (Kind.Request way) text.now }
+{
+    let message = request_of(text)?;
+    Some(way.line_of(message))
+}
+
+/// Reads the line of a reply.
+fn reply_line(way: Way, text: &[u8]) -> Option<Line>
+    ensures { result ≡ spec.read_as (Kind.Reply way) text.now }
+{
+    let message = reply_of(text)?;
+    Some(way.line_of(message))
+}
+
+/// Reads the line of a mark.
+fn mark_line(change: Change, text: &[u8]) -> Option<Line>
+    ensures { result ≡ spec.read_as (Kind.Mark change) text.now }
+{
+    let entry = entry_of(text)?;
+    Some(change.line_of(entry))
+}
+
+impl Kind {
+    /// Reads what stands behind the first words of such a line.
+    fn read(self, rest: &[u8]) -> Option<Line>
+        ensures { result ≡ spec.read_as self rest.now }
+    {
+        match self {
+            Kind::First => first_of(rest),
+            Kind::Ask => ask_of(rest),
+            Kind::Leave => leave_of(rest),
+            Kind::Request(way) => request_line(way, rest),
+            Kind::Reply(way) => reply_line(way, rest),
+            Kind::Mark(change) => mark_line(change, rest),
+            Kind::Last => last_of(rest),
+        }
+    }
+}
+
+/// The forms of lines, no two of which begin alike: how each begins, and what it is.
+const FORMS: [(&[u8], Kind); 11] = [
+    (b"trace 1 ", Kind::First),
+    (b"ask ", Kind::Ask),
+    (b"release ", Kind::Leave),
+    (b"deliver request ", Kind::Request(Way::Delivered)),
+    (b"deliver reply ", Kind::Reply(Way::Delivered)),
+    (b"lose request ", Kind::Request(Way::Lost)),
+    (b"lose reply ", Kind::Reply(Way::Lost)),
+    (b"request ", Kind::Mark(Change::Requested)),
+    (b"enter ", Kind::Mark(Change::Entered)),
+    (b"leave ", Kind::Mark(Change::Left)),
+    (b"end", Kind::Last),
+];
 
 /// Returns the line that a text with no line feed is, or `None` where it is none. It does not allocate, and the cost is
 /// linear in the text.
 pub fn line_of(text: &[u8]) -> Option<Line>
     ensures { result ≡ spec.line_in text.now }
 {
-    first_that_begins! { text;
-        b"trace 1 " rest => first_of(rest)?;
-        b"ask " rest => Line::Stepped(ask_of(rest)?);
-        b"release " rest => Line::Stepped(leave_of(rest)?);
-        b"deliver request " rest => Line::Stepped(Step::Deliver(request_of(rest)?));
-        b"deliver reply " rest => Line::Stepped(Step::Deliver(reply_of(rest)?));
-        b"lose request " rest => Line::Stepped(Step::Lose(request_of(rest)?));
-        b"lose reply " rest => Line::Stepped(Step::Lose(reply_of(rest)?));
-        b"request " rest => Line::Marked(Mark::Requested(entry_of(rest)?));
-        b"enter " rest => Line::Marked(Mark::Entered(entry_of(rest)?));
-        b"leave " rest => Line::Marked(Mark::Left(entry_of(rest)?));
-        b"end" rest => last_of(rest)?;
+    for (words, kind) in &FORMS {
+        if let Some(rest) = behind(words, text) {
+            return kind.read(rest);
+        }
     }
+    None
 }
