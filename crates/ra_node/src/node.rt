@@ -71,9 +71,8 @@ fn first_slot(
     ensures same { slots.new.entries ≡ slots.old.entries }
     ensures made { IfOk result (λ slot. (slot ≡ unmet me nodes name start) × (1 ≤ spare slots.new)) }
 {
-    let slot = Slot::new(alloc, me, nodes, name, start)?;
     slots.reserve(1)?;
-    Ok(slot)
+    Slot::new(alloc, me, nodes, name, start)
 }
 
 /// Puts in the slot of a name, for which there is room.
