@@ -1,22 +1,20 @@
 -- What holds of the bytes that were read holds of the whole input: one of which 65,537 bytes were read is no script.
-use Rattle.std.proofs.Common.{◌≡◌, ◌≢◌, ◌⊎◌, ℕ, ◌<◌, ◌≤◌, Bool, List, [], ◌∷◌, ◌++◌, length, Option, Some, None, Ok, Err, refl, sym, ap, subst, ◌∙◌, arith, inl, inr, true, nat_lt}
-use Rattle.std.specs.Prelude.{IfSome, Result, if◌then◌else◌, ok_or, not}
+use Rattle.std.proofs.Common.{◌≡◌, ◌≢◌, ◌⊎◌, ℕ, ◌≤◌, Bool, List, [], ◌∷◌, ◌++◌, length, Option, Some, None, Ok, Err, refl, sym, ap, subst, ◌∙◌, arith, inl, inr}
+use Rattle.std.specs.Prelude.{IfSome, if◌then◌else◌, ok_or, not}
 use Rattle.std.specs.Str.{is_utf8}
 use Rattle.std.specs.Io.KnownBytes.{Consumes}
 use Rattle.std.proofs.lemmas.Bool.{cases_lt, lt-ltb}
 use Rattle.std.proofs.lemmas.List.{append-nil, length-append}
-use Rattle.toml.specs.Data.{Members}
 use Rattle.toml.specs.Parse.{parse_document}
 use Rattle.ra_world.specs.Input.{Reads}
 use Rattle.ra_schedule.specs.declared.choice.Policy.{Policy}
 use Rattle.ra_schedule.specs.Script.{ScriptState}
 use Rattle.ra_script.specs.declared.form.Form.{Form}
-use Rattle.ra_script.specs.declared.error.ScriptError.{ScriptError}
 use Rattle.ra_script.specs.declared.error.ScriptError.TheVariants.{Limit, Toml, Shape}
 use Rattle.ra_script.specs.declared.error.PerformError.{PerformError}
 use Rattle.ra_script.specs.declared.error.PerformError.TheVariants as fault
 use Rattle.ra_script.specs.Document.{document_of}
-use Rattle.ra_script.specs.ScriptText.{result_and_then, script_in, tree_of, script_of}
+use Rattle.ra_script.specs.ScriptText.{result_and_then, script_in, script_of}
 use Rattle.ra_script.specs.Performed.{IsPerformedAs, RefusesAs}
 
 long_is_refused : (text : List ℕ) → 65537 ≤ length text → script_of text ≡ Err Limit

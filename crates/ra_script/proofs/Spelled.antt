@@ -18,7 +18,7 @@ use Rattle.std.specs.Prelude.{MatchResult, IfOk, IfErr}
 use Rattle.ra_stamp.specs.Sequence.{Listed}
 use Rattle.ra_script.specs.declared.error.ChoicesError.{ChoicesError}
 use Rattle.ra_script.specs.declared.error.ChoicesError.TheVariants as fault
-use Rattle.ra_script.proofs.Numbers.{choices_of-some}
+use Rattle.ra_script.proofs.Numbers.{IsChosenTo, IsChosenTo-refused, choices_of-some}
 
 -- the test and the number are those of std
 own : IsNumeralModel (λ digits. list_all is_ascii_digit digits ≡ true) (λ digits. fold (λ value digit. 10 * value + (digit - 48)) 0 digits)
@@ -216,3 +216,13 @@ only_choices text (Err why) ok err choices h =
 pub choices_of-none : (text : List ℕ) → length text ≡ 0 → choices_of text ≡ Some []
 choices_of-none [] none = refl
 choices_of-none (b ∷ text) none = absurd (omega arith)
+
+-- a text with a word that is none
+pub refused_word : (text : List ℕ) (place : ℕ) (done : List Choice) (word : List ℕ) (why : ChoicesError) → 0 < length text → place < length (slice_split (λ b. b == 32) text)
+    → word ≡ get_or (slice_split (λ b. b == 32) text) place word → ((why ≡ fault.Choice) × (choice_of word ≡ None)) ⊎ (why ≡ fault.Memory)
+    → IsChosenTo (slice_split (λ b. b == 32) text) place done → ((why ≡ fault.Choice) × (choices_of text ≡ None)) ⊎ (why ≡ fault.Memory)
+refused_word text place done word why some lt is refusal h =
+    elim refusal [
+      | inl w ↦ inl (w.0, choices_of-some text some ∙ IsChosenTo-refused (slice_split (λ b. b == 32) text) place done word lt is w.1 h)
+      | inr memory ↦ inr memory
+    ]

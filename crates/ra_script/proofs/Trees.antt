@@ -2,13 +2,13 @@
 use Rattle.std.proofs.Common.{◌≡◌, ◌<◌, ◌+◌, ◌≤◌, ℕ, List, [], ◌∷◌, ◌++◌, length, get_or, drop, Option, Some, None, Ok, Err, ok_or, codes, ℤ, option_map, option_and_then, refl, sym, ap, ◌∙◌, append_assoc}
 use Rattle.std.proofs.lemmas.Bool.{ne_eqb}
 use Rattle.std.proofs.lemmas.List.{append-nil, drop_all}
-use Rattle.toml.specs.Data.{Data, Items, Members, as_table}
+use Rattle.toml.specs.Data.{Data, Items, Members}
 use Rattle.toml.specs.View.{view, items_view, members_view}
 use Rattle.toml.specs.declared.value.Value.{Value}
 use Rattle.toml.proofs.Views.{items_view-drop, Entry}
 use Rattle.ra_script.specs.declared.error.ScriptError.{ScriptError}
 use Rattle.ra_script.specs.declared.error.ScriptError.TheVariants as fault
-use Rattle.ra_script.specs.Document.{ClientTable, key_count, integer_at, array_at, each_of, strings_of, client_of, clients_of, document_of}
+use Rattle.ra_script.specs.Document.{ClientTable, key_count, integer_at, array_at, each_of, strings_of, client_in, clients_of, document_of}
 
 -- a map has as many entries as its table has keys
 pub key_count-view : (entries : List Entry) → key_count (members_view entries) ≡ length entries
@@ -51,14 +51,14 @@ IsReadTo-refused read values place done value why lt is unread h =
     refused (Some x) e = absurd (let clash : Ok x ≡ Err why = e in cc)
 
 -- a client's table that has other keys
-pub client_of-other : (value : Data) (table : Members) → as_table value ≡ Some table → (key_count table ≡ 2 → ⊥) → client_of value ≡ None
-client_of-other value table is other = rw (is, ne_eqb (key_count table) 2 other)
+pub client_in-other : (table : Members) → (key_count table ≡ 2 → ⊥) → client_in table ≡ None
+client_in-other table other = rw (ne_eqb (key_count table) 2 other)
 
 -- one that has its two
-pub client_of-both : (value : Data) (table : Members) (node : ℤ) (ops : Items) (strings : List (List ℕ)) → as_table value ≡ Some table → key_count table ≡ 2
+pub client_in-both : (table : Members) (node : ℤ) (ops : Items) (strings : List (List ℕ)) → key_count table ≡ 2
     → Some node ≡ integer_at (codes "node") table → Some ops ≡ array_at (codes "ops") table → strings_of ops ≡ Some strings
-    → client_of value ≡ Some (record { node = node; ops = strings })
-client_of-both value table node ops strings is two has_node has_ops read = rw (is, two, sym has_node, sym has_ops, read)
+    → client_in table ≡ Some (record { node = node; ops = strings })
+client_in-both table node ops strings two has_node has_ops read = rw (two, sym has_node, sym has_ops, read)
 
 -- a document's table that has other keys
 pub document_of-other : (table : Members) → (key_count table ≡ 2 → ⊥) → document_of table ≡ None

@@ -1,4 +1,4 @@
-ghost use Rattle.std.specs.Prelude.{◌≡◌, ◌⊎◌, ◌≤◌, List, Some, None, length, IfOk, IfErr, MatchResult};
+ghost use Rattle.std.specs.Prelude.{◌≡◌, ◌⊎◌, ◌≤◌, List, [], ◌∷◌, ◌++◌, Some, None, length, OnOk, IfOk, IfErr, MatchResult};
 ghost use Rattle.std.specs.List.{AllPass, list_all};
 ghost use Rattle.std.specs.Char.{is_ascii_digit};
 ghost use Rattle.ra_schedule.specs.declared.choice.Choice.{Choice};
@@ -62,6 +62,44 @@ fn choice_of(word: &[u8]) -> Option<Choice>
     }
 }
 
+/// Adds the choice that a word spells.
+///
+/// # Errors
+///
+/// `Choice`: it spells none. `Memory`.
+fn push_choice(choices: &mut Choices, word: &str) -> Result<(), ChoicesError>
+    ensures ok { OnOk result ((choice : Choice) × (spec.choice_of word.now ≡ Some choice)
+        × (choices.new.items ≡ choices.old.items ++ choice ∷ [])) }
+    ensures err { IfErr result (λ fault. ((fault ≡ ChoicesError.Choice) × (spec.choice_of word.now ≡ None))
+        ⊎ (fault ≡ ChoicesError.Memory)) }
+{
+    let Some(choice) = choice_of(word.as_bytes()) else {
+        return Err(ChoicesError::Choice);
+    };
+    choices.push(choice)?;
+    Ok(())
+}
+
+/// Adds the choices of a text to an empty list.
+///
+/// # Errors
+///
+/// `Choice`: a word of it is none. `Memory`, which may come before it.
+fn push_choices(choices: &mut Choices, text: &str) -> Result<(), ChoicesError>
+    requires empty { choices.old.items ≡ [] }
+    ensures ok { OnOk result (spec.choices_of text.now ≡ Some choices.new.items) }
+    ensures err { IfErr result (λ fault. ((fault ≡ ChoicesError.Choice) × (spec.choices_of text.now ≡ None))
+        ⊎ (fault ≡ ChoicesError.Memory)) }
+{
+    if text.is_empty() {
+        return Ok(());
+    }
+    for word in text.split(' ') {
+        push_choice(choices, word)?;
+    }
+    Ok(())
+}
+
 /// Reads a list of choices: words with one space between them, and none at the ends. The empty text is the empty list. A word is
 /// `c`, `m` or `l` and a decimal of 1 to 9 digits with no zeros before it: `cK` is the next operation of client K, `mI` delivers the
 /// message at place I, and `lI` loses it. The cost is linear in the text.
@@ -83,14 +121,6 @@ pub fn read_choices(alloc: Global, text: &str) -> Result<Choices, ChoicesError>
         → MatchResult result (λ read. read.items ≡ choices) (λ fault. fault ≡ ChoicesError.Memory) }
 {
     let mut choices = Choices::new(alloc);
-    if text.is_empty() {
-        return Ok(choices);
-    }
-    for word in text.split(' ') {
-        let Some(choice) = choice_of(word.as_bytes()) else {
-            return Err(ChoicesError::Choice);
-        };
-        choices.push(choice)?;
-    }
+    push_choices(&mut choices, text)?;
     Ok(choices)
 }

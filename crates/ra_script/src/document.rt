@@ -1,8 +1,9 @@
-ghost use Rattle.std.specs.Prelude.{◌≡◌, Some, None, if◌then◌else◌, ok_or, map, option_map, option_and_then, IfOk, IfErr};
-ghost use Rattle.toml.specs.Data.{as_table};
+ghost use Rattle.std.specs.Prelude.{◌≡◌, ℕ, List, [], ◌∷◌, ◌++◌, Some, None, if◌then◌else◌, ok_or, map, option_map, option_and_then, OnOk, IfOk, IfErr};
+ghost use Rattle.toml.specs.Data.{as_str, as_table};
 ghost use Rattle.toml.specs.View.{view, array_view, table_view};
 ghost use Rattle.ra_script.specs.Faults.{IsRefusal};
 ghost use Rattle.ra_script.specs.Document as spec;
+ghost use Rattle.ra_script.specs.Document.{ClientTable};
 ghost use Rattle.ra_script.specs.ScriptText.{natural, is_up_to};
 
 use crate::ScriptError;
@@ -72,6 +73,23 @@ fn array_at<'a>(table: &'a Table, key: &str) -> Option<&'a Array>
     }
 }
 
+/// Adds the string of a value.
+///
+/// # Errors
+///
+/// `Shape`: it is no string. `Memory`.
+fn push_string<'a>(strings: &mut Vec<&'a str>, item: &'a Value) -> Result<(), ScriptError>
+    ensures ok { OnOk result ((string : List ℕ) × (as_str (view item.now) ≡ Some string)
+        × (spec.texts strings.new.items ≡ spec.texts strings.old.items ++ string ∷ [])) }
+    ensures err { IfErr result (IsRefusal (ok_or (as_str (view item.now)) ScriptError.Shape)) }
+{
+    match item.as_str() {
+        Some(string) => strings.push(string)?,
+        None => return Err(ScriptError::Shape),
+    }
+    Ok(())
+}
+
 /// Returns the strings of an array that has nothing else.
 ///
 /// # Errors
@@ -83,26 +101,20 @@ fn strings_of<'a>(alloc: Global, items: &'a Array) -> Result<Vec<&'a str>, Scrip
 {
     let mut strings = Vec::new(alloc);
     for item in items {
-        match item.as_str() {
-            Some(string) => strings.push(string)?,
-            None => return Err(ScriptError::Shape),
-        }
+        push_string(&mut strings, item)?;
     }
     Ok(strings)
 }
 
-/// Returns the client of a value, a table that has the keys `node`, an integer, and `ops`, an array of strings, and no other.
+/// Returns the client of a table that has the keys `node`, an integer, and `ops`, an array of strings, and no other.
 ///
 /// # Errors
 ///
 /// `Shape`: it has not. `Memory`, which may come before it.
-fn client_of<'a>(alloc: Global, value: &'a Value) -> Result<ClientRef<'a>, ScriptError>
-    ensures ok { IfOk result (λ client. spec.client_of (view value.now) ≡ Some (spec.client_table client)) }
-    ensures err { IfErr result (IsRefusal (ok_or (spec.client_of (view value.now)) ScriptError.Shape)) }
+fn client_in<'a>(alloc: Global, table: &'a Table) -> Result<ClientRef<'a>, ScriptError>
+    ensures ok { IfOk result (λ client. spec.client_in (table_view table.now) ≡ Some (spec.client_table client)) }
+    ensures err { IfErr result (IsRefusal (ok_or (spec.client_in (table_view table.now)) ScriptError.Shape)) }
 {
-    let Some(table) = value.as_table() else {
-        return Err(ScriptError::Shape);
-    };
     if table.len() != 2 {
         return Err(ScriptError::Shape);
     }
@@ -113,6 +125,39 @@ fn client_of<'a>(alloc: Global, value: &'a Value) -> Result<ClientRef<'a>, Scrip
         }),
         _ => Err(ScriptError::Shape),
     }
+}
+
+/// Returns the client of a value, which is such a table.
+///
+/// # Errors
+///
+/// `Shape`: it is not. `Memory`, which may come before it.
+fn client_of<'a>(alloc: Global, value: &'a Value) -> Result<ClientRef<'a>, ScriptError>
+    ensures ok { IfOk result (λ client. spec.client_of (view value.now) ≡ Some (spec.client_table client)) }
+    ensures err { IfErr result (IsRefusal (ok_or (spec.client_of (view value.now)) ScriptError.Shape)) }
+{
+    match value.as_table() {
+        Some(table) => client_in(alloc, table),
+        None => Err(ScriptError::Shape),
+    }
+}
+
+/// Adds the client of a value.
+///
+/// # Errors
+///
+/// `Shape`: it is no client's table. `Memory`, which may come before it.
+fn push_client<'a>(
+    alloc: Global,
+    clients: &mut Vec<ClientRef<'a>>,
+    table: &'a Value,
+) -> Result<(), ScriptError>
+    ensures ok { OnOk result ((client : ClientTable) × (spec.client_of (view table.now) ≡ Some client)
+        × (map spec.client_table clients.new.items ≡ map spec.client_table clients.old.items ++ client ∷ [])) }
+    ensures err { IfErr result (IsRefusal (ok_or (spec.client_of (view table.now)) ScriptError.Shape)) }
+{
+    clients.push(client_of(alloc, table)?)?;
+    Ok(())
 }
 
 /// Returns the clients of an array that has nothing else.
@@ -127,7 +172,7 @@ fn clients_of<'a>(alloc: Global, tables: &'a Array) -> Result<Vec<ClientRef<'a>>
 {
     let mut clients = Vec::new(alloc);
     for table in tables {
-        clients.push(client_of(alloc, table)?)?;
+        push_client(alloc, &mut clients, table)?;
     }
     Ok(clients)
 }
