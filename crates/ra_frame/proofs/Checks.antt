@@ -1,14 +1,15 @@
 -- What the checks of the fields say where none fails.
-use Rattle.std.proofs.Common.{◌≡◌, ℕ, ◌+◌, ◌^◌, ◌<◌, ◌≤◌, Bool, true, false, cond, not, ltb, eqb, List, [], ◌∷◌, length, get_or, Option, Some, None, refl, sym, ap, ◌∙◌, arith, rules}
-use Rattle.std.specs.Prelude.{◌||◌, ◌⊎◌, slice_index, slice_range, ◌==◌, nat_lt, nat_le, if◌then◌else◌}
-use Rattle.std.specs.List.{list_all, AllPass}
+use Rattle.std.proofs.Common.{◌≡◌, ℕ, ◌^◌, ◌≤◌, Bool, true, false, cond, not, List, [], ◌∷◌, ◌++◌, length, drop, Option, Some, None, refl, sym, ◌∙◌, arith}
+use Rattle.std.specs.Prelude.{◌||◌, ◌⊎◌, ◌==◌, nat_lt, nat_le}
+use Rattle.std.specs.List.{list_all}
 use Rattle.std.proofs.lemmas.Bool.{ltb-false, le-ltb}
 use Rattle.std.proofs.lemmas.Bool.Decides.{nat_tests}
 use Rattle.std.proofs.lemmas.List.Sums.{AllPass-from_list_all, list_all-from_AllPass}
 use Rattle.ra_stamp.specs.Name.{IsName, is_name_byte}
 use Rattle.ra_frame.specs.declared.error.FrameError.{FrameError}
 use Rattle.ra_frame.specs.declared.error.FrameError.TheVariants.{Short}
-use Rattle.ra_frame.specs.Faults.{Check, first_failing, checks_of, first_fault, number_at, is_within, greatest_mode}
+use Rattle.ra_frame.specs.Faults.{Check, first_failing, checks_of, first_fault, is_within, greatest_mode}
+use Rattle.ra_frame.specs.Checked.{IsChecked, kind_checks, nodes_checks, numbers_checks, name_checks}
 
 -- each check passes
 abbrev pub AllPassed : ℕ → List Check → Type 0
@@ -30,24 +31,6 @@ none_failing len [] h = refl
 none_failing len (check ∷ checks) h =
     let long : nat_lt len check.end ≡ false = le-ltb _ _ h.0 in
     rw (long, h.1) (none_failing len checks h.2)
-
--- what holds of bytes with no fault
-pub record IsChecked (bytes : List ℕ) : Type 0 where
-  pub long : length bytes ≡ 22 + slice_index bytes 21
-  pub version : slice_index bytes 0 ≡ 1
-  pub kind : (slice_index bytes 1 ≡ 1) ⊎ (slice_index bytes 1 ≡ 2)
-  pub from_low : 1 ≤ slice_index bytes 2
-  pub from_high : slice_index bytes 2 ≤ 16
-  pub to_low : 1 ≤ slice_index bytes 3
-  pub to_high : slice_index bytes 3 ≤ 16
-  pub apart : slice_index bytes 2 ≡ slice_index bytes 3 → ⊥
-  pub mode : slice_index bytes 4 ≤ greatest_mode (slice_index bytes 1)
-  pub seq : 1 ≤ number_at bytes 5
-  pub clock_low : 1 ≤ number_at bytes 13
-  pub clock_high : number_at bytes 13 ≤ 2 ^ 62
-  pub name_low : 1 ≤ slice_index bytes 21
-  pub name_high : slice_index bytes 21 ≤ 32
-  pub name : list_all is_name_byte (slice_range bytes 22 (22 + slice_index bytes 21)) ≡ true
 
 within_low : (low high n : ℕ) → is_within low high n ≡ true → low ≤ n
 within_low low high n h = grind (arith, nat_tests)
@@ -127,3 +110,51 @@ different {a} {b} h = grind (arith, nat_tests)
 
 pub not_above : {a b : ℕ} → a ≤ b → nat_le a b ≡ true
 not_above {a} {b} h = grind (arith, nat_tests)
+
+-- ---- The checks in groups
+
+-- the first fault of some checks is that of all
+ahead_by : (short right : Bool) (some all : Option FrameError) (check : Check) (fault : FrameError) → (some ≡ Some fault → all ≡ Some fault) → cond short (Some Short) (cond right some (Some check.fault)) ≡ Some fault
+    → cond short (Some Short) (cond right all (Some check.fault)) ≡ Some fault
+ahead_by true right some all check fault behind e = e
+ahead_by false true some all check fault behind e = behind e
+ahead_by false false some all check fault behind e = e
+
+fault_ahead : (len : ℕ) (checks behind : List Check) (fault : FrameError) → first_failing len checks ≡ Some fault → first_failing len (checks ++ behind) ≡ Some fault
+fault_ahead len [] behind fault e = absurd cc
+fault_ahead len (check ∷ checks) behind fault e =
+    ahead_by (nat_lt len check.end) check.is_right (first_failing len checks) (first_failing len (checks ++ behind)) check fault (fault_ahead len checks behind fault) e
+
+-- where some checks pass, the first fault is that of the others
+behind_by : (short right : Bool) (some all others : Option FrameError) (check : Check) → (some ≡ None → all ≡ others) → cond short (Some Short) (cond right some (Some check.fault)) ≡ None
+    → cond short (Some Short) (cond right all (Some check.fault)) ≡ others
+behind_by true right some all others check behind e = absurd cc
+behind_by false true some all others check behind e = behind e
+behind_by false false some all others check behind e = absurd cc
+
+fault_behind : (len : ℕ) (checks behind : List Check) → first_failing len checks ≡ None → first_failing len (checks ++ behind) ≡ first_failing len behind
+fault_behind len [] behind e = refl
+fault_behind len (check ∷ checks) behind e =
+    behind_by (nat_lt len check.end) check.is_right (first_failing len checks) (first_failing len (checks ++ behind)) (first_failing len behind) check (fault_behind len checks behind) e
+
+module _ (bytes : List ℕ) where
+  abbrev Fault : (List ℕ → List Check) → Option FrameError → Type 0
+  Fault checks fault = first_failing (length bytes) (checks bytes) ≡ fault
+
+  pub by_kind : (fault : FrameError) → Fault kind_checks (Some fault) → first_fault bytes ≡ Some fault
+  by_kind fault e = fault_ahead (length bytes) (kind_checks bytes) (drop 2 (checks_of bytes)) fault e
+
+  past_kind : Fault kind_checks None → first_fault bytes ≡ first_failing (length bytes) (drop 2 (checks_of bytes))
+  past_kind none = fault_behind (length bytes) (kind_checks bytes) (drop 2 (checks_of bytes)) none
+
+  pub by_nodes : (fault : FrameError) → Fault kind_checks None → Fault nodes_checks (Some fault) → first_fault bytes ≡ Some fault
+  by_nodes fault none e = past_kind none ∙ fault_ahead (length bytes) (nodes_checks bytes) (drop 5 (checks_of bytes)) fault e
+
+  past_nodes : Fault kind_checks None → Fault nodes_checks None → first_fault bytes ≡ first_failing (length bytes) (drop 5 (checks_of bytes))
+  past_nodes none nodes = past_kind none ∙ fault_behind (length bytes) (nodes_checks bytes) (drop 5 (checks_of bytes)) nodes
+
+  pub by_numbers : (fault : FrameError) → Fault kind_checks None → Fault nodes_checks None → Fault numbers_checks (Some fault) → first_fault bytes ≡ Some fault
+  by_numbers fault none nodes e = past_nodes none nodes ∙ fault_ahead (length bytes) (numbers_checks bytes) (drop 8 (checks_of bytes)) fault e
+
+  pub by_name : Fault kind_checks None → Fault nodes_checks None → Fault numbers_checks None → first_fault bytes ≡ first_failing (length bytes) (name_checks bytes)
+  by_name none nodes numbers = past_nodes none nodes ∙ fault_behind (length bytes) (numbers_checks bytes) (drop 8 (checks_of bytes)) numbers

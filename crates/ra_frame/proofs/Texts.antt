@@ -1,22 +1,23 @@
 -- Frame texts, and bytes that pass the checks.
-use Rattle.std.proofs.Common.{cond, ◌≡◌, ℕ, zero, suc, ◌+◌, ◌-◌, ◌^◌, ◌<◌, ◌≤◌, Bool, true, false, not, List, [], ◌∷◌, ◌++◌, length, get_or, take, drop, Option, Some, None, refl, sym, ap, subst, ◌∙◌, arith, rules, inl, inr}
-use Rattle.std.specs.Prelude.{◌||◌, ◌⊎◌, All, slice_index, slice_range, ◌==◌, nat_lt, nat_le}
+use Rattle.std.proofs.Common.{◌≡◌, ℕ, zero, suc, ◌+◌, ◌-◌, ◌^◌, ◌<◌, ◌≤◌, true, List, [], ◌∷◌, ◌++◌, length, get_or, take, drop, None, refl, sym, subst, ◌∙◌, arith, inl, inr}
+use Rattle.std.specs.Prelude.{◌||◌, ◌⊎◌, All, slice_index, slice_range, ◌==◌}
 use Rattle.std.specs.Int.{w64, from_be_bytes, to_be_bytes}
 use Rattle.std.specs.List.{list_all}
 use Rattle.std.proofs.lemmas.Bool.{cases_lt}
-use Rattle.std.proofs.lemmas.List.{take_at, take_all, length-take, get_or-drop, get_or-take, get_or_past}
+use Rattle.std.proofs.lemmas.List.{take_all, length-take, get_or-drop, get_or-take, get_or_past}
 use Rattle.std.proofs.lemmas.Nat.{be_bytes_8, from_be_bytes-to_be_bytes_8}
-use Rattle.std.proofs.lemmas.Bool.Decides.{nat_tests}
 use Rattle.std.proofs.lemmas.List.Sums.{AllPass-from_list_all, list_all-from_AllPass}
-use Rattle.ra_stamp.specs.Name.{IsName, is_name_byte}
-use Rattle.ra_frame.specs.Faults.{first_fault, checks_of, number_at, is_within, greatest_mode}
+use Rattle.ra_stamp.specs.Name.{is_name_byte}
+use Rattle.ra_frame.specs.Faults.{first_fault, checks_of, number_at, greatest_mode}
 use Rattle.ra_stamp.specs.declared.mode.Mode.{Mode}
 use Rattle.ra_stamp.specs.declared.mode.Mode.TheVariants.{Shared, Exclusive}
 use Rattle.ra_stamp.specs.declared.message.Message.{Message}
 use Rattle.ra_stamp.specs.declared.message.Message.TheVariants.{Request, Reply}
 use Rattle.ra_frame.specs.declared.frame.Frame.{Frame}
 use Rattle.ra_frame.specs.FrameText.{HasFields, mode_byte, IsMessageText, IsFrameText}
-use Rattle.ra_frame.proofs.Checks.{IsChecked, a_kind, checked, of_request, of_reply, within, same, different, not_above, none_failing}
+use Rattle.ra_frame.specs.Fits.{Fits}
+use Rattle.ra_frame.specs.Checked.{IsChecked}
+use Rattle.ra_frame.proofs.Checks.{a_kind, checked, of_request, of_reply, within, same, different, not_above, none_failing}
 
 -- the text that eight bytes of a number, eight of a clock and a name make, behind five bytes
 abbrev pub spelled : ℕ → ℕ → ℕ → ℕ → ℕ → ℕ → List ℕ → List ℕ
@@ -221,6 +222,11 @@ message_passes bytes clock (Reply from to name seq) h = text_passes bytes 2 from
 pub one_text : (a b : List ℕ) (clock : ℕ) (message : Message) → IsMessageText a clock message → IsMessageText b clock message → a ≡ b
 one_text a b clock (Request from to name mode seq) h k = h.spelled ∙ sym k.spelled
 one_text a b clock (Reply from to name seq) h k = h.spelled ∙ sym k.spelled
+
+-- the frame of a text fits
+pub text_fits : (bytes : List ℕ) (clock : ℕ) (message : Message) → IsMessageText bytes clock message → Fits (record { clock = clock; message = message })
+text_fits bytes clock (Request from to name mode seq) h = record { clock = h.clock_range; seq = h.seq_range.0; apart = h.apart }
+text_fits bytes clock (Reply from to name seq) h = record { clock = h.clock_range; seq = h.seq_range.0; apart = h.apart }
 
 -- ---- Bytes with no fault are a text.
 

@@ -1,3 +1,4 @@
 pub mod Fits
 pub mod FrameText
 pub mod Faults
+pub mod Checked

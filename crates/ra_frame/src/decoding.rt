@@ -5,6 +5,7 @@ ghost use Rattle.ra_stamp.specs.Name.{is_name_byte};
 ghost use Rattle.ra_frame.specs.Fits.{Fits};
 ghost use Rattle.ra_frame.specs.FrameText.{IsFrameText, IsMessageText, mode_byte};
 ghost use Rattle.ra_frame.specs.Faults as spec;
+ghost use Rattle.ra_frame.specs.Checked.{kind_checks, nodes_checks, numbers_checks, name_checks, IsChecked};
 
 use crate::format::{
     CLOCK, FROM, KIND, MAX_NAME, MAX_NODE, MODE, NAME, NAME_LENGTH, REPLY, REQUEST, SEQ, TO,
@@ -39,8 +40,8 @@ fn are_name_bytes(name: &[u8]) -> bool
     Name::new(name).is_ok()
 }
 
-/// Tests the fields in their order: each row says how many bytes there must be, what must hold of them, and the
-/// fault where it does not.
+/// Tests fields in their order: each row says how many bytes there must be, what must hold of them, and the fault where
+/// it does not.
 macro_rules! first_failing {
     ($bytes:ident; $($end:expr, $is_right:expr => $fault:ident;)*) => {{
         $(
@@ -55,26 +56,66 @@ macro_rules! first_failing {
     }};
 }
 
-/// Returns the fault of the first field that is short or not right, in the order of the fields, or `None` where all are
-/// right. It does not allocate.
-fn first_fault(bytes: &[u8]) -> Option<FrameError>
-    ensures { result ≡ spec.first_fault bytes.now }
+/// Returns the fault of the version and the kind, or `None`. It does not allocate.
+fn kind_fault(bytes: &[u8]) -> Option<FrameError>
+    ensures { result ≡ spec.first_failing (length bytes.now) (kind_checks bytes.now) }
 {
     first_failing! { bytes;
         1, bytes[0] == VERSION => Version;
         2, bytes[KIND] == REQUEST || bytes[KIND] == REPLY => Kind;
+    }
+}
+
+/// Returns the first fault of the two nodes, or `None`. It does not allocate.
+fn nodes_fault(bytes: &[u8]) -> Option<FrameError>
+    ensures { result ≡ spec.first_failing (length bytes.now) (nodes_checks bytes.now) }
+{
+    first_failing! { bytes;
         3, is_within(1, MAX_NODE, u64::from(bytes[FROM])) => From;
         4, is_within(1, MAX_NODE, u64::from(bytes[TO])) => To;
         4, bytes[FROM] != bytes[TO] => SameNode;
+    }
+}
+
+/// Returns the first fault of the mode and the two numbers, or `None`. It does not allocate.
+fn numbers_fault(bytes: &[u8]) -> Option<FrameError>
+    ensures { result ≡ spec.first_failing (length bytes.now) (numbers_checks bytes.now) }
+{
+    first_failing! { bytes;
         5, bytes[MODE] <= u8::from(bytes[KIND] == REQUEST) => Mode;
         13, number_at(bytes, SEQ) >= 1 => Seq;
         21, is_within(1, Frame::MAX_CLOCK, number_at(bytes, CLOCK)) => Clock;
+    }
+}
+
+/// Returns the first fault of the name, its length and what follows it, or `None`. It does not allocate.
+fn name_fault(bytes: &[u8]) -> Option<FrameError>
+    ensures { result ≡ spec.first_failing (length bytes.now) (name_checks bytes.now) }
+{
+    first_failing! { bytes;
         22, is_within(1, MAX_NAME, u64::from(bytes[NAME_LENGTH])) => NameLength;
         NAME + usize::from(bytes[NAME_LENGTH]),
             are_name_bytes(&bytes[NAME..NAME + usize::from(bytes[NAME_LENGTH])]) => NameByte;
         NAME + usize::from(bytes[NAME_LENGTH]),
             bytes.len() == NAME + usize::from(bytes[NAME_LENGTH]) => Trailing;
     }
+}
+
+/// Returns the fault of the first field that is short or not right, in the order of the fields, or `None` where all are
+/// right. It does not allocate.
+fn first_fault(bytes: &[u8]) -> Option<FrameError>
+    ensures { result ≡ spec.first_fault bytes.now }
+{
+    if let Some(fault) = kind_fault(bytes) {
+        return Some(fault);
+    }
+    if let Some(fault) = nodes_fault(bytes) {
+        return Some(fault);
+    }
+    if let Some(fault) = numbers_fault(bytes) {
+        return Some(fault);
+    }
+    name_fault(bytes)
 }
 
 /// Returns the node whose number is the byte at a place. It does not allocate.
@@ -100,7 +141,7 @@ fn mode_of(byte: u8) -> Mode
 
 /// Returns the name, which stands behind its length. It does not allocate.
 fn name_at(bytes: &[u8]) -> Name
-    requires { spec.first_fault bytes.now ≡ None }
+    requires { IsChecked bytes.now }
     ensures { result ≡ slice_range bytes.now 22 (22 + slice_index bytes.now 21) }
 {
     Name::new(&bytes[NAME..NAME + usize::from(bytes[NAME_LENGTH])]).unwrap()
@@ -108,7 +149,7 @@ fn name_at(bytes: &[u8]) -> Name
 
 /// Returns the message of bytes that have no fault. It does not allocate.
 fn message_of(bytes: &[u8]) -> Message
-    requires { spec.first_fault bytes.now ≡ None }
+    requires { IsChecked bytes.now }
     ensures { IsMessageText bytes.now (spec.number_at bytes.now 13) result }
 {
     let from = node_at(bytes, FROM);
