@@ -1,5 +1,5 @@
 -- A world, and the text of its steps so far, which grows with them.
-use Rattle.std.proofs.Common.{◌≡◌, ◌^◌, ◌<◌, ℕ, ◌+◌, List, [], ◌∷◌, ◌++◌, map, flat_map, length, get_or, take, All, codes, refl, sym, ap, subst, ◌∙◌, append_assoc}
+use Rattle.std.proofs.Common.{◌≡◌, ◌≢◌, ◌↔◌, ◌^◌, ◌<◌, inl, inr, ℕ, ◌+◌, List, [], ◌∷◌, ◌++◌, map, flat_map, length, get_or, take, All, codes, refl, sym, ap, subst, ◌∙◌, append_assoc}
 use Rattle.std.proofs.lemmas.Grind.{flat_map-append}
 use Rattle.std.proofs.lemmas.List.{append-nil, map-append, take_more}
 use Rattle.std.proofs.lemmas.List.Elements.{All-nil, All-cons, All-append, All-head, All-tail, All-push}
@@ -11,33 +11,33 @@ use Rattle.ra_world.specs.declared.step.Step.{Step}
 use Rattle.ra_world.specs.declared.step.Step.TheVariants.{Ask, Leave, Deliver, Lose}
 use Rattle.ra_world.specs.Lines.{mark_line}
 use Rattle.ra_world.specs.Numbers.{HasNumber, IsNumbered}
-use Rattle.ra_world.specs.Run.{IsRun, marks_of}
+use Rattle.ra_world.specs.declared.error.RunError.TheVariants.{Refused}
+use Rattle.ra_world.specs.declared.error.StepError.{StepError}
+use Rattle.ra_world.specs.declared.error.StepError.TheVariants as cause
+use Rattle.ra_world.specs.Run.{IsRun, WorldRun, GoesOn, marks_of}
 use Rattle.ra_world.specs.Traffic.{Move, taken_in, taken_by}
-use Rattle.ra_world.specs.World.{WorldState, with_move}
-use Rattle.ra_world.proofs.Refusing.{HasMade}
+use Rattle.ra_world.specs.World.{WorldState, HasCause, with_move}
+use Rattle.ra_world.proofs.Refusing.{HasMade, memory_or_not, no_run, refused_there}
+use Rattle.ra_trace.specs.declared.error.WriteTraceError.{WriteTraceError}
+use Rattle.ra_trace.specs.declared.error.WriteTraceError.TheVariants.{Run, Memory}
 use Rattle.ra_trace.specs.declared.line.Line.{Line}
 use Rattle.ra_trace.specs.declared.line.Line.TheVariants.{First, Stepped, Marked, Last}
 use Rattle.ra_trace.specs.Ranges.{StepFits, MarkFits}
+use Rattle.ra_trace.specs.Writing.{MoveFits, front_text, HasTraced, IsOpened, StopsIn}
 use Rattle.ra_trace.specs.TraceText.{step_line, line_text, move_lines, IsMarkLine, IsStepLine, IsLine, IsTrace}
 
-abbrev pub MoveFits : Move → Type 0
-MoveFits move = StepFits move.step × All MarkFits move.marks
+made_of : (n start : ℕ) (steps : List Step) (world : WorldState) (text : List ℕ) → HasTraced n start steps world text → HasMade n start steps world
+made_of n start steps world text traced =
+    record { number = traced.number; count = traced.count; start_is = traced.start_is; made = traced.made; run = traced.run }
 
--- all lines but the last
-abbrev pub front_text : ℕ → ℕ → List Move → List ℕ
-front_text n start moves = line_text (First n start) ++ flat_map line_text (flat_map move_lines moves)
-
-pub record HasTraced (n start : ℕ) (steps : List Step) (world : WorldState) (text : List ℕ) : Type 0 where
-  pub made : HasMade n start steps world
-  pub text_is : text ≡ front_text n start world.moves
-  pub fit : All MoveFits world.moves
-
-pub traced_none : (n start : ℕ) (world : WorldState) (text : List ℕ) → IsNodeNumber n → world ≡ record { count = n; start = start; moves = [] } → IsRun world.count world.start world.moves
-    → text ≡ line_text (First n start) → HasTraced n start [] world text
-traced_none n start world text count is run text_is =
-    let opened : WorldState = record { count = n; start = start; moves = [] } in
-    subst (λ w. HasTraced n start [] w text) (sym is) (record {
-      made = record { number = count; count = refl; start_is = refl; made = refl; run = subst (λ (w : WorldState). IsRun w.count w.start w.moves) is run };
+pub traced_none : (n start : ℕ) (world : WorldState) (text : List ℕ) → IsOpened n start world → text ≡ line_text (First n start) → HasTraced n start [] world text
+traced_none n start world text opened text_is =
+    subst (λ w. HasTraced n start [] w text) (sym opened.is) (record {
+      number = opened.number;
+      count = refl;
+      start_is = refl;
+      made = refl;
+      run = subst (λ (w : WorldState). IsRun w.count w.start w.moves) opened.is opened.run;
       text_is = text_is ∙ sym (append-nil (line_text (First n start)));
       fit = All-nil MoveFits;
     })
@@ -65,23 +65,41 @@ pub traced_more : (n start place : ℕ) (steps : List Step) (step : Step) (world
     → HasTraced n start (take (place + 1) steps) next longer
 traced_more n start place steps step world next sends marks text longer traced inside is next_is run longer_is fits =
     let move : Move = record { step = step; sends = sends; marks = marks } in
-    let made = traced.made in
     let run' : IsRun world.count world.start (world.moves ++ move ∷ []) = subst (λ (w : WorldState). IsRun w.count w.start w.moves) next_is run in
     let run'' : IsRun n start (world.moves ++ move ∷ []) =
-    subst (λ (s : ℕ). IsRun n s (world.moves ++ move ∷ [])) made.start_is (subst (λ (k : ℕ). IsRun k world.start (world.moves ++ move ∷ [])) made.count run') in
+    subst (λ (s : ℕ). IsRun n s (world.moves ++ move ∷ [])) traced.start_is (subst (λ (k : ℕ). IsRun k world.start (world.moves ++ move ∷ [])) traced.count run') in
     subst (λ (w : WorldState). HasTraced n start (take (place + 1) steps) w longer) (sym next_is) (record {
-      made = record {
-        number = made.number;
-        count = made.count;
-        start_is = made.start_is;
-        made = map-append (λ (m : Move). m.step) world.moves (move ∷ [])
-            ∙ (ap (λ (front : List Step). front ++ step ∷ []) made.made
-            ∙ (ap (λ (s : Step). take place steps ++ s ∷ []) is ∙ sym (take_more steps place step inside)));
-        run = run'';
-      };
+      number = traced.number;
+      count = traced.count;
+      start_is = traced.start_is;
+      made = map-append (λ (m : Move). m.step) world.moves (move ∷ [])
+          ∙ (ap (λ (front : List Step). front ++ step ∷ []) traced.made
+          ∙ (ap (λ (s : Step). take place steps ++ s ∷ []) is ∙ sym (take_more steps place step inside)));
+      run = run'';
       text_is = longer_is ∙ (ap (λ (front : List ℕ). (front ++ step_line step) ++ flat_map mark_line marks) traced.text_is ∙ sym (front_more n start world.moves move));
       fit = All-push MoveFits world.moves move traced.fit fits;
     })
+
+-- why the steps stop at this one
+pub stops_by : ((n start : ℕ) (front back : List Step) → WorldRun n start (front ++ back) → WorldRun n start front)
+    → ((n start : ℕ) (moves : List Move) (step : Step) → IsNodeNumber n → IsRun n start moves
+    → WorldRun n start (map (λ (move : Move). move.step) moves ++ step ∷ []) ↔ GoesOn n start moves step)
+    → (n start place : ℕ) (steps : List Step) (step : Step) (world : WorldState) (text : List ℕ) (why : StepError) (fault : WriteTraceError)
+    → HasTraced n start (take place steps) world text → place < length steps → step ≡ get_or steps place step
+    → (why ≢ cause.Memory → HasCause world.count world.start world.moves step why)
+    → (GoesOn world.count world.start world.moves step → why ≡ cause.Memory)
+    → (why ≡ cause.Memory → fault ≡ Memory) → (why ≢ cause.Memory → fault ≡ Run (Refused (place + 1) why)) → StopsIn n start steps fault
+stops_by fronts goes_on n start place steps step world text why fault traced inside is because on memory refused =
+    let made = made_of n start (take place steps) world text traced in
+    elim (memory_or_not why) [
+      | inl same ↦ subst (StopsIn n start steps) (sym (memory same)) tt
+      | inr other ↦
+          let stuck = λ (goes : GoesOn world.count world.start world.moves step). other (on goes) in
+          subst (StopsIn n start steps) (sym (refused other)) (
+            refused_there fronts goes_on n start place steps step world made inside is stuck why (because other),
+            no_run fronts goes_on n start place steps step world made inside is stuck,
+          )
+    ]
 
 -- each part of a list
 All-parts : {A : Type 0} (P : A → Type 0) (xs ys : List A) → All P (xs ++ ys) → All P xs × All P ys
@@ -122,9 +140,9 @@ pub traced_all : (n start : ℕ) (steps : List Step) (world : WorldState) (text 
 traced_all n start steps world text traced small numbers numbered =
     let lines = flat_map move_lines world.moves in
     record {
-      count = traced.made.number;
-      run = traced.made.run;
-      lines = All-cons IsLine (First n start) (lines ++ Last ∷ []) (traced.made.number, small)
+      count = traced.number;
+      run = traced.run;
+      lines = All-cons IsLine (First n start) (lines ++ Last ∷ []) (traced.number, small)
           (All-append IsLine lines (Last ∷ []) (lines_fit world.moves traced.fit numbers numbered) (All-cons IsLine Last [] tt (All-nil IsLine)));
       text_is = ap (λ (front : List ℕ). front ++ codes "end\n") traced.text_is
           ∙ (append_assoc (line_text (First n start)) (flat_map line_text lines) (codes "end\n")

@@ -7,3 +7,4 @@ pub mod Checking
 pub mod Reading
 pub mod NextLine
 pub mod Along
+pub mod Writing

@@ -1,19 +1,20 @@
-ghost use Rattle.std.specs.Prelude.{◌≡◌, ◌≢◌, ◌↔◌, ◌⊎◌, ◌++◌, ℕ, List, [], ◌∷◌, map, flat_map, codes, decimal, string_bytes, OnOk, IfOk, IfErr, IsErrOf, IsOkUnless, All};
+ghost use Rattle.std.specs.Prelude.{◌≡◌, ◌≢◌, ◌↔◌, ◌⊎◌, ◌+◌, ◌<◌, ◌^◌, ◌++◌, ℕ, List, [], ◌∷◌, length, take, slice_index_or, map, flat_map, codes, decimal, string_bytes, OnOk, IfOk, IfErr, IsErrOf, IsOkUnless, All};
 ghost use Rattle.std.specs.Io.KnownBytes.{Appends};
 ghost use Rattle.ra_stamp.specs.NodeId.{IsNodeNumber};
 ghost use Rattle.ra_world.specs.Traffic.{Move};
 ghost use Rattle.ra_world.specs.Run.{WorldRun};
 ghost use Rattle.ra_world.specs.Refused.{IsRefusedAt};
-ghost use Rattle.ra_world.specs.Lines.{mark_line};
+ghost use Rattle.ra_world.specs.Lines.{field, mark_line};
 ghost use Rattle.ra_trace.specs.declared.line.Line.{Line};
 ghost use Rattle.ra_trace.specs.TraceText as spec;
 ghost use Rattle.ra_trace.specs.TraceText.{IsTrace};
 ghost use Rattle.ra_trace.specs.Ranges.{StepFits, MarkFits};
+ghost use Rattle.ra_trace.specs.Writing.{HasTraced, IsOpened, Opens, Traces, Written};
 
 use crate::WriteTraceError;
 use crate::line::Line;
 use crate::ranges::{mark_fits, step_fits};
-use ra_stamp::{Marks, Memory, Message};
+use ra_stamp::{Marks, Memory, Message, Name, NodeId};
 use ra_world::{
     NewError, RunError, Step, StepError, Steps, World, fronts_of_runs_are_runs, letter_of,
     marks_of_runs_are_numbered, push_field, push_mark_line, push_number, text_of, write_out,
@@ -32,6 +33,23 @@ fn push_first_line(text: &mut String, nodes: u16, start: u64) -> Result<(), Memo
     Ok(())
 }
 
+/// Adds a word, sender, receiver and name.
+fn push_route(
+    text: &mut String,
+    word: &str,
+    from: NodeId,
+    to: NodeId,
+    name: &Name,
+) -> Result<(), Memory>
+    ensures { OnOk result (string_bytes text.new
+        ≡ string_bytes text.old ++ field word.now ++ field (decimal from) ++ field (decimal to) ++ field name.now) }
+{
+    push_field(text, word)?;
+    push_number(text, from.get())?;
+    push_number(text, to.get())?;
+    push_field(text, text_of(name))
+}
+
 /// Adds the fields of a message.
 fn push_message(text: &mut String, message: &Message) -> Result<(), Memory>
     ensures { OnOk result (string_bytes text.new ≡ string_bytes text.old ++ spec.message_fields message.now) }
@@ -44,10 +62,7 @@ fn push_message(text: &mut String, message: &Message) -> Result<(), Memory>
             mode,
             seq,
         } => {
-            push_field(text, "request")?;
-            push_number(text, from.get())?;
-            push_number(text, to.get())?;
-            push_field(text, text_of(name))?;
+            push_route(text, "request", *from, *to, name)?;
             push_field(text, letter_of(*mode))?;
             push_number(text, *seq)
         }
@@ -57,18 +72,40 @@ fn push_message(text: &mut String, message: &Message) -> Result<(), Memory>
             name,
             seq,
         } => {
-            push_field(text, "reply")?;
-            push_number(text, from.get())?;
-            push_number(text, to.get())?;
-            push_field(text, text_of(name))?;
+            push_route(text, "reply", *from, *to, name)?;
             push_number(text, *seq)
         }
     }
 }
 
-/// Adds the line of a step.
-fn push_step_line(text: &mut String, step: &Step) -> Result<(), Memory>
-    ensures { OnOk result (string_bytes text.new ≡ string_bytes text.old ++ spec.step_line step.now) }
+/// Adds a word, node, client and name.
+fn push_asker(
+    text: &mut String,
+    word: &str,
+    node: NodeId,
+    client: u32,
+    name: &Name,
+) -> Result<(), Memory>
+    ensures { OnOk result (string_bytes text.new
+        ≡ string_bytes text.old ++ word.now ++ field (decimal node) ++ field (decimal client) ++ field name.now) }
+{
+    text.push_str(word)?;
+    push_number(text, node.get())?;
+    push_number(text, client)?;
+    push_field(text, text_of(name))
+}
+
+/// Adds a word and a message.
+fn push_taken(text: &mut String, word: &str, message: &Message) -> Result<(), Memory>
+    ensures { OnOk result (string_bytes text.new ≡ string_bytes text.old ++ word.now ++ spec.message_fields message.now) }
+{
+    text.push_str(word)?;
+    push_message(text, message)
+}
+
+/// Adds the words and fields of a step.
+fn push_step(text: &mut String, step: &Step) -> Result<(), Memory>
+    ensures { OnOk result (string_bytes text.new ++ codes "\n" ≡ string_bytes text.old ++ spec.step_line step.now) }
 {
     match step {
         Step::Ask {
@@ -77,27 +114,20 @@ fn push_step_line(text: &mut String, step: &Step) -> Result<(), Memory>
             name,
             mode,
         } => {
-            text.push_str("ask")?;
-            push_number(text, node.get())?;
-            push_number(text, *client)?;
-            push_field(text, text_of(name))?;
-            push_field(text, letter_of(*mode))?;
+            push_asker(text, "ask", *node, *client, name)?;
+            push_field(text, letter_of(*mode))
         }
-        Step::Leave { node, client, name } => {
-            text.push_str("release")?;
-            push_number(text, node.get())?;
-            push_number(text, *client)?;
-            push_field(text, text_of(name))?;
-        }
-        Step::Deliver(message) => {
-            text.push_str("deliver")?;
-            push_message(text, message)?;
-        }
-        Step::Lose(message) => {
-            text.push_str("lose")?;
-            push_message(text, message)?;
-        }
+        Step::Leave { node, client, name } => push_asker(text, "release", *node, *client, name),
+        Step::Deliver(message) => push_taken(text, "deliver", message),
+        Step::Lose(message) => push_taken(text, "lose", message),
     }
+}
+
+/// Adds the line of a step.
+fn push_step_line(text: &mut String, step: &Step) -> Result<(), Memory>
+    ensures { OnOk result (string_bytes text.new ≡ string_bytes text.old ++ spec.step_line step.now) }
+{
+    push_step(text, step)?;
     text.push_str("\n")?;
     Ok(())
 }
@@ -136,6 +166,91 @@ fn refused_at(place: u64, cause: StepError) -> WriteTraceError
     }
 }
 
+/// Makes the world before the first step.
+///
+/// # Errors
+///
+/// `Run`: the number of nodes is not 1 to 16. `Memory`.
+fn opening_world(alloc: Global, nodes: u16, start: u64) -> Result<World, WriteTraceError>
+    ensures { Opens nodes start result }
+{
+    match World::new(alloc, nodes, start) {
+        Ok(world) => Ok(world),
+        Err(NewError::BadCount) => Err(WriteTraceError::Run(RunError::BadCount)),
+        Err(NewError::Memory) => Err(WriteTraceError::Memory),
+    }
+}
+
+/// Makes a step of a run, that of this place, counted from 0, and adds its lines.
+///
+/// # Errors
+///
+/// `Run`: the step is refused. `Memory`.
+fn trace_step(
+    alloc: Global,
+    text: &mut String,
+    world: &mut World,
+    place: usize,
+    step: &Step,
+) -> Result<(), WriteTraceError>
+    requires { place < 2 ^ 63 }
+    ensures { (n start : ℕ) (steps : List Step) → place < length steps → step.now ≡ slice_index_or steps place step.now
+        → HasTraced n start (take place steps) world.old (string_bytes text.old)
+        → Traces n start (take (place + 1) steps) steps world.new (string_bytes text.new) result }
+{
+    fronts_of_runs_are_runs();
+    match world.step(alloc, step) {
+        Ok(outcome) => {
+            push_move(text, step, &outcome.marks)?;
+            Ok(())
+        }
+        Err(cause) => Err(refused_at(place as u64 + 1, cause)),
+    }
+}
+
+/// Makes the steps of a run, and adds their lines.
+///
+/// # Errors
+///
+/// `Run`: a step is refused, the first such one. `Memory`.
+fn trace_steps(
+    alloc: Global,
+    text: &mut String,
+    world: &mut World,
+    steps: &Steps,
+) -> Result<(), WriteTraceError>
+    ensures { (n start : ℕ) → HasTraced n start [] world.old (string_bytes text.old)
+        → Traces n start steps.now.items steps.now.items world.new (string_bytes text.new) result }
+{
+    for (place, step) in steps.as_slice().iter().enumerate() {
+        trace_step(alloc, text, world, place, step)?;
+    }
+    Ok(())
+}
+
+/// Adds the trace of a run to a text in which nothing stands yet. The world is the one before its first step.
+///
+/// # Errors
+///
+/// `Run`: a step is refused, the first such one. `Memory`.
+fn trace_run(
+    alloc: Global,
+    text: &mut String,
+    world: &mut World,
+    nodes: u16,
+    start: u64,
+    steps: &Steps,
+) -> Result<(), WriteTraceError>
+    ensures { string_bytes text.old ≡ [] → IsOpened nodes start world.old
+        → Written nodes start steps.now.items (string_bytes text.new) result }
+{
+    marks_of_runs_are_numbered();
+    push_first_line(text, nodes, start)?;
+    trace_steps(alloc, text, world, steps)?;
+    text.push_str("end\n")?;
+    Ok(())
+}
+
 /// Makes a run of this many nodes, all of whose numbers begin at `start`, through a list of steps, and returns its trace. The
 /// cost is that of the steps, each as `World::step` says, and linear in the text.
 ///
@@ -165,22 +280,9 @@ pub fn trace_text(
         → IsOkUnless result WriteTraceError.Memory }
     ensures early { IfErr result (λ fault. fault ≢ WriteTraceError.Write) }
 {
-    fronts_of_runs_are_runs();
-    marks_of_runs_are_numbered();
-    let mut world = match World::new(alloc, nodes, start) {
-        Ok(world) => world,
-        Err(NewError::BadCount) => return Err(WriteTraceError::Run(RunError::BadCount)),
-        Err(NewError::Memory) => return Err(WriteTraceError::Memory),
-    };
+    let mut world = opening_world(alloc, nodes, start)?;
     let mut text = String::new(alloc);
-    push_first_line(&mut text, nodes, start)?;
-    for (place, step) in steps.as_slice().iter().enumerate() {
-        match world.step(alloc, step) {
-            Ok(outcome) => push_move(&mut text, step, &outcome.marks)?,
-            Err(cause) => return Err(refused_at(place as u64 + 1, cause)),
-        }
-    }
-    text.push_str("end\n")?;
+    trace_run(alloc, &mut text, &mut world, nodes, start, steps)?;
     Ok(text)
 }
 

@@ -1,0 +1,64 @@
+-- What of a run was made and written down. No public contract speaks of it.
+use Rattle.std.specs.Prelude.{◌≡◌, ℕ, List, [], ◌++◌, All, Result, Ok, Err, map, flat_map}
+use Rattle.ra_stamp.specs.NodeId.{IsNodeNumber}
+use Rattle.ra_world.specs.declared.error.RunError.TheVariants as run
+use Rattle.ra_world.specs.declared.step.Step.{Step}
+use Rattle.ra_world.specs.Refused.{IsRefusedAt}
+use Rattle.ra_world.specs.Run.{IsRun, WorldRun}
+use Rattle.ra_world.specs.Traffic.{Move}
+use Rattle.ra_world.specs.World.{WorldState}
+use Rattle.ra_trace.specs.declared.error.WriteTraceError.{WriteTraceError}
+use Rattle.ra_trace.specs.declared.error.WriteTraceError.TheVariants.{Run, Memory, Write}
+use Rattle.ra_trace.specs.declared.line.Line.TheVariants.{First}
+use Rattle.ra_trace.specs.Ranges.{StepFits, MarkFits}
+use Rattle.ra_trace.specs.TraceText.{line_text, move_lines, IsTrace}
+
+abbrev pub MoveFits : Move → Type 0
+MoveFits move = StepFits move.step × All MarkFits move.marks
+
+-- all lines but the last
+abbrev pub front_text : ℕ → ℕ → List Move → List ℕ
+front_text n start moves = line_text (First n start) ++ flat_map line_text (flat_map move_lines moves)
+
+-- the world of these nodes has made these steps and no others, and the text is that of its moves, but for the last line
+pub record HasTraced (n start : ℕ) (steps : List Step) (world : WorldState) (text : List ℕ) : Type 0 where
+  pub number : IsNodeNumber n
+  pub count : world.count ≡ n
+  pub start_is : world.start ≡ start
+  pub made : map (λ (move : Move). move.step) world.moves ≡ steps
+  pub run : IsRun n start world.moves
+  pub text_is : text ≡ front_text n start world.moves
+  pub fit : All MoveFits world.moves
+
+-- the world of these nodes has made no step
+pub record IsOpened (n start : ℕ) (world : WorldState) : Type 0 where
+  pub number : IsNodeNumber n
+  pub is : world ≡ record { count = n; start = start; moves = [] }
+  pub run : IsRun world.count world.start world.moves
+
+-- the world was made, or there is none of so many nodes
+abbrev pub Opens : ℕ → ℕ → Result WorldState WriteTraceError → Type 0
+Opens n start (Ok world) = IsOpened n start world
+Opens n start (Err (Run run.BadCount)) = IsNodeNumber n → ⊥
+Opens n start (Err (Run (run.Refused place cause))) = ⊥
+Opens n start (Err (Run run.Memory)) = ⊥
+Opens n start (Err Memory) = (IsNodeNumber n → ⊥) → ⊥
+Opens n start (Err Write) = ⊥
+
+-- why no more of these steps were made
+abbrev pub StopsIn : ℕ → ℕ → List Step → WriteTraceError → Type 0
+StopsIn n start steps (Run run.BadCount) = ⊥
+StopsIn n start steps (Run (run.Refused place cause)) = IsRefusedAt n start steps place cause × (WorldRun n start steps → ⊥)
+StopsIn n start steps (Run run.Memory) = ⊥
+StopsIn n start steps Memory = Unit {0}
+StopsIn n start steps Write = ⊥
+
+-- these steps were made and written, of all these, or one of them was refused
+abbrev pub Traces : ℕ → ℕ → List Step → List Step → WorldState → List ℕ → Result (Unit {0}) WriteTraceError → Type 0
+Traces n start made steps world text (Ok done) = HasTraced n start made world text
+Traces n start made steps world text (Err fault) = StopsIn n start steps fault
+
+-- the trace of these steps was written, or one of them was refused
+abbrev pub Written : ℕ → ℕ → List Step → List ℕ → Result (Unit {0}) WriteTraceError → Type 0
+Written n start steps text (Ok done) = (moves : List Move) × (map (λ (move : Move). move.step) moves ≡ steps) × IsTrace n start moves text
+Written n start steps text (Err fault) = StopsIn n start steps fault
