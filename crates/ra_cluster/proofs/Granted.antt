@@ -1,16 +1,19 @@
 -- Grants, and the requests that are granted by marks.
-use Rattle.std.proofs.Common.{◌≡◌, ℕ, ◌+◌, ◌<◌, ◌≤◌, true, false, not, List, [], ◌∷◌, ◌++◌, map, length, get_or, take, drop, append_assoc, BTreeSet, refl, sym, ap, ◌∙◌, subst, inl, inr, arith}
-use Rattle.std.specs.Prelude.{All, Contains}
+use Rattle.std.proofs.Common.{◌≡◌, ◌≢◌, ℕ, ◌+◌, ◌<◌, ◌≤◌, true, false, not, List, [], ◌∷◌, ◌++◌, map, length, get_or, take, drop, append_assoc, BTreeSet, refl, sym, ap, ◌∙◌, subst, inl, inr, arith}
+use Rattle.std.specs.Prelude.{All, AllPairs, Contains, MatchResult, Result, Ok, Err}
 use Rattle.std.specs.BTreeSet as sorted
 use Rattle.std.proofs.lemmas.List.{take_more, map-append, take_all, append-nil}
 use Rattle.std.proofs.lemmas.List.Elements.{All-weaker}
 use Rattle.ra_stamp.specs.declared.entry.Entry.{Entry}
 use Rattle.ra_stamp.specs.declared.entry.Mark.{Mark}
 use Rattle.ra_stamp.specs.declared.entry.Mark.TheVariants.{Requested, Entered, Left}
+use Rattle.ra_cluster.specs.declared.error.SettleError.{SettleError}
+use Rattle.ra_cluster.specs.declared.error.SettleError.TheVariants.{NotSent, Twice, GrantMissing, GrantTwice, Memory}
 use Rattle.ra_cluster.specs.declared.grant.Grant.{Grant}
 use Rattle.ra_cluster.specs.declared.keys.EntryKey.{EntryKey}
 use Rattle.ra_cluster.specs.Keys.{HasKeys, entered_in, entry_key}
 use Rattle.ra_cluster.specs.Settled.{Repeats}
+use Rattle.ra_cluster.specs.Settling.{RefusesGrants, RefusesRepeats}
 use Rattle.ra_cluster.proofs.KeyOrders.{entry_cmp, entry_total, entry_exact, one_entry}
 use Rattle.ra_cluster.proofs.KeySets.{HasAll, keys_more, said, denied, of_keys, to_keys, one_more, again, repeats_more}
 use Rattle.ra_cluster.proofs.Parts.{split, more, first, later, first_or_later}
@@ -117,3 +120,14 @@ pub all_granted : (grants : List Grant) (marks : List Mark) (i : ℕ) → length
 all_granted grants marks i all granted =
     All-weaker (λ g. Contains (entered_in marks) g.entry) (λ g. Contains marks (Entered g.entry)) (λ g. entered_is_mark marks g.entry) grants
     (subst (λ (gs : List Grant). All (λ g. Contains (entered_in marks) g.entry) gs) (take_all i grants all) granted)
+
+-- grants that are granted are refused where two are equal
+pub grants_once : (grants : List Grant) (marks : List Mark) → All (λ g. Contains marks (Entered g.entry)) grants → (r : Result (Unit {0}) SettleError)
+    → MatchResult r (λ _. AllPairs (λ a b. a ≢ b) grants) (RefusesRepeats grants)
+    → MatchResult r (λ _. All (λ g. Contains marks (Entered g.entry)) grants × AllPairs (λ a b. a ≢ b) grants) (RefusesGrants grants marks)
+grants_once grants marks all (Ok v) once = (all, once)
+grants_once grants marks all (Err NotSent) why = absurd why
+grants_once grants marks all (Err Twice) why = absurd why
+grants_once grants marks all (Err GrantMissing) why = absurd why
+grants_once grants marks all (Err GrantTwice) why = (why, all)
+grants_once grants marks all (Err Memory) why = why

@@ -1,7 +1,6 @@
 -- Sets that have the keys of a list.
 use Rattle.std.proofs.Common.{◌≡◌, ◌≢◌, ℕ, ◌<◌, length, map, get_or, arith, Bool, true, false, cond, not, List, [], ◌∷◌, ◌++◌, BTreeSet, Ordering, refl, sym, ap, ◌∙◌, subst, inl, inr}
-use Rattle.std.specs.Prelude.{AllPairs, Contains, IsTrue, MatchBool, OnOk, IsErrOf, Result, Ok, Err}
-use Rattle.std.specs.Result.{IsErrAnd}
+use Rattle.std.specs.Prelude.{AllPairs, Contains, IsTrue, MatchBool}
 use Rattle.std.specs.BTreeSet as sorted
 use Rattle.std.specs.Cmp.{IsTotalOrder}
 use Rattle.std.specs.Ordering.{eq_by_cmp}
@@ -63,16 +62,6 @@ at_true false P Q e is = absurd (false≢true e)
 pub at_false : (b : Bool) (P Q : Type 0) → b ≡ false → MatchBool b P Q → Q
 at_false true P Q e is = absurd (false≢true (sym e))
 at_false false P Q e is = is
-
--- the fault that `?` passes on
-pub same_fault : {T E : Type 0} (r : Result T E) (e k : E) → IsErrAnd r (λ y. y ≡ e) → IsErrOf r k → e ≡ k
-same_fault (Ok x) e k is h = absurd is
-same_fault (Err y) e k is h = let same : y ≡ k = cc in sym is ∙ same
-
--- what holds anyway holds at `Ok`
-pub on_ok : {T E P : Type 0} (r : Result T E) → P → OnOk r P
-on_ok (Ok x) p = p
-on_ok (Err e) p = tt
 
 -- ---- Sets of the keys of values, no two of which are equal
 

@@ -24,6 +24,7 @@ mod Holding
 mod Ordered
 mod Planned
 mod LockCounts
+mod Endings
 mod Faults
 mod Truth
 mod Distinct

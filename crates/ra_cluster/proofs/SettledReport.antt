@@ -1,9 +1,8 @@
 -- A run of the settled steps is the settled run of the books, and what it grants was granted.
-use Rattle.std.proofs.Common.{◌≡◌, ℕ, ◌≤◌, List, [], ◌∷◌, length, map, get_or, sym, ap, ◌∙◌, subst, arith}
-use Rattle.std.specs.Prelude.{◌↔◌, All, Contains}
+use Rattle.std.proofs.Common.{◌≡◌, ◌≢◌, ℕ, ◌≤◌, List, [], ◌∷◌, length, map, get_or, sym, ap, ◌∙◌, subst, arith}
+use Rattle.std.specs.Prelude.{All, AllPairs, Contains}
 use Rattle.std.specs.List.{Any}
 use Rattle.std.proofs.lemmas.List.Elements.{All-weaker}
-use Rattle.ra_stamp.specs.declared.entry.Entry.{Entry}
 use Rattle.ra_stamp.specs.declared.entry.Mark.{Mark}
 use Rattle.ra_stamp.specs.declared.entry.Mark.TheVariants.{Entered}
 use Rattle.ra_stamp.specs.NodeId.{IsNodeNumber}
@@ -12,9 +11,14 @@ use Rattle.ra_world.specs.declared.report.Report.{Report}
 use Rattle.ra_world.specs.Traffic.{Move}
 use Rattle.ra_world.specs.Run.{IsRun, WorldRun, marks_of}
 use Rattle.ra_world.specs.World.{Reports}
+use Rattle.ra_world.specs.MainTheorem.{MainTheorem}
+use Rattle.ra_cluster.specs.declared.error.SettleError.{SettleError}
+use Rattle.ra_cluster.specs.declared.error.SettleError.TheVariants.{NotSent, Twice, GrantMissing, GrantTwice, Memory}
 use Rattle.ra_cluster.specs.declared.grant.Grant.{Grant}
+use Rattle.ra_cluster.specs.declared.settled.Settled.{Settled}
 use Rattle.ra_cluster.specs.Book.{BookState, HasHistory}
-use Rattle.ra_cluster.specs.Settled.{IsCluster, IsSettledOrder, IsSettledRun, IsGranted, Placed, settled_steps, start_of}
+use Rattle.ra_cluster.specs.Settled.{IsCluster, IsSettledOrder, IsSettledRun, IsGranted, BooksFit, Placed, settled_steps, start_of}
+use Rattle.ra_cluster.specs.Settling.{StepsMakeSettledRuns, GrantsAreInTheBooks, RefusesGrants, SettlesBooks, Settles, Refuses}
 use Rattle.ra_cluster.proofs.BooksFit.{node_count}
 
 -- a run of these steps
@@ -61,39 +65,56 @@ run_from_zero books nodes steps report cluster count zero (moves, steps_are, set
     subst (λ (n : ℕ). HasRun n 0 steps report) count
     (subst (λ (s : ℕ). HasRun (length books) s steps report) (from_zero books cluster.some zero) (moves, steps_are, settled.run, reports))
 
--- what settling a run says
-pub record Settles (books : List BookState) (steps : List Step) (report : Report) : Type 0 where
-  pub moves : List Move
-  pub steps_are : map (λ move. move.step) moves ≡ steps
-  pub settled : IsSettledRun books moves
-  pub reports : Reports (length books) (start_of books) moves report
+-- the main theorem of so many nodes is that of the books
+pub main_of_all : (books : List BookState) (b : BookState) (n : ℕ) (report : Report) → IsCluster books → b ≡ get_or books 0 b → n ≡ b.nodes
+    → MainTheorem n report → MainTheorem (length books) report
+main_of_all books b n report cluster is nodes main = subst (λ (k : ℕ). MainTheorem k report) (same_count books b n cluster is nodes) main
 
-module _ (make : (books : List BookState) (placed : List Placed) (moves : List Move) → IsCluster books → All HasHistory books → IsSettledOrder books placed → IsRun (length books) (start_of books) moves
-    → map (λ move. move.step) moves ≡ settled_steps books placed → IsSettledRun books moves)
-    (grant : (books : List BookState) (moves : List Move) (entry : Entry) → IsCluster books → All HasHistory books → IsSettledRun books moves → Contains (marks_of moves) (Entered entry) ↔ IsGranted books entry)
-    (books : List BookState) (cluster : IsCluster books) (histories : All HasHistory books) where
-  pub settles : (placed : List Placed) (steps : List Step) (report : Report) → IsSettledOrder books placed → steps ≡ settled_steps books placed → HasRun (length books) (start_of books) steps report → Settles books steps report
-  settles placed steps report order are has =
-      record {
-        moves = has.0;
-        steps_are = has.1;
-        settled = make books placed has.0 cluster histories order has.2 (has.1 ∙ are);
-        reports = has.3;
-      }
+pub settles : StepsMakeSettledRuns → (books : List BookState) → IsCluster books → All HasHistory books → (placed : List Placed) (settled : Settled) → IsSettledOrder books placed
+    → settled.steps.items ≡ settled_steps books placed → HasRun (length books) (start_of books) settled.steps.items settled.report
+    → MainTheorem (length books) settled.report → SettlesBooks books settled
+settles make books cluster histories placed settled order are has main =
+    record {
+      histories = histories;
+      placed = placed;
+      order = order;
+      steps_are = are;
+      moves = has.0;
+      moves_are = has.1;
+      run = make books placed has.0 cluster histories order has.2 (has.1 ∙ are);
+      reports = has.3;
+      main = main;
+    }
 
-  pub all_granted : (steps : List Step) (report : Report) (grants : List Grant) → Settles books steps report → All (λ g. Contains report.marks.items (Entered g.entry)) grants → All (λ g. IsGranted books g.entry) grants
-  all_granted steps report grants settled marked =
-      All-weaker (λ g. Contains report.marks.items (Entered g.entry)) (λ g. IsGranted books g.entry)
-      (λ g is. (grant books settled.moves g.entry cluster histories settled.settled).0 (subst (λ (ms : List Mark). Contains ms (Entered g.entry)) settled.reports.marks is))
-      grants marked
+module _ (grant : GrantsAreInTheBooks) (books : List BookState) (cluster : IsCluster books) (grants : List Grant) (settled : Settled) (of : SettlesBooks books settled)
+    (marks : List Mark) (marks_are : marks ≡ settled.report.marks.items)
+  where
+    -- the marks are those of the run
+    marks_of_run : marks ≡ marks_of of.moves
+    marks_of_run = marks_are ∙ of.reports.marks
 
-  -- an entry with no Entered mark was not granted
-  pub some_missing : (steps : List Step) (report : Report) (grants : List Grant) → Settles books steps report → Any (λ g. Contains report.marks.items (Entered g.entry) → ⊥) grants
-      → Any (λ g. IsGranted books g.entry → ⊥) grants
-  some_missing steps report grants settled (k, g, low, at, none) = (
-    k,
-    g,
-    low,
-    at,
-    λ is. none (subst (λ (ms : List Mark). Contains ms (Entered g.entry)) (sym settled.reports.marks) ((grant books settled.moves g.entry cluster histories settled.settled).1 is)),
-  )
+    all_granted : All (λ g. Contains marks (Entered g.entry)) grants → All (λ g. IsGranted books g.entry) grants
+    all_granted marked =
+        All-weaker (λ g. Contains marks (Entered g.entry)) (λ g. IsGranted books g.entry)
+        (λ g is. (grant books of.moves g.entry cluster of.histories of.run).0 (subst (λ (ms : List Mark). Contains ms (Entered g.entry)) marks_of_run is))
+        grants marked
+
+    -- an entry with no Entered mark was not granted
+    some_missing : Any (λ g. Contains marks (Entered g.entry) → ⊥) grants → Any (λ g. IsGranted books g.entry → ⊥) grants
+    some_missing (k, g, low, at, none) = (
+      k,
+      g,
+      low,
+      at,
+      λ is. none (subst (λ (ms : List Mark). Contains ms (Entered g.entry)) (sym marks_of_run) ((grant books of.moves g.entry cluster of.histories of.run).1 is)),
+    )
+
+    pub grants_stand : BooksFit books → All (λ g. Contains marks (Entered g.entry)) grants × AllPairs (λ a b. a ≢ b) grants → Settles books grants settled
+    grants_stand fit stand = record { books_are = of; fit = fit; granted = all_granted stand.0; once = stand.1 }
+
+    pub grants_refused : BooksFit books → (e : SettleError) → RefusesGrants grants marks e → Refuses books grants e
+    grants_refused fit NotSent why = absurd why
+    grants_refused fit Twice why = absurd why
+    grants_refused fit GrantMissing why = (fit, some_missing why)
+    grants_refused fit GrantTwice why = (fit, why.0, all_granted why.1)
+    grants_refused fit Memory why = why

@@ -1,9 +1,38 @@
 -- How a book keeps its history: with the node to which the events lead. No public contract speaks of it.
-use Rattle.std.specs.Prelude.{◌≤◌}
+use Rattle.std.specs.Prelude.{◌≡◌, ◌≢◌, ◌↔◌, ◌⊎◌, ◌≤◌, ◌<◌, ◌^◌, ℕ, true, false, List, [], ◌∷◌, ◌++◌, length, map, All, Some, None, IsSome, Result, IsErrOf, IsOk, IsOkUnless, IfOk, IfErr, OnOk, OnErr}
 use Rattle.ra_stamp.specs.NodeId.{IsNodeNumber}
-use Rattle.ra_node.specs.Node.{NodeState}
+use Rattle.ra_stamp.specs.declared.entry.Entry.{Entry}
+use Rattle.ra_stamp.specs.declared.entry.Mark.{Mark}
+use Rattle.ra_stamp.specs.declared.message.Message.{Message}
+use Rattle.ra_stamp.specs.declared.mode.Mode.{Mode}
+use Rattle.ra_stamp.specs.Message.{from_of, to_of}
+use Rattle.ra_frame.specs.declared.error.FrameError.{FrameError}
+use Rattle.ra_frame.specs.declared.frame.Frame.{Frame}
+use Rattle.ra_frame.specs.Faults.{first_fault}
+use Rattle.ra_frame.specs.Fits.{Fits}
+use Rattle.ra_frame.specs.FrameText.{IsFrameText}
+use Rattle.ra_automaton.specs.State.{IsForNode}
+use Rattle.ra_automaton.specs.Steps.{greatest_number}
+use Rattle.ra_node.specs.Resource.{Holds, IsBusy}
+use Rattle.ra_node.specs.Turns.{MayAsk}
+use Rattle.ra_node.specs.Node.{NodeState, opening_node, resource_at, IsConsistentNode}
+use Rattle.ra_node.specs.Events.{NodeEvent, IsForThisNode}
+use Rattle.ra_node.specs.Carried.{sends_at_most}
 use Rattle.ra_cluster.specs.declared.book.Book.TheInside.{Inside}
-use Rattle.ra_cluster.specs.Book.{BookState, LeadsTo}
+use Rattle.ra_cluster.specs.declared.error.BookError.{BookError}
+use Rattle.ra_cluster.specs.declared.error.BookError.TheVariants as error
+use Rattle.ra_cluster.specs.declared.error.BookError.TheVariants.{Failed, Busy, Exhausted, NotHeld, WrongNode, Stranger, ClockFull, Memory}
+use Rattle.ra_cluster.specs.declared.error.MarkLostError.{MarkLostError}
+use Rattle.ra_cluster.specs.declared.error.MarkLostError.TheVariants.{NotSent, AlreadyLost}
+use Rattle.ra_cluster.specs.declared.event.BookEvent.{BookEvent}
+use Rattle.ra_cluster.specs.declared.event.BookKind.{BookKind}
+use Rattle.ra_cluster.specs.declared.event.BookKind.TheVariants.{Asked, Gave, Got}
+use Rattle.ra_cluster.specs.declared.posted.Posted.{Posted}
+use Rattle.ra_cluster.specs.declared.sent.Sent.{Sent}
+use Rattle.ra_cluster.specs.History.{node_event, clock_after, frames_at}
+use Rattle.ra_cluster.specs.Book.{BookState, opening_book, LeadsTo, HasHistory, HasClock, next_clock, with_event, as_sent, Runs, Hears, IsFirst, Loses}
+
+-- ---- What is kept
 
 pub record Keeps (book : BookState) (node : NodeState) : Type 0 where
   pub count : IsNodeNumber book.nodes
@@ -22,3 +51,133 @@ book_of b = record {
 
 abbrev pub IsKept : Inside → Type 0
 IsKept b = Keeps (book_of b) b.node
+
+-- ---- One more event
+
+-- a frame that comes is for the book's node, and fits
+abbrev pub IsForThisBook : BookState → BookKind → Type 0
+IsForThisBook book (Asked client name mode) = Unit {0}
+IsForThisBook book (Gave client name) = Unit {0}
+IsForThisBook book (Got frame) = IsForNode book.me book.nodes frame.message × Fits frame
+
+-- an event of this kind comes next at a book: a clock is left for it, and this is the one
+pub record ComesNext (book : BookState) (clock : ℕ) (kind : BookKind) : Type 0 where
+  pub clock_is : clock ≡ next_clock book kind
+  pub has_clock : HasClock book kind
+  pub for_this_book : IsForThisBook book kind
+
+-- the event happened at the node, and stands behind the events so far, and its frames behind those so far
+pub record Happens (old new : NodeState) (events events' : List BookEvent) (sent sent' : List Sent) (event : BookEvent)
+    (posted : Posted) : Type 0 where
+  pub sends : List Message
+  pub happens : NodeEvent old (node_event event.kind) sends posted.marks.items new
+  pub events_are : events' ≡ events ++ event ∷ []
+  pub sent_are : sent' ≡ sent ++ as_sent (frames_at event.clock sends)
+  pub frames_are : posted.frames.items ≡ frames_at event.clock sends
+
+-- there was no memory for it, and all is as before
+pub record Stays (old new : NodeState) (events events' : List BookEvent) (sent sent' : List Sent) (refused : BookError) : Type 0 where
+  pub memory : refused ≡ Memory
+  pub node_is : new ≡ old
+  pub events_are : events' ≡ events
+  pub sent_are : sent' ≡ sent
+
+-- what a check answers before an event: what is said of what comes next, or a refusal that is not for want of memory
+pub record IsChecked {T : Type 0} (book : BookState) (Next : T → Type 0) (answer : Result T BookError) : Type 0 where
+  pub history : HasHistory book
+  pub next : IfOk answer Next
+  pub memory : IfErr answer (λ e. e ≢ Memory)
+
+-- ---- Refusals
+
+-- an ask is answered as `Book::ask` says, where want of memory is the one other error
+pub record AnswersAsk {T : Type 0} (book : BookState) (client : ℕ) (name : List ℕ) (mode : Mode) (answer : Result T BookError)
+    : Type 0 where
+  pub failed : IsErrOf answer Failed ↔ IsSome book.fault
+  pub busy : IsErrOf answer Busy ↔ Runs book (λ node. IsBusy (resource_at node name) client)
+  pub exhausted : IsErrOf answer Exhausted
+      ↔ Runs book (λ node. (IsBusy (resource_at node name) client → ⊥) × ((resource_at node name).state.highest ≡ greatest_number))
+  pub clock_full : IsErrOf answer ClockFull
+      ↔ Runs book (λ node. MayAsk (resource_at node name) client × (HasClock book (Asked client name mode) → ⊥))
+  pub allowed : IsOkUnless answer Memory
+      ↔ Runs book (λ node. MayAsk (resource_at node name) client × HasClock book (Asked client name mode))
+
+-- a leave, as `Book::leave` says
+pub record AnswersLeave {T : Type 0} (book : BookState) (client : ℕ) (name : List ℕ) (answer : Result T BookError) : Type 0 where
+  pub failed : IsErrOf answer Failed ↔ IsSome book.fault
+  pub not_held : IsErrOf answer NotHeld
+      ↔ Runs book (λ node. (entry : Entry) → Holds (resource_at node name) client entry → ⊥)
+  pub clock_full : IsErrOf answer ClockFull
+      ↔ Runs book (λ node. ((entry : Entry) × Holds (resource_at node name) client entry) × (HasClock book (Gave client name) → ⊥))
+  pub allowed : IsOkUnless answer Memory
+      ↔ Runs book (λ node. ((entry : Entry) × Holds (resource_at node name) client entry) × HasClock book (Gave client name))
+
+-- bytes that come, as `Book::receive` says
+pub record AnswersReceive {T : Type 0} (book : BookState) (bytes : List ℕ) (answer : Result T BookError) : Type 0 where
+  pub failed : IsErrOf answer Failed ↔ IsSome book.fault
+  pub frame : (fault : FrameError) → IsErrOf answer (error.Frame fault) ↔ ((book.fault ≡ None) × (first_fault bytes ≡ Some fault))
+  pub wrong_node : IsErrOf answer WrongNode ↔ Hears book bytes (λ f. to_of f.message ≢ book.me)
+  pub stranger : IsErrOf answer Stranger
+      ↔ Hears book bytes (λ f. (to_of f.message ≡ book.me) × ((from_of f.message ≡ book.me) ⊎ (book.nodes < from_of f.message)))
+  pub clock_full : IsErrOf answer ClockFull
+      ↔ Hears book bytes (λ f. IsForNode book.me book.nodes f.message × (HasClock book (Got f) → ⊥))
+  pub allowed : IsOkUnless answer Memory
+      ↔ Hears book bytes (λ f. IsForNode book.me book.nodes f.message × HasClock book (Got f))
+
+-- the frame of bytes, which is for this one of so many nodes, and fits
+pub record IsFrameFor (me nodes : ℕ) (bytes : List ℕ) (frame : Frame) : Type 0 where
+  pub text : IsFrameText bytes frame
+  pub for_it : IsForNode me nodes frame.message
+  pub fits : Fits frame
+
+-- why bytes are not heard
+abbrev pub NotHeard : ℕ → ℕ → ℕ → List ℕ → BookError → Type 0
+NotHeard me nodes clock bytes (error.Frame fault) = first_fault bytes ≡ Some fault
+NotHeard me nodes clock bytes WrongNode = (f : Frame) × IsFrameText bytes f × (to_of f.message ≢ me)
+NotHeard me nodes clock bytes Stranger =
+    (f : Frame) × IsFrameText bytes f × (to_of f.message ≡ me) × ((from_of f.message ≡ me) ⊎ (nodes < from_of f.message))
+NotHeard me nodes clock bytes ClockFull = (f : Frame) × IsFrameFor me nodes bytes f × (2 ^ 62 < clock_after clock (Got f))
+NotHeard me nodes clock bytes Failed = ⊥
+NotHeard me nodes clock bytes Busy = ⊥
+NotHeard me nodes clock bytes Exhausted = ⊥
+NotHeard me nodes clock bytes NotHeld = ⊥
+NotHeard me nodes clock bytes Memory = ⊥
+
+-- bytes are heard at this one of so many nodes, after this clock: as a frame for it and the clock after it, or not
+pub record IsHeard (me nodes clock : ℕ) (bytes : List ℕ) (answer : Result (Frame × ℕ) BookError) : Type 0 where
+  pub heard : IfOk answer (λ h. IsFrameFor me nodes bytes h.0 × (h.1 ≡ clock_after clock (Got h.0)) × (h.1 ≤ 2 ^ 62))
+  pub refused : IfErr answer (NotHeard me nodes clock bytes)
+  pub one_text : (a b : Frame) → IsFrameText bytes a → IsFrameText bytes b → a ≡ b
+  pub no_fault : (f : Frame) (fault : FrameError) → IsFrameText bytes f → first_fault bytes ≡ Some fault → ⊥
+
+-- ---- A loss
+
+-- what comes of flagging the first of the sent frames that is equal to this one
+pub record IsFlagged (old : List Sent) (frame : Frame) (new : List Sent) (answer : Result (Unit {0}) MarkLostError) : Type 0 where
+  pub ok : OnOk answer (Loses old frame new)
+  pub not_sent : IsErrOf answer NotSent ↔ All (λ s. s.frame ≢ frame) old
+  pub already_lost : IsErrOf answer AlreadyLost ↔ IsFirst old frame true
+  pub allowed : IsOk answer ↔ IsFirst old frame false
+  pub err : OnErr answer (new ≡ old)
+  pub frames : map (λ s. s.frame) new ≡ map (λ s. s.frame) old
+
+-- ---- The law
+
+-- A book that keeps a history goes on keeping it at each event of its node, which sends few frames, all of which fit where
+-- the frame that came does.
+pub record KeptHistoriesGoOn : Type 0 where
+  pub opened : (me n start : ℕ) → IsNodeNumber n → (1 ≤ me) × (me ≤ n) → Keeps (opening_book me n start) (opening_node me n start)
+  pub event : (book : BookState) (old new : NodeState) (kind : BookKind) (sends : List Message) (marks : List Mark)
+      → Keeps book old → IsForThisNode old (node_event kind) → NodeEvent old (node_event kind) sends marks new → HasClock book kind
+      → Keeps (with_event book (next_clock book kind) kind (frames_at (next_clock book kind) sends)) new
+  pub flags : (book : BookState) (sent : List Sent) (node : NodeState)
+      → Keeps book node → map (λ s. s.frame) sent ≡ map (λ s. s.frame) book.sent → Keeps (record book { sent = sent }) node
+  pub few : (book : BookState) (old new : NodeState) (kind : BookKind) (sends : List Message) (marks : List Mark)
+      → Keeps book old → NodeEvent old (node_event kind) sends marks new
+      → length sends ≤ sends_at_most book.nodes (node_event kind)
+  pub fit : (book : BookState) (old new : NodeState) (kind : BookKind) (sends : List Message) (marks : List Mark)
+      → Keeps book old → IsForThisNode old (node_event kind) → NodeEvent old (node_event kind) sends marks new → HasClock book kind
+      → ((frame : Frame) → kind ≡ Got frame → Fits frame) → All Fits (frames_at (next_clock book kind) sends)
+  pub node : (book : BookState) (node : NodeState) → Keeps book node
+      → (node.me ≡ book.me) × (node.nodes ≡ book.nodes) × IsConsistentNode node
+  pub determined : (book : BookState) (a b : NodeState) → Keeps book a → LeadsTo book b → b ≡ a

@@ -3,6 +3,7 @@ pub mod Book
 pub mod Keeping
 pub mod Refused
 pub mod Settled
+pub mod Settling
 pub mod Ordering
 pub mod Keys
 pub mod Stopping

@@ -1,12 +1,13 @@
-ghost use Rattle.std.specs.Prelude.{◌≡◌, ◌≢◌, ℕ, ◌<◌, ◌≤◌, ◌⊎◌, ◌↔◌, ◌^◌, All, length, slice_get, unwrap_or, IsErrOf, IsOk, IsOkUnless, IsSome, IfOk, OnErr, OnOk, IsTrue, true, false};
+ghost use Rattle.std.specs.Prelude.{◌≡◌, ◌≢◌, ℕ, ◌<◌, ◌≤◌, ◌⊎◌, ◌↔◌, ◌^◌, All, length, slice_get, unwrap_or, IsErrOf, IsOk, IsOkUnless, IsSome, IfOk, OnErr, OnOk, IsTrue, MatchResult, true, false};
 ghost use Rattle.ra_stamp.specs.declared.entry.Entry.{Entry};
 ghost use Rattle.ra_frame.specs.declared.error.FrameError.{FrameError};
 ghost use Rattle.ra_node.specs.Resource.{Holds};
 ghost use Rattle.ra_node.specs.Node.{resource_at};
 
-use crate::keeping::{clock_after, keep, kept_histories_go_on, make_room, place_of};
+use crate::heard::hear;
+use crate::keeping::{add, clock_after, flag_lost, kept_histories_go_on};
 use crate::{BookError, BookEvent, BookKind, Events, MarkLostError, NewError, Posted, Sent, Stop};
-use ra_frame::{Frame, decode};
+use ra_frame::Frame;
 use ra_node::Node;
 use ra_stamp::{Entry, Mode, Name, NodeId};
 use std::alloc::Global;
@@ -53,7 +54,8 @@ impl Book {
     ghost use Rattle.ra_node.specs.Turns.{MayAsk};
     ghost use Rattle.ra_node.specs.Node.{NodeState};
     ghost use Rattle.ra_cluster.specs.History.{clock_of};
-    ghost use Rattle.ra_cluster.specs.Book.{opening_book, LeadsTo, HasHistory, HasClock, next_clock, Adds, Runs, Hears, IsFirst, Loses};
+    ghost use Rattle.ra_cluster.specs.Book.{opening_book, LeadsTo, HasHistory, HasClock, Adds, Runs, Hears, IsFirst, Loses};
+    ghost use Rattle.ra_cluster.specs.Keeping.{ComesNext, IsChecked, AnswersAsk, AnswersLeave, AnswersReceive};
 
     /// Makes the book of node `me` of `nodes`, in which nothing has happened yet. The highest number of each resource begins
     /// at `start`, 0 to 2^64-1, which is to be the same at all nodes. It does not allocate until the first event comes.
@@ -122,17 +124,8 @@ impl Book {
             × HasClock self.old (BookKind.Asked client name mode)) }
         ensures err { OnErr result (self.new ≡ self.old) }
     {
-        kept_histories_go_on();
         let clock = self.check_ask(client, name, mode)?;
-        let sends = u64::from(self.nodes);
-        let frames = make_room(alloc, &mut self.events, &mut self.sent, sends)?;
-        // The client may ask, so only memory can be wanting.
-        let Ok(outcome) = self.node.ask(alloc, client, name, mode) else {
-            return Err(BookError::Memory);
-        };
-        let kind = BookKind::Asked { client, name, mode };
-        let event = BookEvent { clock, kind };
-        Ok(keep(&mut self.events, &mut self.sent, frames, event, outcome))
+        self.add(alloc, clock, BookKind::Asked { client, name, mode })
     }
 
     /// The client that holds a name leaves it. The clock is one more than before, and the frames and marks are those of the
@@ -163,17 +156,8 @@ impl Book {
             × HasClock self.old (BookKind.Gave client name)) }
         ensures err { OnErr result (self.new ≡ self.old) }
     {
-        kept_histories_go_on();
         let clock = self.check_leave(client, name)?;
-        let sends = 2 * u64::from(self.nodes);
-        let frames = make_room(alloc, &mut self.events, &mut self.sent, sends)?;
-        // The client holds the name, so only memory can be wanting.
-        let Ok(outcome) = self.node.leave(alloc, client, name) else {
-            return Err(BookError::Memory);
-        };
-        let kind = BookKind::Gave { client, name };
-        let event = BookEvent { clock, kind };
-        Ok(keep(&mut self.events, &mut self.sent, frames, event, outcome))
+        self.add(alloc, clock, BookKind::Gave { client, name })
     }
 
     /// The bytes of a frame come. The clock is one more than the greater of the clock before and the frame's, and the frames
@@ -211,16 +195,8 @@ impl Book {
             × HasClock self.old (BookKind.Got frame)) }
         ensures err { OnErr result (self.new ≡ self.old) }
     {
-        kept_histories_go_on();
         let (frame, clock) = self.check_receive(bytes)?;
-        let frames = make_room(alloc, &mut self.events, &mut self.sent, 1)?;
-        // The message is for this node and from another one, so only memory can be wanting.
-        let Ok(outcome) = self.node.receive(alloc, &frame.message) else {
-            return Err(BookError::Memory);
-        };
-        let kind = BookKind::Got(frame);
-        let event = BookEvent { clock, kind };
-        Ok(keep(&mut self.events, &mut self.sent, frames, event, outcome))
+        self.add(alloc, clock, BookKind::Got(frame))
     }
 
     /// Flags the sent frame that is equal to this one as lost; were there equal ones, the first. It does not allocate. The
@@ -244,14 +220,7 @@ impl Book {
         ensures err { OnErr result (self.new ≡ self.old) }
     {
         kept_histories_go_on();
-        let Some(place) = place_of(&self.sent, frame) else {
-            return Err(MarkLostError::NotSent);
-        };
-        if self.sent[place].lost {
-            return Err(MarkLostError::AlreadyLost);
-        }
-        self.sent[place].lost = true;
-        Ok(())
+        flag_lost(self.sent.as_mut_slice(), frame)
     }
 
     /// Gives the book a fault, if it has none. From then on `ask`, `leave` and `receive` answer `Failed`. It does not
@@ -350,36 +319,47 @@ impl Book {
         self.node.holder(name)
     }
 
+    /// Makes an event of this kind, which comes next with this clock, happen at the node, and keeps it.
+    ///
+    /// # Errors
+    ///
+    /// `Memory`: the book is as before.
+    fn add(&mut self, alloc: Global, clock: u64, kind: BookKind) -> Result<Posted, BookError>
+        requires { ComesNext self.old clock kind }
+        ensures added { MatchResult result
+            (λ posted. Adds self.old kind posted.frames.items posted.marks.items self.new × All Fits posted.frames.items)
+            (λ e. (e ≡ BookError.Memory) × (self.new ≡ self.old)) }
+        ensures history { HasHistory self.new }
+    {
+        kept_histories_go_on();
+        let nodes = self.nodes;
+        let event = BookEvent { clock, kind };
+        add(
+            alloc,
+            nodes,
+            &mut self.node,
+            &mut self.events,
+            &mut self.sent,
+            event,
+        )
+    }
+
     /// Returns the clock that the ask of a client has.
     ///
     /// # Errors
     ///
     /// Those of `ask`, but for `Memory`.
     fn check_ask(&self, client: u32, name: Name, mode: Mode) -> Result<u64, BookError>
-        ensures ok { IfOk result (λ clock. clock ≡ next_clock self.now (BookKind.Asked client name mode)) }
-        ensures failed { IsErrOf result BookError.Failed ↔ IsSome self.now.fault }
-        ensures busy { IsErrOf result BookError.Busy
-            ↔ Runs self.now (λ node. IsBusy (resource_at node name) client) }
-        ensures exhausted { IsErrOf result BookError.Exhausted
-            ↔ Runs self.now (λ node. (IsBusy (resource_at node name) client → ⊥)
-            × ((resource_at node name).state.highest ≡ greatest_number)) }
-        ensures clock_full { IsErrOf result BookError.ClockFull
-            ↔ Runs self.now (λ node. MayAsk (resource_at node name) client
-            × (HasClock self.now (BookKind.Asked client name mode) → ⊥)) }
-        ensures no_memory { IsErrOf result BookError.Memory → ⊥ }
-        ensures allowed { IsOk result ↔ Runs self.now (λ node. MayAsk (resource_at node name) client
-            × HasClock self.now (BookKind.Asked client name mode)) }
+        ensures checked { IsChecked self.now
+            (λ clock. ComesNext self.now clock (BookKind.Asked client name mode)) result }
+        ensures answers { AnswersAsk self.now client name mode result }
     {
         kept_histories_go_on();
         if self.fault.is_some() {
             return Err(BookError::Failed);
         }
         self.node.may_ask(client, &name)?;
-        let kind = BookKind::Asked { client, name, mode };
-        let Some(clock) = clock_after(self.clock(), &kind) else {
-            return Err(BookError::ClockFull);
-        };
-        Ok(clock)
+        clock_after(self.clock(), &BookKind::Asked { client, name, mode })
     }
 
     /// Returns the clock that the leave of a client has.
@@ -388,17 +368,8 @@ impl Book {
     ///
     /// Those of `leave`, but for `Memory`.
     fn check_leave(&self, client: u32, name: Name) -> Result<u64, BookError>
-        ensures ok { IfOk result (λ clock. clock ≡ next_clock self.now (BookKind.Gave client name)) }
-        ensures failed { IsErrOf result BookError.Failed ↔ IsSome self.now.fault }
-        ensures not_held { IsErrOf result BookError.NotHeld
-            ↔ Runs self.now (λ node. (entry : Entry) → Holds (resource_at node name) client entry → ⊥) }
-        ensures clock_full { IsErrOf result BookError.ClockFull
-            ↔ Runs self.now (λ node. ((entry : Entry) × Holds (resource_at node name) client entry)
-            × (HasClock self.now (BookKind.Gave client name) → ⊥)) }
-        ensures no_memory { IsErrOf result BookError.Memory → ⊥ }
-        ensures allowed { IsOk result
-            ↔ Runs self.now (λ node. ((entry : Entry) × Holds (resource_at node name) client entry)
-            × HasClock self.now (BookKind.Gave client name)) }
+        ensures checked { IsChecked self.now (λ clock. ComesNext self.now clock (BookKind.Gave client name)) result }
+        ensures answers { AnswersLeave self.now client name result }
     {
         kept_histories_go_on();
         if self.fault.is_some() {
@@ -407,11 +378,7 @@ impl Book {
         if !is_held_by(&self.node, client, &name) {
             return Err(BookError::NotHeld);
         }
-        let kind = BookKind::Gave { client, name };
-        let Some(clock) = clock_after(self.clock(), &kind) else {
-            return Err(BookError::ClockFull);
-        };
-        Ok(clock)
+        clock_after(self.clock(), &BookKind::Gave { client, name })
     }
 
     /// Returns the frame that the bytes are the text of, and the clock that its coming has.
@@ -420,46 +387,14 @@ impl Book {
     ///
     /// Those of `receive`, but for `Memory`.
     fn check_receive(&self, bytes: &[u8]) -> Result<(Frame, u64), BookError>
-        ensures text { IfOk result (λ heard. IsFrameText bytes.now heard.0) }
-        ensures clock { IfOk result (λ heard. heard.1 ≡ next_clock self.now (BookKind.Got heard.0)) }
-        ensures fits { IfOk result (λ heard. Fits heard.0) }
-        ensures for_this_node { IfOk result (λ heard. IsForNode self.now.me self.now.nodes heard.0.message) }
-        ensures has_clock { IfOk result (λ heard. HasClock self.now (BookKind.Got heard.0)) }
-        ensures failed { IsErrOf result BookError.Failed ↔ IsSome self.now.fault }
-        ensures frame { (fault : FrameError) → IsErrOf result (BookError.Frame fault)
-            ↔ ((self.now.fault ≡ None) × (first_fault bytes.now ≡ Some fault)) }
-        ensures wrong_node { IsErrOf result BookError.WrongNode
-            ↔ Hears self.now bytes.now (λ frame. to_of frame.message ≢ self.now.me) }
-        ensures stranger { IsErrOf result BookError.Stranger
-            ↔ Hears self.now bytes.now (λ frame. (to_of frame.message ≡ self.now.me)
-            × ((from_of frame.message ≡ self.now.me) ⊎ (self.now.nodes < from_of frame.message))) }
-        ensures clock_full { IsErrOf result BookError.ClockFull
-            ↔ Hears self.now bytes.now (λ frame. IsForNode self.now.me self.now.nodes frame.message
-            × (HasClock self.now (BookKind.Got frame) → ⊥)) }
-        ensures no_memory { IsErrOf result BookError.Memory → ⊥ }
-        ensures allowed { IsOk result
-            ↔ Hears self.now bytes.now (λ frame. IsForNode self.now.me self.now.nodes frame.message
-            × HasClock self.now (BookKind.Got frame)) }
+        ensures checked { IsChecked self.now
+            (λ heard. IsFrameText bytes.now heard.0 × ComesNext self.now heard.1 (BookKind.Got heard.0)) result }
+        ensures answers { AnswersReceive self.now bytes.now result }
     {
         if self.fault.is_some() {
             return Err(BookError::Failed);
         }
-        let frame = match decode(bytes) {
-            Ok(frame) => frame,
-            Err(fault) => return Err(BookError::Frame(fault)),
-        };
-        if frame.message.to() != self.me {
-            return Err(BookError::WrongNode);
-        }
-        let sender = frame.message.from();
-        if sender == self.me || sender.get() > self.nodes {
-            return Err(BookError::Stranger);
-        }
-        let kind = BookKind::Got(frame);
-        let Some(clock) = clock_after(self.clock(), &kind) else {
-            return Err(BookError::ClockFull);
-        };
-        Ok((frame, clock))
+        hear(self.me, self.nodes, self.clock(), bytes)
     }
 }
 

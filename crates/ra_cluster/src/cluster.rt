@@ -1,10 +1,11 @@
-ghost use Rattle.std.specs.Prelude.{◌≡◌, ◌↔◌, ℕ, ◌≤◌, ◌<◌, ◌+◌, ◌-◌, ◌*◌, List, map, IsErrOf, IfOk, IfSome, vec_len, length};
+ghost use Rattle.std.specs.Prelude.{◌≡◌, ◌↔◌, ℕ, ◌≤◌, ◌<◌, ◌+◌, ◌-◌, ◌*◌, List, map, IsErrOf, IfOk, IfSome, MatchResult, OnOk, vec_len, length};
 ghost use Rattle.ra_world.specs.Traffic.{Move};
 ghost use Rattle.ra_world.specs.Run.{IsRun};
 ghost use Rattle.ra_world.specs.World.{Reports};
 ghost use Rattle.ra_world.specs.MainTheorem.{MainTheorem};
 ghost use Rattle.ra_cluster.specs.Order.{IsOutOfOrder, IsUnreleased};
 ghost use Rattle.ra_cluster.specs.Plan.{MeetsPlan, IsQuietEnd, locks_of};
+ghost use Rattle.ra_cluster.specs.Outcome.{IsDone, IsOfThreads};
 
 use crate::order::check_script;
 use crate::outcome::settle_script;
@@ -102,23 +103,62 @@ pub fn run_cluster<R: Threads + Wait + Sync, G: Gate>(
         ≡ 2 * (script.now.nodes - 1) * locks_of script.now) }
 {
     check_script(script)?;
+    run_in_order(rt, alloc, script, gate)
+}
+
+/// Runs a script that threads can do, and settles the books.
+///
+/// # Errors
+///
+/// Those of `run_cluster`, but for the first two.
+fn run_in_order<R: Threads + Wait + Sync, G: Gate>(
+    rt: &R,
+    alloc: Global,
+    script: &Script,
+    gate: &G,
+) -> Result<Settled, ClusterError>
+    ensures { MatchResult result (IsDone script.now) IsOfThreads }
+{
+    let (books, grants) = books_of(rt, alloc, script, gate)?;
+    settle_script(alloc, script, &books, &grants)
+}
+
+/// Runs a script by threads at sites of its own, and returns their books in order, and what the clients were granted.
+fn books_of<R: Threads + Wait + Sync, G: Gate>(
+    rt: &R,
+    alloc: Global,
+    script: &Script,
+    gate: &G,
+) -> Result<(Vec<Book>, Vec<Grant>), Memory> {
     let sites = make_sites(alloc, script.nodes())?;
+    let grants = Mutex::new(Vec::new(alloc));
+    run_at(rt, alloc, script, &sites, &grants, gate)?;
+    let books = close_all(alloc, sites)?;
+    Ok((books, grants.into_inner()))
+}
+
+/// Runs a script by threads at these sites, with a post between them, and keeps the grants.
+fn run_at<R: Threads + Wait + Sync, G: Gate>(
+    rt: &R,
+    alloc: Global,
+    script: &Script,
+    sites: &[Site],
+    grants: &Mutex<Vec<Grant>>,
+    gate: &G,
+) -> Result<(), Memory> {
     // The nodes of a script are 1 to 16, so only memory can be wanting.
     let Ok((post, inboxes)) = Post::new(alloc, script.nodes()) else {
-        return Err(ClusterError::Memory);
+        return Err(Memory);
     };
-    let grants = Mutex::new(Vec::new(alloc));
     let run = ScriptRun {
         script,
-        sites: &sites,
+        sites,
         post: &post,
-        grants: &grants,
+        grants,
         gate,
     };
     run_threads(rt, alloc, &run, &inboxes);
-    let books = close_all(alloc, sites)?;
-    let grants = grants.into_inner();
-    settle_script(alloc, script, &books, &grants)
+    Ok(())
 }
 
 /// Makes the sites of a cluster of this many nodes, in the order of the nodes.
@@ -127,16 +167,24 @@ fn make_sites(alloc: Global, nodes: u16) -> Result<Vec<Site>, Memory>
 {
     let mut sites = Vec::new(alloc);
     for place in 0..nodes {
-        // The numbers are those of nodes, so only memory can be wanting.
-        let Some(me) = NodeId::new(place + 1) else {
-            return Err(Memory);
-        };
-        let Ok(site) = Site::new(alloc, me, nodes, 0) else {
-            return Err(Memory);
-        };
-        sites.push(site)?;
+        push_site(alloc, &mut sites, place + 1, nodes)?;
     }
     Ok(sites)
+}
+
+/// Makes the site of the node with this number, one of so many, and puts it behind the others.
+fn push_site(alloc: Global, sites: &mut Vec<Site>, number: u16, nodes: u16) -> Result<(), Memory>
+    ensures { OnOk result (vec_len sites.new ≡ vec_len sites.old + 1) }
+{
+    // The numbers are those of nodes, so only memory can be wanting.
+    let Some(me) = NodeId::new(number) else {
+        return Err(Memory);
+    };
+    let Ok(site) = Site::new(alloc, me, nodes, 0) else {
+        return Err(Memory);
+    };
+    sites.push(site)?;
+    Ok(())
 }
 
 /// Gives up the locks of all sites, and returns their books in order.

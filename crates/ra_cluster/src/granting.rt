@@ -1,8 +1,7 @@
 //! That each grant is of a request that was granted, and stands once.
-ghost use Rattle.std.specs.Prelude.{◌≡◌, ◌≢◌, All, map, IsOk, IfErr, AllPairs, Contains, OnOk, IfOk, IsErrOf};
-ghost use Rattle.std.specs.List.{Any};
+ghost use Rattle.std.specs.Prelude.{◌≡◌, ◌≢◌, All, map, AllPairs, Contains, IfOk, MatchResult};
 ghost use Rattle.ra_stamp.specs.declared.entry.Mark.{Mark};
-ghost use Rattle.ra_cluster.specs.Settled.{Repeats};
+ghost use Rattle.ra_cluster.specs.Settling.{RefusesGrants, RefusesRepeats};
 ghost use Rattle.ra_cluster.specs.Keys.{HasKeys, entered_in};
 ghost use Rattle.ra_cluster.specs.Keys as spec;
 
@@ -23,14 +22,9 @@ use std::collections::BTreeSet;
 /// 2. `GrantTwice`: two grants are equal.
 /// 3. `Memory`, which may come before any of them.
 pub fn check_grants(alloc: Global, grants: &[Grant], marks: &[Mark]) -> Result<(), SettleError>
-    ensures granted { OnOk result (All (λ g. Contains marks.now (Mark.Entered g.entry)) grants.now) }
-    ensures once { OnOk result (AllPairs (λ a b. a ≢ b) grants.now) }
-    ensures missing { IsErrOf result SettleError.GrantMissing
-        → Any (λ g. Contains marks.now (Mark.Entered g.entry) → ⊥) grants.now }
-    ensures twice { IsErrOf result SettleError.GrantTwice → Repeats grants.now
-        × All (λ g. Contains marks.now (Mark.Entered g.entry)) grants.now }
-    ensures no_message { IsErrOf result SettleError.Twice → ⊥ }
-    ensures no_frame { IsErrOf result SettleError.NotSent → ⊥ }
+    ensures { MatchResult result
+        (λ _. All (λ g. Contains marks.now (Mark.Entered g.entry)) grants.now × AllPairs (λ a b. a ≢ b) grants.now)
+        (RefusesGrants grants.now marks.now) }
 {
     let entered = entered_by(alloc, marks)?;
     for grant in grants {
@@ -56,11 +50,7 @@ fn entered_by(alloc: Global, marks: &[Mark]) -> Result<BTreeSet<EntryKey>, Memor
 
 /// Checks that no two grants are equal.
 fn check_once(alloc: Global, grants: &[Grant]) -> Result<(), SettleError>
-    ensures once { OnOk result (AllPairs (λ a b. a ≢ b) grants.now) }
-    ensures twice { IsErrOf result SettleError.GrantTwice → Repeats grants.now }
-    ensures not_missing { IsErrOf result SettleError.GrantMissing → ⊥ }
-    ensures no_message { IsErrOf result SettleError.Twice → ⊥ }
-    ensures no_frame { IsErrOf result SettleError.NotSent → ⊥ }
+    ensures { MatchResult result (λ _. AllPairs (λ a b. a ≢ b) grants.now) (RefusesRepeats grants.now) }
 {
     let mut seen = BTreeSet::new(alloc);
     for grant in grants {

@@ -1,5 +1,5 @@
 //! What a book keeps at each event.
-ghost use Rattle.std.specs.Prelude.{◌≡◌, ◌≢◌, ◌+◌, ◌<◌, ◌≤◌, ◌^◌, ◌↔◌, ◌∷◌, ◌++◌, [], ℕ, List, All, length, map, slice_index_or, vec_len, vec_capacity, IfOk, IfSome, IsNone, IsTrue};
+ghost use Rattle.std.specs.Prelude.{◌≡◌, ◌≢◌, ◌+◌, ◌<◌, ◌≤◌, ◌^◌, ◌↔◌, ◌∷◌, ◌++◌, [], ℕ, List, All, length, map, slice_index_or, vec_len, vec_capacity, IfOk, IfSome, IsNone, IsTrue, MatchOption, MatchResult};
 ghost use Rattle.ra_stamp.specs.NodeId.{IsNodeNumber};
 ghost use Rattle.ra_stamp.specs.declared.entry.Mark.{Mark};
 ghost use Rattle.ra_stamp.specs.declared.message.Message.{Message};
@@ -13,34 +13,89 @@ ghost use Rattle.ra_cluster.specs.declared.sent.Sent.{Sent};
 ghost use Rattle.ra_cluster.specs.History as spec;
 ghost use Rattle.ra_cluster.specs.History.{node_event, frames_at};
 ghost use Rattle.ra_cluster.specs.Book.{BookState, opening_book, as_sent, next_clock, with_event, HasClock, LeadsTo};
-ghost use Rattle.ra_cluster.specs.Keeping.{Keeps};
+ghost use Rattle.ra_cluster.specs.Keeping.{KeptHistoriesGoOn, Happens, Stays, IsFlagged};
 
 use crate::{
-    BookEvent, BookKind, Events, Frames, Posted, Sent, histories_are_determined, histories_go_on,
+    BookError, BookEvent, BookKind, Events, Frames, MarkLostError, Posted, Sent,
+    histories_are_determined, histories_go_on,
 };
 use ra_frame::Frame;
-use ra_node::{Outcome, events_keep_a_node_consistent, histories_keep_a_node_consistent};
+use ra_node::{Node, Outcome, events_keep_a_node_consistent, histories_keep_a_node_consistent};
 use ra_stamp::{Memory, Message};
 use std::alloc::Global;
 
-/// Returns the clock of an event that comes after this clock, or `None` where it would pass 2^62.
-pub fn clock_after(clock: u64, kind: &BookKind) -> Option<u64>
-    ensures some { IfSome result (λ next. (next ≡ spec.clock_after clock kind.now) × (next ≤ 2 ^ 62)) }
-    ensures none { IsNone result ↔ (2 ^ 62 < spec.clock_after clock kind.now) }
+/// Returns the clock of an event that comes after this clock.
+///
+/// # Errors
+///
+/// `ClockFull`: it would pass 2^62.
+pub fn clock_after(clock: u64, kind: &BookKind) -> Result<u64, BookError>
+    ensures { MatchResult result (λ next. (next ≡ spec.clock_after clock kind.now) × (next ≤ 2 ^ 62))
+        (λ e. (e ≡ BookError.ClockFull) × (2 ^ 62 < spec.clock_after clock kind.now)) }
 {
     let latest = match kind {
         BookKind::Got(frame) => clock.max(frame.clock),
         BookKind::Asked { .. } | BookKind::Gave { .. } => clock,
     };
     if latest < Frame::MAX_CLOCK {
-        Some(latest + 1)
+        Ok(latest + 1)
     } else {
-        None
+        Err(BookError::ClockFull)
+    }
+}
+
+/// Makes an event happen at a node, one of so many, and keeps it behind the events so far, and its frames behind those so far.
+///
+/// # Errors
+///
+/// `Memory`, where the node takes the event: all is as before.
+pub fn add(
+    alloc: Global,
+    nodes: u16,
+    node: &mut Node,
+    events: &mut Events,
+    sent: &mut Vec<Sent>,
+    event: BookEvent,
+) -> Result<Posted, BookError>
+    requires few { (new : NodeState) (sends : List Message) (marks : List Mark)
+        → NodeEvent node.old (node_event event.kind) sends marks new
+        → length sends ≤ sends_at_most nodes (node_event event.kind) }
+    ensures { MatchResult result
+        (Happens node.old node.new events.old.items events.new.items sent.old.items sent.new.items event)
+        (Stays node.old node.new events.old.items events.new.items sent.old.items sent.new.items) }
+{
+    let frames = make_room(alloc, events, sent, most_sends(nodes, &event.kind))?;
+    let Some(outcome) = happen(alloc, node, &event.kind) else {
+        return Err(BookError::Memory);
+    };
+    Ok(keep(events, sent, frames, event, outcome))
+}
+
+/// Returns how many messages an event sends at most, at one of so many nodes.
+fn most_sends(nodes: u16, kind: &BookKind) -> u64
+    ensures { result ≡ sends_at_most nodes (node_event kind.now) }
+{
+    match kind {
+        BookKind::Asked { .. } => u64::from(nodes),
+        BookKind::Gave { .. } => 2 * u64::from(nodes),
+        BookKind::Got(_) => 1,
+    }
+}
+
+/// Makes an event happen at a node. Returns `None` where the node refuses it, and then is as before.
+fn happen(alloc: Global, node: &mut Node, kind: &BookKind) -> Option<Outcome>
+    ensures { MatchOption result (node.new ≡ node.old)
+        (λ outcome. NodeEvent node.old (node_event kind.now) outcome.sends.items outcome.marks.items node.new) }
+{
+    match *kind {
+        BookKind::Asked { client, name, mode } => node.ask(alloc, client, name, mode).ok(),
+        BookKind::Gave { client, name } => node.leave(alloc, client, name).ok(),
+        BookKind::Got(frame) => node.receive(alloc, &frame.message).ok(),
     }
 }
 
 /// Makes room for one more event that sends at most this many messages. The list is for the frames that it posts.
-pub fn make_room(
+fn make_room(
     alloc: Global,
     events: &mut Events,
     sent: &mut Vec<Sent>,
@@ -52,15 +107,15 @@ pub fn make_room(
     ensures sent_room { IfOk result (λ _. vec_len sent.new + sends ≤ vec_capacity sent.new) }
     ensures frames { IfOk result (λ frames. (frames.items ≡ []) × (sends ≤ frames.spare)) }
 {
-    let mut frames = Frames::new(alloc);
-    frames.reserve(sends)?;
     events.reserve(1)?;
     sent.reserve(sends as usize)?;
+    let mut frames = Frames::new(alloc);
+    frames.reserve(sends)?;
     Ok(frames)
 }
 
 /// Keeps an event and the frames in which its messages go out, for which there is room, and returns what it posts.
-pub fn keep(
+fn keep(
     events: &mut Events,
     sent: &mut Vec<Sent>,
     mut frames: Frames,
@@ -106,8 +161,29 @@ fn put_sent(sent: &mut Vec<Sent>, frames: &[Frame])
     }
 }
 
+/// Flags the sent frame that is equal to this one as lost; were there equal ones, the first.
+///
+/// # Errors
+///
+/// The first that holds, and the frames are as before:
+///
+/// 1. `NotSent`: it is not among them.
+/// 2. `AlreadyLost`: it was flagged before.
+pub fn flag_lost(sent: &mut [Sent], frame: &Frame) -> Result<(), MarkLostError>
+    ensures { IsFlagged sent.old frame.now sent.new result }
+{
+    let Some(place) = place_of(sent, frame) else {
+        return Err(MarkLostError::NotSent);
+    };
+    if sent[place].lost {
+        return Err(MarkLostError::AlreadyLost);
+    }
+    sent[place].lost = true;
+    Ok(())
+}
+
 /// Returns where the first sent frame that is equal to this one stands, or `None`.
-pub fn place_of(sent: &[Sent], frame: &Frame) -> Option<usize>
+fn place_of(sent: &[Sent], frame: &Frame) -> Option<usize>
     ensures absent { IsNone result ↔ All (λ s. s.frame ≢ frame.now) sent.now }
     ensures found { IfSome result (λ place. (place < length sent.now)
         × ((d : Sent) → (slice_index_or sent.now place d).frame ≡ frame.now)) }
@@ -127,29 +203,7 @@ fn is_of(sent: &Sent, frame: &Frame) -> bool
 /// A book that keeps a history goes on keeping it at each event of its node, which sends few frames, all of which fit where
 /// the frame that came does.
 pub fn kept_histories_go_on()
-    ensures opened { (me n start : ℕ) → IsNodeNumber n → (1 ≤ me) × (me ≤ n)
-        → Keeps (opening_book me n start) (opening_node me n start) }
-    ensures event { (book : BookState) (old new : NodeState) (kind : BookKind)
-        (sends : List Message) (marks : List Mark)
-        → Keeps book old → IsForThisNode old (node_event kind)
-        → NodeEvent old (node_event kind) sends marks new → HasClock book kind
-        → Keeps (with_event book (next_clock book kind) kind (frames_at (next_clock book kind) sends)) new }
-    ensures flags { (book : BookState) (sent : List Sent) (node : NodeState)
-        → Keeps book node → map (λ s. s.frame) sent ≡ map (λ s. s.frame) book.sent
-        → Keeps (record book { sent = sent }) node }
-    ensures few { (book : BookState) (old new : NodeState) (kind : BookKind)
-        (sends : List Message) (marks : List Mark)
-        → Keeps book old → NodeEvent old (node_event kind) sends marks new
-        → length sends ≤ sends_at_most book.nodes (node_event kind) }
-    ensures fit { (book : BookState) (old new : NodeState) (kind : BookKind)
-        (sends : List Message) (marks : List Mark)
-        → Keeps book old → IsForThisNode old (node_event kind)
-        → NodeEvent old (node_event kind) sends marks new → HasClock book kind
-        → ((frame : Frame) → kind ≡ BookKind.Got frame → Fits frame)
-        → All Fits (frames_at (next_clock book kind) sends) }
-    ensures node { (book : BookState) (node : NodeState) → Keeps book node
-        → (node.me ≡ book.me) × (node.nodes ≡ book.nodes) × IsConsistentNode node }
-    ensures determined { (book : BookState) (a b : NodeState) → Keeps book a → LeadsTo book b → b ≡ a }
+    ensures { KeptHistoriesGoOn }
 {
     histories_go_on();
     histories_are_determined();

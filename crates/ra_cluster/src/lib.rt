@@ -22,6 +22,7 @@ mod event;
 mod gate;
 mod grant;
 mod granting;
+mod heard;
 mod keeping;
 mod keys;
 mod laws;

@@ -1,11 +1,12 @@
 //! What comes of a script that threads did.
-ghost use Rattle.std.specs.Prelude.{◌≡◌, ◌≢◌, ◌↔◌, ℕ, ◌-◌, ◌*◌, List, All, Some, map, length, IsTrue, IsErrOf, IsOk, IfOk};
+ghost use Rattle.std.specs.Prelude.{◌≡◌, ◌↔◌, ℕ, ◌-◌, ◌*◌, List, All, Some, map, length, IsTrue, IsErrOf, IfOk, MatchResult};
 ghost use Rattle.ra_world.specs.Traffic.{Move};
 ghost use Rattle.ra_world.specs.Run.{IsRun};
 ghost use Rattle.ra_world.specs.World.{Reports};
 ghost use Rattle.ra_world.specs.MainTheorem.{MainTheorem};
 ghost use Rattle.ra_cluster.specs.Plan.{MeetsPlan, IsQuietEnd, locks_of};
 ghost use Rattle.ra_cluster.specs.Outcome as spec;
+ghost use Rattle.ra_cluster.specs.Outcome.{IsDone, IsOfSettling, RefusesReport};
 
 use crate::plan::meets_plan;
 use crate::{Book, ClusterError, Grant, SettleError, Settled, Stop, is_cluster, settle};
@@ -53,16 +54,44 @@ pub fn settle_script(
     if let Some(stop) = first_fault(books) {
         return Err(ClusterError::Fault(stop));
     }
+    settle_sound(alloc, script, books, grants)
+}
+
+/// Settles books of which none has a fault, and checks that the script was brought to its end.
+///
+/// # Errors
+///
+/// Those of `settle_script`, but for `Fault`.
+fn settle_sound(
+    alloc: Global,
+    script: &Script,
+    books: &[Book],
+    grants: &[Grant],
+) -> Result<Settled, ClusterError>
+    ensures { MatchResult result (IsDone script.now) IsOfSettling }
+{
     if !is_cluster(books) || !are_of(script, books) {
         return Err(ClusterError::Settle);
     }
     let settled = match settle(alloc, books, grants) {
         Ok(settled) => settled,
-        Err(SettleError::Memory) => return Err(ClusterError::Memory),
-        Err(_) => return Err(ClusterError::Settle),
+        Err(refused) => return Err(refusal_of(refused)),
     };
     check_report(script, &settled.report)?;
     Ok(settled)
+}
+
+/// Returns what is answered where books do not settle.
+fn refusal_of(refused: SettleError) -> ClusterError
+    ensures { IsOfSettling result }
+{
+    match refused {
+        SettleError::Memory => ClusterError::Memory,
+        SettleError::NotSent
+        | SettleError::Twice
+        | SettleError::GrantMissing
+        | SettleError::GrantTwice => ClusterError::Settle,
+    }
 }
 
 /// Returns the fault of the lowest node that has one.
@@ -95,13 +124,8 @@ fn are_of(script: &Script, books: &[Book]) -> bool
 /// 2. `Lost`: a message was lost.
 /// 3. `UnderWay`: a message is under way.
 fn check_report(script: &Script, report: &Report) -> Result<(), ClusterError>
-    ensures ok { IsOk result ↔ (MeetsPlan script.now report.now.marks.items × IsQuietEnd report.now) }
-    ensures plan_unmet { IsErrOf result ClusterError.PlanUnmet
-        ↔ ((MeetsPlan script.now report.now.marks.items × (report.now.queued ≡ 0)) → ⊥) }
-    ensures lost { IsErrOf result ClusterError.Lost ↔ (MeetsPlan script.now report.now.marks.items
-        × (report.now.queued ≡ 0) × (report.now.lost ≢ 0)) }
-    ensures under_way { IsErrOf result ClusterError.UnderWay ↔ (MeetsPlan script.now report.now.marks.items
-        × (report.now.queued ≡ 0) × (report.now.lost ≡ 0) × (report.now.under_way ≢ 0)) }
+    ensures { MatchResult result (λ _. MeetsPlan script.now report.now.marks.items × IsQuietEnd report.now)
+        (RefusesReport script.now report.now) }
 {
     if !meets_plan(script, report.marks.as_slice()) || report.queued != 0 {
         return Err(ClusterError::PlanUnmet);

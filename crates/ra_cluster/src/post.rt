@@ -1,4 +1,4 @@
-ghost use Rattle.std.specs.Prelude.{◌≡◌, ◌↔◌, ◌≤◌, ◌<◌, length, vec_len, IfOk, IsErrOf, IsOkUnless};
+ghost use Rattle.std.specs.Prelude.{◌≡◌, ◌↔◌, ◌≤◌, ◌<◌, ◌+◌, length, vec_len, IfOk, IsErrOf, IsOkUnless, MatchResult};
 ghost use Rattle.ra_stamp.specs.NodeId.{IsNodeNumber};
 ghost use Rattle.ra_frame.specs.Fits.{Fits};
 
@@ -86,9 +86,7 @@ impl Post {
         let mut senders = Vec::new(alloc);
         let mut inboxes = Vec::new(alloc);
         for _node in 0..nodes {
-            let (sender, frames) = unbounded(alloc)?;
-            senders.push(sender)?;
-            inboxes.push(Inbox { frames })?;
+            open_inbox(alloc, &mut senders, &mut inboxes)?;
         }
         let senders = Mutex::new(Some(senders));
         Ok((Post { senders }, inboxes))
@@ -129,6 +127,20 @@ impl Post {
     pub fn close<R: Wait>(&self, rt: &R) {
         *self.senders.lock(rt) = None;
     }
+}
+
+/// Makes one more inbox and its sender.
+fn open_inbox(
+    alloc: Global,
+    senders: &mut Vec<Sender<Vec<u8>>>,
+    inboxes: &mut Vec<Inbox>,
+) -> Result<(), NewPostError>
+    ensures { MatchResult result (λ _. vec_len inboxes.new ≡ vec_len inboxes.old + 1) (λ e. e ≡ NewPostError.Memory) }
+{
+    let (sender, frames) = unbounded(alloc)?;
+    senders.push(sender)?;
+    inboxes.push(Inbox { frames })?;
+    Ok(())
 }
 
 impl Inbox {

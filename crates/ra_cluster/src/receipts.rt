@@ -1,12 +1,13 @@
 //! That what came was sent, and came once.
-ghost use Rattle.std.specs.Prelude.{◌≡◌, ◌≢◌, ◌++◌, ℕ, List, All, AllPairs, Contains, map, IfOk, OnOk, IsErrOf, MatchBool};
+ghost use Rattle.std.specs.Prelude.{◌≡◌, ◌≢◌, ◌++◌, ℕ, List, All, AllPairs, Contains, map, IfOk, OnOk, MatchBool, MatchResult};
 ghost use Rattle.std.specs.List.{Any};
 ghost use Rattle.ra_stamp.specs.declared.message.Message.{Message};
 ghost use Rattle.ra_cluster.specs.declared.keys.FrameKey.{FrameKey};
 ghost use Rattle.ra_cluster.specs.Book.{HasHistory};
 ghost use Rattle.ra_cluster.specs.Keys.{HasKeys, HasEach, kept_among, all_kept, messages_among};
 ghost use Rattle.ra_cluster.specs.Keys as spec;
-ghost use Rattle.ra_cluster.specs.Settled.{HasUnsent, HasTwice, Repeats, received_among, all_received};
+ghost use Rattle.ra_cluster.specs.Settled.{BooksFit, HasTwice, Repeats, received_among, all_received};
+ghost use Rattle.ra_cluster.specs.Settling.{RefusesReceived};
 
 use crate::keys::{FrameKey, MessageKey, frame_key, message_key};
 use crate::settled_runs::frames_of_books_are_from_their_nodes;
@@ -26,12 +27,7 @@ use std::collections::BTreeSet;
 /// 2. `Twice`: a message came twice.
 /// 3. `Memory`, which may come before any of them.
 pub fn check_received(alloc: Global, books: &[Book]) -> Result<(), SettleError>
-    ensures sent { OnOk result (HasUnsent books.now → ⊥) }
-    ensures once { OnOk result (HasTwice books.now → ⊥) }
-    ensures not_sent { IsErrOf result SettleError.NotSent → HasUnsent books.now }
-    ensures twice { IsErrOf result SettleError.Twice → HasTwice books.now × (HasUnsent books.now → ⊥) }
-    ensures no_grant { IsErrOf result SettleError.GrantMissing → ⊥ }
-    ensures no_grant_twice { IsErrOf result SettleError.GrantTwice → ⊥ }
+    ensures { MatchResult result (λ _. BooksFit books.now) (RefusesReceived books.now) }
 {
     frames_of_books_are_from_their_nodes();
     let kept = kept_frames(alloc, books)?;

@@ -1,9 +1,10 @@
-ghost use Rattle.std.specs.Prelude.{◌≡◌, ◌≢◌, ◌↔◌, ◌⊎◌, ℕ, ◌+◌, List, All, AllPairs, map, length, IsTrue, IsErrOf, IsOkUnless, IfOk, OnOk};
+ghost use Rattle.std.specs.Prelude.{◌≡◌, ◌≢◌, ◌↔◌, ◌⊎◌, ℕ, ◌+◌, List, All, AllPairs, map, length, IsTrue, IsErrOf, IsOkUnless, IfOk, OnOk, MatchResult};
 ghost use Rattle.std.specs.List.{Any};
 ghost use Rattle.ra_world.specs.Traffic.{Move};
 ghost use Rattle.ra_world.specs.World.{Reports};
 ghost use Rattle.ra_world.specs.MainTheorem.{MainTheorem};
 ghost use Rattle.ra_cluster.specs.Settled.{IsCluster, IsSettledOrder, IsSettledRun, Placed, settled_steps, start_of, IsGranted, HasUnsent, HasTwice, BooksFit, Repeats};
+ghost use Rattle.ra_cluster.specs.Settling.{Settles, SettlesBooks, Refuses};
 
 use crate::granting::check_grants;
 use crate::losses::push_losses;
@@ -93,19 +94,45 @@ pub fn settle(alloc: Global, books: &[Book], grants: &[Grant]) -> Result<Settled
     ensures settles { BooksFit books.now → All (λ grant. IsGranted books.now grant.entry) grants.now
         → AllPairs (λ a b. a ≢ b) grants.now → IsOkUnless result SettleError.Memory }
 {
-    settled_steps_make_settled_runs();
-    grants_of_settled_runs_are_in_the_books();
-    books_that_fit_together_settle();
     check_received(alloc, books)?;
+    settle_with(alloc, books, grants)
+}
+
+/// Settles books that fit together, with grants.
+///
+/// # Errors
+///
+/// Those of `settle`, but for what came.
+fn settle_with(alloc: Global, books: &[Book], grants: &[Grant]) -> Result<Settled, SettleError>
+    requires cluster { IsCluster books.now }
+    requires fit { BooksFit books.now }
+    ensures { MatchResult result (Settles books.now grants.now) (Refuses books.now grants.now) }
+{
+    grants_of_settled_runs_are_in_the_books();
+    let settled = settle_books(alloc, books)?;
+    check_grants(alloc, grants, settled.report.marks.as_slice())?;
+    Ok(settled)
+}
+
+/// Settles books that fit together.
+///
+/// # Errors
+///
+/// `Memory`.
+fn settle_books(alloc: Global, books: &[Book]) -> Result<Settled, SettleError>
+    requires cluster { IsCluster books.now }
+    requires fit { BooksFit books.now }
+    ensures { MatchResult result (SettlesBooks books.now) (λ e. e ≡ SettleError.Memory) }
+{
+    settled_steps_make_settled_runs();
+    books_that_fit_together_settle();
     let mut steps = steps_in_order(alloc, books)?;
     push_losses(&mut steps, books)?;
     let first = &books[0];
-    let report = match run(alloc, first.nodes(), first.start(), &steps) {
-        Ok(report) => report,
-        Err(refused) => return Err(refusal_of(refused)),
-    };
-    check_grants(alloc, grants, report.marks.as_slice())?;
-    Ok(Settled { steps, report })
+    match run(alloc, first.nodes(), first.start(), &steps) {
+        Ok(report) => Ok(Settled { steps, report }),
+        Err(refused) => Err(refusal_of(refused)),
+    }
 }
 
 /// Returns why books do not settle where their run is refused. That of books which fit together is refused for want of memory

@@ -1,32 +1,38 @@
-use Rattle.std.proofs.Common.{ℕ, refl, subst}
-use Rattle.ra_world.specs.MainTheorem.{MainTheorem}
-use Rattle.ra_cluster.proofs.SettledReport.{run_from_zero}
-use Rattle.ra_cluster.proofs.LockCounts.{waits_for_none, requests_are_locks, messages_are}
+use Rattle.std.proofs.Common.{refl}
+use Rattle.ra_cluster.specs.declared.cluster.ClusterError.TheVariants.{OutOfOrder, Unreleased}
+use Rattle.ra_cluster.specs.Outcome.{IsOfSettling}
+use Rattle.ra_cluster.proofs.Endings as done
 use Rattle.ra_cluster.proofs.outcome.settle_script.Goals as goal
 
+pub returns-in-Some-clause-fault : goal.returns-in-Some-clause-fault
+returns-in-Some-clause-fault c = λ stop. done.same_fault c.args.books.now c.in-Some.stop stop c.in-Some.ensures
+
 pub returns-clause-run : goal.returns-clause-run
-returns-clause-run c =
-    let are = c.are_of.ensures.0 c.if-not-are_of.false in
-    run_from_zero c.args.books.now c.args.script.now.nodes c.in-Ok.settled.steps.items c.in-Ok.settled.report
-    (c.is_cluster.ensures.0 c.if-not-is_cluster.false) are.0 are.1 c.in-Ok.ensures.settled_run
+returns-clause-run c = done.run c.args.script.now IsOfSettling c.settle_sound.result c.settle_sound.ensures
+
+pub returns-clause-main_theorem : goal.returns-clause-main_theorem
+returns-clause-main_theorem c = done.main_theorem c.args.script.now IsOfSettling c.settle_sound.result c.settle_sound.ensures
+
+pub returns-clause-plan : goal.returns-clause-plan
+returns-clause-plan c = done.plan c.args.script.now IsOfSettling c.settle_sound.result c.settle_sound.ensures
+
+pub returns-clause-ended : goal.returns-clause-ended
+returns-clause-ended c = done.ended c.args.script.now IsOfSettling c.settle_sound.result c.settle_sound.ensures
 
 pub returns-clause-none_waits : goal.returns-clause-none_waits
-returns-clause-none_waits c =
-    let met = c.in_ok-check_report.ensures.ok.0 refl in
-    waits_for_none _ c.args.script.now c.in-Ok.settled.report c.in-Ok.ensures.main_theorem met.0
+returns-clause-none_waits c = done.none_waits c.args.script.now IsOfSettling c.settle_sound.result c.settle_sound.ensures
 
 pub returns-clause-requests : goal.returns-clause-requests
-returns-clause-requests c =
-    let met = c.in_ok-check_report.ensures.ok.0 refl in
-    let run = c.in-Ok.ensures.settled_run in
-    requests_are_locks _ _ run.0 c.args.script.now c.in-Ok.settled.report run.3 met.0
+returns-clause-requests c = done.requests c.args.script.now IsOfSettling c.settle_sound.result c.settle_sound.ensures
 
 pub returns-clause-count : goal.returns-clause-count
-returns-clause-count c =
-    let script = c.args.script.now in
-    let report = c.in-Ok.settled.report in
-    let are = c.are_of.ensures.0 c.if-not-are_of.false in
-    let met = c.in_ok-check_report.ensures.ok.0 refl in
-    let run = c.in-Ok.ensures.settled_run in
-    messages_are script.nodes script report (subst (λ (n : ℕ). MainTheorem n report) are.0 c.in-Ok.ensures.main_theorem) met.1 met.0
-    (requests_are_locks _ _ run.0 script report run.3 met.0)
+returns-clause-count c = done.count c.args.script.now IsOfSettling c.settle_sound.result c.settle_sound.ensures
+
+pub returns-clause-fault : goal.returns-clause-fault
+returns-clause-fault c = λ stop. done.no_fault _ c.args.books.now stop c.in_default.ensures c.settle_sound.result c.settle_sound.ensures
+
+pub returns-clause-in_order : goal.returns-clause-in_order
+returns-clause-in_order c = done.not_refused _ IsOfSettling OutOfOrder (λ late. late.0.0 refl) c.settle_sound.result c.settle_sound.ensures
+
+pub returns-clause-released : goal.returns-clause-released
+returns-clause-released c = done.not_refused _ IsOfSettling Unreleased (λ late. late.0.1 refl) c.settle_sound.result c.settle_sound.ensures

@@ -1,73 +1,67 @@
-use Rattle.std.proofs.Common.{ℕ, refl, arith}
 use Rattle.ra_cluster.specs.declared.event.BookKind.TheVariants.{Asked}
-use Rattle.ra_cluster.specs.Keeping.{book_of}
-use Rattle.ra_cluster.proofs.Kept.{history_of}
-use Rattle.ra_cluster.proofs.Adding.{passed_on, not_allowed, same_history, kept_by, adds_by, fit_by}
+use Rattle.ra_cluster.proofs.Running.{ask_passed, ask_added}
+use Rattle.ra_cluster.proofs.Adding.{added_memory, added_err, added_fits, added_ok}
 use Rattle.ra_cluster.proofs.book.Book.ask.Goals as goal
 
 pub returns-in_err-clock-clause-history : goal.returns-in_err-clock-clause-history
-returns-in_err-clock-clause-history c = history_of c.args.self.now _ _ c.self.invariant c.self.view_is
+returns-in_err-clock-clause-history c = c.in_err-clock.ensures.checked.history
+
+pub returns-in_err-clock-clause-failed : goal.returns-in_err-clock-clause-failed
+returns-in_err-clock-clause-failed c =
+    (ask_passed c.args.self.now c.args.client c.args.name c.args.mode c.in_err-clock.field-0.0 c.in_err-clock.ensures.answers c.from_residual.result c.from_residual.ensures.1).failed
 
 pub returns-in_err-clock-clause-busy : goal.returns-in_err-clock-clause-busy
-returns-in_err-clock-clause-busy c = passed_on ℕ _ c.from_residual.result c.in_err-clock.field-0.0 _ c.from_residual.ensures.1 c.in_err-clock.ensures.busy
+returns-in_err-clock-clause-busy c =
+    (ask_passed c.args.self.now c.args.client c.args.name c.args.mode c.in_err-clock.field-0.0 c.in_err-clock.ensures.answers c.from_residual.result c.from_residual.ensures.1).busy
 
 pub returns-in_err-clock-clause-exhausted : goal.returns-in_err-clock-clause-exhausted
-returns-in_err-clock-clause-exhausted c = passed_on ℕ _ c.from_residual.result c.in_err-clock.field-0.0 _ c.from_residual.ensures.1 c.in_err-clock.ensures.exhausted
+returns-in_err-clock-clause-exhausted c =
+    (ask_passed c.args.self.now c.args.client c.args.name c.args.mode c.in_err-clock.field-0.0 c.in_err-clock.ensures.answers c.from_residual.result c.from_residual.ensures.1).exhausted
 
 pub returns-in_err-clock-clause-clock_full : goal.returns-in_err-clock-clause-clock_full
-returns-in_err-clock-clause-clock_full c = passed_on ℕ _ c.from_residual.result c.in_err-clock.field-0.0 _ c.from_residual.ensures.1 c.in_err-clock.ensures.clock_full
+returns-in_err-clock-clause-clock_full c =
+    (ask_passed c.args.self.now c.args.client c.args.name c.args.mode c.in_err-clock.field-0.0 c.in_err-clock.ensures.answers c.from_residual.result c.from_residual.ensures.1).clock_full
 
 pub returns-in_err-clock-clause-allowed : goal.returns-in_err-clock-clause-allowed
 returns-in_err-clock-clause-allowed c =
-    not_allowed ℕ _ c.from_residual.result c.in_err-clock.field-0.0 c.from_residual.ensures.1 c.in_err-clock.ensures.no_memory c.in_err-clock.ensures.allowed
+    (ask_passed c.args.self.now c.args.client c.args.name c.args.mode c.in_err-clock.field-0.0 c.in_err-clock.ensures.answers c.from_residual.result c.from_residual.ensures.1).allowed
 
-pub returns-in_err-frames-clause-history : goal.returns-in_err-frames-clause-history
-returns-in_err-frames-clause-history c =
-    same_history (book_of c.self.inside) c.self.inside.node c.make_room.new.events.items c.make_room.new.sent.items c.self.invariant
-    c.make_room.ensures.events c.make_room.ensures.sent
-
-pub returns-in_default-clause-history : goal.returns-in_default-clause-history
-returns-in_default-clause-history c =
-    same_history (book_of c.self.inside) c.self.inside.node c.make_room.new.events.items c.make_room.new.sent.items c.self.invariant
-    c.make_room.ensures.events c.make_room.ensures.sent
-
-pub returns-in_default-clause-allowed : goal.returns-in_default-clause-allowed
-returns-in_default-clause-allowed c = (λ _. c.in_ok-clock.ensures.allowed.0 refl, λ _. refl)
-
-pub keep-requires-clause-sent_room : goal.keep-requires-clause-sent_room
-keep-requires-clause-sent_room c =
-    let few = c.kept_histories_go_on.ensures.few (book_of c.self.inside) c.self.inside.node c.ask.new.self (Asked c.args.client c.args.name c.args.mode)
-    c.in-Ok.outcome.sends.items c.in-Ok.outcome.marks.items c.self.invariant c.in-Ok.ensures.ok in
-    omega (arith, few, c.in_ok-frames.ensures.sent_room)
-
-pub keep-requires-clause-frame_room : goal.keep-requires-clause-frame_room
-keep-requires-clause-frame_room c =
-    let few = c.kept_histories_go_on.ensures.few (book_of c.self.inside) c.self.inside.node c.ask.new.self (Asked c.args.client c.args.name c.args.mode)
-    c.in-Ok.outcome.sends.items c.in-Ok.outcome.marks.items c.self.invariant c.in-Ok.ensures.ok in
-    omega (arith, few, c.in_ok-frames.ensures.frames.1)
-
-pub invariant_of-self-2 : goal.invariant_of-self-2
-invariant_of-self-2 c =
-    kept_by c.kept_histories_go_on.ensures.event c.args.self.now (book_of c.self.inside) c.self.inside.node c.ask.new.self (Asked c.args.client c.args.name c.args.mode) c.in-Ok.outcome.sends.items c.in-Ok.outcome.marks.items c.in_ok-clock.clock
-    c.make_room.new.events.items c.keep.new.events.items c.make_room.new.sent.items c.keep.new.sent.items
-    c.self.invariant c.self.view_is tt c.in-Ok.ensures.ok c.in_ok-clock.ensures.ok (c.in_ok-clock.ensures.allowed.0 refl).holds.1
-    c.make_room.ensures.events c.keep.ensures.events c.make_room.ensures.sent c.keep.ensures.sent
-
-pub returns-clause-history : goal.returns-clause-history
-returns-clause-history c = history_of _ _ _ (invariant_of-self-2 c) refl
+pub add-requires : goal.add-requires
+add-requires c = c.in_ok-clock.ensures.checked.next
 
 pub returns-clause-ok : goal.returns-clause-ok
-returns-clause-ok c =
-    adds_by c.args.self.now (book_of c.self.inside) c.self.inside.node c.ask.new.self (Asked c.args.client c.args.name c.args.mode) c.in-Ok.outcome.sends.items c.in-Ok.outcome.marks.items c.in_ok-clock.clock
-    c.make_room.new.events.items c.keep.new.events.items c.make_room.new.sent.items c.keep.new.sent.items c.keep.result.frames.items c.keep.result.marks.items
-    c.self.invariant c.self.view_is c.in-Ok.ensures.ok c.in_ok-clock.ensures.ok
-    c.make_room.ensures.events c.keep.ensures.events c.make_room.ensures.sent c.keep.ensures.sent c.keep.ensures.frames c.keep.ensures.marks
+returns-clause-ok c = added_ok c.args.self.now c.add.new.self (Asked c.args.client c.args.name c.args.mode) c.add.result c.add.ensures.added
+
+pub returns-clause-history : goal.returns-clause-history
+returns-clause-history c = c.add.ensures.history
 
 pub returns-clause-fits : goal.returns-clause-fits
-returns-clause-fits c =
-    fit_by c.kept_histories_go_on.ensures.fit c.args.self.now (book_of c.self.inside) c.self.inside.node c.ask.new.self (Asked c.args.client c.args.name c.args.mode) c.in-Ok.outcome.sends.items c.in-Ok.outcome.marks.items c.in_ok-clock.clock c.keep.result.frames.items
-    c.self.invariant c.self.view_is tt c.in-Ok.ensures.ok c.in_ok-clock.ensures.ok (c.in_ok-clock.ensures.allowed.0 refl).holds.1
-    (λ frame is. absurd (cc)) c.keep.ensures.frames
+returns-clause-fits c = added_fits c.args.self.now c.add.new.self (Asked c.args.client c.args.name c.args.mode) c.add.result c.add.ensures.added
+
+pub returns-clause-err : goal.returns-clause-err
+returns-clause-err c = added_err c.args.self.now c.add.new.self (Asked c.args.client c.args.name c.args.mode) c.add.result c.add.ensures.added
+
+pub returns-clause-failed : goal.returns-clause-failed
+returns-clause-failed c =
+    (ask_added c.args.self.now c.args.client c.args.name c.args.mode c.in_ok-clock.clock c.in_ok-clock.ensures.answers c.add.result
+    (added_memory c.args.self.now c.add.new.self (Asked c.args.client c.args.name c.args.mode) c.add.result c.add.ensures.added)).failed
+
+pub returns-clause-busy : goal.returns-clause-busy
+returns-clause-busy c =
+    (ask_added c.args.self.now c.args.client c.args.name c.args.mode c.in_ok-clock.clock c.in_ok-clock.ensures.answers c.add.result
+    (added_memory c.args.self.now c.add.new.self (Asked c.args.client c.args.name c.args.mode) c.add.result c.add.ensures.added)).busy
+
+pub returns-clause-exhausted : goal.returns-clause-exhausted
+returns-clause-exhausted c =
+    (ask_added c.args.self.now c.args.client c.args.name c.args.mode c.in_ok-clock.clock c.in_ok-clock.ensures.answers c.add.result
+    (added_memory c.args.self.now c.add.new.self (Asked c.args.client c.args.name c.args.mode) c.add.result c.add.ensures.added)).exhausted
+
+pub returns-clause-clock_full : goal.returns-clause-clock_full
+returns-clause-clock_full c =
+    (ask_added c.args.self.now c.args.client c.args.name c.args.mode c.in_ok-clock.clock c.in_ok-clock.ensures.answers c.add.result
+    (added_memory c.args.self.now c.add.new.self (Asked c.args.client c.args.name c.args.mode) c.add.result c.add.ensures.added)).clock_full
 
 pub returns-clause-allowed : goal.returns-clause-allowed
-returns-clause-allowed c = (λ _. c.in_ok-clock.ensures.allowed.0 refl, λ _. tt)
+returns-clause-allowed c =
+    (ask_added c.args.self.now c.args.client c.args.name c.args.mode c.in_ok-clock.clock c.in_ok-clock.ensures.answers c.add.result
+    (added_memory c.args.self.now c.add.new.self (Asked c.args.client c.args.name c.args.mode) c.add.result c.add.ensures.added)).allowed
