@@ -1,8 +1,11 @@
 -- Names and operations as they are spelled.
-use Rattle.std.proofs.Common.{◌≡◌, ℕ, List, [], ◌∷◌, length, true, ◌&&◌, ◌==◌, nat_le, Option, Some, None, inl, inr, refl, sym}
+use Rattle.std.proofs.Common.{◌≡◌, ℕ, ◌≤◌, List, [], ◌∷◌, length, get_or, take, drop, suc, ◌-◌, true, ◌&&◌, ◌==◌, nat_le, Option, Some, None, IsSome, inl, inr, refl, sym, ap, ◌∙◌, arith}
+use Rattle.std.proofs.Math.Bool.{and-false}
+use Rattle.std.specs.Prelude.{IfSome, is_some}
 use Rattle.std.proofs.lemmas.Option.{same_Some}
 use Rattle.std.proofs.lemmas.Bool.{cases_Bool, and_parts, le-leb, leb-true, eqb-true}
 use Rattle.std.proofs.lemmas.List.Sums.{AllPass-from_list_all, list_all-from_AllPass}
+use Rattle.std.proofs.lemmas.List.{take_all}
 use Rattle.std.specs.List.{list_all}
 use Rattle.ra_stamp.specs.Name.{IsName, is_name_byte}
 use Rattle.ra_stamp.specs.declared.mode.Mode.TheVariants.{Shared, Exclusive}
@@ -61,3 +64,31 @@ op_of-none word other = go (op_of word) refl
     go : (o : Option Op) → op_of word ≡ o → o ≡ None
     go None e = refl
     go (Some op) e = let spelled = spelled_from word op e in absurd (other op spelled.0 spelled.1)
+
+-- a string of a letter, a space and no name
+pub op_of-unnamed : (word name : List ℕ) → 2 ≤ length word → take (length word - 2) (drop 2 word) ≡ name → (IsName name → ⊥) → op_of word ≡ None
+op_of-unnamed [] name some is other = absurd (omega arith)
+op_of-unnamed (letter ∷ []) name some is other = absurd (omega arith)
+op_of-unnamed (letter ∷ space ∷ rest) name some is other =
+    let same : rest ≡ name = sym (take_all (suc (suc (length rest)) - 2) rest (omega arith)) ∙ is in
+    elim (cases_Bool (is_name rest)) [
+      | inl good ↦ absurd (other (rw same at (IsName-from rest good)))
+      | inr bad ↦ rw (bad, and-false (space == 32))
+    ]
+
+-- and one of a name
+pub op_of-named : (word name : List ℕ) → 2 ≤ length word → get_or word 1 0 ≡ 32 → name ≡ take (length word - 2) (drop 2 word) → IsName (take (length word - 2) (drop 2 word)) → op_of word ≡ op_with (get_or word 0 0) name
+op_of-named [] name some spaced is named = absurd (omega arith)
+op_of-named (letter ∷ []) name some spaced is named = absurd (omega arith)
+op_of-named (letter ∷ space ∷ rest) name some spaced is named =
+    let same : name ≡ rest = is ∙ take_all (suc (suc (length rest)) - 2) rest (omega arith) in
+    let good : IsName rest = rw (sym is ∙ same) at named in
+    rw (same, spaced, is_name-true rest good)
+
+-- what a string spells is what it is read as
+pub spelled_by : (word : List ℕ) (read : Option Op) → op_of word ≡ read → IfSome read (λ op. (word ≡ spelling op) × IsName (name_in op))
+spelled_by word None e = tt
+spelled_by word (Some op) e = spelled_from word op e
+
+pub all_by : (word : List ℕ) (read : Option Op) → op_of word ≡ read → (op : Op) → word ≡ spelling op → IsName (name_in op) → IsSome read
+all_by word read e op is named = ap is_some (sym e ∙ op_of-spelling word op is named)

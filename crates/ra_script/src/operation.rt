@@ -1,7 +1,7 @@
 ghost use Rattle.std.specs.Prelude.{◌≡◌, IfSome, IsSome};
 ghost use Rattle.ra_stamp.specs.Name.{IsName};
 ghost use Rattle.ra_schedule.specs.declared.script.Op.{Op};
-ghost use Rattle.ra_script.specs.Operation.{spelling, name_in};
+ghost use Rattle.ra_script.specs.Operation.{op_with, spelling, name_in};
 
 use ra_schedule::Op;
 use ra_stamp::{Mode, Name};
@@ -18,6 +18,13 @@ pub fn operation(word: &str) -> Option<Op>
     let Ok(name) = Name::new(name) else {
         return None;
     };
+    operation_with(*letter, name)
+}
+
+/// Returns the operation of a letter and a name, or `None` where the letter is none of the three. It does not allocate.
+fn operation_with(letter: u8, name: Name) -> Option<Op>
+    ensures { result ≡ op_with letter name }
+{
     match letter {
         b'X' => Some(Op::Lock(name, Mode::Exclusive)),
         b'S' => Some(Op::Lock(name, Mode::Shared)),
