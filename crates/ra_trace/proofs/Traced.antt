@@ -16,8 +16,8 @@ use Rattle.ra_world.specs.declared.error.StepError.{StepError}
 use Rattle.ra_world.specs.declared.error.StepError.TheVariants as cause
 use Rattle.ra_world.specs.Run.{IsRun, WorldRun, GoesOn, marks_of}
 use Rattle.ra_world.specs.Traffic.{Move, taken_in, taken_by}
-use Rattle.ra_world.specs.World.{WorldState, HasCause, with_move}
-use Rattle.ra_world.proofs.Refusing.{HasMade, memory_or_not, no_run, refused_there}
+use Rattle.ra_world.specs.World.{WorldState, HasCause, HasMade, with_move}
+use Rattle.ra_world.proofs.Refusing.{memory_or_not, no_run, refused_there}
 use Rattle.ra_trace.specs.declared.error.WriteTraceError.{WriteTraceError}
 use Rattle.ra_trace.specs.declared.error.WriteTraceError.TheVariants.{Run, Memory}
 use Rattle.ra_trace.specs.declared.line.Line.{Line}
