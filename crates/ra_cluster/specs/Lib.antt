@@ -7,6 +7,7 @@ pub mod Settling
 pub mod Ordering
 pub mod Keys
 pub mod Stopping
+pub mod Granted
 pub mod Order
 pub mod Plan
 pub mod Outcome

@@ -131,34 +131,33 @@ fn books_of<R: Threads + Wait + Sync, G: Gate>(
     gate: &G,
 ) -> Result<(Vec<Book>, Vec<Grant>), Memory> {
     let sites = make_sites(alloc, script.nodes())?;
-    let grants = Mutex::new(Vec::new(alloc));
-    run_at(rt, alloc, script, &sites, &grants, gate)?;
+    let grants = run_at(rt, alloc, script, &sites, gate)?;
     let books = close_all(alloc, sites)?;
-    Ok((books, grants.into_inner()))
+    Ok((books, grants))
 }
 
-/// Runs a script by threads at these sites, with a post between them, and keeps the grants.
+/// Runs a script by threads at these sites, with a post between them, and returns what the clients were granted.
 fn run_at<R: Threads + Wait + Sync, G: Gate>(
     rt: &R,
     alloc: Global,
     script: &Script,
     sites: &[Site],
-    grants: &Mutex<Vec<Grant>>,
     gate: &G,
-) -> Result<(), Memory> {
+) -> Result<Vec<Grant>, Memory> {
     // The nodes of a script are 1 to 16, so only memory can be wanting.
     let Ok((post, inboxes)) = Post::new(alloc, script.nodes()) else {
         return Err(Memory);
     };
+    let grants = Mutex::new(Vec::new(alloc));
     let run = ScriptRun {
         script,
         sites,
         post: &post,
-        grants,
+        grants: &grants,
         gate,
     };
     run_threads(rt, alloc, &run, &inboxes);
-    Ok(())
+    Ok(grants.into_inner())
 }
 
 /// Makes the sites of a cluster of this many nodes, in the order of the nodes.

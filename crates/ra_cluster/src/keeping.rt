@@ -1,18 +1,16 @@
 //! What a book keeps at each event.
-ghost use Rattle.std.specs.Prelude.{◌≡◌, ◌≢◌, ◌+◌, ◌<◌, ◌≤◌, ◌^◌, ◌↔◌, ◌∷◌, ◌++◌, [], ℕ, List, All, length, map, slice_index_or, vec_len, vec_capacity, IfOk, IfSome, IsNone, IsTrue, MatchOption, MatchResult};
-ghost use Rattle.ra_stamp.specs.NodeId.{IsNodeNumber};
+ghost use Rattle.std.specs.Prelude.{◌≡◌, ◌≢◌, ◌+◌, ◌<◌, ◌≤◌, ◌^◌, ◌↔◌, ◌∷◌, ◌++◌, [], ℕ, List, All, length, slice_index_or, vec_len, vec_capacity, IfOk, IfSome, IsNone, IsTrue, MatchOption, MatchResult};
 ghost use Rattle.ra_stamp.specs.declared.entry.Mark.{Mark};
 ghost use Rattle.ra_stamp.specs.declared.message.Message.{Message};
-ghost use Rattle.ra_frame.specs.Fits.{Fits};
 ghost use Rattle.ra_frame.specs.declared.frame.Frame.{Frame};
-ghost use Rattle.ra_node.specs.Node.{NodeState, opening_node, IsConsistentNode};
-ghost use Rattle.ra_node.specs.Events.{NodeEvent, IsForThisNode};
+ghost use Rattle.ra_node.specs.Node.{NodeState};
+ghost use Rattle.ra_node.specs.Events.{NodeEvent};
 ghost use Rattle.ra_node.specs.Carried.{sends_at_most};
 ghost use Rattle.ra_cluster.specs.declared.event.BookKind.{BookKind};
 ghost use Rattle.ra_cluster.specs.declared.sent.Sent.{Sent};
 ghost use Rattle.ra_cluster.specs.History as spec;
 ghost use Rattle.ra_cluster.specs.History.{node_event, frames_at};
-ghost use Rattle.ra_cluster.specs.Book.{BookState, opening_book, as_sent, next_clock, with_event, HasClock, LeadsTo};
+ghost use Rattle.ra_cluster.specs.Book.{as_sent};
 ghost use Rattle.ra_cluster.specs.Keeping.{KeptHistoriesGoOn, Happens, Stays, IsFlagged};
 
 use crate::{

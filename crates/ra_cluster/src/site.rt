@@ -50,6 +50,7 @@ impl Model for Site {
 
 impl Site {
     ghost use Rattle.ra_cluster.specs.Book.{HasHistory};
+    ghost use Rattle.ra_cluster.specs.Granted.{IsGrantOf};
 
     /// Makes the site of node `me` of `nodes`, with a book in which nothing has happened yet. The highest number of each
     /// resource begins at `start`, 0 to 2^64-1, which is to be the same at all nodes. It does not allocate.
@@ -272,30 +273,38 @@ impl Site {
         name: Name,
         mode: Mode,
     ) -> Result<Grant, SiteError>
-        ensures node { IfOk result (λ grant. grant.entry.stamp.node ≡ self.now) }
-        ensures client { IfOk result (λ grant. grant.entry.client ≡ client) }
-        ensures name { IfOk result (λ grant. grant.entry.name ≡ name) }
-        ensures mode { IfOk result (λ grant. grant.entry.mode ≡ mode) }
+        ensures { IfOk result (IsGrantOf self.now client name mode) }
     {
         let mut book = self.book.lock(rt);
         for _ in rt.forever() {
-            if let Some(grant) = self.grant_in(&book, client, name, mode) {
-                return Ok(grant);
-            }
-            if let Some(stop) = book.fault() {
-                return Err(SiteError::Stopped(stop));
+            if let Some(outcome) = self.outcome_in(&book, client, name, mode) {
+                return outcome;
             }
             book = self.changed.wait(rt, book);
         }
         unreachable!()
     }
 
+    /// Returns what comes of a client's wait for a name, or `None` where it goes on.
+    fn outcome_in(
+        &self,
+        book: &Book,
+        client: u32,
+        name: Name,
+        mode: Mode,
+    ) -> Option<Result<Grant, SiteError>>
+        ensures { IfSome result (λ outcome. IfOk outcome (IsGrantOf self.now client name mode)) }
+    {
+        if let Some(grant) = self.grant_in(book, client, name, mode) {
+            return Some(Ok(grant));
+        }
+        let stop = book.fault()?;
+        Some(Err(SiteError::Stopped(stop)))
+    }
+
     /// Returns the grant of a name to a client of this node, where the book has it.
     fn grant_in(&self, book: &Book, client: u32, name: Name, mode: Mode) -> Option<Grant>
-        ensures node { IfSome result (λ grant. grant.entry.stamp.node ≡ self.now) }
-        ensures client { IfSome result (λ grant. grant.entry.client ≡ client) }
-        ensures name { IfSome result (λ grant. grant.entry.name ≡ name) }
-        ensures mode { IfSome result (λ grant. grant.entry.mode ≡ mode) }
+        ensures { IfSome result (IsGrantOf self.now client name mode) }
     {
         let entry = book.holder(&name)?;
         let is_granted = entry.stamp.node == self.node

@@ -36,17 +36,27 @@ pub fn run_threads<R: Threads + Wait + Sync, G: Gate>(
     run: &ScriptRun<'_, G>,
     inboxes: &[Inbox],
 ) {
-    let (sites, post, gate) = (run.sites, run.post, run.gate);
     thread::scope(thread::scope_env(), rt, move |nodes| {
-        for (site, inbox) in sites.iter().zip(inboxes) {
-            let started = nodes.spawn(move || site.pump(rt, alloc, inbox, post, sites, gate));
+        for (site, inbox) in run.sites.iter().zip(inboxes) {
+            let started = nodes.spawn(move || run_node(rt, alloc, run, site, inbox));
             if started.is_err() {
-                stop_all(rt, sites, Stop::Spawn);
+                stop_all(rt, run.sites, Stop::Spawn);
             }
         }
         run_clients(rt, alloc, run);
-        post.close(rt);
+        run.post.close(rt);
     })
+}
+
+/// Takes the frames of a node's inbox, one after the other, until the post is closed or the node refuses one.
+fn run_node<R: Wait, G: Gate>(
+    rt: &R,
+    alloc: Global,
+    run: &ScriptRun<'_, G>,
+    site: &Site,
+    inbox: &Inbox,
+) {
+    site.pump(rt, alloc, inbox, run.post, run.sites, run.gate);
 }
 
 /// Runs a thread for each client, and returns once they have ended.
@@ -64,16 +74,12 @@ fn run_clients<R: Threads + Wait + Sync, G: Gate>(rt: &R, alloc: Global, run: &S
 /// Does the operations of a client one after the other, until one is refused. A refusal stops each site, unless the client's
 /// is stopped already.
 fn run_client<R: Wait, G: Gate>(rt: &R, alloc: Global, run: &ScriptRun<'_, G>, client: u32) {
-    let script = run.script;
-    let Some(node) = script.node_of(client) else {
+    let Some(site) = site_of(run.script, run.sites, client) else {
         return;
     };
-    let Some(site) = run.sites.get(usize::from(node.get()) - 1) else {
-        return;
-    };
-    let count = script.ops_of(client).unwrap_or(0);
+    let count = run.script.ops_of(client).unwrap_or(0);
     for place in 0..count {
-        let Some(op) = script.op(client, place) else {
+        let Some(op) = run.script.op(client, place) else {
             return;
         };
         if let Err(refused) = do_op(rt, alloc, run, client, op, site) {
@@ -81,6 +87,12 @@ fn run_client<R: Wait, G: Gate>(rt: &R, alloc: Global, run: &ScriptRun<'_, G>, c
             return;
         }
     }
+}
+
+/// Returns the site of a client's node, or `None` where there is no such client or site.
+fn site_of<'a>(script: &Script, sites: &'a [Site], client: u32) -> Option<&'a Site> {
+    let node = script.node_of(client)?;
+    sites.get(usize::from(node.get()) - 1)
 }
 
 /// Does one operation of a client at its site.
