@@ -193,9 +193,9 @@ pub along_more : (limit left : ℕ) (old now new : Option (List ℕ)) (checker a
     → Takes checker line after → IsAlong limit (left - length bytes) old new after (number + 1)
 along_more limit left old now new checker after number (First nodes start) bytes along taken begins more takes = absurd takes
 along_more limit left old now new checker after number (Stepped step) bytes along taken begins more takes =
-    along_by limit left old now new checker after number (Stepped step) bytes along taken begins (takes along.front begins.0 along.stands)
+    along_by limit left old now new checker after number (Stepped step) bytes along taken begins (takes.on along.front begins.0 along.stands)
 along_more limit left old now new checker after number (Marked mark) bytes along taken begins more takes =
-    along_by limit left old now new checker after number (Marked mark) bytes along taken begins (takes along.front begins.0 along.stands)
+    along_by limit left old now new checker after number (Marked mark) bytes along taken begins (takes.on along.front begins.0 along.stands)
 along_more limit left old now new checker after number Last bytes along taken begins more takes = absurd (more refl)
 
 pub fails_next : LawsBelow → (limit left : ℕ) (old now new : Option (List ℕ)) (checker : Checker) (number : ℕ) (bytes : List ℕ) (fault : TraceError)
@@ -222,7 +222,7 @@ pub wrong_next : LawsBelow → (limit left : ℕ) (old now new : Option (List �
     → EndsSo Feed bytes new → Refuses checker line why → Judges limit old new (Invalid number why)
 wrong_next laws limit left old now new checker number line bytes why along taken begins ended refused =
     none_behind limit left old now new along.front bytes number why along.behind (not_whole laws limit left old now checker number along) taken
-    (inl (feed_is_over bytes new ended)) along.number_is (refused along.front bytes [] along.stands begins)
+    (inl (feed_is_over bytes new ended)) along.number_is (refused.wrong along.front bytes [] along.stands begins)
 
 pub no_memory_next : LawsBelow → (limit left : ℕ) (old now new : Option (List ℕ)) (checker : Checker) (number : ℕ) (bytes : List ℕ)
     → IsAlong limit left old now checker number → TakesBytes left now new bytes → EndsSo Feed bytes new → StopsWithin limit old new

@@ -1,6 +1,7 @@
 -- A line that a checker takes, and why one is wrong.
-use Rattle.std.proofs.Common.{◌≡◌, ◌≢◌, ℕ, ◌+◌, List, [], ◌∷◌, ◌++◌, drop, sym, ap, ◌∙◌, subst}
+use Rattle.std.proofs.Common.{◌≡◌, ◌≢◌, ℕ, ◌+◌, List, [], ◌∷◌, ◌++◌, drop, refl, sym, ap, ◌∙◌, subst}
 use Rattle.std.proofs.lemmas.List.{append-nil}
+use Rattle.std.proofs.lemmas.List.Elements.{All-nil, All-cons}
 use Rattle.std.proofs.lemmas.Grind.{flat_map-append}
 use Rattle.ra_stamp.specs.Sequence.{Listed}
 use Rattle.ra_stamp.specs.declared.entry.Mark.{Mark}
@@ -15,13 +16,28 @@ use Rattle.ra_world.specs.Traffic.{Move}
 use Rattle.ra_world.specs.Run.{IsRun, GoesOn}
 use Rattle.ra_world.specs.World.{WorldState, with_move, HasCause}
 use Rattle.ra_trace.specs.declared.line.Line.{Line}
-use Rattle.ra_trace.specs.declared.line.Line.TheVariants.{Stepped, Marked, Last}
+use Rattle.ra_trace.specs.declared.line.Line.TheVariants.{First, Stepped, Marked, Last}
 use Rattle.ra_trace.specs.declared.verdict.Cause.TheVariants as cause
 use Rattle.ra_trace.specs.declared.checker.Checker.{Checker}
+use Rattle.ra_trace.specs.TraceText.{IsLine}
 use Rattle.ra_trace.specs.Verdict.{IsFront, IsOfClient, TakesMessage, marks_in_line, marks_in}
-use Rattle.ra_trace.specs.Checking.{due_of, StandsBehind, Takes, Refuses}
+use Rattle.ra_trace.specs.Checking.{due_of, IsOpening, StandsBehind, TakesOn, Refuses}
 use Rattle.ra_trace.specs.Below.{LawsBelow}
 use Rattle.ra_trace.proofs.Fronts.{front_and_step, front_and_mark}
+
+-- ---- The first line
+
+pub opens : LawsBelow → (nodes start : ℕ) (checker : Checker) → IsOpening nodes start checker → IsLine (First nodes start)
+    → StandsBehind checker (First nodes start ∷ [])
+opens laws nodes start checker is ranges =
+    let line = First nodes start ∷ [] in
+    let run = subst (λ (w : WorldState). IsRun w.count w.start w.moves) is.world_is is.run in
+    record {
+      front = subst (λ (due : List Mark). IsFront checker.world.count checker.world.start checker.world.moves due line) (sym is.none)
+          (subst (λ (w : WorldState). IsFront w.count w.start w.moves [] line) (sym is.world_is)
+          (record { count = ranges.0; run = run; each = All-cons IsLine (First nodes start) [] ranges (All-nil IsLine); lines_are = refl }));
+      table = subst (TableRun []) (sym is.table_is) laws.empty;
+    }
 
 -- ---- Steps
 
@@ -30,10 +46,11 @@ front_of : (checker : Checker) (lines : List Line) (due : List Mark) → due_of 
 front_of checker lines due is stands =
     subst (λ (ms : List Mark). IsFront checker.world.count checker.world.start checker.world.moves ms lines) is stands.front
 
-pub step_is_taken : (old : Checker) (step : Step) (sends : List Message) (marks : Listed Mark) (world : WorldState) → due_of old ≡ []
+stands_by_step : (old : Checker) (step : Step) (sends : List Message) (marks : Listed Mark) (world : WorldState) → due_of old ≡ []
     → world ≡ with_move old.world step sends marks.items → IsRun world.count world.start world.moves
-    → Takes old (Stepped step) (record { world = world; table = old.table; marks = marks; come = 0 })
-step_is_taken old step sends marks world none is run lines ranges stands =
+    → (lines : List Line) → IsLine (Stepped step) → StandsBehind old lines
+    → StandsBehind (record { world = world; table = old.table; marks = marks; come = 0 }) (lines ++ Stepped step ∷ [])
+stands_by_step old step sends marks world none is run lines ranges stands =
     let move : Move = record { step = step; sends = sends; marks = marks.items } in
     let moves : world.moves ≡ old.world.moves ++ move ∷ [] = ap (λ (w : WorldState). w.moves) is in
     let count : world.count ≡ old.world.count = ap (λ (w : WorldState). w.count) is in
@@ -52,38 +69,50 @@ step_is_taken old step sends marks world none is run lines ranges stands =
           (sym (flat_map-append marks_in_line lines (Stepped step ∷ []) ∙ append-nil (marks_in lines))) stands.table;
     }
 
+pub step_is_taken : (old : Checker) (step : Step) (sends : List Message) (marks : Listed Mark) (world : WorldState) → due_of old ≡ []
+    → world ≡ with_move old.world step sends marks.items → IsRun world.count world.start world.moves
+    → TakesOn old (Stepped step) (record { world = world; table = old.table; marks = marks; come = 0 })
+step_is_taken old step sends marks world none is run =
+    record { on = λ lines ranges stands. stands_by_step old step sends marks world none is run lines ranges stands }
+
 -- a mark is due in front of the step
 pub step_comes_early : (checker : Checker) (step : Step) → due_of checker ≢ [] → Refuses checker (Stepped step) cause.Marks
-step_comes_early checker step some lines text rest stands begins =
-    (checker.world.count, checker.world.start, checker.world.moves, due_of checker, stands.front, Stepped step, rest, begins, some)
+step_comes_early checker step some =
+    record { wrong = λ lines text rest stands begins. (checker.world.count, checker.world.start, checker.world.moves, due_of checker, stands.front, Stepped step, rest, begins, some) }
 
 pub step_is_refused : (checker : Checker) (step : Step) → due_of checker ≡ [] → IsOfClient step
     → (GoesOn checker.world.count checker.world.start checker.world.moves step → ⊥) → Refuses checker (Stepped step) cause.Refused
-step_is_refused checker step none of_client stops lines text rest stands begins = (
-  checker.world.count,
-  checker.world.start,
-  checker.world.moves,
-  front_of checker lines [] none stands,
-  step,
-  rest,
-  begins,
-  of_client,
-  stops,
-)
+step_is_refused checker step none of_client stops =
+    record {
+      wrong = λ lines text rest stands begins. (
+        checker.world.count,
+        checker.world.start,
+        checker.world.moves,
+        front_of checker lines [] none stands,
+        step,
+        rest,
+        begins,
+        of_client,
+        stops,
+      );
+    }
 
 pub step_is_not_under_way : (checker : Checker) (step : Step) → due_of checker ≡ [] → TakesMessage step
     → (GoesOn checker.world.count checker.world.start checker.world.moves step → ⊥) → Refuses checker (Stepped step) cause.NotUnderWay
-step_is_not_under_way checker step none takes stops lines text rest stands begins = (
-  checker.world.count,
-  checker.world.start,
-  checker.world.moves,
-  front_of checker lines [] none stands,
-  step,
-  rest,
-  begins,
-  takes,
-  stops,
-)
+step_is_not_under_way checker step none takes stops =
+    record {
+      wrong = λ lines text rest stands begins. (
+        checker.world.count,
+        checker.world.start,
+        checker.world.moves,
+        front_of checker lines [] none stands,
+        step,
+        rest,
+        begins,
+        takes,
+        stops,
+      );
+    }
 
 -- whose step each cause refuses
 pub no_node_is_of_client : (n start : ℕ) (moves : List Move) (step : Step) → HasCause n start moves step NoNode → IsOfClient step
@@ -106,47 +135,59 @@ not_under_way_takes n start moves (Lose message) h = tt
 
 -- ---- Marks
 
-pub mark_is_taken : LawsBelow → (old : Checker) (mark : Mark) (table : LockTable) → TableStep old.table mark table
-    → due_of old ≡ mark ∷ drop (old.come + 1) old.marks.items
-    → Takes old (Marked mark) (record { world = old.world; table = table; marks = old.marks; come = old.come + 1 })
-mark_is_taken laws old mark table step due lines ranges stands = record {
+stands_by_mark : LawsBelow → (old : Checker) (mark : Mark) (table : LockTable) → TableStep old.table mark table
+    → due_of old ≡ mark ∷ drop (old.come + 1) old.marks.items → (lines : List Line) → IsLine (Marked mark) → StandsBehind old lines
+    → StandsBehind (record { world = old.world; table = table; marks = old.marks; come = old.come + 1 }) (lines ++ Marked mark ∷ [])
+stands_by_mark laws old mark table step due lines ranges stands = record {
   front = front_and_mark old.world.count old.world.start old.world.moves mark (drop (old.come + 1) old.marks.items) lines
       (front_of old lines (mark ∷ drop (old.come + 1) old.marks.items) due stands) ranges;
   table = subst (λ (ms : List Mark). TableRun ms table) (sym (flat_map-append marks_in_line lines (Marked mark ∷ [])))
       (laws.steps_on (marks_in lines) mark old.table table stands.table step);
 }
 
+pub mark_is_taken : LawsBelow → (old : Checker) (mark : Mark) (table : LockTable) → TableStep old.table mark table
+    → due_of old ≡ mark ∷ drop (old.come + 1) old.marks.items
+    → TakesOn old (Marked mark) (record { world = old.world; table = table; marks = old.marks; come = old.come + 1 })
+mark_is_taken laws old mark table step due =
+    record { on = λ lines ranges stands. stands_by_mark laws old mark table step due lines ranges stands }
+
 -- the lock table refuses the mark
 pub table_refuses : LawsBelow → (checker : Checker) (mark : Mark) → (AllowsMark checker.table mark → ⊥) → Refuses checker (Marked mark) cause.Table
-table_refuses laws checker mark refused lines text rest stands begins = (
-  checker.world.count,
-  checker.world.start,
-  checker.world.moves,
-  due_of checker,
-  stands.front,
-  mark,
-  rest,
-  begins,
-  λ on. refused ((laws.goes_on (marks_in lines) mark checker.table stands.table).1 on),
-)
+table_refuses laws checker mark refused =
+    record {
+      wrong = λ lines text rest stands begins. (
+        checker.world.count,
+        checker.world.start,
+        checker.world.moves,
+        due_of checker,
+        stands.front,
+        mark,
+        rest,
+        begins,
+        λ on. refused ((laws.goes_on (marks_in lines) mark checker.table stands.table).1 on),
+      );
+    }
 
 -- the lock table allows the mark, but another one is due, or none
 pub mark_is_not_due : LawsBelow → (checker : Checker) (mark : Mark) (table : LockTable) → TableStep checker.table mark table
     → ((others : List Mark) → due_of checker ≢ mark ∷ others) → Refuses checker (Marked mark) cause.Marks
-mark_is_not_due laws checker mark table step other lines text rest stands begins = (
-  checker.world.count,
-  checker.world.start,
-  checker.world.moves,
-  due_of checker,
-  stands.front,
-  Marked mark,
-  rest,
-  begins,
-  ((table, laws.steps_on (marks_in lines) mark checker.table table stands.table step), other),
-)
+mark_is_not_due laws checker mark table step other =
+    record {
+      wrong = λ lines text rest stands begins. (
+        checker.world.count,
+        checker.world.start,
+        checker.world.moves,
+        due_of checker,
+        stands.front,
+        Marked mark,
+        rest,
+        begins,
+        ((table, laws.steps_on (marks_in lines) mark checker.table table stands.table step), other),
+      );
+    }
 
 -- ---- Other lines
 
 pub last_comes_early : (checker : Checker) → due_of checker ≢ [] → Refuses checker Last cause.Marks
-last_comes_early checker some lines text rest stands begins =
-    (checker.world.count, checker.world.start, checker.world.moves, due_of checker, stands.front, Last, rest, begins, some)
+last_comes_early checker some =
+    record { wrong = λ lines text rest stands begins. (checker.world.count, checker.world.start, checker.world.moves, due_of checker, stands.front, Last, rest, begins, some) }

@@ -1,7 +1,8 @@
 -- Where a checker stands behind the lines that it took. No public contract speaks of it.
 use Rattle.std.specs.Prelude.{◌≡◌, ℕ, List, [], ◌∷◌, ◌++◌, drop}
 use Rattle.ra_stamp.specs.declared.entry.Mark.{Mark}
-use Rattle.ra_table.specs.Table.{TableRun}
+use Rattle.ra_table.specs.Table.{empty_table, TableRun}
+use Rattle.ra_world.specs.Run.{IsRun}
 use Rattle.ra_trace.specs.declared.line.Line.{Line}
 use Rattle.ra_trace.specs.declared.line.Line.TheVariants.{First, Stepped, Marked, Last}
 use Rattle.ra_trace.specs.declared.verdict.Cause.{Cause}
@@ -18,16 +19,24 @@ pub record StandsBehind (checker : Checker) (lines : List Line) : Type 0 where
   pub front : IsFront checker.world.count checker.world.start checker.world.moves (due_of checker) lines
   pub table : TableRun (marks_in lines) checker.table
 
+-- nothing has happened yet in a cluster of so many nodes
+pub record IsOpening (nodes start : ℕ) (checker : Checker) : Type 0 where
+  pub world_is : checker.world ≡ record { count = nodes; start = start; moves = [] }
+  pub run : IsRun checker.world.count checker.world.start checker.world.moves
+  pub table_is : checker.table ≡ empty_table
+  pub none : due_of checker ≡ []
+
+-- behind this line the checker stands where it was right
+pub record TakesOn (old : Checker) (line : Line) (new : Checker) : Type 0 where
+  pub on : (lines : List Line) → IsLine line → StandsBehind old lines → StandsBehind new (lines ++ line ∷ [])
+
 -- a line that is right is the next one of the front, or the last one where no mark is due
 abbrev pub Takes : Checker → Line → Checker → Type 0
 Takes old (First nodes start) new = ⊥
-Takes old (Stepped step) new =
-    (lines : List Line) → IsLine (Stepped step) → StandsBehind old lines → StandsBehind new (lines ++ Stepped step ∷ [])
-Takes old (Marked mark) new =
-    (lines : List Line) → IsLine (Marked mark) → StandsBehind old lines → StandsBehind new (lines ++ Marked mark ∷ [])
+Takes old (Stepped step) new = TakesOn old (Stepped step) new
+Takes old (Marked mark) new = TakesOn old (Marked mark) new
 Takes old Last new = (new ≡ old) × (due_of old ≡ [])
 
 -- the line is wrong for this cause, behind any lines behind which the checker may stand
-abbrev pub Refuses : Checker → Line → Cause → Type 0
-Refuses checker line why =
-    (lines : List Line) (text rest : List ℕ) → StandsBehind checker lines → BeginsWith text line rest → IsWrong lines text why
+pub record Refuses (checker : Checker) (line : Line) (why : Cause) : Type 0 where
+  pub wrong : (lines : List Line) (text rest : List ℕ) → StandsBehind checker lines → BeginsWith text line rest → IsWrong lines text why

@@ -10,7 +10,7 @@ use crate::laws::traces_rest_on_runs;
 use crate::line::Line;
 use crate::tables::step_table;
 use crate::{Cause, TraceError, Verdict};
-use ra_stamp::{Mark, Marks, equal_is_same};
+use ra_stamp::{Mark, Marks, NodeId, equal_is_same};
 use ra_table::Table;
 use ra_world::{Step, StepError, World};
 use std::alloc::Global;
@@ -28,7 +28,7 @@ pub struct Checker {
 }
 
 impl Checker {
-    ghost use Rattle.ra_trace.specs.Checking.{due_of, StandsBehind, Takes, Refuses};
+    ghost use Rattle.ra_trace.specs.Checking.{due_of, IsOpening, StandsBehind, Takes, TakesOn, Refuses};
 
     /// Makes the checker that stands behind this line, or answers `None` where it is no first line.
     ///
@@ -45,16 +45,37 @@ impl Checker {
         let Line::First { nodes, start } = line else {
             return Ok(None);
         };
+        match Checker::opening(alloc, *nodes, *start) {
+            Ok(checker) => Ok(Some(checker)),
+            Err(fault) => Err(fault),
+        }
+    }
+
+    /// Makes the checker that stands behind the first line of a trace of so many nodes.
+    ///
+    /// # Errors
+    ///
+    /// `Memory`.
+    fn opening(alloc: Global, nodes: NodeId, start: u64) -> Result<Checker, TraceError>
+        ensures ok { IfOk result (IsOpening nodes start) }
+        ensures err { IfErr result (λ fault. fault ≡ TraceError.Memory) }
+    {
         // There are 1 to 16 nodes, so only memory can be wanting.
-        let Ok(world) = World::new(alloc, nodes.get(), *start) else {
+        let Ok(world) = World::new(alloc, nodes.get(), start) else {
             return Err(TraceError::Memory);
         };
-        Ok(Some(Checker {
-            world,
-            table: Table::new(alloc)?,
-            marks: Marks::new(alloc),
-            come: 0,
-        }))
+        match Table::new(alloc) {
+            Ok(table) => Ok(Checker {
+                world,
+                table,
+                marks: Marks::new(alloc),
+                come: 0,
+            }),
+            Err(refused) => {
+                drop(world);
+                Err(refused.into())
+            }
+        }
     }
 
     /// Takes the next line, and answers why it is wrong, or `None` where it is right. It steps the world and the lock table
@@ -123,7 +144,7 @@ impl Checker {
     ///
     /// `Memory`.
     fn take_step(&mut self, alloc: Global, step: &Step) -> Result<Option<Cause>, TraceError>
-        ensures right { IfOk result (λ cause. IsNone cause → Takes self.old (Line.Stepped step.now) self.new) }
+        ensures right { IfOk result (λ cause. IsNone cause → TakesOn self.old (Line.Stepped step.now) self.new) }
         ensures wrong { IfOk result (λ cause. IfSome cause (Refuses self.old (Line.Stepped step.now))) }
         ensures err { IfErr result (λ fault. fault ≡ TraceError.Memory) }
     {
@@ -149,7 +170,7 @@ impl Checker {
     ///
     /// `Memory`.
     fn take_mark(&mut self, mark: &Mark) -> Result<Option<Cause>, TraceError>
-        ensures right { IfOk result (λ cause. IsNone cause → Takes self.old (Line.Marked mark.now) self.new) }
+        ensures right { IfOk result (λ cause. IsNone cause → TakesOn self.old (Line.Marked mark.now) self.new) }
         ensures wrong { IfOk result (λ cause. IfSome cause (Refuses self.old (Line.Marked mark.now))) }
         ensures err { IfErr result (λ fault. fault ≡ TraceError.Memory) }
     {

@@ -169,7 +169,11 @@ fn verdict_of<R: Read>(alloc: Global, reader: &mut R, limit: usize) -> Result<Ve
 {
     let mut bytes = LineBytes::new();
     match take_first(alloc, reader, &mut bytes, limit)? {
-        Some(mut checker) => verdict_behind(alloc, reader, &mut bytes, &mut checker, limit),
+        Some(mut checker) => {
+            let verdict = verdict_behind(alloc, reader, &mut bytes, &mut checker, limit);
+            drop(checker);
+            verdict
+        }
         None => Ok(wrong_at(1)),
     }
 }

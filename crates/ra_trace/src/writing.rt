@@ -282,7 +282,9 @@ pub fn trace_text(
 {
     let mut world = opening_world(alloc, nodes, start)?;
     let mut text = String::new(alloc);
-    trace_run(alloc, &mut text, &mut world, nodes, start, steps)?;
+    let written = trace_run(alloc, &mut text, &mut world, nodes, start, steps);
+    drop(world);
+    written?;
     Ok(text)
 }
 
