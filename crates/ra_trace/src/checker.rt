@@ -17,7 +17,7 @@ use std::alloc::Global;
 
 /// What a checker knows behind the lines that it took: the world after their steps, the lock table after their marks, and
 /// which marks of the last step have not come yet. It keeps nothing of the text.
-#[derive(Debug, Drop)]
+#[derive(Drop)]
 pub struct Checker {
     world: World,
     table: Table,
@@ -72,6 +72,7 @@ impl Checker {
                 come: 0,
             }),
             Err(refused) => {
+                // By a call, since to drop each of its parts here is long to prove.
                 drop(world);
                 Err(refused.into())
             }

@@ -171,6 +171,7 @@ fn verdict_of<R: Read>(alloc: Global, reader: &mut R, limit: usize) -> Result<Ve
     match take_first(alloc, reader, &mut bytes, limit)? {
         Some(mut checker) => {
             let verdict = verdict_behind(alloc, reader, &mut bytes, &mut checker, limit);
+            // By a call, since to drop each of its parts here is long to prove.
             drop(checker);
             verdict
         }

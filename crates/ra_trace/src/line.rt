@@ -2,7 +2,7 @@ use ra_stamp::{Mark, NodeId};
 use ra_world::Step;
 
 /// A line of a trace.
-#[derive(Clone, Copy, Debug, PartialEq, Eq)]
+#[derive(Clone, Copy)]
 pub enum Line {
     /// The first one: how many nodes there are, and the number that each resource begins with.
     First { nodes: NodeId, start: u64 },

@@ -20,7 +20,7 @@ pub const MAX_LINE: usize = 128;
 pub type LineBytes = ArrayVec<u8, MAX_LINE>;
 
 /// With what the bytes of a line end.
-#[derive(Clone, Copy, Debug, PartialEq, Eq)]
+#[derive(Clone, Copy)]
 pub enum LineEnd {
     /// Their last one is a line feed.
     Feed,

@@ -283,6 +283,7 @@ pub fn trace_text(
     let mut world = opening_world(alloc, nodes, start)?;
     let mut text = String::new(alloc);
     let written = trace_run(alloc, &mut text, &mut world, nodes, start, steps);
+    // By a call, and before the `?`, since to drop each of its parts here is long to prove.
     drop(world);
     written?;
     Ok(text)
