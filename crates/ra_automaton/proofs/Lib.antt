@@ -4,4 +4,5 @@ mod WordLemmas
 pub mod Opening
 mod Sent
 pub mod Consistent
+pub mod Refusals
 mod Kept

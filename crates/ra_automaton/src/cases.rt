@@ -5,9 +5,8 @@
 //! `Automaton::effect`, and on these the clause `ok` of `Automaton::receive`: its `ReceiveStep` has the three
 //! rules, `Defers` and `RepliesAtOnce` for a REQUEST, and `TakesReply` for a REPLY.
 ghost use Rattle.std.specs.Prelude.{◌≡◌, ◌↔◌, true, false};
-ghost use Rattle.ra_stamp.specs.Mode.{Conflict};
 ghost use Rattle.ra_stamp.specs.Stamp.{IsEarlier};
-ghost use Rattle.ra_automaton.specs.Cases.{IsLater};
+ghost use Rattle.ra_automaton.specs.Cases.{IsLater, IsAnswer};
 
 use Answer::{Defer, Reply};
 use Comparison::{HigherNode, HigherNumber, LowerNode, LowerNumber};
@@ -16,7 +15,7 @@ use Mode::{Exclusive, Shared};
 use ra_stamp::{Mode, Stamp};
 
 /// What a REQUEST leads to.
-#[derive(Clone, Copy, Debug, PartialEq, Eq)]
+#[derive(Clone, Copy)]
 pub enum Answer {
     /// The REPLY goes out at once.
     Reply,
@@ -25,7 +24,7 @@ pub enum Answer {
 }
 
 /// What a REPLY leads to.
-#[derive(Clone, Copy, Debug, PartialEq, Eq)]
+#[derive(Clone, Copy, PartialEq, Eq)]
 pub enum Effect {
     /// It is not awaited.
     Stray,
@@ -36,7 +35,7 @@ pub enum Effect {
 }
 
 /// How the stamp of a REQUEST compares with that of the node's own request.
-#[derive(Clone, Copy, Debug, PartialEq, Eq)]
+#[derive(Clone, Copy)]
 pub enum Comparison {
     /// Its number is lower.
     LowerNumber,
@@ -84,8 +83,7 @@ pub fn answer_when_idle(wanted: Mode) -> Answer
 /// Returns what a REQUEST leads to at a node that waits, by its own mode, the mode that is wanted, and how the
 /// stamps compare.
 pub fn answer_when_waiting(own: Mode, wanted: Mode, comparison: Comparison) -> Answer
-    ensures defer { result ≡ Answer.Defer → Conflict own wanted × IsLater comparison }
-    ensures reply { result ≡ Answer.Reply → Conflict own wanted → IsLater comparison → ⊥ }
+    ensures { IsAnswer own wanted comparison result }
 {
     table! { (own, wanted, comparison);
         (Shared, Shared, LowerNumber) => Reply;
@@ -109,8 +107,7 @@ pub fn answer_when_waiting(own: Mode, wanted: Mode, comparison: Comparison) -> A
 
 /// Returns what a REQUEST leads to at a node that is inside, likewise.
 pub fn answer_when_inside(own: Mode, wanted: Mode, comparison: Comparison) -> Answer
-    ensures defer { result ≡ Answer.Defer → Conflict own wanted × IsLater comparison }
-    ensures reply { result ≡ Answer.Reply → Conflict own wanted → IsLater comparison → ⊥ }
+    ensures { IsAnswer own wanted comparison result }
 {
     table! { (own, wanted, comparison);
         (Shared, Shared, LowerNumber) => Reply;
@@ -133,7 +130,7 @@ pub fn answer_when_inside(own: Mode, wanted: Mode, comparison: Comparison) -> An
 }
 
 /// What a node is doing, without the number and the mode of its request.
-#[derive(Clone, Copy, Debug, PartialEq, Eq)]
+#[derive(Clone, Copy)]
 pub enum Doing {
     /// It is idle.
     Nothing,

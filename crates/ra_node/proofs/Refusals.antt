@@ -1,14 +1,11 @@
 -- What the refusals of a node tell.
-use Rattle.std.proofs.Common.{◌≡◌, ◌≢◌, ◌↔◌, ◌⊎◌, ℕ, ◌<◌, List, Result, Ok, Err, refl, sym, ap, ◌∙◌, subst, arith, inl, inr}
+use Rattle.std.proofs.Common.{◌≡◌, ◌↔◌, ℕ, ◌<◌, List, Result, Ok, Err, refl, sym, ap, ◌∙◌, subst, arith, inl, inr}
 use Rattle.std.specs.Prelude.{MatchResult, IsOk, IsErrOf, IsOkUnless}
 use Rattle.std.proofs.lemmas.Bool.{true≢false}
 use Rattle.ra_stamp.specs.declared.entry.Entry.{Entry}
 use Rattle.ra_stamp.specs.declared.entry.Mark.{Mark}
 use Rattle.ra_stamp.specs.declared.message.Message.{Message}
-use Rattle.ra_stamp.specs.Message.{from_of, to_of}
-use Rattle.ra_automaton.specs.declared.error.ReceiveError.{ReceiveError}
-use Rattle.ra_automaton.specs.declared.error.ReceiveError.TheVariants as receiving
-use Rattle.ra_automaton.specs.State.{IsForNode, IsConsistent}
+use Rattle.ra_automaton.specs.State.{IsConsistent}
 use Rattle.ra_automaton.specs.Steps.{greatest_number}
 use Rattle.ra_node.specs.declared.error.AskError.{AskError}
 use Rattle.ra_node.specs.declared.error.AskError.TheVariants as asking
@@ -142,59 +139,3 @@ left_tells (Err leaving.Memory) r client new Same ended =
       not_held = (λ e. absurd (not_held_apart (sym (same_error leaving.Memory leaving.NotHeld e))), λ none. absurd (none ended.0.0 ended.0.1));
       allowed = (λ _. ended.0, λ _. refl);
     }
-
--- ---- A message comes
-
--- what the end of a message tells
-pub record ReceiveTells {X : Type 0} (result : Result X ReceiveError) (me nodes : ℕ) (message : Message) : Type 0 where
-  pub wrong_node : IsErrOf result receiving.WrongNode ↔ (to_of message ≢ me)
-  pub stranger : IsErrOf result receiving.Stranger ↔ ((to_of message ≡ me) × ((from_of message ≡ me) ⊎ (nodes < from_of message)))
-  pub allowed : IsOkUnless result receiving.Memory ↔ IsForNode me nodes message
-
-wrong_node_apart : receiving.WrongNode ≡ receiving.Memory → ⊥
-wrong_node_apart e = cc
-
-stranger_apart : receiving.Stranger ≡ receiving.Memory → ⊥
-stranger_apart e = cc
-
-wrong_node_is_no_stranger : receiving.WrongNode ≡ receiving.Stranger → ⊥
-wrong_node_is_no_stranger e = cc
-
--- the sender of a message for a node is no stranger
-no_stranger : (me nodes : ℕ) (message : Message) → IsForNode me nodes message → (from_of message ≡ me) ⊎ (nodes < from_of message) → ⊥
-no_stranger me nodes message is either =
-    elim either [
-      | inl same ↦ is.from.other same
-      | inr above ↦ absurd (omega (arith, above, is.from.last))
-    ]
-
-module _ {X : Type 0} (me nodes : ℕ) (message : Message) where
-  pub wrong_node_tells : to_of message ≢ me → ReceiveTells {X = X} (Err receiving.WrongNode) me nodes message
-  wrong_node_tells wrong =
-      record {
-        wrong_node = (λ _. wrong, λ _. refl);
-        stranger = (λ e. absurd (wrong_node_is_no_stranger (same_error receiving.WrongNode receiving.Stranger e)), λ h. absurd (wrong h.0));
-        allowed = (λ e. absurd (wrong_node_apart e), λ is. absurd (wrong is.to));
-      }
-
-  pub stranger_tells : to_of message ≡ me → (from_of message ≡ me) ⊎ (nodes < from_of message) → ReceiveTells {X = X} (Err receiving.Stranger) me nodes message
-  stranger_tells here either =
-      record {
-        wrong_node = (λ e. absurd (wrong_node_is_no_stranger (sym (same_error receiving.Stranger receiving.WrongNode e))), λ wrong. absurd (wrong here));
-        stranger = (λ _. (here, either), λ _. refl);
-        allowed = (λ e. absurd (stranger_apart e), λ is. absurd (no_stranger me nodes message is either));
-      }
-
-  pub received_tells : (result : Result X ReceiveError) (P : X → Type 0) (Same : Type 0) → IsForNode me nodes message → MatchResult result P (λ fault. (fault ≡ receiving.Memory) × Same) → ReceiveTells result me nodes message
-  received_tells (Ok x) P Same is ended =
-      record {
-        wrong_node = (λ e. absurd (ok_apart x receiving.WrongNode e), λ wrong. absurd (wrong is.to));
-        stranger = (λ e. absurd (ok_apart x receiving.Stranger e), λ h. absurd (no_stranger me nodes message is h.1));
-        allowed = (λ _. is, λ _. tt);
-      }
-  received_tells (Err fault) P Same is ended =
-      record {
-        wrong_node = (λ e. absurd (wrong_node_apart (sym (same_error fault receiving.WrongNode e) ∙ ended.0)), λ wrong. absurd (wrong is.to));
-        stranger = (λ e. absurd (stranger_apart (sym (same_error fault receiving.Stranger e) ∙ ended.0)), λ h. absurd (no_stranger me nodes message is h.1));
-        allowed = (λ _. is, λ _. ended.0);
-      }

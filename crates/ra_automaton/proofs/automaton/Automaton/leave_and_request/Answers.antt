@@ -1,11 +1,15 @@
-use Rattle.std.proofs.Common.{◌≡◌, ℕ, ◌+◌, List, [], ◌++◌, length, map, subst, sym, ap, ◌∙◌, refl, arith, rules}
+use Rattle.std.proofs.Common.{◌≡◌, ℕ, ◌+◌, List, [], ◌++◌, length, map, Ok, IfErr, subst, sym, ap, ◌∙◌, refl, arith, rules}
 use Rattle.std.specs.FinMap as finmap
+use Rattle.std.proofs.lemmas.Bool.{true≢false}
 use Rattle.ra_stamp.specs.declared.message.Message.TheVariants.{Request, Reply}
+use Rattle.ra_automaton.specs.declared.error.LeaveError.TheVariants.{Memory}
+use Rattle.ra_automaton.specs.declared.reaction.Reaction.{Reaction}
 use Rattle.ra_automaton.specs.Steps.{LeaveStep, others_of}
 use Rattle.ra_automaton.specs.Words.{map_of}
-use Rattle.ra_automaton.specs.State.{State, IsConsistent, IsInside}
+use Rattle.ra_automaton.specs.State.{State, IsConsistent}
 use Rattle.ra_automaton.proofs.Consistent.{consistent_end, consistent_begins, inside_is}
 use Rattle.ra_automaton.proofs.Kept.{deferred_within}
+use Rattle.ra_automaton.proofs.Refusals.{left_tells}
 use Rattle.ra_automaton.proofs.automaton.Automaton.leave_and_request.Goals as goal
 
 pub push_replies-requires-clause-numbered : goal.push_replies-requires-clause-numbered
@@ -14,7 +18,7 @@ push_replies-requires-clause-numbered c node there =
 
 pub returns-clause-ok : goal.returns-clause-ok
 returns-clause-ok c =
-    let inside : IsInside c.args.self.now.phase = search rules in
+    let inside = c.is_inside.ensures.0 c.if-not-is_inside.false in
     let held = inside_is c.args.self.now.phase inside in
     let sent : c.push_replies.new.sends.items ≡ [] ++ map (λ entry. Reply c.self.inside.me entry.0 c.self.inside.name entry.1) (finmap.entries (map_of c.self.inside.deferred c.deref.result.now)) = search rules in
     let here : c.push_replies.new.sends.items ≡ map (λ entry. Reply c.self.inside.me entry.0 c.self.inside.name entry.1) (finmap.entries (map_of c.self.inside.deferred c.self.inside.numbers.items)) =
@@ -37,5 +41,33 @@ returns-clause-ok c =
 pub returns-clause-consistent : goal.returns-clause-consistent
 returns-clause-consistent c =
     let old = subst IsConsistent c.self.view_is c.self.invariant.consistent in
-    let ended = subst IsConsistent (sym c.end.ensures) (consistent_end c.args.self.now old (search rules)) in
+    let ended = subst IsConsistent (sym c.end.ensures) (consistent_end c.args.self.now old (c.is_inside.ensures.0 c.if-not-is_inside.false)) in
     consistent_begins c.end.new.self c.args.mode c.begin-entered.result c.begin-entered.new.self ended (search rules) c.begin-entered.ensures
+
+pub returns-then-not-is_inside-clause-consistent : goal.returns-then-not-is_inside-clause-consistent
+returns-then-not-is_inside-clause-consistent c = subst IsConsistent c.self.view_is c.self.invariant.consistent
+
+pub returns-then-not-is_inside-clause-not_held : goal.returns-then-not-is_inside-clause-not_held
+returns-then-not-is_inside-clause-not_held c = (λ _ inside. true≢false (sym (c.is_inside.ensures.1 inside) ∙ c.if-not-is_inside.true), λ _. refl)
+
+pub returns-in_err-push_replies-clause-consistent : goal.returns-in_err-push_replies-clause-consistent
+returns-in_err-push_replies-clause-consistent c = subst IsConsistent c.self.view_is c.self.invariant.consistent
+
+pub returns-in_err-push_replies-clause-not_held : goal.returns-in_err-push_replies-clause-not_held
+returns-in_err-push_replies-clause-not_held c =
+    let memory : IfErr c.from_residual.result (λ fault. fault ≡ Memory) = search rules in
+    left_tells c.from_residual.result c.args.self.now (c.is_inside.ensures.0 c.if-not-is_inside.false) memory
+
+pub returns-in_err-push_requests-clause-consistent : goal.returns-in_err-push_requests-clause-consistent
+returns-in_err-push_requests-clause-consistent c = subst IsConsistent c.self.view_is c.self.invariant.consistent
+
+pub returns-in_err-push_requests-clause-not_held : goal.returns-in_err-push_requests-clause-not_held
+returns-in_err-push_requests-clause-not_held c =
+    let memory : IfErr c.from_residual-in_err-push_requests.result (λ fault. fault ≡ Memory) = search rules in
+    left_tells c.from_residual-in_err-push_requests.result c.args.self.now (c.is_inside.ensures.0 c.if-not-is_inside.false) memory
+
+pub returns-clause-not_held : goal.returns-clause-not_held
+returns-clause-not_held c = left_tells {X = Reaction} (Ok _) c.args.self.now (c.is_inside.ensures.0 c.if-not-is_inside.false) tt
+
+pub end-requires : goal.end-requires
+end-requires c = c.is_inside.ensures.0 c.if-not-is_inside.false

@@ -8,7 +8,7 @@ use Rattle.ra_node.specs.declared.outcome.Outcome.{Outcome}
 use Rattle.ra_node.specs.declared.queued.Queued.{Queued}
 use Rattle.ra_node.specs.Resource.{Resource, waiting_at}
 use Rattle.ra_node.specs.Node.{NodeState, IsConsistentNode}
-use Rattle.ra_node.proofs.Refusals.{ReceiveTells, wrong_node_tells, stranger_tells, received_tells}
+use Rattle.ra_automaton.proofs.Refusals.{ReceiveTells, wrong_node_tells, stranger_tells, received_tells}
 use Rattle.ra_node.specs.Events.{ReceiveEvent}
 use Rattle.ra_node.proofs.After.{received_at, kept_as, same_view, seen_from}
 use Rattle.ra_node.proofs.EventLemmas.{addressed}
