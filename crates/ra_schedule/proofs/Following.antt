@@ -1,5 +1,5 @@
 -- Moves that follow one policy are one list as far as they go, and end in one way.
-use Rattle.std.proofs.Common.{◌≡◌, ◌⊎◌, ℕ, zero, suc, ◌<◌, ◌≤◌, Option, Some, None, List, [], ◌∷◌, ◌++◌, length, take, drop, refl, sym, ap, ◌∙◌, subst, arith, inl, inr}
+use Rattle.std.proofs.Common.{◌≡◌, ◌⊎◌, ℕ, zero, suc, ◌<◌, ◌≤◌, Bool, Option, Some, None, Result, Ok, Err, IfOk, IfErr, List, [], ◌∷◌, ◌++◌, length, take, drop, refl, sym, ap, ◌∙◌, subst, arith, inl, inr}
 use Rattle.std.proofs.lemmas.List as lists
 use Rattle.ra_stamp.specs.NodeId.{IsNodeNumber}
 use Rattle.ra_world.specs.declared.step.Step.{Step}
@@ -7,10 +7,12 @@ use Rattle.ra_world.specs.Traffic.{Move}
 use Rattle.ra_world.specs.Run.{IsRun}
 use Rattle.ra_schedule.specs.declared.choice.Choice.{Choice}
 use Rattle.ra_schedule.specs.declared.choice.Policy.{Policy}
+use Rattle.ra_schedule.specs.declared.driving.Recording.{Recording}
 use Rattle.ra_schedule.specs.declared.error.DriveError.{DriveError}
 use Rattle.ra_schedule.specs.declared.error.DriveError.TheVariants.{TurnLimit, BadPlace, NotEnabled, Memory}
 use Rattle.ra_schedule.specs.Script.{ScriptState}
 use Rattle.ra_schedule.specs.Schedule.{steps_of, StandsFor, Picks, IsBadPlace, IsNotEnabled, Ends, Follows, Stops}
+use Rattle.ra_schedule.specs.Driving.{IsRefused, IsStopped, Answers, Records}
 use Rattle.ra_schedule.specs.Below.{LawsBelow}
 use Rattle.ra_schedule.proofs.Lists.{split_last, at_place}
 use Rattle.ra_schedule.proofs.Waiting.{steps_of-append}
@@ -195,6 +197,60 @@ refused_here script policy limit moves choice fault picks less (inl (is, bad)) =
     subst (Stops script policy limit moves) (sym is) (less, (choice, picks, bad))
 refused_here script policy limit moves choice fault picks less (inr (is, not)) =
     subst (Stops script policy limit moves) (sym is) (less, (choice, picks, not))
+
+pub stopped_here : (script : ScriptState) (policy : Policy) (limit : ℕ) (moves : List Move) (fault : DriveError)
+    → Follows script policy moves → length moves < limit → IsRefused script policy moves fault → IsStopped script policy limit fault
+stopped_here script policy limit moves fault follows less (choice, picks, inl memory) = inl memory
+stopped_here script policy limit moves fault follows less (choice, picks, inr cause) =
+    inr (moves, follows, refused_here script policy limit moves choice fault picks less cause)
+
+-- ---- What is answered
+
+none_some : {X : Type 0} {x : X} → None ≡ Some x → ⊥
+none_some e = cc
+
+some_same : {X : Type 0} {x y : X} → Some x ≡ Some y → x ≡ y
+some_same e = cc
+
+err_same : {X : Type 0} {x y : DriveError} → ◌≡◌ {A = Result X DriveError} (Err x) (Err y) → x ≡ y
+err_same e = cc
+
+no_ok : {X : Type 0} {x : X} {y : DriveError} → Ok x ≡ Err y → ⊥
+no_ok e = cc
+
+-- an end where no choice is left
+answers_ok : {X : Type 0} → LawsBelow → (script : ScriptState) (policy : Policy) (limit : ℕ) (moves : List Move) (value : X)
+    → IsNodeNumber script.nodes → Follows script policy moves → Ends script policy moves → length moves ≤ limit
+    → Answers script policy limit (Ok value)
+answers_ok laws script policy limit moves value count follows ends within = record {
+  refused = λ cause apart is. absurd (no_ok is);
+  exact = λ cause other follows' stops.
+      absurd (none_some (one_ending laws script policy limit moves other None (Some cause) count follows follows' (ends, within) stops));
+  allowed = λ other follows' ends' within'. tt;
+}
+
+-- an end by a refusal
+answers_err : {X : Type 0} → LawsBelow → (script : ScriptState) (policy : Policy) (limit : ℕ) (fault : DriveError)
+    → IsNodeNumber script.nodes → IsStopped script policy limit fault → Answers {X = X} script policy limit (Err fault)
+answers_err laws script policy limit fault count (inl memory) = record {
+  refused = λ cause apart is. absurd (apart (sym (err_same is) ∙ memory));
+  exact = λ cause moves follows stops. inr (ap Err memory);
+  allowed = λ moves follows ends within. memory;
+}
+answers_err laws script policy limit fault count (inr (moves, follows, stops)) = record {
+  refused = λ cause apart is. (moves, follows, subst (Stops script policy limit moves) (err_same is) stops);
+  exact = λ cause other follows' stops'.
+      inl (ap Err (some_same (one_ending laws script policy limit moves other (Some fault) (Some cause) count follows follows' stops stops')));
+  allowed = λ other follows' ends within.
+      absurd (none_some (one_ending laws script policy limit other moves None (Some fault) count follows' follows (ends, within) stops));
+}
+
+pub answers : LawsBelow → (script : ScriptState) (policy : Policy) (limit : ℕ) (records : Bool) (result : Result Recording DriveError)
+    → IsNodeNumber script.nodes → IfOk result (Records script policy limit records) → IfErr result (IsStopped script policy limit)
+    → Answers script policy limit result
+answers laws script policy limit records (Ok recording) count told none =
+    answers_ok laws script policy limit told.moves recording count told.follows told.ends told.within
+answers laws script policy limit records (Err fault) count none told = answers_err laws script policy limit fault count told
 
 -- where two lists of moves follow a policy to its end, they are one
 pub one_run : LawsBelow → (script : ScriptState) (policy : Policy) (a b : List Move) → IsNodeNumber script.nodes

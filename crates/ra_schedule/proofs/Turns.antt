@@ -1,9 +1,8 @@
 -- What the driver keeps from turn to turn, and how its end is read off.
-use Rattle.std.proofs.Common.{◌≡◌, ℕ, zero, suc, ◌+◌, ◌<◌, ◌≤◌, ◌^◌, Bool, true, false, Option, Some, None, List, [], ◌∷◌, ◌++◌, All, length, take, replicate, slice_get, slice_index_or, refl, sym, ap, ◌∙◌, subst, arith, inl, inr}
+use Rattle.std.proofs.Common.{◌≡◌, ℕ, zero, suc, ◌+◌, ◌<◌, ◌≤◌, ◌^◌, Bool, true, false, Some, None, List, [], ◌∷◌, ◌++◌, All, length, take, replicate, slice_get, slice_index_or, refl, sym, ap, ◌∙◌, subst, arith, inl, inr}
 use Rattle.std.specs.Prelude.{IsSome, ◌==◌, if◌then◌else◌, option_map, option_and_then, Contains}
 use Rattle.std.proofs.lemmas.List as lists
 use Rattle.std.proofs.lemmas.List.Elements.{All-replicate}
-use Rattle.rand_pcg.specs.Lcg.{Lcg}
 use Rattle.ra_stamp.specs.NodeId.{IsNodeNumber}
 use Rattle.ra_stamp.specs.declared.message.Message.{Message as Sent}
 use Rattle.ra_world.specs.declared.step.Step.{Step}
@@ -11,6 +10,8 @@ use Rattle.ra_world.specs.declared.step.Step.TheVariants.{Ask, Leave, Deliver, L
 use Rattle.ra_world.specs.Traffic.{Move, IsUnderWay}
 use Rattle.ra_world.specs.World.{WorldState}
 use Rattle.ra_world.specs.Run.{IsRun, GoesOn}
+use Rattle.ra_schedule.specs.declared.driver.Driver.{Driver}
+use Rattle.ra_schedule.specs.declared.enabled.Enabled.{Enabled}
 use Rattle.ra_schedule.specs.declared.progress.Progress.{Progress}
 use Rattle.ra_schedule.specs.declared.choice.Choice.{Choice}
 use Rattle.ra_schedule.specs.declared.choice.Choice.TheVariants.{Client, Message, Lost}
@@ -18,25 +19,15 @@ use Rattle.ra_schedule.specs.declared.choice.Policy.{Policy}
 use Rattle.ra_schedule.specs.Script.{ScriptClient, ScriptState, client_at, op_at}
 use Rattle.ra_schedule.specs.Schedule.{steps_of, steps_in, steps_by, Enters, IsEnabled, IsAtPlace, StandsFor, Picks, Follows}
 use Rattle.ra_schedule.specs.Progress.{IsProgress, Tracks, OfEach, IsProgressAfter, AreCountable, AreDone, IsStuck, AreStuck, NoneEnters, recorded}
-use Rattle.ra_schedule.specs.Enabled.{AreFlags, AreRosters, numbers_from}
+use Rattle.ra_schedule.specs.Enabled.{AreFlags, AreFlagsElsewhere, AreRosters, numbers_from}
+use Rattle.ra_schedule.specs.Drawing.{generator_at}
+use Rattle.ra_schedule.specs.Driving.{IsDriven, IsReady, HasMade}
 use Rattle.ra_schedule.specs.Below.{LawsBelow}
 use Rattle.ra_schedule.proofs.Waiting.{nobody_waits, goes_on}
+use Rattle.ra_schedule.proofs.Elsewhere.{flags_elsewhere}
 use Rattle.ra_schedule.proofs.Following.{follows_none, follows_more}
+use Rattle.ra_schedule.proofs.Seeded.{had_one}
 use Rattle.ra_schedule.proofs.Choosing.{same_some}
-
--- after so many turns
-pub record IsDriven (script : ScriptState) (policy : Policy) (world : WorldState) (clients : List Progress) (first turns : ℕ) : Type 0 where
-  pub tracks : Tracks script world clients
-  pub follows : Follows script policy world.moves
-  pub stuck : AreStuck script clients first
-  pub turns_are : length world.moves ≡ turns
-
--- what is kept of who is enabled, where there is a generator
-pub record KeepsEnabled (script : ScriptState) (moves : List Move) (generator : Option Lcg) (rosters : List (List ℕ)) (flags : List Bool) (count : ℕ) : Type 0 where
-  pub rosters_are : AreRosters script rosters
-  pub alike : length flags ≡ length script.clients
-  pub count_is : count ≡ length (numbers_from 1 flags)
-  pub flags_are : IsSome generator → AreFlags script moves flags
 
 abbrev pub opening_progress : Progress
 opening_progress = record { done = 0; waiting = false }
@@ -45,29 +36,50 @@ opening_progress = record { done = 0; waiting = false }
 opened : (client : ℕ) → IsProgress client [] opening_progress
 opened client = record { done = refl; waiting = (λ h. absurd cc, λ h. absurd (nobody_waits client h)) }
 
-pub driven_none : (script : ScriptState) (policy : Policy) (world : WorldState) (clients : List Progress)
-    → world ≡ record { count = script.nodes; start = 0; moves = [] } → IsRun world.count world.start world.moves
-    → clients ≡ replicate (length script.clients) opening_progress → IsDriven script policy world clients 0 0
-driven_none script policy world clients is run are =
-    let no_moves : world.moves ≡ [] = ap (λ (w : WorldState). w.moves) is in
-    let nodes : world.count ≡ script.nodes = ap (λ (w : WorldState). w.count) is in
-    let start : world.start ≡ 0 = ap (λ (w : WorldState). w.start) is in
-    record {
-      tracks = record {
-        count = nodes;
-        start = start;
-        length_is = ap length are ∙ lists.length-replicate (length script.clients) opening_progress;
-        each = λ k d within.
-            subst (λ (ms : List Move). IsProgress (k + 1) ms (slice_index_or clients k d)) (sym no_moves)
-            (subst (λ (ps : List Progress). k < length ps → IsProgress (k + 1) [] (slice_index_or ps k d)) (sym are)
-            (All-replicate (λ p. IsProgress (k + 1) [] p) (length script.clients) opening_progress (opened (k + 1)) k d) within);
-      };
-      follows = subst (Follows script policy) (sym no_moves) (follows_none script policy
-          (subst (λ (ms : List Move). IsRun script.nodes 0 ms) no_moves
-          (subst (λ (s : ℕ). IsRun script.nodes s world.moves) start (subst (λ (n : ℕ). IsRun n world.start world.moves) nodes run))));
-      stuck = λ k d less within. absurd (omega (arith, less));
-      turns_are = ap length no_moves;
-    }
+-- of no moves there is nothing to record
+nothing_recorded : (records : Bool) (steps : List Step) (moves : List Move) → steps ≡ [] → moves ≡ [] → steps ≡ recorded records moves
+nothing_recorded true steps moves none no_moves = none ∙ sym (ap steps_of no_moves)
+nothing_recorded false steps moves none no_moves = none
+
+-- before the first turn
+module _ (script : ScriptState) (world : WorldState) (is : world ≡ record { count = script.nodes; start = 0; moves = [] }) where
+  none_moved : world.moves ≡ []
+  none_moved = ap (λ (w : WorldState). w.moves) is
+
+  pub tracks_none : (clients : List Progress) → clients ≡ replicate (length script.clients) opening_progress → Tracks script world clients
+  tracks_none clients are = record {
+    count = ap (λ (w : WorldState). w.count) is;
+    start = ap (λ (w : WorldState). w.start) is;
+    length_is = ap length are ∙ lists.length-replicate (length script.clients) opening_progress;
+    each = λ k d within.
+        subst (λ (ms : List Move). IsProgress (k + 1) ms (slice_index_or clients k d)) (sym none_moved)
+        (subst (λ (ps : List Progress). k < length ps → IsProgress (k + 1) [] (slice_index_or ps k d)) (sym are)
+        (All-replicate (λ p. IsProgress (k + 1) [] p) (length script.clients) opening_progress (opened (k + 1)) k d) within);
+  }
+
+  pub ready_none : (policy : Policy) (driver : Driver) → IsNodeNumber script.nodes → IsRun world.count world.start world.moves
+      → Tracks script world driver.clients.items → driver.first ≡ 0 → driver.draws.generator ≡ generator_at policy 0
+      → AreRosters script driver.draws.rosters.items → AreFlags script world.moves driver.draws.enabled.flags.items
+      → driver.draws.enabled.count ≡ length (numbers_from 1 driver.draws.enabled.flags.items) → driver.steps.items ≡ []
+      → IsReady script policy world driver
+  ready_none policy driver nodes run tracks first drawn rosters flags count steps =
+      let run' : IsRun script.nodes 0 world.moves =
+      subst (λ (s : ℕ). IsRun script.nodes s world.moves) tracks.start (subst (λ (n : ℕ). IsRun n world.start world.moves) tracks.count run) in
+      record {
+        driven = record {
+          nodes = nodes;
+          run = run';
+          tracks = tracks;
+          stuck = λ k d less within. absurd (omega (arith, less, first));
+          rosters = rosters;
+          alike = flags.length_is;
+          count = count;
+          flags = λ some. flags;
+          steps = nothing_recorded driver.records driver.steps.items world.moves steps none_moved;
+        };
+        follows = subst (Follows script policy) (sym none_moved) (follows_none script policy (subst (IsRun script.nodes 0) none_moved run'));
+        drawn = drawn ∙ ap (λ (ms : List Move). generator_at policy (length ms)) (sym none_moved);
+      }
 
 pub tracks_on : (script : ScriptState) (world next : WorldState) (clients new : List Progress) (move : Move) → Tracks script world clients
     → next ≡ record world { moves = world.moves ++ move ∷ [] } → length new ≡ length clients → OfEach (IsProgressAfter move) clients new
@@ -83,11 +95,6 @@ tracks_on script world next clients new move tracks is len after =
           subst (λ (ms : List Move). IsProgress (k + 1) ms (slice_index_or new k d)) (sym moves)
           (goes_on (k + 1) world.moves move (slice_index_or clients k d) (slice_index_or new k d) (tracks.each k d before) (after k d before));
     }
-
--- of no moves there is nothing to record
-pub nothing_recorded : (records : Bool) (steps : List Step) (moves : List Move) → steps ≡ [] → moves ≡ [] → steps ≡ recorded records moves
-nothing_recorded true steps moves none no_moves = none ∙ sym (ap steps_of no_moves)
-nothing_recorded false steps moves none no_moves = none
 
 -- ---- Who waits or has nothing left to do
 
@@ -145,25 +152,78 @@ nobody_below script world clients first tracks stuck k below (step, enables) =
 
 -- ---- One more turn
 
-pub driven_more : (script : ScriptState) (policy : Policy) (world next : WorldState) (clients new : List Progress) (first free least : ℕ)
-    (turns : ℕ) (choice : Choice) (step : Step) (move : Move) → IsDriven script policy world clients first turns
-    → AreStuck script clients free
-    → Picks script policy world.moves choice → StandsFor script world.moves choice step → move.step ≡ step
-    → next ≡ record world { moves = world.moves ++ move ∷ [] } → IsRun next.count next.start next.moves
-    → length new ≡ length clients → OfEach (IsProgressAfter move) clients new → least ≤ free → NoneEnters least move.marks
-    → IsDriven script policy next new least (turns + 1)
-driven_more script policy world next clients new first free least turns choice step move driven stuck picks means this is run len after less none =
-    let moves : next.moves ≡ world.moves ++ move ∷ [] = ap (λ (w : WorldState). w.moves) is in
-    let tracks = tracks_on script world next clients new move driven.tracks is len after in
-    let run' : IsRun script.nodes 0 (world.moves ++ move ∷ []) =
-    subst (λ (ms : List Move). IsRun script.nodes 0 ms) moves
-    (subst (λ (s : ℕ). IsRun script.nodes s next.moves) tracks.start (subst (λ (n : ℕ). IsRun n next.start next.moves) tracks.count run)) in
+-- a policy chose, by draws that keep who is enabled, and looked for a client that is free
+pub driven_with : (script : ScriptState) (policy : Policy) (world : WorldState) (driver chosen : Driver) (later : ℕ)
+    → IsReady script policy world driver → chosen.clients.items ≡ driver.clients.items
+    → chosen.steps.items ≡ driver.steps.items → chosen.records ≡ driver.records
+    → AreStuck script driver.clients.items chosen.first
+    → chosen.draws.rosters.items ≡ driver.draws.rosters.items → chosen.draws.enabled ≡ driver.draws.enabled
+    → chosen.draws.generator ≡ generator_at policy later → IsDriven script world chosen
+driven_with script policy world driver chosen later ready items steps records stuck rosters enabled drawn =
+    let driven = ready.driven in
     record {
-      tracks = tracks;
+      nodes = driven.nodes;
+      run = driven.run;
+      tracks = subst (Tracks script world) (sym items) driven.tracks;
+      stuck = subst (λ (ps : List Progress). AreStuck script ps chosen.first) (sym items) stuck;
+      rosters = subst (AreRosters script) (sym rosters) driven.rosters;
+      alike = ap (λ (e : Enabled). length e.flags.items) enabled ∙ driven.alike;
+      count = subst (λ (e : Enabled). e.count ≡ length (numbers_from 1 e.flags.items)) (sym enabled) driven.count;
+      flags = λ some.
+          subst (λ (e : Enabled). AreFlags script world.moves e.flags.items) (sym enabled)
+          (driven.flags (had_one policy (length world.moves) later driver.draws.generator chosen.draws.generator ready.drawn drawn some));
+      steps = steps ∙ driven.steps ∙ ap (λ (b : Bool). recorded b world.moves) (sym records);
+    }
+
+-- a move that goes on with the run
+module _ (script : ScriptState) (world next : WorldState) (driver : Driver) (move : Move) (driven : IsDriven script world driver)
+    (is : next ≡ record world { moves = world.moves ++ move ∷ [] }) (run : IsRun next.count next.start next.moves) where
+  run_more : IsRun script.nodes 0 next.moves
+  run_more =
+      subst (λ (s : ℕ). IsRun script.nodes s next.moves) (ap (λ (w : WorldState). w.start) is ∙ driven.tracks.start)
+      (subst (λ (n : ℕ). IsRun n next.start next.moves) (ap (λ (w : WorldState). w.count) is ∙ driven.tracks.count) run)
+
+  pub flags_before : LawsBelow → (choice : Choice) → StandsFor script world.moves choice move.step → IsSome driver.draws.generator
+      → AreFlagsElsewhere move.step move.marks script next.moves driver.draws.enabled.flags.items
+  flags_before laws choice means some =
+      flags_elsewhere laws script world.moves next.moves move choice driver.draws.enabled.flags.items driven.nodes
+      (ap (λ (w : WorldState). w.moves) is) run_more means (driven.flags some)
+
+  pub driven_more : (new : Driver) → Tracks script next new.clients.items → OfEach (IsProgressAfter move) driver.clients.items new.clients.items
+      → new.first ≤ driver.first → NoneEnters new.first move.marks
+      → AreRosters script new.draws.rosters.items → length new.draws.enabled.flags.items ≡ length script.clients
+      → new.draws.enabled.count ≡ length (numbers_from 1 new.draws.enabled.flags.items)
+      → (IsSome new.draws.generator → AreFlags script next.moves new.draws.enabled.flags.items)
+      → new.steps.items ≡ recorded new.records (world.moves ++ move ∷ []) → IsDriven script next new
+  driven_more new tracks after less none rosters alike count flags steps = record {
+    nodes = driven.nodes;
+    run = run_more;
+    tracks = tracks;
+    stuck = still_stuck script driver.clients.items new.clients.items driver.first new.first move driven.stuck
+        (tracks.length_is ∙ sym driven.tracks.length_is) after less none;
+    rosters = rosters;
+    alike = alike;
+    count = count;
+    flags = flags;
+    steps = steps ∙ ap (recorded new.records) (sym (ap (λ (w : WorldState). w.moves) is));
+  }
+
+pub one_longer : (moves next : List Move) (move : Move) → next ≡ moves ++ move ∷ [] → length next ≡ length moves + 1
+one_longer moves next move is = ap length is ∙ lists.length-append moves (move ∷ [])
+
+-- the policy chose, and its choice was made
+pub ready_more : (script : ScriptState) (policy : Policy) (world next : WorldState) (driver chosen new : Driver) (choice : Choice)
+    → IsReady script policy world driver → Picks script policy world.moves choice
+    → chosen.draws.generator ≡ generator_at policy (length world.moves + 1)
+    → HasMade script choice world chosen next new → IsReady script policy next new
+ready_more script policy world next driver chosen new choice ready picks drawn made =
+    let (move, means, moves) = made.made in
+    let count : length next.moves ≡ length world.moves + 1 = one_longer world.moves next.moves move moves in
+    record {
+      driven = made.driven;
       follows = subst (Follows script policy) (sym moves)
-          (follows_more script policy world.moves move choice driven.follows picks (subst (StandsFor script world.moves choice) (sym this) means) run');
-      stuck = still_stuck script clients new free least move stuck len after less none;
-      turns_are = ap length moves ∙ lists.length-append world.moves (move ∷ []) ∙ ap (λ n. n + 1) driven.turns_are;
+          (follows_more script policy world.moves move choice ready.follows picks means (subst (IsRun script.nodes 0) moves made.driven.run));
+      drawn = made.drawn ∙ drawn ∙ ap (generator_at policy) (sym count);
     }
 
 -- ---- A client has made no more steps than there are
@@ -186,9 +246,9 @@ few_steps : (client : ℕ) (moves : List Move) → steps_by client (steps_of mov
 few_steps client [] = omega arith
 few_steps client (move ∷ moves) = let one = one_at_most client move.step in let rest = few_steps client moves in omega arith
 
-pub countable : (script : ScriptState) (world : WorldState) (clients : List Progress) (turns limit : ℕ) → Tracks script world clients
-    → length world.moves ≡ turns → turns < limit → limit < 2 ^ 64 → AreCountable clients
-countable script world clients turns limit tracks is less fits k d within =
+pub countable : (script : ScriptState) (world : WorldState) (clients : List Progress) → Tracks script world clients
+    → length world.moves + 1 < 2 ^ 64 → AreCountable clients
+countable script world clients tracks fits k d within =
     let done = (tracks.each k d within).done in
     let few = few_steps (k + 1) world.moves in
     omega arith

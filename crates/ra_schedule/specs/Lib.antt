@@ -5,3 +5,4 @@ pub mod Progress
 pub mod Drawing
 pub mod Enabled
 pub mod Below
+pub mod Driving

@@ -1,22 +1,18 @@
-ghost use Rattle.std.specs.Prelude.{◌≡◌, ◌≢◌, ◌⊎◌, ◌↔◌, ℕ, ◌≤◌, ◌++◌, ◌∷◌, [], List, length, IsTrue, IsErrOf, IsOkUnless, IfOk, OnOk, IfErr};
+ghost use Rattle.std.specs.Prelude.{◌≡◌, ◌≢◌, ◌⊎◌, ◌↔◌, ◌≤◌, List, [], length, IsTrue, IsErrOf, IsOkUnless, IfOk, IfErr};
 ghost use Rattle.ra_world.specs.Traffic.{Move};
+ghost use Rattle.ra_world.specs.Run.{IsRun};
 ghost use Rattle.ra_world.specs.World.{Reports};
 ghost use Rattle.ra_world.specs.MainTheorem.{MainTheorem};
 ghost use Rattle.ra_schedule.specs.Schedule.{steps_of, Follows, Ends, Stops, IsFinished};
-ghost use Rattle.ra_schedule.specs.Progress.{Tracks, OfEach, IsProgressAfter, AreCountable, AreDone, recorded};
-ghost use Rattle.ra_world.specs.Run.{IsRun, GoesOn};
-ghost use Rattle.ra_schedule.specs.declared.choice.Choice.{Choice};
+ghost use Rattle.ra_schedule.specs.Progress.{Tracks, AreDone};
+ghost use Rattle.ra_schedule.specs.Driving.{Answers, Records, IsStopped};
 ghost use Rattle.ra_schedule.specs.declared.error.DriveError.{DriveError};
 
-use crate::draws::Draws;
+use crate::driver::Driver;
 use crate::laws::schedules_rest_on_runs;
-use crate::picking::{meaning, pick};
-use crate::progress::{
-    Progress, first_entered, first_free, note_marks, note_step, opening_progress,
-};
-use crate::{Choice, DriveError, Policy, Script};
-use ra_stamp::{Marks, Memory};
-use ra_world::{Report, Step, Steps, World};
+use crate::progress::Progress;
+use crate::{DriveError, Policy, Script};
+use ra_world::{Report, Steps, World};
 use std::alloc::Global;
 
 /// What a policy made of a script.
@@ -124,99 +120,38 @@ fn drive_through(
     limit: u64,
     records: bool,
 ) -> Result<Recording, DriveError>
-    ensures ok { IfOk result (λ recording. (moves : List Move)
-        × (recording.steps.items ≡ recorded records moves)
-        × Follows script.now policy.now moves × Ends script.now policy.now moves × (length moves ≤ limit)
-        × Reports script.now.nodes 0 moves recording.report
-        × (IsTrue recording.finished ↔ IsFinished script.now (steps_of moves) recording.report)) }
-    ensures main_theorem { IfOk result (λ recording. MainTheorem script.now.nodes recording.report) }
-    ensures refused { (cause : DriveError) → cause ≢ DriveError.Memory → IsErrOf result cause
-        → (moves : List Move) × Follows script.now policy.now moves × Stops script.now policy.now limit moves cause }
-    ensures exact { (cause : DriveError) (moves : List Move) → Follows script.now policy.now moves
-        → Stops script.now policy.now limit moves cause
-        → IsErrOf result cause ⊎ IsErrOf result DriveError.Memory }
-    ensures allowed { (moves : List Move) → Follows script.now policy.now moves → Ends script.now policy.now moves
-        → length moves ≤ limit → IsOkUnless result DriveError.Memory }
+    ensures ok { IfOk result (Records script.now policy.now limit records) }
+    ensures answers { Answers script.now policy.now limit result }
 {
     schedules_rest_on_runs();
     let Ok(mut world) = World::new(alloc, script.nodes(), 0) else {
         return Err(DriveError::Memory);
     };
-    let mut steps = Steps::new(alloc);
-    let mut clients = opening_progress(alloc, script.clients())?;
-    let mut draws = Draws::of(alloc, policy, script, &world, &clients)?;
-    // Each client before this place waits or has nothing left to do, so that most turns need not look at all clients.
-    let mut first = 0;
-    for _turn in 0..limit {
-        first = first_free(script, &clients, first);
-        let Some(choice) = pick(script, policy, &mut draws, &world, &clients, first) else {
-            return recording_of(alloc, script, &world, &clients, steps);
-        };
-        let step = meaning(script, &world, &clients, choice)?;
-        let made = make(alloc, &mut world, &mut clients, &step, place_in(choice))?;
-        keep_step(&mut steps, records, &step)?;
-        let marks = made.as_slice();
-        first = first_entered(marks, first);
-        draws.note(script, &world, &clients, &step, marks);
-    }
-    match pick(script, policy, &mut draws, &world, &clients, first) {
-        None => recording_of(alloc, script, &world, &clients, steps),
-        Some(_) => Err(DriveError::TurnLimit),
-    }
+    drive_world(alloc, script, policy, limit, records, &mut world)
 }
 
-/// Adds a step to those that are recorded, where any are.
+/// Drives a cluster in which nothing has happened yet through a script, and records the steps, or none.
 ///
 /// # Errors
 ///
-/// `Memory`.
-fn keep_step(steps: &mut Steps, records: bool, step: &Step) -> Result<(), Memory>
-    ensures { (moves : List Move) (move : Move) → move.step ≡ step.now → steps.old.items ≡ recorded records moves
-        → OnOk result (steps.new.items ≡ recorded records (moves ++ move ∷ [])) }
-{
-    if records {
-        steps.push(*step)?;
-    }
-    Ok(())
-}
-
-/// Returns the place of the message that a choice names, or 0 where it names a client.
-fn place_in(choice: Choice) -> u64
-    ensures { (place : ℕ) → (choice ≡ Choice.Message place) ⊎ (choice ≡ Choice.Lost place) → result ≡ place }
-{
-    match choice {
-        Choice::Message(place) | Choice::Lost(place) => place,
-        Choice::Client(_) => 0,
-    }
-}
-
-/// Makes a step that the run goes on with, notes where the clients stand then, and returns its marks. A message that it takes is
-/// looked for at the place `near` first.
-///
-/// # Errors
-///
-/// `Memory`.
-fn make(
+/// Those of `drive`.
+fn drive_world(
     alloc: Global,
+    script: &Script,
+    policy: &Policy,
+    limit: u64,
+    records: bool,
     world: &mut World,
-    clients: &mut [Progress],
-    step: &Step,
-    near: u64,
-) -> Result<Marks, DriveError>
-    requires allowed { GoesOn world.old.count world.old.start world.old.moves step.now }
-    requires countable { AreCountable clients.old }
-    ensures ok { IfOk result (λ marks. (move : Move) × (move.step ≡ step.now) × (move.marks ≡ marks.items)
-        × (world.new ≡ record world.old { moves = world.old.moves ++ move ∷ [] })
-        × OfEach (IsProgressAfter move) clients.old clients.new) }
-    ensures run { OnOk result (IsRun world.new.count world.new.start world.new.moves) }
-    ensures err { IfErr result (λ fault. fault ≡ DriveError.Memory) }
+) -> Result<Recording, DriveError>
+    requires run { IsRun world.old.count world.old.start world.old.moves }
+    requires opened { world.old ≡ record { count = script.now.nodes; start = 0; moves = [] } }
+    ensures ok { IfOk result (Records script.now policy.now limit records) }
+    ensures err { IfErr result (IsStopped script.now policy.now limit) }
 {
-    let Ok(outcome) = world.step_near(alloc, step, near) else {
-        return Err(DriveError::Memory);
-    };
-    note_step(clients, step);
-    note_marks(clients, outcome.marks.as_slice());
-    Ok(outcome.marks)
+    let mut driver = Driver::open(alloc, script, policy, world, records)?;
+    driver.finish(alloc, script, policy, world, limit)?;
+    let steps = driver.steps;
+    recording_of(alloc, script, world, &driver.clients, steps)
 }
 
 /// Reports what a policy made of a script.

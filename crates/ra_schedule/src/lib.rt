@@ -4,6 +4,7 @@
 mod choice;
 mod drawing;
 mod draws;
+mod driver;
 mod driving;
 mod enabled;
 mod error;

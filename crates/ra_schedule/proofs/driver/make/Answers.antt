@@ -1,7 +1,7 @@
 use Rattle.std.proofs.Common.{◌+◌, List, refl, subst, arith, slice_index_or}
 use Rattle.ra_stamp.specs.declared.entry.Mark.{Mark}
 use Rattle.ra_schedule.specs.Progress.{IsAfterMarks}
-use Rattle.ra_schedule.proofs.driving.make.Goals as goal
+use Rattle.ra_schedule.proofs.driver.make.Goals as goal
 
 pub returns-clause-ok : goal.returns-clause-ok
 returns-clause-ok c =

@@ -1,0 +1,92 @@
+-- How far the driver has come with a script, and how it ends. No public contract speaks of it.
+use Rattle.std.specs.Prelude.{◌≡◌, ◌≢◌, ◌⊎◌, ◌↔◌, ℕ, ◌+◌, ◌≤◌, Bool, true, false, List, [], ◌∷◌, ◌++◌, length, Result, IsTrue, IsSome, IsErrOf, IsOkUnless}
+use Rattle.ra_stamp.specs.NodeId.{IsNodeNumber}
+use Rattle.ra_world.specs.Traffic.{Move}
+use Rattle.ra_world.specs.Run.{IsRun}
+use Rattle.ra_world.specs.World.{WorldState, Reports}
+use Rattle.ra_world.specs.MainTheorem.{MainTheorem}
+use Rattle.ra_schedule.specs.declared.choice.Choice.{Choice}
+use Rattle.ra_schedule.specs.declared.choice.Policy.{Policy}
+use Rattle.ra_schedule.specs.declared.driver.Driver.{Driver}
+use Rattle.ra_schedule.specs.declared.driving.Recording.{Recording}
+use Rattle.ra_schedule.specs.declared.error.DriveError.{DriveError}
+use Rattle.ra_schedule.specs.declared.error.DriveError.TheVariants.{BadPlace, NotEnabled, Memory}
+use Rattle.ra_schedule.specs.Script.{ScriptState}
+use Rattle.ra_schedule.specs.Schedule.{steps_of, StandsFor, Picks, IsBadPlace, IsNotEnabled, Ends, Follows, Stops, IsFinished}
+use Rattle.ra_schedule.specs.Progress.{Tracks, AreStuck, recorded}
+use Rattle.ra_schedule.specs.Drawing.{generator_at}
+use Rattle.ra_schedule.specs.Enabled.{AreFlags, AreRosters, numbers_from}
+
+-- the cluster has come so far with the script, whoever chose: this is how its clients stand, and who of them is enabled where
+-- there is a generator
+pub record IsDriven (script : ScriptState) (world : WorldState) (driver : Driver) : Type 0 where
+  pub nodes : IsNodeNumber script.nodes
+  pub run : IsRun script.nodes 0 world.moves
+  pub tracks : Tracks script world driver.clients.items
+  pub stuck : AreStuck script driver.clients.items driver.first
+  pub rosters : AreRosters script driver.draws.rosters.items
+  pub alike : length driver.draws.enabled.flags.items ≡ length script.clients
+  pub count : driver.draws.enabled.count ≡ length (numbers_from 1 driver.draws.enabled.flags.items)
+  pub flags : IsSome driver.draws.generator → AreFlags script world.moves driver.draws.enabled.flags.items
+  pub steps : driver.steps.items ≡ recorded driver.records world.moves
+
+-- the policy has come so far with the script, and its generator has given a word for each turn
+pub record IsReady (script : ScriptState) (policy : Policy) (world : WorldState) (driver : Driver) : Type 0 where
+  pub driven : IsDriven script world driver
+  pub follows : Follows script policy world.moves
+  pub drawn : driver.draws.generator ≡ generator_at policy (length world.moves)
+
+-- the policy has no choice left
+pub record IsAtEnd (script : ScriptState) (policy : Policy) (world : WorldState) (driver : Driver) : Type 0 where
+  pub tracks : Tracks script world driver.clients.items
+  pub follows : Follows script policy world.moves
+  pub ends : Ends script policy world.moves
+  pub steps : driver.steps.items ≡ recorded driver.records world.moves
+
+-- what the choice stands for was done
+pub record HasMade (script : ScriptState) (choice : Choice) (world : WorldState) (driver : Driver) (next : WorldState) (new : Driver) : Type 0 where
+  pub driven : IsDriven script next new
+  pub drawn : new.draws.generator ≡ driver.draws.generator
+  pub records : new.records ≡ driver.records
+  pub made : (move : Move) × StandsFor script world.moves choice move.step × (next.moves ≡ world.moves ++ move ∷ [])
+
+-- behind a turn that went on there is one more move, and behind one that did not no choice is left
+abbrev pub AfterTurn : ScriptState → Policy → WorldState → Driver → WorldState → Driver → Bool → Type 0
+AfterTurn script policy world driver next new true = (length next.moves ≡ length world.moves + 1) × (new.records ≡ driver.records)
+    × IsReady script policy next new
+AfterTurn script policy world driver next new false = (next ≡ world) × (new.records ≡ driver.records) × IsAtEnd script policy next new
+
+-- want of memory keeps a choice from being made, or a fault of its own
+abbrev pub CannotBeMade : ScriptState → List Move → Choice → DriveError → Type 0
+CannotBeMade script moves choice fault = (fault ≡ Memory)
+    ⊎ (((fault ≡ BadPlace) × IsBadPlace script moves choice) ⊎ ((fault ≡ NotEnabled) × IsNotEnabled script moves choice))
+
+-- behind these moves the choice of the policy cannot be made
+abbrev pub IsRefused : ScriptState → Policy → List Move → DriveError → Type 0
+IsRefused script policy moves fault = (choice : Choice) × Picks script policy moves choice × CannotBeMade script moves choice fault
+
+-- want of memory stops the policy, or a cause that stands
+abbrev pub IsStopped : ScriptState → Policy → ℕ → DriveError → Type 0
+IsStopped script policy limit fault = (fault ≡ Memory)
+    ⊎ ((moves : List Move) × Follows script policy moves × Stops script policy limit moves fault)
+
+-- what public contracts promise of refusals: one but want of memory comes where its cause stands, and where one stands nothing else
+-- is answered
+pub record Answers {X : Type 0} (script : ScriptState) (policy : Policy) (limit : ℕ) (result : Result X DriveError) : Type 0 where
+  pub refused : (cause : DriveError) → cause ≢ Memory → IsErrOf result cause
+      → (moves : List Move) × Follows script policy moves × Stops script policy limit moves cause
+  pub exact : (cause : DriveError) (moves : List Move) → Follows script policy moves → Stops script policy limit moves cause
+      → IsErrOf result cause ⊎ IsErrOf result Memory
+  pub allowed : (moves : List Move) → Follows script policy moves → Ends script policy moves → length moves ≤ limit
+      → IsOkUnless result Memory
+
+-- what is recorded of a policy that has no choice left
+pub record Records (script : ScriptState) (policy : Policy) (limit : ℕ) (records : Bool) (recording : Recording) : Type 0 where
+  pub moves : List Move
+  pub steps : recording.steps.items ≡ recorded records moves
+  pub follows : Follows script policy moves
+  pub ends : Ends script policy moves
+  pub within : length moves ≤ limit
+  pub reports : Reports script.nodes 0 moves recording.report
+  pub finished : IsTrue recording.finished ↔ IsFinished script (steps_of moves) recording.report
+  pub main_theorem : MainTheorem script.nodes recording.report

@@ -1,0 +1,239 @@
+//! How far a cluster was driven.
+ghost use Rattle.std.specs.Prelude.{◌≡◌, ◌+◌, ◌++◌, ◌∷◌, [], ◌<◌, ◌≤◌, ◌^◌, ◌⊎◌, ℕ, List, length, IfOk, IfErr, OnOk};
+ghost use Rattle.ra_world.specs.Traffic.{Move};
+ghost use Rattle.ra_world.specs.Run.{IsRun, GoesOn};
+ghost use Rattle.ra_schedule.specs.declared.choice.Choice.{Choice};
+ghost use Rattle.ra_schedule.specs.declared.error.DriveError.{DriveError};
+ghost use Rattle.ra_schedule.specs.Schedule.{StandsFor};
+ghost use Rattle.ra_schedule.specs.Progress.{OfEach, IsProgressAfter, AreCountable, recorded};
+ghost use Rattle.ra_schedule.specs.Driving.{IsDriven, IsReady, IsAtEnd, AfterTurn, HasMade, CannotBeMade, IsRefused, IsStopped};
+
+use crate::draws::Draws;
+use crate::laws::schedules_rest_on_runs;
+use crate::picking::{meaning, pick};
+use crate::progress::{
+    Progress, first_entered, first_free, note_marks, note_step, opening_progress,
+};
+use crate::{Choice, DriveError, Policy, Script};
+use ra_stamp::{Marks, Memory};
+use ra_world::{Step, Steps, World};
+use std::alloc::Global;
+
+/// What is kept from turn to turn beside the cluster.
+#[derive(Drop)]
+pub struct Driver {
+    /// Where each client stands.
+    pub clients: Vec<Progress>,
+    /// What the policy chooses by.
+    draws: Draws,
+    /// Each client before this place waits or has nothing left to do, so that most turns need not look at all clients.
+    first: u32,
+    /// Whether the steps are recorded.
+    records: bool,
+    /// The steps so far, where they are recorded.
+    pub steps: Steps,
+}
+
+impl Driver {
+    /// Makes what is kept at first, where nothing has happened yet in the cluster.
+    ///
+    /// # Errors
+    ///
+    /// `Memory`.
+    pub fn open(
+        alloc: Global,
+        script: &Script,
+        policy: &Policy,
+        world: &World,
+        records: bool,
+    ) -> Result<Driver, Memory>
+        requires run { IsRun world.now.count world.now.start world.now.moves }
+        requires opened { world.now ≡ record { count = script.now.nodes; start = 0; moves = [] } }
+        ensures ready { IfOk result (IsReady script.now policy.now world.now) }
+        ensures records { IfOk result (λ driver. driver.records ≡ records) }
+    {
+        let clients = opening_progress(alloc, script.clients())?;
+        let draws = Draws::of(alloc, policy, script, world, &clients)?;
+        Ok(Driver {
+            clients,
+            draws,
+            first: 0,
+            records,
+            steps: Steps::new(alloc),
+        })
+    }
+
+    /// Makes turns until no choice is left.
+    ///
+    /// # Errors
+    ///
+    /// Those of `drive`.
+    pub fn finish(
+        &mut self,
+        alloc: Global,
+        script: &Script,
+        policy: &Policy,
+        world: &mut World,
+        limit: u64,
+    ) -> Result<(), DriveError>
+        requires opened { world.old.moves ≡ [] }
+        requires ready { IsReady script.now policy.now world.old self.old }
+        ensures ok { OnOk result (IsAtEnd script.now policy.now world.new self.new × (length world.new.moves ≤ limit)) }
+        ensures records { OnOk result (self.new.records ≡ self.old.records) }
+        ensures err { IfErr result (IsStopped script.now policy.now limit) }
+    {
+        for _turn in 0..limit {
+            if !self.turn(alloc, script, policy, world)? {
+                return Ok(());
+            }
+        }
+        match pick(
+            script,
+            policy,
+            &mut self.draws,
+            world,
+            &self.clients,
+            self.first,
+        ) {
+            None => Ok(()),
+            Some(_) => Err(DriveError::TurnLimit),
+        }
+    }
+
+    /// Makes a turn, and returns true, or false where no choice is left.
+    ///
+    /// # Errors
+    ///
+    /// Those of `drive`, but for `TurnLimit`.
+    fn turn(
+        &mut self,
+        alloc: Global,
+        script: &Script,
+        policy: &Policy,
+        world: &mut World,
+    ) -> Result<bool, DriveError>
+        requires ready { IsReady script.now policy.now world.old self.old }
+        requires countable { length world.old.moves + 1 < 2 ^ 64 }
+        ensures ok { IfOk result (AfterTurn script.now policy.now world.old self.old world.new self.new) }
+        ensures err { IfErr result (IsRefused script.now policy.now world.old.moves) }
+    {
+        self.first = first_free(script, &self.clients, self.first);
+        let Some(choice) = pick(
+            script,
+            policy,
+            &mut self.draws,
+            world,
+            &self.clients,
+            self.first,
+        ) else {
+            return Ok(false);
+        };
+        self.follow(alloc, script, world, choice)?;
+        Ok(true)
+    }
+
+    /// Does what a choice stands for.
+    ///
+    /// # Errors
+    ///
+    /// Those of `drive`, but for `TurnLimit`.
+    fn follow(
+        &mut self,
+        alloc: Global,
+        script: &Script,
+        world: &mut World,
+        choice: Choice,
+    ) -> Result<(), DriveError>
+        requires driven { IsDriven script.now world.old self.old }
+        requires countable { length world.old.moves + 1 < 2 ^ 64 }
+        ensures ok { OnOk result (HasMade script.now choice world.old self.old world.new self.new) }
+        ensures err { IfErr result (CannotBeMade script.now world.old.moves choice) }
+    {
+        match meaning(script, world, &self.clients, choice) {
+            Ok(step) => self.take_step(alloc, script, world, choice, &step),
+            Err(fault) => Err(fault),
+        }
+    }
+
+    /// Makes the step that a choice stands for.
+    ///
+    /// # Errors
+    ///
+    /// `Memory`.
+    fn take_step(
+        &mut self,
+        alloc: Global,
+        script: &Script,
+        world: &mut World,
+        choice: Choice,
+        step: &Step,
+    ) -> Result<(), DriveError>
+        requires driven { IsDriven script.now world.old self.old }
+        requires countable { length world.old.moves + 1 < 2 ^ 64 }
+        requires means { StandsFor script.now world.old.moves choice step.now }
+        ensures ok { OnOk result (HasMade script.now choice world.old self.old world.new self.new) }
+        ensures err { IfErr result (CannotBeMade script.now world.old.moves choice) }
+    {
+        schedules_rest_on_runs();
+        let made = make(alloc, world, &mut self.clients, step, place_in(choice))?;
+        keep_step(&mut self.steps, self.records, step)?;
+        let marks = made.as_slice();
+        self.first = first_entered(marks, self.first);
+        self.draws.note(script, world, &self.clients, step, marks);
+        Ok(())
+    }
+}
+
+/// Adds a step to those that are recorded, where any are.
+///
+/// # Errors
+///
+/// `Memory`.
+fn keep_step(steps: &mut Steps, records: bool, step: &Step) -> Result<(), Memory>
+    ensures { (moves : List Move) (move : Move) → move.step ≡ step.now → steps.old.items ≡ recorded records moves
+        → OnOk result (steps.new.items ≡ recorded records (moves ++ move ∷ [])) }
+{
+    if records {
+        steps.push(*step)?;
+    }
+    Ok(())
+}
+
+/// Returns the place of the message that a choice names, or 0 where it names a client.
+fn place_in(choice: Choice) -> u64
+    ensures { (place : ℕ) → (choice ≡ Choice.Message place) ⊎ (choice ≡ Choice.Lost place) → result ≡ place }
+{
+    match choice {
+        Choice::Message(place) | Choice::Lost(place) => place,
+        Choice::Client(_) => 0,
+    }
+}
+
+/// Makes a step that the run goes on with, notes where the clients stand then, and returns its marks. A message that it takes is
+/// looked for at the place `near` first.
+///
+/// # Errors
+///
+/// `Memory`.
+fn make(
+    alloc: Global,
+    world: &mut World,
+    clients: &mut [Progress],
+    step: &Step,
+    near: u64,
+) -> Result<Marks, DriveError>
+    requires allowed { GoesOn world.old.count world.old.start world.old.moves step.now }
+    requires countable { AreCountable clients.old }
+    ensures ok { IfOk result (λ marks. (move : Move) × (move.step ≡ step.now) × (move.marks ≡ marks.items)
+        × (world.new ≡ record world.old { moves = world.old.moves ++ move ∷ [] })
+        × OfEach (IsProgressAfter move) clients.old clients.new) }
+    ensures run { OnOk result (IsRun world.new.count world.new.start world.new.moves) }
+    ensures err { IfErr result (λ fault. fault ≡ DriveError.Memory) }
+{
+    let Ok(outcome) = world.step_near(alloc, step, near) else {
+        return Err(DriveError::Memory);
+    };
+    note_step(clients, step);
+    note_marks(clients, outcome.marks.as_slice());
+    Ok(outcome.marks)
+}
