@@ -1,5 +1,6 @@
 -- Where a line is over, what stands behind it makes no other line of it.
 use Rattle.std.proofs.Common.{◌≡◌, ◌≢◌, ◌⊎◌, ℕ, ◌<◌, ◌≤◌, ◌==◌, false, List, [], ◌∷◌, ◌++◌, length, take, ◌-◌, All, Option, Some, None, refl, sym, ap, ◌∙◌, subst, inl, inr, arith, append_assoc, length-append}
+use Rattle.std.specs.Prelude.{Ok}
 use Rattle.std.proofs.lemmas.Bool.{ne_eqb, cases_Bool, eqb-true, eqb-false}
 use Rattle.std.proofs.lemmas.List.{append-nil, take_at}
 use Rattle.std.proofs.lemmas.List.Elements.{All-nil, All-cons, All-head, All-tail}
@@ -8,7 +9,7 @@ use Rattle.ra_trace.specs.declared.line.Line.{Line}
 use Rattle.ra_trace.specs.declared.reading.LineEnd.TheVariants.{Feed, Length, Input}
 use Rattle.ra_trace.specs.Forms.{cut, line_in}
 use Rattle.ra_trace.specs.TraceText.{BeginsWith}
-use Rattle.ra_trace.specs.NextLine.{EndsSo, IsOverLine, HasNone}
+use Rattle.ra_trace.specs.NextLine.{EndsSo, TakesBytes, IsOverLine, HasNone, ReadsNext}
 use Rattle.ra_trace.proofs.Cuts.{IsFree, cut-append}
 use Rattle.ra_trace.proofs.Lines.{begins_read, read_begins, unread}
 use Rattle.ra_trace.proofs.Rows.{body, has_body}
@@ -148,6 +149,12 @@ none_at_input bytes new (opened, ended) = (
   λ line rest begins. no_line_in bytes [] opened.0 (inl refl) line rest (subst (λ (xs : List ℕ). BeginsWith xs line rest) (sym (append-nil bytes)) begins),
   inr (opened, ended),
 )
+
+-- what the bytes before the line feed are read as
+pub reads_at_feed : (left : ℕ) (old new : Option (List ℕ)) (bytes front : List ℕ) (came : Option Line) → TakesBytes left old new bytes
+    → EndsSo Feed bytes new → front ≡ take (length bytes - 1) bytes → came ≡ line_in front → ReadsNext left old new bytes (Ok came)
+reads_at_feed left old new bytes front (Some line) taken ended cuts is = (taken, some_at_feed bytes front line new ended cuts (sym is), ended)
+reads_at_feed left old new bytes front None taken ended cuts is = (taken, none_at_feed bytes front new ended cuts (sym is))
 
 -- a line has its line feed at least
 pub some_bytes_at_feed : (bytes : List ℕ) (new : Option (List ℕ)) → EndsSo Feed bytes new → 1 ≤ length bytes

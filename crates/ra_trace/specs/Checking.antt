@@ -1,8 +1,10 @@
 -- Where a checker stands behind the lines that it took. No public contract speaks of it.
-use Rattle.std.specs.Prelude.{◌≡◌, ℕ, List, [], ◌∷◌, ◌++◌, drop}
+use Rattle.std.specs.Prelude.{◌≡◌, ℕ, List, [], ◌∷◌, ◌++◌, Option, Some, None, Result, Ok, Err, drop}
 use Rattle.ra_stamp.specs.declared.entry.Mark.{Mark}
 use Rattle.ra_table.specs.Table.{empty_table, TableRun}
 use Rattle.ra_world.specs.Run.{IsRun}
+use Rattle.ra_trace.specs.declared.error.TraceError.{TraceError}
+use Rattle.ra_trace.specs.declared.error.TraceError.TheVariants.{Memory}
 use Rattle.ra_trace.specs.declared.line.Line.{Line}
 use Rattle.ra_trace.specs.declared.line.Line.TheVariants.{First, Stepped, Marked, Last}
 use Rattle.ra_trace.specs.declared.verdict.Cause.{Cause}
@@ -40,3 +42,9 @@ Takes old Last new = (new ≡ old) × (due_of old ≡ [])
 -- the line is wrong for this cause, behind any lines behind which the checker may stand
 pub record Refuses (checker : Checker) (line : Line) (why : Cause) : Type 0 where
   pub wrong : (lines : List Line) (text rest : List ℕ) → StandsBehind checker lines → BeginsWith text line rest → IsWrong lines text why
+
+-- what a checker answers to a line: that it is right, or why it is wrong
+abbrev pub Tried : Checker → Line → Checker → Result (Option Cause) TraceError → Type 0
+Tried old line new (Ok None) = Takes old line new
+Tried old line new (Ok (Some why)) = Refuses old line why
+Tried old line new (Err fault) = fault ≡ Memory

@@ -1,5 +1,5 @@
 -- What is read of the next line. No public contract speaks of it.
-use Rattle.std.specs.Prelude.{◌≡◌, ◌≢◌, ◌⊎◌, ℕ, ◌≤◌, List, [], ◌∷◌, ◌++◌, All, Option, Result, Ok, Err, length}
+use Rattle.std.specs.Prelude.{◌≡◌, ◌≢◌, ◌⊎◌, ℕ, ◌≤◌, List, [], ◌∷◌, ◌++◌, All, Option, Some, None, Result, Ok, Err, length}
 use Rattle.std.specs.Io.KnownBytes.{Consumes, IsAtEnd}
 use Rattle.ra_world.specs.Quiet.{requests_in}
 use Rattle.ra_world.specs.Run.{marks_of}
@@ -33,6 +33,11 @@ FailsWithin left old new bytes Limit =
     (byte : ℕ) × Consumes old new (bytes ++ byte ∷ []) × (length bytes ≡ left) × IsOpenLine bytes
 FailsWithin left old new bytes Memory = ⊥
 
+-- what was read of the next line
+abbrev pub ReadsLine : ℕ → Option (List ℕ) → Option (List ℕ) → List ℕ → Result LineEnd TraceError → Type 0
+ReadsLine left old new bytes (Ok end) = TakesBytes left old new bytes × EndsSo end bytes new
+ReadsLine left old new bytes (Err fault) = FailsWithin left old new bytes fault
+
 -- one byte with which a line is over
 abbrev pub IsOverLine : List ℕ → Type 0
 IsOverLine bytes =
@@ -42,6 +47,12 @@ IsOverLine bytes =
 abbrev pub HasNone : List ℕ → Option (List ℕ) → Type 0
 HasNone bytes new =
     ((line : Line) (rest : List ℕ) → BeginsWith bytes line rest → ⊥) × (IsOverLine bytes ⊎ (IsOpenLine bytes × IsAtEnd new))
+
+-- which line it is, or that it is none
+abbrev pub ReadsNext : ℕ → Option (List ℕ) → Option (List ℕ) → List ℕ → Result (Option Line) TraceError → Type 0
+ReadsNext left old new bytes (Ok (Some line)) = TakesBytes left old new bytes × BeginsWith bytes line [] × EndsSo Feed bytes new
+ReadsNext left old new bytes (Ok None) = TakesBytes left old new bytes × HasNone bytes new
+ReadsNext left old new bytes (Err fault) = FailsWithin left old new bytes fault
 
 -- What stands behind the last line of a trace whose run the checker knows: nothing, or one byte, with which the line of this number
 -- would begin.

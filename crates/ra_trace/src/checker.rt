@@ -28,7 +28,7 @@ pub struct Checker {
 }
 
 impl Checker {
-    ghost use Rattle.ra_trace.specs.Checking.{due_of, IsOpening, StandsBehind, Takes, TakesOn, Refuses};
+    ghost use Rattle.ra_trace.specs.Checking.{due_of, IsOpening, StandsBehind, Tried};
 
     /// Makes the checker that stands behind this line, or answers `None` where it is no first line.
     ///
@@ -87,9 +87,7 @@ impl Checker {
     ///
     /// `Memory`.
     pub fn take(&mut self, alloc: Global, line: &Line) -> Result<Option<Cause>, TraceError>
-        ensures right { IfOk result (λ cause. IsNone cause → Takes self.old line.now self.new) }
-        ensures wrong { IfOk result (λ cause. IfSome cause (Refuses self.old line.now)) }
-        ensures err { IfErr result (λ fault. fault ≡ TraceError.Memory) }
+        ensures { Tried self.old line.now self.new result }
     {
         match line {
             Line::First { .. } => Ok(Some(Cause::Line)),
@@ -145,9 +143,7 @@ impl Checker {
     ///
     /// `Memory`.
     fn take_step(&mut self, alloc: Global, step: &Step) -> Result<Option<Cause>, TraceError>
-        ensures right { IfOk result (λ cause. IsNone cause → TakesOn self.old (Line.Stepped step.now) self.new) }
-        ensures wrong { IfOk result (λ cause. IfSome cause (Refuses self.old (Line.Stepped step.now))) }
-        ensures err { IfErr result (λ fault. fault ≡ TraceError.Memory) }
+        ensures { Tried self.old (Line.Stepped step.now) self.new result }
     {
         if self.has_due() {
             return Ok(Some(Cause::Marks));
@@ -171,9 +167,7 @@ impl Checker {
     ///
     /// `Memory`.
     fn take_mark(&mut self, mark: &Mark) -> Result<Option<Cause>, TraceError>
-        ensures right { IfOk result (λ cause. IsNone cause → TakesOn self.old (Line.Marked mark.now) self.new) }
-        ensures wrong { IfOk result (λ cause. IfSome cause (Refuses self.old (Line.Marked mark.now))) }
-        ensures err { IfErr result (λ fault. fault ≡ TraceError.Memory) }
+        ensures { Tried self.old (Line.Marked mark.now) self.new result }
     {
         traces_rest_on_runs();
         if !step_table(&mut self.table, mark)? {

@@ -1,11 +1,8 @@
 //! The next line of a trace, read byte by byte.
-ghost use Rattle.std.specs.Prelude.{◌≡◌, ℕ, ◌≤◌, ◌<◌, ◌∷◌, [], true, false, IfOk, IfErr, IfSome, IsNone, OnErr, OnOk};
-ghost use Rattle.std.specs.Io.KnownBytes.{Consumes, IsAtEnd, Keeps};
+ghost use Rattle.std.specs.Prelude.{◌≡◌, ℕ, ◌≤◌, ◌∷◌, [], true, false, IfOk, IfErr, IfSome, IsNone, OnErr};
+ghost use Rattle.std.specs.Io.KnownBytes.{Consumes, IsAtEnd};
 ghost use Rattle.ra_trace.specs.declared.error.TraceError.{TraceError};
-ghost use Rattle.ra_trace.specs.declared.reading.LineEnd.TheVariants as end;
-ghost use Rattle.ra_trace.specs.NextLine.{EndsSo, TakesBytes, FailsWithin, HasNone};
-ghost use Rattle.ra_trace.specs.Reading.{IsOpenLine};
-ghost use Rattle.ra_trace.specs.TraceText.{BeginsWith};
+ghost use Rattle.ra_trace.specs.NextLine.{FailsWithin, ReadsLine, ReadsNext};
 
 use crate::TraceError;
 use crate::forms::line_of;
@@ -61,9 +58,7 @@ fn read_line<R: Read>(
     bytes: &mut LineBytes,
     left: usize,
 ) -> Result<LineEnd, TraceError>
-    ensures taken { OnOk result (TakesBytes left (R.remaining reader.old) (R.remaining reader.new) bytes.new.items) }
-    ensures ended { IfOk result (λ end. EndsSo end bytes.new.items (R.remaining reader.new)) }
-    ensures failed { IfErr result (FailsWithin left (R.remaining reader.old) (R.remaining reader.new) bytes.new.items) }
+    ensures { ReadsLine left (R.remaining reader.old) (R.remaining reader.new) bytes.new.items result }
 {
     bytes.clear();
     for _turn in 0..MAX_LINE {
@@ -93,11 +88,7 @@ pub fn next_line<R: Read>(
     bytes: &mut LineBytes,
     left: usize,
 ) -> Result<Option<Line>, TraceError>
-    ensures taken { OnOk result (TakesBytes left (R.remaining reader.old) (R.remaining reader.new) bytes.new.items) }
-    ensures some { IfOk result (λ came. IfSome came (λ line. BeginsWith bytes.new.items line []
-        × EndsSo end.Feed bytes.new.items (R.remaining reader.new))) }
-    ensures none { IfOk result (λ came. IsNone came → HasNone bytes.new.items (R.remaining reader.new)) }
-    ensures failed { IfErr result (FailsWithin left (R.remaining reader.old) (R.remaining reader.new) bytes.new.items) }
+    ensures { ReadsNext left (R.remaining reader.old) (R.remaining reader.new) bytes.new.items result }
 {
     match read_line(reader, bytes, left)? {
         LineEnd::Feed => Ok(line_of(&bytes[..bytes.len() - 1])),

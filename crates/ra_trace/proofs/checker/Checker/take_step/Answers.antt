@@ -3,16 +3,16 @@ use Rattle.ra_world.specs.declared.error.StepError.TheVariants.{NoNode, NotUnder
 use Rattle.ra_trace.proofs.Taking.{step_is_taken, step_comes_early, step_is_refused, step_is_not_under_way, no_node_is_of_client, node_is_of_client, not_under_way_takes}
 use Rattle.ra_trace.proofs.checker.Checker.take_step.Goals as goal
 
-pub returns-then-has_due-clause-wrong : goal.returns-then-has_due-clause-wrong
-returns-then-has_due-clause-wrong c = step_comes_early c.args.self.now c.args.step.now (c.has_due.ensures.some c.if-has_due.true)
+pub returns-then-has_due : goal.returns-then-has_due
+returns-then-has_due c = step_comes_early c.args.self.now c.args.step.now (c.has_due.ensures.some c.if-has_due.true)
 
-pub returns-in-Ok-clause-right : goal.returns-in-Ok-clause-right
-returns-in-Ok-clause-right c none =
+pub returns-in-Ok : goal.returns-in-Ok
+returns-in-Ok c =
     step_is_taken c.args.self.now c.args.step.now c.in-Ok.outcome.sends.items c.in-Ok.outcome.marks c.step.new.self
     (c.has_due.ensures.none c.if-has_due.false) c.in-Ok.ensures.ok c.in-Ok.ensures.run
 
-pub returns-in-Err-NotUnderWay-clause-wrong : goal.returns-in-Err-NotUnderWay-clause-wrong
-returns-in-Err-NotUnderWay-clause-wrong c =
+pub returns-in-Err-NotUnderWay : goal.returns-in-Err-NotUnderWay
+returns-in-Err-NotUnderWay c =
     let w = c.args.self.now.world in
     let arm = c.in-Err-NotUnderWay in
     let not_memory : NotUnderWay ≢ Memory = λ e. cc in
@@ -21,8 +21,8 @@ returns-in-Err-NotUnderWay-clause-wrong c =
     (not_under_way_takes w.count w.start w.moves c.args.step.now because)
     (λ goes. not_memory (sym arm.field-0-is ∙ arm.ensures.allowed.1 goes))
 
-pub returns-in-Err-NoNode-clause-wrong : goal.returns-in-Err-NoNode-clause-wrong
-returns-in-Err-NoNode-clause-wrong c =
+pub returns-in-Err-NoNode : goal.returns-in-Err-NoNode
+returns-in-Err-NoNode c =
     let w = c.args.self.now.world in
     let arm = c.in-Err-NoNode in
     let not_memory : NoNode ≢ Memory = λ e. cc in
@@ -31,8 +31,8 @@ returns-in-Err-NoNode-clause-wrong c =
     (no_node_is_of_client w.count w.start w.moves c.args.step.now because)
     (λ goes. not_memory (sym arm.field-0-is ∙ arm.ensures.allowed.1 goes))
 
-pub returns-in-Err-Node-clause-wrong : goal.returns-in-Err-Node-clause-wrong
-returns-in-Err-Node-clause-wrong c =
+pub returns-in-Err-Node : goal.returns-in-Err-Node
+returns-in-Err-Node c =
     let w = c.args.self.now.world in
     let arm = c.in-Err-Node in
     let not_memory : Node arm.field-0-0 ≢ Memory = λ e. cc in
