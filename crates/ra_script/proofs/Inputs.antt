@@ -1,19 +1,23 @@
 -- What holds of the bytes that were read holds of the whole input: one of which 65,537 bytes were read is no script.
 use Rattle.std.proofs.Common.{◌≡◌, ◌≢◌, ◌⊎◌, ℕ, ◌≤◌, Bool, List, [], ◌∷◌, ◌++◌, length, Option, Some, None, Ok, Err, refl, sym, ap, subst, ◌∙◌, arith, inl, inr}
-use Rattle.std.specs.Prelude.{IfSome, if◌then◌else◌, ok_or, not}
+use Rattle.std.specs.Prelude.{IfSome, Result, IfOk, IfErr, if◌then◌else◌, ok_or, not, string_bytes}
 use Rattle.std.specs.Str.{is_utf8}
 use Rattle.std.specs.Io.KnownBytes.{Consumes}
 use Rattle.std.proofs.lemmas.Bool.{cases_lt, lt-ltb}
 use Rattle.std.proofs.lemmas.List.{append-nil, length-append}
 use Rattle.toml.specs.Parse.{parse_document}
 use Rattle.ra_world.specs.Input.{Reads}
+use Rattle.ra_world.specs.declared.error.ReadFault.{ReadFault}
+use Rattle.ra_world.specs.declared.error.ReadFault.TheVariants as read
 use Rattle.ra_schedule.specs.declared.choice.Policy.{Policy}
 use Rattle.ra_schedule.specs.Script.{ScriptState}
 use Rattle.ra_script.specs.declared.form.Form.{Form}
 use Rattle.ra_script.specs.declared.error.ScriptError.TheVariants.{Limit, Toml, Shape}
 use Rattle.ra_script.specs.declared.error.PerformError.{PerformError}
 use Rattle.ra_script.specs.declared.error.PerformError.TheVariants as fault
+use Rattle.ra_script.specs.declared.performing.Printed.{Printed}
 use Rattle.ra_script.specs.Document.{document_of}
+use Rattle.ra_script.specs.Faults.{of_read}
 use Rattle.ra_script.specs.ScriptText.{result_and_then, script_in, script_of}
 use Rattle.ra_script.specs.Performed.{IsPerformedAs, RefusesAs}
 
@@ -81,3 +85,33 @@ of_known (Some input) P Q f h = f input h
 pub not_nil : (bytes front back : List ℕ) → bytes ≡ front ++ back → back ≢ [] → bytes ≢ []
 not_nil bytes [] back e left nothing = left (sym e ∙ nothing)
 not_nil bytes (x ∷ xs) back e left nothing = absurd cc
+
+-- a reader that failed, and memory that ran out while it was read
+pub read_refuses : (old : Option (List ℕ)) (form : Form) (policy : Policy) (why : ReadFault) → IfSome old (λ input. RefusesAs form policy input (of_read why))
+read_refuses None form policy why = tt
+read_refuses (Some input) form policy read.Read = tt
+read_refuses (Some input) form policy read.Memory = tt
+
+pub read_cause : (form : Form) (policy : Policy) (why : ReadFault) → RefusesAs form policy [] (of_read why)
+read_cause form policy read.Read = tt
+read_cause form policy read.Memory = tt
+
+pub read_early : (why : ReadFault) → of_read why ≢ fault.Write
+read_early read.Read e = absurd cc
+read_early read.Memory e = absurd cc
+
+pub read_failed : (why : ReadFault) → of_read why ≡ fault.Read → why ≡ read.Read
+read_failed read.Read e = refl
+read_failed read.Memory e = absurd cc
+
+-- what comes of what was read
+pub printed_of_input : (old new : Option (List ℕ)) (form : Form) (policy : Policy) (taken : List ℕ) (r : Result Printed PerformError) → Reads old new 65537 taken
+    → IfOk r (λ printed. IsPerformedAs form policy taken (string_bytes printed.text) printed.finished)
+    → IfOk r (λ printed. IfSome old (λ input. IsPerformedAs form policy input (string_bytes printed.text) printed.finished × Consumes old new input))
+printed_of_input old new form policy taken (Ok printed) h made = performs_input old new form policy taken (string_bytes printed.text) printed.finished h made
+printed_of_input old new form policy taken (Err why) h made = tt
+
+pub refused_of_input : (old new : Option (List ℕ)) (form : Form) (policy : Policy) (taken : List ℕ) (r : Result Printed PerformError) → Reads old new 65537 taken
+    → IfErr r (λ why. why ≢ fault.Write) → IfErr r (RefusesAs form policy taken) → IfErr r (λ why. IfSome old (λ input. RefusesAs form policy input why))
+refused_of_input old new form policy taken (Ok printed) h early refusal = tt
+refused_of_input old new form policy taken (Err why) h early refusal = refuses_input old new form policy taken why early h refusal

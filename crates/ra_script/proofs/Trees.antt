@@ -1,5 +1,5 @@
 -- The values of a tree, one after the other.
-use Rattle.std.proofs.Common.{◌≡◌, ◌<◌, ◌+◌, ◌≤◌, ℕ, List, [], ◌∷◌, ◌++◌, length, get_or, drop, Option, Some, None, Ok, Err, ok_or, codes, ℤ, option_map, option_and_then, refl, sym, ap, ◌∙◌, append_assoc}
+use Rattle.std.proofs.Common.{◌≡◌, ◌<◌, ◌+◌, ◌≤◌, ℕ, List, [], ◌∷◌, ◌++◌, length, get_or, drop, Option, Some, None, Ok, Err, ok_or, codes, ℤ, option_map, option_and_then, refl, sym, ap, ◌∙◌, inl, inr, append_assoc}
 use Rattle.std.proofs.lemmas.Bool.{ne_eqb}
 use Rattle.std.proofs.lemmas.List.{append-nil, drop_all}
 use Rattle.toml.specs.Data.{Data, Items, Members}
@@ -8,6 +8,7 @@ use Rattle.toml.specs.declared.value.Value.{Value}
 use Rattle.toml.proofs.Views.{items_view-drop, Entry}
 use Rattle.ra_script.specs.declared.error.ScriptError.{ScriptError}
 use Rattle.ra_script.specs.declared.error.ScriptError.TheVariants as fault
+use Rattle.ra_script.specs.Faults.{IsRefusal}
 use Rattle.ra_script.specs.Document.{ClientTable, key_count, integer_at, array_at, each_of, strings_of, client_in, clients_of, document_of}
 
 -- a map has as many entries as its table has keys
@@ -49,6 +50,12 @@ IsReadTo-refused read values place done value why lt is unread h =
     refused : (o : Option _) → ok_or o fault.Shape ≡ Err why → ok_or (option_map (λ rest. done ++ rest) (option_and_then (λ first. option_map (λ others. first ∷ others) (each_of read (items_view (drop (place + 1) values)))) o)) fault.Shape ≡ Err why
     refused None e = let same : fault.Shape ≡ why = cc in ap Err same
     refused (Some x) e = absurd (let clash : Ok x ≡ Err why = e in cc)
+
+-- so it refuses them all
+pub IsReadTo-err : {T : Type 0} (read : Data → Option T) (values : List Value) (place : ℕ) (done : List T) (value : Value) (why : ScriptError) → place < length values → value ≡ get_or values place value
+    → IsRefusal (ok_or (read (view value)) fault.Shape) why → IsReadTo read values place done → IsRefusal (ok_or (each_of read (items_view values)) fault.Shape) why
+IsReadTo-err read values place done value why lt is (inl unread) h = inl (IsReadTo-refused read values place done value why lt is unread h)
+IsReadTo-err read values place done value why lt is (inr memory) h = inr memory
 
 -- a client's table that has other keys
 pub client_in-other : (table : Members) → (key_count table ≡ 2 → ⊥) → client_in table ≡ None

@@ -102,6 +102,38 @@ fn make_printed(
     }
 }
 
+/// Reads the text of a script, drives a cluster through it by a policy, and returns what is to be written of it in a form.
+///
+/// # Errors
+///
+/// Those of `perform`, but that of the writer.
+fn read_printed<R: Read>(
+    alloc: Global,
+    reader: &mut R,
+    form: Form,
+    policy: &Policy,
+) -> Result<Printed, PerformError>
+    ensures ok { IfOk result (λ printed. IfSome (R.remaining reader.old) (λ input.
+        IsPerformedAs form policy.now input (string_bytes printed.text) printed.finished
+        × Consumes (R.remaining reader.old) (R.remaining reader.new) input)) }
+    ensures refused { IfErr result (λ fault.
+        IfSome (R.remaining reader.old) (λ input. RefusesAs form policy.now input fault)) }
+
+    // Where the reader tells nothing of its input, there still is one of which this holds.
+    ensures performed { IfOk result (λ printed. (input : List ℕ)
+        × IsPerformedAs form policy.now input (string_bytes printed.text) printed.finished) }
+    ensures cause { IfErr result (λ fault. (input : List ℕ) × RefusesAs form policy.now input fault) }
+
+    ensures early { IfErr result (λ fault. fault ≢ PerformError.Write) }
+    ensures failed { IsErrOf result PerformError.Read → (taken : List ℕ) × (length taken < 65537)
+        × Consumes (R.remaining reader.old) (R.remaining reader.new) taken }
+    ensures at_most { (taken : List ℕ) × (length taken ≤ 65537)
+        × Consumes (R.remaining reader.old) (R.remaining reader.new) taken }
+{
+    let input = read_up_to(alloc, reader, MAX_INPUT)?;
+    make_printed(alloc, form, policy, &input)
+}
+
 /// Reads the text of a script, drives a cluster through it by a policy, and writes what came of it in a form. Returns whether
 /// the run is finished.
 ///
@@ -140,8 +172,7 @@ fn perform_as<R: Read, W: Write>(
     ensures at_most { (taken : List ℕ) × (length taken ≤ 65537)
         × Consumes (R.remaining reader.old) (R.remaining reader.new) taken }
 {
-    let input = read_up_to(alloc, reader, MAX_INPUT)?;
-    let done = make_printed(alloc, form, policy, &input)?;
+    let done = read_printed(alloc, reader, form, policy)?;
     write_out(writer, done.text.as_bytes())?;
     Ok(done.finished)
 }

@@ -1,4 +1,4 @@
-use Rattle.std.proofs.Common.{◌≡◌, ◌≤◌, ◌-◌, length, get_or, take, drop, None, sym, ◌∙◌, refl, rules}
+use Rattle.std.proofs.Common.{◌≡◌, get_or, None, sym, ◌∙◌, refl, rules}
 use Rattle.std.proofs.lemmas.Bool.{false≢true}
 use Rattle.ra_script.proofs.Names.{op_of-unnamed, op_of-named, spelled_by, all_by}
 use Rattle.ra_script.specs.Operation.{op_of}
