@@ -9,7 +9,6 @@
 use Rattle.std.specs.Prelude.{◌≡◌, ℕ, ◌+◌, ◌-◌, ◌<◌, ◌^◌, ◌⊎◌, max, Bool, true, false, not}
 use Rattle.std.specs.Prelude.{List, [], ◌∷◌, ◌++◌, filter, map, Option, Some, None, IsTrue, ◌==◌}
 use Rattle.std.specs.List.{range_with_len}
-use Rattle.std.specs.Ordering.{nat_cmp}
 use Rattle.std.specs.FinSet as set
 use Rattle.std.specs.FinMap as finmap
 use Rattle.ra_stamp.specs.declared.mode.Mode.{Mode}

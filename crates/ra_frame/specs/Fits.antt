@@ -1,6 +1,5 @@
 -- Which frames may be sent.
 use Rattle.std.specs.Prelude.{◌≡◌, ℕ, ◌≤◌, ◌^◌}
-use Rattle.ra_stamp.specs.declared.message.Message.{Message}
 use Rattle.ra_stamp.specs.Message.{from_of, to_of, seq_of}
 use Rattle.ra_frame.specs.declared.frame.Frame.{Frame}
 
