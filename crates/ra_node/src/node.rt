@@ -80,8 +80,11 @@ fn put(slots: &mut IndexMap<Name, Slot>, name: Name, slot: Slot)
     requires { 1 ≤ spare slots.old }
     ensures { Finds slots.old.entries slots.new.entries name slot }
 {
-    slots.insert(name, slot).unwrap();
+    let_go(slots.insert(name, slot).unwrap());
 }
+
+/// Lets a slot go, if there is one. All that a slot owns is given back here, and in no other function.
+fn let_go(_slot: Option<Slot>) {}
 
 impl Node {
     ghost use Rattle.ra_automaton.specs.State.{IsForNode};
@@ -346,8 +349,17 @@ impl Node {
         ensures consistent { IsConsistentNode self.new }
     {
         let slots = &mut self.slots;
-        let mut slot = first_slot(slots, alloc, self.me, self.nodes, name, self.start)?;
-        let outcome = slot.ask(alloc, client, mode)?;
+        let first = first_slot(slots, alloc, self.me, self.nodes, name, self.start);
+        let Ok(mut slot) = first else {
+            return Err(AskError::Memory);
+        };
+        let outcome = match slot.ask(alloc, client, mode) {
+            Ok(outcome) => outcome,
+            Err(fault) => {
+                let_go(Some(slot));
+                return Err(fault);
+            }
+        };
         // The totals have room: there are fewer than 2^64 names.
         prove!(self.slots.len() < usize::MAX);
         self.waiting += slot.waiting();
@@ -371,8 +383,17 @@ impl Node {
     {
         let name = message.name();
         let slots = &mut self.slots;
-        let mut slot = first_slot(slots, alloc, self.me, self.nodes, name, self.start)?;
-        let outcome = slot.receive(alloc, message)?;
+        let first = first_slot(slots, alloc, self.me, self.nodes, name, self.start);
+        let Ok(mut slot) = first else {
+            return Err(ReceiveError::Memory);
+        };
+        let outcome = match slot.receive(alloc, message) {
+            Ok(outcome) => outcome,
+            Err(fault) => {
+                let_go(Some(slot));
+                return Err(fault);
+            }
+        };
         // No request waits at it and no client is queued, so that the totals stay.
         put(slots, name, slot);
         Ok(outcome)

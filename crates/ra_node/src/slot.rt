@@ -59,8 +59,10 @@ impl Slot {
         requires member { me ≤ nodes }
         ensures { IfOk result (λ slot. slot ≡ unmet me nodes name start) }
     {
-        // Only memory can be wanting here.
-        let automaton = Automaton::new(alloc, me, nodes, name, start).map_err(|_| Memory)?;
+        let Ok(automaton) = Automaton::new(alloc, me, nodes, name, start) else {
+            // Only memory can be wanting here.
+            return Err(Memory);
+        };
         Ok(Slot {
             automaton,
             client: None,

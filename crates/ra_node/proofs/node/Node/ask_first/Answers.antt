@@ -1,6 +1,5 @@
-use Rattle.std.proofs.Common.{rules, ◌≡◌, ℕ, ◌/◌, ◌^◌, length, refl, ap, ◌∙◌, arith}
+use Rattle.std.proofs.Common.{◌≡◌, ℕ, ◌/◌, ◌^◌, length, refl, ap, ◌∙◌, arith}
 use Rattle.ra_node.specs.Resource.{Resource, waiting_at}
-use Rattle.ra_node.specs.View.{node_with}
 use Rattle.ra_node.proofs.After.{first_asked, kept_as, same_view}
 use Rattle.ra_node.proofs.Totals.{sum_at, come, one_at_most, few_wait, few_queue}
 use Rattle.ra_node.proofs.node.Node.ask_first.Goals as goal
@@ -8,57 +7,53 @@ use Rattle.ra_node.proofs.node.Node.ask_first.Goals as goal
 pub invariant_of-self : goal.invariant_of-self
 invariant_of-self c =
     let n = c.self.inside in
-    kept_as n (record n { slots = c.first_slot.new.slots }) refl c.first_slot.ensures.same c.self.invariant
+    kept_as n (record n { slots = c.first_slot-first.new.slots }) refl c.first_slot-first.ensures.same c.self.invariant
 
-pub returns-in_err-slot-clause-asked : goal.returns-in_err-slot-clause-asked
-returns-in_err-slot-clause-asked c =
+pub returns-in_default-clause-asked : goal.returns-in_default-clause-asked
+returns-in_default-clause-asked c =
     let n = c.self.inside in
-    let slots = c.first_slot.new.slots.entries in
-    let as_before : node_with n.me n.nodes n.start slots ≡ c.args.self.now = same_view n.me n.nodes n.start n.slots.entries slots c.args.self.now c.first_slot.ensures.same c.self.view_is in
-    search rules
+    (refl, same_view n.me n.nodes n.start n.slots.entries c.first_slot-first.new.slots.entries c.args.self.now c.first_slot-first.ensures.same c.self.view_is)
 
-pub returns-in_err-slot-clause-consistent : goal.returns-in_err-slot-clause-consistent
-returns-in_err-slot-clause-consistent c = (invariant_of-self c).consistent
+pub returns-in_default-clause-consistent : goal.returns-in_default-clause-consistent
+returns-in_default-clause-consistent c = (invariant_of-self c).consistent
 
-pub invariant_of-self-in_err-outcome : goal.invariant_of-self-in_err-outcome
-invariant_of-self-in_err-outcome c =
+pub invariant_of-self-in-Err : goal.invariant_of-self-in-Err
+invariant_of-self-in-Err c =
     let n = c.self.inside in
-    kept_as n (record n { slots = c.first_slot.new.slots }) refl c.first_slot.ensures.same c.self.invariant
+    kept_as n (record n { slots = c.first_slot-first.new.slots }) refl c.first_slot-first.ensures.same c.self.invariant
 
-pub returns-in_err-outcome-clause-asked : goal.returns-in_err-outcome-clause-asked
-returns-in_err-outcome-clause-asked c =
+pub returns-in-Err-clause-asked : goal.returns-in-Err-clause-asked
+returns-in-Err-clause-asked c =
     let n = c.self.inside in
-    let slots = c.first_slot.new.slots.entries in
-    let as_before : node_with n.me n.nodes n.start slots ≡ c.args.self.now = same_view n.me n.nodes n.start n.slots.entries slots c.args.self.now c.first_slot.ensures.same c.self.view_is in
-    search rules
+    (c.in-Err.ensures.0, same_view n.me n.nodes n.start n.slots.entries c.first_slot-first.new.slots.entries c.args.self.now c.first_slot-first.ensures.same c.self.view_is)
 
-pub returns-in_err-outcome-clause-consistent : goal.returns-in_err-outcome-clause-consistent
-returns-in_err-outcome-clause-consistent c = (invariant_of-self-in_err-outcome c).consistent
+pub returns-in-Err-clause-consistent : goal.returns-in-Err-clause-consistent
+returns-in-Err-clause-consistent c = (invariant_of-self-in-Err c).consistent
 
 pub overflow_add-self : goal.overflow_add-self
 overflow_add-self c =
-    let same = c.first_slot.ensures.same in
-    omega (arith, c.self.invariant.waiting, c.waiting.ensures, one_at_most c.ask.new.self.state.phase, ap (sum_at waiting_at) same, few_wait c.first_slot.new.slots.entries c.len.ensures.unique, c.len.ensures.len, c.len.ensures.small)
+    let same = c.first_slot-first.ensures.same in
+    omega (arith, c.self.invariant.waiting, c.waiting.ensures, one_at_most c.ask.new.self.state.phase, ap (sum_at waiting_at) same, few_wait c.first_slot-first.new.slots.entries c.len.ensures.unique, c.len.ensures.len, c.len.ensures.small)
 
 pub overflow_add-self-2 : goal.overflow_add-self-2
 overflow_add-self-2 c =
-    let same = c.first_slot.ensures.same in
+    let same = c.first_slot-first.ensures.same in
     let short = ap (sum_at (λ r. length r.queue / 2 ^ 64)) same ∙ c.self.invariant.counted in
-    omega (arith, c.self.invariant.queued, c.queued.type_inv, ap (sum_at (λ r. length r.queue)) same, few_queue c.first_slot.new.slots.entries c.len.ensures.unique short, c.len.ensures.len, c.len.ensures.small)
+    omega (arith, c.self.invariant.queued, c.queued.type_inv, ap (sum_at (λ r. length r.queue)) same, few_queue c.first_slot-first.new.slots.entries c.len.ensures.unique short, c.len.ensures.len, c.len.ensures.small)
 
 pub invariant_of-self-2 : goal.invariant_of-self-2
 invariant_of-self-2 c =
     let n = c.self.inside in
     let now = c.args.self.now in
-    let slots = c.first_slot.new.slots.entries in
+    let slots = c.first_slot-first.new.slots.entries in
     let slots' = c.put.new.slots.entries in
-    let same = c.first_slot.ensures.same in
+    let same = c.first_slot-first.ensures.same in
     let name = c.args.name in
-    let ended = c.in_ok-outcome.ensures in
+    let ended = c.in-Ok-ask.ensures in
     let more = λ (f : Resource → ℕ). come f n.me n.nodes n.start n.slots.entries slots slots' now name c.ask.new.self c.self.view_is same c.requires.first c.put.ensures in
     let was = c.self.invariant in
     record {
-      consistent = (first_asked n.me n.nodes n.start n.slots.entries slots now c.self.view_is was.consistent same name c.requires.first c.in_ok-slot.slot c.ask.new.self c.in_ok-slot.ensures.made.0 slots' c.put.ensures c.args.client c.args.mode _ _ ended.0 ended.1).0;
+      consistent = (first_asked n.me n.nodes n.start n.slots.entries slots now c.self.view_is was.consistent same name c.requires.first c.in-Ok.slot c.ask.new.self c.in-Ok.ensures.made.0 slots' c.put.ensures c.args.client c.args.mode _ _ ended.0 ended.1).0;
       waiting = omega (arith, was.waiting, more waiting_at, c.waiting.ensures);
       queued = omega (arith, was.queued, more (λ r. length r.queue), c.queued.ensures);
       counted = omega (arith, was.counted, more (λ r. length r.queue / 2 ^ 64), c.queued.ensures, c.queued.type_inv);
@@ -67,8 +62,8 @@ invariant_of-self-2 c =
 pub returns-clause-asked : goal.returns-clause-asked
 returns-clause-asked c =
     let n = c.self.inside in
-    let ended = c.in_ok-outcome.ensures in
-    (first_asked n.me n.nodes n.start n.slots.entries c.first_slot.new.slots.entries c.args.self.now c.self.view_is c.self.invariant.consistent c.first_slot.ensures.same c.args.name c.requires.first c.in_ok-slot.slot c.ask.new.self c.in_ok-slot.ensures.made.0
+    let ended = c.in-Ok-ask.ensures in
+    (first_asked n.me n.nodes n.start n.slots.entries c.first_slot-first.new.slots.entries c.args.self.now c.self.view_is c.self.invariant.consistent c.first_slot-first.ensures.same c.args.name c.requires.first c.in-Ok.slot c.ask.new.self c.in-Ok.ensures.made.0
     c.put.new.slots.entries c.put.ensures c.args.client c.args.mode _ _ ended.0 ended.1).1
 
 pub returns-clause-consistent : goal.returns-clause-consistent

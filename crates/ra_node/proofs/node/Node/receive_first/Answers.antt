@@ -1,9 +1,8 @@
-use Rattle.std.proofs.Common.{rules, ◌≡◌, ℕ, ◌/◌, ◌^◌, List, [], length, refl, ap, ◌∙◌, arith}
+use Rattle.std.proofs.Common.{◌≡◌, ℕ, ◌/◌, ◌^◌, List, [], length, refl, ap, ◌∙◌, arith}
 use Rattle.ra_automaton.specs.declared.phase.Phase.TheVariants.{Idle}
 use Rattle.std.specs.FinMap as finmap
 use Rattle.ra_node.specs.declared.queued.Queued.{Queued}
 use Rattle.ra_node.specs.Resource.{Resource, waiting_in, waiting_at}
-use Rattle.ra_node.specs.View.{node_with}
 use Rattle.ra_node.proofs.After.{first_received, kept_as, same_view}
 use Rattle.ra_node.proofs.Totals.{come, idle_stays}
 use Rattle.ra_node.proofs.node.Node.receive_first.Goals as goal
@@ -11,50 +10,46 @@ use Rattle.ra_node.proofs.node.Node.receive_first.Goals as goal
 pub invariant_of-self : goal.invariant_of-self
 invariant_of-self c =
     let n = c.self.inside in
-    kept_as n (record n { slots = c.first_slot.new.slots }) refl c.first_slot.ensures.same c.self.invariant
+    kept_as n (record n { slots = c.first_slot-first.new.slots }) refl c.first_slot-first.ensures.same c.self.invariant
 
-pub returns-in_err-slot-clause-received : goal.returns-in_err-slot-clause-received
-returns-in_err-slot-clause-received c =
+pub returns-in_default-clause-received : goal.returns-in_default-clause-received
+returns-in_default-clause-received c =
     let n = c.self.inside in
-    let slots = c.first_slot.new.slots.entries in
-    let as_before : node_with n.me n.nodes n.start slots ≡ c.args.self.now = same_view n.me n.nodes n.start n.slots.entries slots c.args.self.now c.first_slot.ensures.same c.self.view_is in
-    search rules
+    (refl, same_view n.me n.nodes n.start n.slots.entries c.first_slot-first.new.slots.entries c.args.self.now c.first_slot-first.ensures.same c.self.view_is)
 
-pub returns-in_err-slot-clause-consistent : goal.returns-in_err-slot-clause-consistent
-returns-in_err-slot-clause-consistent c = (invariant_of-self c).consistent
+pub returns-in_default-clause-consistent : goal.returns-in_default-clause-consistent
+returns-in_default-clause-consistent c = (invariant_of-self c).consistent
 
-pub invariant_of-self-in_err-outcome : goal.invariant_of-self-in_err-outcome
-invariant_of-self-in_err-outcome c =
+pub invariant_of-self-in-Err : goal.invariant_of-self-in-Err
+invariant_of-self-in-Err c =
     let n = c.self.inside in
-    kept_as n (record n { slots = c.first_slot.new.slots }) refl c.first_slot.ensures.same c.self.invariant
+    kept_as n (record n { slots = c.first_slot-first.new.slots }) refl c.first_slot-first.ensures.same c.self.invariant
 
-pub returns-in_err-outcome-clause-received : goal.returns-in_err-outcome-clause-received
-returns-in_err-outcome-clause-received c =
+pub returns-in-Err-clause-received : goal.returns-in-Err-clause-received
+returns-in-Err-clause-received c =
     let n = c.self.inside in
-    let slots = c.first_slot.new.slots.entries in
-    let as_before : node_with n.me n.nodes n.start slots ≡ c.args.self.now = same_view n.me n.nodes n.start n.slots.entries slots c.args.self.now c.first_slot.ensures.same c.self.view_is in
-    search rules
+    (c.in-Err.ensures.0, same_view n.me n.nodes n.start n.slots.entries c.first_slot-first.new.slots.entries c.args.self.now c.first_slot-first.ensures.same c.self.view_is)
 
-pub returns-in_err-outcome-clause-consistent : goal.returns-in_err-outcome-clause-consistent
-returns-in_err-outcome-clause-consistent c = (invariant_of-self-in_err-outcome c).consistent
+pub returns-in-Err-clause-consistent : goal.returns-in-Err-clause-consistent
+returns-in-Err-clause-consistent c = (invariant_of-self-in-Err c).consistent
 
 pub invariant_of-self-2 : goal.invariant_of-self-2
 invariant_of-self-2 c =
     let n = c.self.inside in
     let now = c.args.self.now in
-    let slots = c.first_slot.new.slots.entries in
+    let slots = c.first_slot-first.new.slots.entries in
     let slots' = c.put.new.slots.entries in
-    let same = c.first_slot.ensures.same in
+    let same = c.first_slot-first.ensures.same in
     let name = c.name-name.result in
     let none = ap (λ (q : List ℕ). finmap.get now.resources q) c.name-name.ensures ∙ c.requires.first in
-    let fresh = c.in_ok-slot.ensures.made.0 in
-    let ended = c.in_ok-outcome.ensures in
+    let fresh = c.in-Ok.ensures.made.0 in
+    let ended = c.in-Ok-receive.ensures in
     let more = λ (f : Resource → ℕ). come f n.me n.nodes n.start n.slots.entries slots slots' now name c.receive.new.self c.self.view_is same none c.put.ensures in
     let was = c.self.invariant in
-    let idle : c.receive.new.self.state.phase ≡ Idle = idle_stays c.in_ok-slot.slot.state c.args.message.now _ _ c.receive.new.self.state ended.0.step (ap (λ (r : Resource). r.state.phase) fresh) in
+    let idle : c.receive.new.self.state.phase ≡ Idle = idle_stays c.in-Ok.slot.state c.args.message.now _ _ c.receive.new.self.state ended.0.step (ap (λ (r : Resource). r.state.phase) fresh) in
     let queue : c.receive.new.self.queue ≡ [] = ended.0.queue_is ∙ ap (λ (r : Resource). r.queue) fresh in
     record {
-      consistent = (first_received n.me n.nodes n.start n.slots.entries slots now c.self.view_is was.consistent same name none c.in_ok-slot.slot c.receive.new.self fresh slots' c.put.ensures c.args.message.now _ _ c.name-name.ensures ended.0 ended.1).0;
+      consistent = (first_received n.me n.nodes n.start n.slots.entries slots now c.self.view_is was.consistent same name none c.in-Ok.slot c.receive.new.self fresh slots' c.put.ensures c.args.message.now _ _ c.name-name.ensures ended.0 ended.1).0;
       waiting = omega (arith, was.waiting, more waiting_at, ap waiting_in idle);
       queued = omega (arith, was.queued, more (λ r. length r.queue), ap (λ (queue : List Queued). length queue) queue);
       counted = omega (arith, was.counted, more (λ r. length r.queue / 2 ^ 64), ap (λ (queue : List Queued). length queue / 2 ^ 64) queue);
@@ -63,9 +58,9 @@ invariant_of-self-2 c =
 pub returns-clause-received : goal.returns-clause-received
 returns-clause-received c =
     let n = c.self.inside in
-    let ended = c.in_ok-outcome.ensures in
+    let ended = c.in-Ok-receive.ensures in
     let none = ap (λ (q : List ℕ). finmap.get c.args.self.now.resources q) c.name-name.ensures ∙ c.requires.first in
-    (first_received n.me n.nodes n.start n.slots.entries c.first_slot.new.slots.entries c.args.self.now c.self.view_is c.self.invariant.consistent c.first_slot.ensures.same c.name-name.result none c.in_ok-slot.slot c.receive.new.self c.in_ok-slot.ensures.made.0
+    (first_received n.me n.nodes n.start n.slots.entries c.first_slot-first.new.slots.entries c.args.self.now c.self.view_is c.self.invariant.consistent c.first_slot-first.ensures.same c.name-name.result none c.in-Ok.slot c.receive.new.self c.in-Ok.ensures.made.0
     c.put.new.slots.entries c.put.ensures c.args.message.now _ _ c.name-name.ensures ended.0 ended.1).1
 
 pub returns-clause-consistent : goal.returns-clause-consistent
