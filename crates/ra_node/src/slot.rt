@@ -170,9 +170,14 @@ impl Slot {
             × IsConsistent self.new.state)
             (λ fault. (fault ≡ AskError.Memory) × (self.new ≡ self.old)) }
     {
-        let mut marks = marks_for(alloc, 2)?;
+        let Ok(mut marks) = marks_for(alloc, 2) else {
+            return Err(AskError::Memory);
+        };
         let requested = self.next_entry(client, mode);
-        let reaction = self.automaton.request(alloc, mode)?;
+        let Ok(reaction) = self.automaton.request(alloc, mode) else {
+            // Only memory can be wanting where the node is idle and a number is left.
+            return Err(AskError::Memory);
+        };
         self.client = Some(client);
         push_request(&mut marks, &requested, reaction.entered);
         Ok(Outcome {
@@ -236,8 +241,13 @@ impl Slot {
             × IsConsistent self.new.state)
             (λ fault. (fault ≡ LeaveError.Memory) × (self.new ≡ self.old)) }
     {
-        let marks = marks_of_leave(alloc, held)?;
-        let reaction = self.automaton.leave(alloc)?;
+        let Ok(marks) = marks_of_leave(alloc, held) else {
+            return Err(LeaveError::Memory);
+        };
+        let Ok(reaction) = self.automaton.leave(alloc) else {
+            // Only memory can be wanting where a client holds.
+            return Err(LeaveError::Memory);
+        };
         self.client = None;
         Ok(Outcome {
             sends: reaction.sends,
@@ -265,9 +275,13 @@ impl Slot {
             × IsConsistent self.new.state)
             (λ fault. (fault ≡ LeaveError.Memory) × (self.new ≡ self.old)) }
     {
-        let mut marks = marks_of_leave(alloc, held)?;
+        let Ok(mut marks) = marks_of_leave(alloc, held) else {
+            return Err(LeaveError::Memory);
+        };
         let requested = self.next_entry(next.client, next.mode);
-        let reaction = self.hand_over(alloc, next)?;
+        let Ok(reaction) = self.hand_over(alloc, next) else {
+            return Err(LeaveError::Memory);
+        };
         push_request(&mut marks, &requested, reaction.entered);
         Ok(Outcome {
             sends: reaction.sends,
@@ -317,8 +331,13 @@ impl Slot {
         } else {
             0
         };
-        let mut marks = marks_for(alloc, room)?;
-        let reaction = self.automaton.receive(alloc, message)?;
+        let Ok(mut marks) = marks_for(alloc, room) else {
+            return Err(ReceiveError::Memory);
+        };
+        let Ok(reaction) = self.automaton.receive(alloc, message) else {
+            // Only memory can be wanting where the message is for this node and from another one.
+            return Err(ReceiveError::Memory);
+        };
         if reaction.entered {
             if let Some(entry) = self.holder() {
                 push_reserved(&mut marks, Mark::Entered(entry));

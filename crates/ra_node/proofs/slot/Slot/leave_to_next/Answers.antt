@@ -11,10 +11,10 @@ returns c =
     let held = c.args.held in
     let next = c.args.next in
     let new = c.hand_over.new.self in
-    let reaction = c.in_ok-reaction.reaction in
-    let handed = c.in_ok-reaction.ensures.0 in
+    let reaction = c.in-Ok-hand_over.reaction in
+    let handed = c.in-Ok-hand_over.ensures.0 in
     let holds : Holds old held.client held = record { granted = c.requires.holds; client_is = refl } in
     let marks : c.push_request.new.marks.items ≡ Left held ∷ request_marks reaction.entered (next_entry old next.client next.mode) = search rules in (
       hands_over old held.client held next reaction.sends.items c.push_request.new.marks.items reaction.entered new c.requires.once holds handed.queue_was handed.step handed.client_is marks,
-      c.in_ok-reaction.ensures.1,
+      c.in-Ok-hand_over.ensures.1,
     )
