@@ -1,5 +1,5 @@
 -- A leave and a request in one step of the automaton are a leave that hands over to the next client, and how a leave ends.
-use Rattle.std.proofs.Common.{◌≡◌, ℕ, Bool, List, ◌∷◌, Some, None, Result, Ok, Err, MatchResult, ◌+◌, refl, sym, ap, ◌∙◌, subst, inl, inr}
+use Rattle.std.proofs.Common.{◌≡◌, ℕ, Bool, List, [], ◌∷◌, length, take, get_or, Option, Some, None, Result, Ok, Err, MatchResult, MatchOption, ◌+◌, refl, sym, ap, ◌∙◌, subst, arith, inl, inr}
 use Rattle.ra_stamp.specs.declared.entry.Entry.{Entry}
 use Rattle.ra_stamp.specs.declared.entry.Mark.{Mark}
 use Rattle.ra_stamp.specs.declared.entry.Mark.TheVariants.{Left}
@@ -11,6 +11,7 @@ use Rattle.ra_node.specs.declared.error.LeaveError.{LeaveError}
 use Rattle.ra_node.specs.declared.error.LeaveError.TheVariants.{Memory}
 use Rattle.ra_node.specs.declared.outcome.Outcome.{Outcome}
 use Rattle.ra_node.specs.Faults.{IsLeaveRefusal}
+use Rattle.ra_node.specs.HandedOver.{IsHandedOver}
 use Rattle.ra_node.specs.Resource.{Resource, Holds, entry_of, clients_of}
 use Rattle.ra_node.specs.Turns.{request_marks, next_entry, LeaveTurn, LeavesToNobody, LeavesToNext}
 use Rattle.ra_node.proofs.Distinct.{Once, next_may_ask}
@@ -38,6 +39,21 @@ hands_over old client entry next sends marks entered new once holds queue-was st
       sends_are = step.sends_are;
       marks_are = marks-are ∙ ap (λ (e : Entry). Left entry ∷ request_marks entered e) same;
     }
+
+-- what the automaton did and what was taken out of the queue, at a slot with these parts
+pub parts_handed_over : (state state' : State) (client : Option ℕ) (queue queue' : List Queued) (old : Resource) (next : Queued) (taken : Option Queued) (sends : List Message) (entered : Bool) → record { state = state; client = client; queue = queue } ≡ old
+    → LeaveAndRequestStep state next.mode sends entered state' → take 1 old.queue ≡ next ∷ [] → MatchOption taken ((queue ≡ []) × (queue' ≡ [])) (λ first. queue ≡ first ∷ queue')
+    → IsHandedOver old next sends entered (record { state = state'; client = Some next.client; queue = queue' })
+parts_handed_over state state' client queue queue' old next taken sends entered is step first was =
+    subst (λ (r : Resource). IsHandedOver r next sends entered (record { state = state'; client = Some next.client; queue = queue' })) is
+    (record { step = step; client_is = refl; queue_was = behind taken (ap (λ (r : Resource). take 1 r.queue) is ∙ first) was })
+  where
+    same_first : (a b : Queued) → a ∷ [] ≡ b ∷ [] → a ≡ b
+    same_first a b e = ap (λ (queued : List Queued). get_or queued 0 a) e
+
+    behind : (it : Option Queued) → take 1 queue ≡ next ∷ [] → MatchOption it ((queue ≡ []) × (queue' ≡ [])) (λ first. queue ≡ first ∷ queue') → queue ≡ next ∷ queue'
+    behind None first none = absurd (omega (arith, ap (λ (queued : List Queued). length queued) (ap (take 1) (sym none.0) ∙ first)))
+    behind (Some it) first is = is ∙ ap (λ (q : Queued). q ∷ queue') (same_first it next (ap (take 1) (sym is) ∙ first))
 
 -- ---- How a leave ends
 

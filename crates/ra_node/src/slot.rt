@@ -305,7 +305,10 @@ impl Slot {
             × IsConsistent self.new.state)
             (λ fault. (fault ≡ LeaveError.Memory) × (self.new ≡ self.old)) }
     {
-        let handed = self.automaton.leave_and_request(alloc, next.mode)?;
+        let Ok(handed) = self.automaton.leave_and_request(alloc, next.mode) else {
+            // Only memory can be wanting where a client holds.
+            return Err(LeaveError::Memory);
+        };
         self.queue.pop_front();
         self.client = Some(next.client);
         Ok(handed)

@@ -139,3 +139,6 @@ returns-in-None-clause-exhausted c = (first_tells c).exhausted
 
 pub returns-in-None-clause-allowed : goal.returns-in-None-clause-allowed
 returns-in-None-clause-allowed c = (first_tells c).allowed
+
+pub returns-in-None-clause-consistent : goal.returns-in-None-clause-consistent
+returns-in-None-clause-consistent c = c.ask_first.ensures.consistent

@@ -1,4 +1,4 @@
-use Rattle.std.proofs.Common.{◌≡◌, ℕ, ◌/◌, ◌^◌, length, refl, ap, ◌∙◌, arith}
+use Rattle.std.proofs.Common.{ℕ, ◌/◌, ◌^◌, length, refl, ap, ◌∙◌, arith}
 use Rattle.ra_node.specs.Resource.{Resource, waiting_at}
 use Rattle.ra_node.proofs.After.{first_asked, kept_as, same_view}
 use Rattle.ra_node.proofs.Totals.{sum_at, come, one_at_most, few_wait, few_queue}

@@ -158,3 +158,6 @@ returns-in-None-clause-ok c = (first_seen c).0
 
 pub returns-in-None-clause-err : goal.returns-in-None-clause-err
 returns-in-None-clause-err c = (first_seen c).1
+
+pub returns-in-None-clause-consistent : goal.returns-in-None-clause-consistent
+returns-in-None-clause-consistent c = c.receive_first.ensures.consistent
