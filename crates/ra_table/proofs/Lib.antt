@@ -11,3 +11,4 @@ pub mod Numbers
 pub mod Joined
 pub mod Kept
 pub mod Checked
+mod Refused

@@ -27,11 +27,18 @@ pub fn has_excluding(list: &[Entry], entry: &Entry) -> bool
     list.iter().any(|other| excludes(other, entry))
 }
 
+/// Returns whether another entry excludes this entry and is earlier.
+fn goes_before(other: &Entry, entry: &Entry) -> bool
+    ensures { IsTrue result ↔ (Excludes other.now entry.now × IsEarlier other.now.stamp entry.now.stamp) }
+{
+    excludes(other, entry) && other.stamp < entry.stamp
+}
+
 /// Returns whether an entry of the list excludes this entry and is earlier.
 pub fn has_earlier(list: &[Entry], entry: &Entry) -> bool
     ensures { IsTrue result ↔ Any (λ x. Excludes x entry.now × IsEarlier x.stamp entry.now.stamp) list.now }
 {
-    list.iter().any(|other| excludes(other, entry) && other.stamp < entry.stamp)
+    list.iter().any(|other| goes_before(other, entry))
 }
 
 /// Returns where the entry stands in the list.

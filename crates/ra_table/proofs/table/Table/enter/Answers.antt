@@ -1,10 +1,15 @@
-use Rattle.std.proofs.Common.{◌≡◌, ℕ, List, [], ◌∷◌, ◌++◌, refl, sym, ap, ◌∙◌, subst}
+use Rattle.std.proofs.Common.{rules, ◌≡◌, ℕ, List, [], ◌∷◌, ◌++◌, Result, Err, Ok, IfErr, refl, sym, ap, ◌∙◌, subst}
 use Rattle.ra_stamp.specs.declared.entry.Entry.{Entry}
 use Rattle.ra_stamp.specs.declared.entry.Mark.TheVariants.{Entered}
 use Rattle.ra_table.specs.Table.{LockTable, Gains, Loses}
+use Rattle.ra_table.specs.declared.error.EnterError.{EnterError}
+use Rattle.ra_table.specs.declared.error.EnterError.TheVariants.{Memory}
 use Rattle.ra_table.specs.Highest.{AreHighest}
+use Rattle.ra_table.specs.Lanes.{Standing, on_name, StandsAt}
 use Rattle.ra_table.proofs.Conflicts.{stays_conflict_free}
+use Rattle.ra_table.proofs.Kept.{on_err}
 use Rattle.ra_table.proofs.Moves.{Gains-push}
+use Rattle.ra_table.proofs.Refused.{EnterTells, enter_refused, enter_made, same_table, kept_as}
 use Rattle.ra_table.proofs.table.Table.enter.Goals as goal
 
 pub returns-clause-ok : goal.returns-clause-ok
@@ -29,3 +34,134 @@ invariant_of-self-2 c =
       conflict_free = returns-clause-exclusive c;
       are_highest = subst (AreHighest c.raise.new.highest.entries) (sym granted-is) (c.raise.ensures c.self.inside.granted.items are);
     }
+
+made : (c : goal.After-raise) → EnterTells (Ok tt) c.args.self.now c.args.entry.now
+made c = enter_made (Ok tt) c.args.self.now c.args.entry.now (c.in_ok-place.ensures.allowed.0 refl) tt
+
+pub returns-clause-not_waiting : goal.returns-clause-not_waiting
+returns-clause-not_waiting c = (made c).not_waiting
+
+pub returns-clause-held : goal.returns-clause-held
+returns-clause-held c = (made c).held
+
+pub returns-clause-earlier : goal.returns-clause-earlier
+returns-clause-earlier c = (made c).earlier
+
+pub returns-clause-allowed : goal.returns-clause-allowed
+returns-clause-allowed c = (made c).allowed
+
+pub grant-requires : goal.grant-requires
+grant-requires c =
+    subst (λ (es : List Entry). StandsAt (on_name c.args.entry.now.name es) c.in_ok-place.place c.args.entry.now) (sym (ap (λ (t : LockTable). t.waiting) c.self.view_is)) c.in_ok-place.ensures.place
+
+-- ---- The entry may not be granted
+
+refused : (c : goal.After-from_residual) → EnterTells c.from_residual.result c.args.self.now c.args.entry.now
+refused c =
+    let fault = c.in_err-place.field-0.0 in
+    let told = c.in_err-place.ensures in
+    let is : c.from_residual.result ≡ Err fault = search rules in
+    subst (λ (result : Result (Unit {0}) EnterError). EnterTells result c.args.self.now c.args.entry.now) (sym is)
+    (enter_refused fault c.args.self.now c.args.entry.now (record { allowed = told.allowed; not_waiting = told.not_waiting; held = told.held; earlier = told.earlier }) told.no_memory)
+
+pub returns-in_err-place-clause-not_waiting : goal.returns-in_err-place-clause-not_waiting
+returns-in_err-place-clause-not_waiting c = (refused c).not_waiting
+
+pub returns-in_err-place-clause-held : goal.returns-in_err-place-clause-held
+returns-in_err-place-clause-held c = (refused c).held
+
+pub returns-in_err-place-clause-earlier : goal.returns-in_err-place-clause-earlier
+returns-in_err-place-clause-earlier c = (refused c).earlier
+
+pub returns-in_err-place-clause-allowed : goal.returns-in_err-place-clause-allowed
+returns-in_err-place-clause-allowed c = (refused c).allowed
+
+pub returns-in_err-place-clause-exclusive : goal.returns-in_err-place-clause-exclusive
+returns-in_err-place-clause-exclusive c = c.in_err-place.ensures.exclusive
+
+-- ---- It may be granted, and there is no memory for one more grant
+
+pub invariant_of-self : goal.invariant_of-self
+invariant_of-self c = kept_as _ _ _ _ _ _ refl c.reserve.ensures.items refl c.self.invariant
+
+pub returns-in_err-reserve-clause-exclusive : goal.returns-in_err-reserve-clause-exclusive
+returns-in_err-reserve-clause-exclusive c = c.self.invariant.conflict_free
+
+pub returns-in_err-reserve-clause-err : goal.returns-in_err-reserve-clause-err
+returns-in_err-reserve-clause-err c =
+    on_err c.from_residual-in_err-reserve.result _ (same_table c.self.inside.lanes c.self.inside.lanes c.self.inside.granted.items c.reserve.new.self.items c.args.self.now refl c.reserve.ensures.items c.self.view_is)
+
+no_grant : (c : goal.After-from_residual-in_err-reserve) → EnterTells c.from_residual-in_err-reserve.result c.args.self.now c.args.entry.now
+no_grant c =
+    let memory : IfErr c.from_residual-in_err-reserve.result (λ fault. fault ≡ Memory) = search rules in
+    enter_made c.from_residual-in_err-reserve.result c.args.self.now c.args.entry.now (c.in_ok-place.ensures.allowed.0 refl) memory
+
+pub returns-in_err-reserve-clause-not_waiting : goal.returns-in_err-reserve-clause-not_waiting
+returns-in_err-reserve-clause-not_waiting c = (no_grant c).not_waiting
+
+pub returns-in_err-reserve-clause-held : goal.returns-in_err-reserve-clause-held
+returns-in_err-reserve-clause-held c = (no_grant c).held
+
+pub returns-in_err-reserve-clause-earlier : goal.returns-in_err-reserve-clause-earlier
+returns-in_err-reserve-clause-earlier c = (no_grant c).earlier
+
+pub returns-in_err-reserve-clause-allowed : goal.returns-in_err-reserve-clause-allowed
+returns-in_err-reserve-clause-allowed c = (no_grant c).allowed
+
+-- ---- none for its name's highest number
+
+pub invariant_of-self-in_err-reserve-2 : goal.invariant_of-self-in_err-reserve-2
+invariant_of-self-in_err-reserve-2 c = kept_as _ _ _ _ _ _ refl c.reserve.ensures.items c.reserve-2.ensures.entries c.self.invariant
+
+pub returns-in_err-reserve-2-clause-exclusive : goal.returns-in_err-reserve-2-clause-exclusive
+returns-in_err-reserve-2-clause-exclusive c = c.self.invariant.conflict_free
+
+pub returns-in_err-reserve-2-clause-err : goal.returns-in_err-reserve-2-clause-err
+returns-in_err-reserve-2-clause-err c =
+    on_err c.from_residual-in_err-reserve-2.result _ (same_table c.self.inside.lanes c.self.inside.lanes c.self.inside.granted.items c.reserve.new.self.items c.args.self.now refl c.reserve.ensures.items c.self.view_is)
+
+no_number : (c : goal.After-from_residual-in_err-reserve-2) → EnterTells c.from_residual-in_err-reserve-2.result c.args.self.now c.args.entry.now
+no_number c =
+    let memory : IfErr c.from_residual-in_err-reserve-2.result (λ fault. fault ≡ Memory) = search rules in
+    enter_made c.from_residual-in_err-reserve-2.result c.args.self.now c.args.entry.now (c.in_ok-place.ensures.allowed.0 refl) memory
+
+pub returns-in_err-reserve-2-clause-not_waiting : goal.returns-in_err-reserve-2-clause-not_waiting
+returns-in_err-reserve-2-clause-not_waiting c = (no_number c).not_waiting
+
+pub returns-in_err-reserve-2-clause-held : goal.returns-in_err-reserve-2-clause-held
+returns-in_err-reserve-2-clause-held c = (no_number c).held
+
+pub returns-in_err-reserve-2-clause-earlier : goal.returns-in_err-reserve-2-clause-earlier
+returns-in_err-reserve-2-clause-earlier c = (no_number c).earlier
+
+pub returns-in_err-reserve-2-clause-allowed : goal.returns-in_err-reserve-2-clause-allowed
+returns-in_err-reserve-2-clause-allowed c = (no_number c).allowed
+
+-- ---- none for it to hold
+
+pub invariant_of-self-in_err-grant : goal.invariant_of-self-in_err-grant
+invariant_of-self-in_err-grant c = kept_as _ _ _ _ _ _ (ap (λ (l : Standing). l.holding) c.in_err-grant.ensures.err) c.reserve.ensures.items c.reserve-2.ensures.entries c.self.invariant
+
+pub returns-in_err-grant-clause-exclusive : goal.returns-in_err-grant-clause-exclusive
+returns-in_err-grant-clause-exclusive c = (invariant_of-self-in_err-grant c).conflict_free
+
+pub returns-in_err-grant-clause-err : goal.returns-in_err-grant-clause-err
+returns-in_err-grant-clause-err c =
+    on_err c.from_residual-in_err-grant.result _ (same_table c.self.inside.lanes c.grant.new.self c.self.inside.granted.items c.reserve.new.self.items c.args.self.now c.in_err-grant.ensures.err c.reserve.ensures.items c.self.view_is)
+
+no_hold : (c : goal.After-from_residual-in_err-grant) → EnterTells c.from_residual-in_err-grant.result c.args.self.now c.args.entry.now
+no_hold c =
+    let memory : IfErr c.from_residual-in_err-grant.result (λ fault. fault ≡ Memory) = search rules in
+    enter_made c.from_residual-in_err-grant.result c.args.self.now c.args.entry.now (c.in_ok-place.ensures.allowed.0 refl) memory
+
+pub returns-in_err-grant-clause-not_waiting : goal.returns-in_err-grant-clause-not_waiting
+returns-in_err-grant-clause-not_waiting c = (no_hold c).not_waiting
+
+pub returns-in_err-grant-clause-held : goal.returns-in_err-grant-clause-held
+returns-in_err-grant-clause-held c = (no_hold c).held
+
+pub returns-in_err-grant-clause-earlier : goal.returns-in_err-grant-clause-earlier
+returns-in_err-grant-clause-earlier c = (no_hold c).earlier
+
+pub returns-in_err-grant-clause-allowed : goal.returns-in_err-grant-clause-allowed
+returns-in_err-grant-clause-allowed c = (no_hold c).allowed

@@ -1,0 +1,125 @@
+-- What the end of a request and of an entry tells, and that a refusal leaves the table as it was.
+use Rattle.std.proofs.Common.{◌≡◌, ◌↔◌, ℕ, List, Contains, Result, Ok, Err, IfErr, IsOk, IsErrOf, sym, ap, ◌∙◌, subst}
+use Rattle.std.specs.Prelude.{IsOkUnless}
+use Rattle.std.proofs.lemmas.Bool.{false≢true}
+use Rattle.ra_stamp.specs.declared.entry.Entry.{Entry}
+use Rattle.ra_table.specs.declared.error.EnterError.{EnterError}
+use Rattle.ra_table.specs.declared.error.EnterError.TheVariants as entering
+use Rattle.ra_table.specs.declared.error.RequestError.{RequestError}
+use Rattle.ra_table.specs.declared.error.RequestError.TheVariants as requesting
+use Rattle.ra_table.specs.Table.{LockTable, MayRequest, MayEnter}
+use Rattle.ra_table.specs.Refusals.{IsNodeBusy, IsNotAbove, IsHeld, HasEarlier}
+use Rattle.ra_table.specs.Laws.{IsConflictFree}
+use Rattle.ra_table.specs.Highest.{AreHighest, IsKept}
+use Rattle.ra_table.specs.Lanes.{Standing}
+use Rattle.ra_table.proofs.Allowed.{MayRequest-not_busy, MayRequest-not_overtaken, MayEnter-not_held, MayEnter-no_earlier}
+use Rattle.ra_table.proofs.Checked.{IsAnswered}
+
+same_error : {X E : Type 0} (e f : E) → IsErrOf {T = X} (Err e) f → e ≡ f
+same_error e f h = cc
+
+ok_apart : {X E : Type 0} (x : X) (e : E) → Ok x ≡ Err e → ⊥
+ok_apart x e h = cc
+
+-- ---- A request
+
+-- what the end of a request tells
+pub record RequestTells (result : Result (Unit {0}) RequestError) (table : LockTable) (e : Entry) : Type 0 where
+  pub node_busy : IsErrOf result requesting.NodeBusy ↔ IsNodeBusy table e
+  pub not_above : IsErrOf result requesting.NotAbove ↔ ((IsNodeBusy table e → ⊥) × IsNotAbove table e)
+  pub allowed : IsOkUnless result requesting.Memory ↔ MayRequest table e
+
+busy_apart : requesting.NodeBusy ≡ requesting.Memory → ⊥
+busy_apart e = cc
+
+not_above_apart : requesting.NotAbove ≡ requesting.Memory → ⊥
+not_above_apart e = cc
+
+-- a request that may not be made is refused for that
+pub request_refused : (fault : RequestError) (table : LockTable) (e : Entry) → IsErrOf {T = Unit {0}} (Err fault) requesting.NodeBusy ↔ IsNodeBusy table e
+    → IsErrOf {T = Unit {0}} (Err fault) requesting.NotAbove ↔ ((IsNodeBusy table e → ⊥) × IsNotAbove table e) → IsOk {T = Unit {0}} (Err fault) ↔ MayRequest table e → (IsErrOf {T = Unit {0}} (Err fault) requesting.Memory → ⊥)
+    → RequestTells (Err fault) table e
+request_refused fault table e node_busy not_above allowed no_memory =
+    record {
+      node_busy = node_busy;
+      not_above = not_above;
+      allowed = (λ h. absurd (no_memory (ap Err h)), λ may. absurd (false≢true (allowed.1 may)));
+    }
+
+-- one that may be made is refused for want of memory alone
+pub request_made : (result : Result (Unit {0}) RequestError) (table : LockTable) (e : Entry) → MayRequest table e → IfErr result (λ fault. fault ≡ requesting.Memory) → RequestTells result table e
+request_made (Ok x) table e may memory =
+    record {
+      node_busy = (λ h. absurd (ok_apart x requesting.NodeBusy h), λ busy. absurd (MayRequest-not_busy table e may busy));
+      not_above = (λ h. absurd (ok_apart x requesting.NotAbove h), λ h. absurd (MayRequest-not_overtaken table e may h.1));
+      allowed = (λ _. may, λ _. tt);
+    }
+request_made (Err fault) table e may memory =
+    record {
+      node_busy = (λ h. absurd (busy_apart (sym (same_error fault requesting.NodeBusy h) ∙ memory)), λ busy. absurd (MayRequest-not_busy table e may busy));
+      not_above = (λ h. absurd (not_above_apart (sym (same_error fault requesting.NotAbove h) ∙ memory)), λ h. absurd (MayRequest-not_overtaken table e may h.1));
+      allowed = (λ _. may, λ _. memory);
+    }
+
+-- ---- An entry
+
+-- what the end of an entry tells
+pub record EnterTells (result : Result (Unit {0}) EnterError) (table : LockTable) (e : Entry) : Type 0 where
+  pub not_waiting : IsErrOf result entering.NotWaiting ↔ (Contains table.waiting e → ⊥)
+  pub held : IsErrOf result entering.Held ↔ (Contains table.waiting e × IsHeld table e)
+  pub earlier : IsErrOf result entering.Earlier ↔ (Contains table.waiting e × (IsHeld table e → ⊥) × HasEarlier table e)
+  pub allowed : IsOkUnless result entering.Memory ↔ MayEnter table e
+
+not_waiting_apart : entering.NotWaiting ≡ entering.Memory → ⊥
+not_waiting_apart e = cc
+
+held_apart : entering.Held ≡ entering.Memory → ⊥
+held_apart e = cc
+
+earlier_apart : entering.Earlier ≡ entering.Memory → ⊥
+earlier_apart e = cc
+
+-- an error says the same of whatever value there is none of
+passed_on : {X Y : Type 0} (fault f : EnterError) (P : Type 0) → IsErrOf {T = X} (Err fault) f ↔ P → IsErrOf {T = Y} (Err fault) f ↔ P
+passed_on fault f P tells = (λ h. tells.0 (ap Err (same_error fault f h)), λ p. ap Err (same_error fault f (tells.1 p)))
+
+pub enter_refused : (fault : EnterError) (table : LockTable) (e : Entry) → IsAnswered table e (Err fault) → (IsErrOf {T = ℕ} (Err fault) entering.Memory → ⊥) → EnterTells (Err fault) table e
+enter_refused fault table e told no_memory =
+    record {
+      not_waiting = passed_on fault entering.NotWaiting (Contains table.waiting e → ⊥) told.not_waiting;
+      held = passed_on fault entering.Held (Contains table.waiting e × IsHeld table e) told.held;
+      earlier = passed_on fault entering.Earlier (Contains table.waiting e × (IsHeld table e → ⊥) × HasEarlier table e) told.earlier;
+      allowed = (λ h. absurd (no_memory (ap Err h)), λ may. absurd (false≢true (told.allowed.1 may)));
+    }
+
+pub enter_made : (result : Result (Unit {0}) EnterError) (table : LockTable) (e : Entry) → MayEnter table e → IfErr result (λ fault. fault ≡ entering.Memory) → EnterTells result table e
+enter_made (Ok x) table e may memory =
+    record {
+      not_waiting = (λ h. absurd (ok_apart x entering.NotWaiting h), λ absent. absurd (absent may.waits));
+      held = (λ h. absurd (ok_apart x entering.Held h), λ h. absurd (MayEnter-not_held table e may h.1));
+      earlier = (λ h. absurd (ok_apart x entering.Earlier h), λ h. absurd (MayEnter-no_earlier table e may h.2));
+      allowed = (λ _. may, λ _. tt);
+    }
+enter_made (Err fault) table e may memory =
+    record {
+      not_waiting = (λ h. absurd (not_waiting_apart (sym (same_error fault entering.NotWaiting h) ∙ memory)), λ absent. absurd (absent may.waits));
+      held = (λ h. absurd (held_apart (sym (same_error fault entering.Held h) ∙ memory)), λ h. absurd (MayEnter-not_held table e may h.1));
+      earlier = (λ h. absurd (earlier_apart (sym (same_error fault entering.Earlier h) ∙ memory)), λ h. absurd (MayEnter-no_earlier table e may h.2));
+      allowed = (λ _. may, λ _. memory);
+    }
+
+-- ---- What does not change
+
+-- the table of these lanes and grants
+abbrev pub table_of : Standing → List Entry → LockTable
+table_of lanes granted = record { waiting = lanes.waiting; holding = lanes.holding; granted = granted }
+
+pub same_table : (lanes lanes' : Standing) (granted granted' : List Entry) (now : LockTable) → lanes' ≡ lanes → granted' ≡ granted → table_of lanes granted ≡ now → table_of lanes' granted' ≡ now
+same_table lanes lanes' granted granted' now same_lanes same_granted is = (λ i. table_of (same_lanes i) (same_granted i)) ∙ is
+
+pub kept_as : (holding holding' granted granted' : List Entry) (numbers numbers' : List (List ℕ × ℕ)) → holding' ≡ holding → granted' ≡ granted → numbers' ≡ numbers → IsKept holding granted numbers → IsKept holding' granted' numbers'
+kept_as holding holding' granted granted' numbers numbers' same_holding same_granted same_numbers kept =
+    record {
+      conflict_free = subst IsConflictFree (sym same_holding) kept.conflict_free;
+      are_highest = subst (λ (ns : List (List ℕ × ℕ)). AreHighest ns granted') (sym same_numbers) (subst (AreHighest numbers) (sym same_granted) kept.are_highest);
+    }
