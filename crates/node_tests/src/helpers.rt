@@ -1,6 +1,9 @@
 ghost use Rattle.ra_stamp.specs.NodeId.{IsNodeNumber};
 
 use ra_stamp::{Entry, Message, Mode, Name, NodeId, Stamp};
+use std::alloc::Global;
+use std::fmt::Display;
+use std::process::Abort;
 
 /// Returns the node with this number.
 pub fn id(number: u16) -> NodeId
@@ -71,4 +74,21 @@ pub fn reader(node: u16, client: u32, seq: u64) -> Entry
     requires { IsNodeNumber node }
 {
     entry(node, client, r(), Mode::Shared, seq)
+}
+
+/// Returns whether a value prints as this text.
+pub fn prints(alloc: Global, value: impl Display + Drop, text: &str) -> bool {
+    match value.to_string(alloc) {
+        Ok(printed) => printed.as_str() == text,
+        Err(_) => false,
+    }
+}
+
+/// Asserts that each of so many steps is so, where so many are so up to the first that is not, and `None` says that there is
+/// nothing to try them on.
+pub fn assert_all(rt: &impl Abort, done: Option<usize>, steps: usize) {
+    match done {
+        Some(done) => assert!(rt; done == steps, "step {done}, counted from 0"),
+        None => panic!(rt; "there is nothing to try the steps on"),
+    }
 }

@@ -4,8 +4,6 @@
 #[cfg(test)]
 mod bags;
 #[cfg(test)]
-mod calls;
-#[cfg(test)]
 mod helpers;
 #[cfg(test)]
 mod names;
@@ -17,5 +15,7 @@ mod numbers;
 mod queues;
 #[cfg(test)]
 mod refusals;
+#[cfg(test)]
+mod steps;
 #[cfg(test)]
 mod tables;

@@ -1,8 +1,10 @@
 //! What is refused: nodes that cannot be, and messages for others or from strangers; and how faults are printed.
 ghost use Rattle.ra_stamp.specs.NodeId.{IsNodeNumber};
 
-use crate::calls::node;
-use crate::helpers::{id, r, request};
+use crate::helpers::{id, prints};
+use crate::steps::{Step, Wire, follow};
+use Step::{HasHighest, RefusesMessage};
+use Wire::Requests;
 use ra_node::{AskError, LeaveError, NewError, Node, ReceiveError};
 use std::alloc::Global;
 
@@ -10,10 +12,7 @@ use std::alloc::Global;
 fn makes_none(alloc: Global, me: u16, nodes: u16, fault: NewError) -> bool
     requires { IsNodeNumber me }
 {
-    match Node::new(alloc, id(me), nodes, 0) {
-        Ok(_) => false,
-        Err(found) => found == fault,
-    }
+    Node::new(alloc, id(me), nodes, 0).err() == Some(fault)
 }
 
 #[test]
@@ -23,54 +22,33 @@ fn bad_counts_and_nodes_make_no_node(rt: HostRuntime) {
     assert!(rt; makes_none(rt.alloc(), 4, 3, NewError::BadNode));
 }
 
-/// A REQUEST with the number 7 comes. Returns whether the node refused it so.
-fn refuses_message(alloc: Global, node: &mut Node, from: u16, to: u16, fault: ReceiveError) -> bool
-    requires from { IsNodeNumber from }
-    requires to { IsNodeNumber to }
-{
-    match node.receive(alloc, &request(from, to, 7)) {
-        Ok(_) => false,
-        Err(found) => found == fault,
-    }
-}
-
-fn refuses_four(alloc: Global, node: &mut Node) -> bool {
-    // The receiver comes first where the sender is wrong, too.
-    refuses_message(alloc, node, 1, 3, ReceiveError::WrongNode)
-        && refuses_message(alloc, node, 4, 1, ReceiveError::WrongNode)
-        && refuses_message(alloc, node, 2, 2, ReceiveError::Stranger)
-        && refuses_message(alloc, node, 4, 2, ReceiveError::Stranger)
-}
-
-fn refuses_and_stays(alloc: Global) -> Option<bool> {
-    let mut node = node(alloc, 2, 3, 0)?;
-    Some(refuses_four(alloc, &mut node) && node.highest(&r()) == 0)
-}
-
 #[test]
 fn messages_for_others_and_from_strangers_are_refused(rt: HostRuntime) {
-    assert!(rt; refuses_and_stays(rt.alloc()) == Some(true));
+    const STEPS: &[Step] = &[
+        // The receiver comes first where the sender is wrong, too.
+        RefusesMessage(Requests(1, 3, 7), ReceiveError::WrongNode),
+        RefusesMessage(Requests(4, 1, 7), ReceiveError::WrongNode),
+        RefusesMessage(Requests(2, 2, 7), ReceiveError::Stranger),
+        RefusesMessage(Requests(4, 2, 7), ReceiveError::Stranger),
+        HasHighest(0),
+    ];
+    follow(&rt, id(2), 3, 0, STEPS);
 }
 
 /// Returns whether the faults of an ask print so.
-fn ask_faults_print(alloc: Global) -> Option<bool> {
-    let busy = AskError::Busy;
-    let exhausted = AskError::Exhausted;
-    let memory = AskError::Memory;
-    let text = format!(in alloc; "{busy} {exhausted} {memory}").ok()?;
-    Some(text.as_str() == "Busy Exhausted Memory")
+fn ask_faults_print(alloc: Global) -> bool {
+    prints(alloc, AskError::Busy, "Busy")
+        && prints(alloc, AskError::Exhausted, "Exhausted")
+        && prints(alloc, AskError::Memory, "Memory")
 }
 
 /// Returns whether the faults of a leave print so.
-fn leave_faults_print(alloc: Global) -> Option<bool> {
-    let not_held = LeaveError::NotHeld;
-    let memory = LeaveError::Memory;
-    let text = format!(in alloc; "{not_held} {memory}").ok()?;
-    Some(text.as_str() == "NotHeld Memory")
+fn leave_faults_print(alloc: Global) -> bool {
+    prints(alloc, LeaveError::NotHeld, "NotHeld") && prints(alloc, LeaveError::Memory, "Memory")
 }
 
 #[test]
 fn faults_are_printed_as_their_words(rt: HostRuntime) {
-    assert!(rt; ask_faults_print(rt.alloc()) == Some(true));
-    assert!(rt; leave_faults_print(rt.alloc()) == Some(true));
+    assert!(rt; ask_faults_print(rt.alloc()));
+    assert!(rt; leave_faults_print(rt.alloc()));
 }

@@ -1,250 +1,283 @@
-use crate::helpers::{entry, reader, writer};
-use ra_stamp::{Entry, Mode, Name};
+//! The lock table: what it answers, one call after the other.
+use crate::helpers::{assert_all, prints, r};
+use Call::{Asks, CanEnter, Enters, Leaves};
+use Key::{On, Reader, Writer};
+use ra_stamp::{Entry, Mode, Name, NodeId, Stamp};
 use ra_table::{EnterError, LeaveError, RequestError, Table};
 use std::alloc::Global;
 use std::process::Abort;
 
+/// An entry: its node, its client and its number.
+#[derive(Clone, Copy)]
+enum Key {
+    /// Of a writer on `r`.
+    Writer(u16, u32, u64),
+    /// Of a reader on `r`.
+    Reader(u16, u32, u64),
+    /// Of a writer on the name of this one letter.
+    On(u8, u16, u32, u64),
+}
+
 /// A call of the table about an entry, with the answer that it gives.
 #[derive(Clone, Copy)]
 enum Call {
-    Request(Entry, Result<(), RequestError>),
-    Enter(Entry, Result<(), EnterError>),
-    Leave(Entry, Result<(), LeaveError>),
-    CanEnter(Entry, bool),
+    /// A request is made.
+    Asks(Key, Result<(), RequestError>),
+    /// An entry is to be granted.
+    Enters(Key, Result<(), EnterError>),
+    /// A hold is to end.
+    Leaves(Key, Result<(), LeaveError>),
+    /// Somebody asks whether an entry may be granted.
+    CanEnter(Key, bool),
 }
 
-/// A request is made.
-fn asks(entry: &Entry, answer: Result<(), RequestError>) -> Call {
-    Call::Request(*entry, answer)
+/// Returns the entry, or `None` where a number is that of no node, or a letter is no name.
+fn entry(key: Key) -> Option<Entry> {
+    let (name, node, client, mode, seq) = match key {
+        Writer(node, client, seq) => (Some(r()), node, client, Mode::Exclusive, seq),
+        Reader(node, client, seq) => (Some(r()), node, client, Mode::Shared, seq),
+        On(letter, node, client, seq) => (
+            Name::new(&[letter]).ok(),
+            node,
+            client,
+            Mode::Exclusive,
+            seq,
+        ),
+    };
+    match (name, NodeId::new(node)) {
+        (Some(name), Some(node)) => Some(Entry {
+            name,
+            stamp: Stamp { seq, node },
+            client,
+            mode,
+        }),
+        _ => None,
+    }
 }
 
-/// An entry is to be granted.
-fn enters(entry: &Entry, answer: Result<(), EnterError>) -> Call {
-    Call::Enter(*entry, answer)
-}
-
-/// A hold is to end.
-fn leaves(entry: &Entry, answer: Result<(), LeaveError>) -> Call {
-    Call::Leave(*entry, answer)
-}
-
-/// Somebody asks whether an entry may be granted.
-fn can_enter(entry: &Entry, answer: bool) -> Call {
-    Call::CanEnter(*entry, answer)
+/// Returns whether the table gives this answer about an entry.
+fn answers_about(table: &mut Table, entry: &Entry, call: Call) -> bool {
+    match call {
+        Asks(_, answer) => table.request(*entry) == answer,
+        Enters(_, answer) => table.enter(entry) == answer,
+        Leaves(_, answer) => table.leave(entry) == answer,
+        CanEnter(_, answer) => table.can_enter(entry) == answer,
+    }
 }
 
 /// Returns whether the table gives this answer.
-fn answers(table: &mut Table, call: &Call) -> bool {
-    match call {
-        Call::Request(entry, answer) => table.request(*entry) == *answer,
-        Call::Enter(entry, answer) => table.enter(entry) == *answer,
-        Call::Leave(entry, answer) => table.leave(entry) == *answer,
-        Call::CanEnter(entry, answer) => table.can_enter(entry) == *answer,
+fn answers(table: &mut Table, call: Call) -> bool {
+    let (Asks(key, _) | Enters(key, _) | Leaves(key, _) | CanEnter(key, _)) = call;
+    match entry(key) {
+        Some(entry) => answers_about(table, &entry, call),
+        None => false,
     }
 }
 
-/// Asserts that a new table gives all of these answers, one call after the other.
-fn check(rt: &impl Abort, alloc: Global, calls: &[Call]) {
-    let mut table = Table::new(alloc).expect(rt, "there is memory for a table");
+/// Returns how many of these answers the table gives, one call after the other, up to the first that it does not.
+fn answered(table: &mut Table, calls: &[Call]) -> usize {
     for place in 0..calls.len() {
-        assert!(rt; answers(&mut table, &calls[place]), "call {place}");
+        if !answers(table, calls[place]) {
+            return place;
+        }
     }
+    calls.len()
+}
+
+/// Makes a table, and returns how many of these answers it gives, up to the first that it does not.
+fn answered_by_new(alloc: Global, calls: &[Call]) -> Option<usize> {
+    match Table::new(alloc) {
+        Ok(mut table) => Some(answered(&mut table, calls)),
+        Err(_) => None,
+    }
+}
+
+/// Asserts that a new table gives all of these answers.
+fn check(rt: &(impl Abort + AllocGlobal), calls: &[Call]) {
+    assert_all(rt, answered_by_new(rt.alloc(), calls), calls.len());
 }
 
 #[test]
 fn writers_take_turns_in_stamp_order(rt: HostRuntime) {
-    let first = writer(1, 1, 1);
-    let busy = writer(1, 2, 2);
-    let too_low = writer(2, 2, 1);
-    let second = writer(2, 2, 2);
-    let calls = [
-        enters(&first, Err(EnterError::NotWaiting)),
-        leaves(&first, Err(LeaveError::NotHeld)),
-        asks(&first, Ok(())),
-        asks(&busy, Err(RequestError::NodeBusy)),
-        enters(&busy, Err(EnterError::NotWaiting)),
-        leaves(&busy, Err(LeaveError::NotHeld)),
-        can_enter(&first, true),
-        enters(&first, Ok(())),
-        can_enter(&first, false),
-        enters(&first, Err(EnterError::NotWaiting)),
-        asks(&busy, Err(RequestError::NodeBusy)),
-        asks(&too_low, Err(RequestError::NotAbove)),
-        enters(&too_low, Err(EnterError::NotWaiting)),
-        leaves(&too_low, Err(LeaveError::NotHeld)),
-        asks(&second, Ok(())),
+    const FIRST: Key = Writer(1, 1, 1);
+    const BUSY: Key = Writer(1, 2, 2);
+    const TOO_LOW: Key = Writer(2, 2, 1);
+    const SECOND: Key = Writer(2, 2, 2);
+    const CALLS: &[Call] = &[
+        Enters(FIRST, Err(EnterError::NotWaiting)),
+        Leaves(FIRST, Err(LeaveError::NotHeld)),
+        Asks(FIRST, Ok(())),
+        Asks(BUSY, Err(RequestError::NodeBusy)),
+        Enters(BUSY, Err(EnterError::NotWaiting)),
+        Leaves(BUSY, Err(LeaveError::NotHeld)),
+        CanEnter(FIRST, true),
+        Enters(FIRST, Ok(())),
+        CanEnter(FIRST, false),
+        Enters(FIRST, Err(EnterError::NotWaiting)),
+        Asks(BUSY, Err(RequestError::NodeBusy)),
+        Asks(TOO_LOW, Err(RequestError::NotAbove)),
+        Enters(TOO_LOW, Err(EnterError::NotWaiting)),
+        Leaves(TOO_LOW, Err(LeaveError::NotHeld)),
+        Asks(SECOND, Ok(())),
         // What is refused is refused again.
-        can_enter(&second, false),
-        enters(&second, Err(EnterError::Held)),
-        leaves(&second, Err(LeaveError::NotHeld)),
-        can_enter(&second, false),
-        enters(&second, Err(EnterError::Held)),
-        leaves(&second, Err(LeaveError::NotHeld)),
-        leaves(&first, Ok(())),
-        leaves(&first, Err(LeaveError::NotHeld)),
-        enters(&first, Err(EnterError::NotWaiting)),
-        leaves(&first, Err(LeaveError::NotHeld)),
-        can_enter(&second, true),
-        enters(&second, Ok(())),
-        leaves(&second, Ok(())),
-        leaves(&second, Err(LeaveError::NotHeld)),
+        CanEnter(SECOND, false),
+        Enters(SECOND, Err(EnterError::Held)),
+        Leaves(SECOND, Err(LeaveError::NotHeld)),
+        CanEnter(SECOND, false),
+        Enters(SECOND, Err(EnterError::Held)),
+        Leaves(SECOND, Err(LeaveError::NotHeld)),
+        Leaves(FIRST, Ok(())),
+        Leaves(FIRST, Err(LeaveError::NotHeld)),
+        Enters(FIRST, Err(EnterError::NotWaiting)),
+        Leaves(FIRST, Err(LeaveError::NotHeld)),
+        CanEnter(SECOND, true),
+        Enters(SECOND, Ok(())),
+        Leaves(SECOND, Ok(())),
+        Leaves(SECOND, Err(LeaveError::NotHeld)),
     ];
-    check(&rt, rt.alloc(), &calls);
+    check(&rt, CALLS);
 }
 
 #[test]
 fn of_equal_numbers_the_lower_node_goes_first(rt: HostRuntime) {
-    let (low_before, high_before) = (writer(1, 1, 1), writer(2, 2, 2));
-    let lower = writer(1, 1, 3);
-    let higher = writer(2, 2, 3);
-    let absent = writer(3, 3, 3);
-    let calls = [
-        asks(&low_before, Ok(())),
-        enters(&low_before, Ok(())),
-        leaves(&low_before, Ok(())),
-        asks(&high_before, Ok(())),
-        enters(&high_before, Ok(())),
-        leaves(&high_before, Ok(())),
-        asks(&lower, Ok(())),
-        asks(&higher, Ok(())),
-        can_enter(&lower, true),
-        can_enter(&higher, false),
-        enters(&higher, Err(EnterError::Earlier)),
-        can_enter(&absent, false),
-        enters(&absent, Err(EnterError::NotWaiting)),
+    const LOW_BEFORE: Key = Writer(1, 1, 1);
+    const HIGH_BEFORE: Key = Writer(2, 2, 2);
+    const LOWER: Key = Writer(1, 1, 3);
+    const HIGHER: Key = Writer(2, 2, 3);
+    const ABSENT: Key = Writer(3, 3, 3);
+    const CALLS: &[Call] = &[
+        Asks(LOW_BEFORE, Ok(())),
+        Enters(LOW_BEFORE, Ok(())),
+        Leaves(LOW_BEFORE, Ok(())),
+        Asks(HIGH_BEFORE, Ok(())),
+        Enters(HIGH_BEFORE, Ok(())),
+        Leaves(HIGH_BEFORE, Ok(())),
+        Asks(LOWER, Ok(())),
+        Asks(HIGHER, Ok(())),
+        CanEnter(LOWER, true),
+        CanEnter(HIGHER, false),
+        Enters(HIGHER, Err(EnterError::Earlier)),
+        CanEnter(ABSENT, false),
+        Enters(ABSENT, Err(EnterError::NotWaiting)),
         // What is refused is refused again.
-        can_enter(&lower, true),
-        can_enter(&higher, false),
-        enters(&higher, Err(EnterError::Earlier)),
-        can_enter(&absent, false),
-        enters(&absent, Err(EnterError::NotWaiting)),
-        enters(&lower, Ok(())),
-        enters(&higher, Err(EnterError::Held)),
-        leaves(&lower, Ok(())),
-        can_enter(&higher, true),
+        CanEnter(LOWER, true),
+        CanEnter(HIGHER, false),
+        Enters(HIGHER, Err(EnterError::Earlier)),
+        CanEnter(ABSENT, false),
+        Enters(ABSENT, Err(EnterError::NotWaiting)),
+        Enters(LOWER, Ok(())),
+        Enters(HIGHER, Err(EnterError::Held)),
+        Leaves(LOWER, Ok(())),
+        CanEnter(HIGHER, true),
     ];
-    check(&rt, rt.alloc(), &calls);
+    check(&rt, CALLS);
 }
 
 #[test]
 fn two_names_are_held_at_once(rt: HostRuntime) {
-    let a = Name::new(b"a").expect(&rt, "a name");
-    let b = Name::new(b"b").expect(&rt, "a name");
-    let a = entry(1, 1, a, Mode::Exclusive, 1);
-    let b = entry(2, 2, b, Mode::Exclusive, 1);
-    let calls = [
-        asks(&a, Ok(())),
-        asks(&b, Ok(())),
-        enters(&a, Ok(())),
-        can_enter(&b, true),
-        enters(&b, Ok(())),
-        leaves(&a, Ok(())),
-        leaves(&b, Ok(())),
+    const A: Key = On(b'a', 1, 1, 1);
+    const B: Key = On(b'b', 2, 2, 1);
+    const CALLS: &[Call] = &[
+        Asks(A, Ok(())),
+        Asks(B, Ok(())),
+        Enters(A, Ok(())),
+        CanEnter(B, true),
+        Enters(B, Ok(())),
+        Leaves(A, Ok(())),
+        Leaves(B, Ok(())),
     ];
-    check(&rt, rt.alloc(), &calls);
+    check(&rt, CALLS);
 }
 
 #[test]
 fn a_name_is_asked_for_again(rt: HostRuntime) {
-    let a = Name::new(b"a").expect(&rt, "a name");
-    let b = Name::new(b"b").expect(&rt, "a name");
-    let first = entry(1, 1, a, Mode::Exclusive, 1);
-    let other = entry(1, 1, b, Mode::Exclusive, 1);
-    let again = entry(2, 2, a, Mode::Exclusive, 2);
-    let calls = [
-        asks(&first, Ok(())),
-        enters(&first, Ok(())),
-        leaves(&first, Ok(())),
+    const FIRST: Key = On(b'a', 1, 1, 1);
+    const OTHER: Key = On(b'b', 1, 1, 1);
+    const AGAIN: Key = On(b'a', 2, 2, 2);
+    const CALLS: &[Call] = &[
+        Asks(FIRST, Ok(())),
+        Enters(FIRST, Ok(())),
+        Leaves(FIRST, Ok(())),
         // Nobody waits or holds on the name, but it was met.
-        asks(&other, Ok(())),
-        can_enter(&again, false),
-        asks(&again, Ok(())),
-        enters(&other, Ok(())),
-        can_enter(&again, true),
-        enters(&again, Ok(())),
-        leaves(&other, Ok(())),
-        leaves(&again, Ok(())),
-        leaves(&again, Err(LeaveError::NotHeld)),
+        Asks(OTHER, Ok(())),
+        CanEnter(AGAIN, false),
+        Asks(AGAIN, Ok(())),
+        Enters(OTHER, Ok(())),
+        CanEnter(AGAIN, true),
+        Enters(AGAIN, Ok(())),
+        Leaves(OTHER, Ok(())),
+        Leaves(AGAIN, Ok(())),
+        Leaves(AGAIN, Err(LeaveError::NotHeld)),
     ];
-    check(&rt, rt.alloc(), &calls);
+    check(&rt, CALLS);
 }
 
 #[test]
 fn a_reader_waits_behind_an_earlier_writer(rt: HostRuntime) {
-    let first = reader(1, 1, 1);
-    let writer = writer(2, 2, 1);
-    let later = reader(3, 3, 1);
-    let calls = [
-        asks(&first, Ok(())),
-        asks(&writer, Ok(())),
-        asks(&later, Ok(())),
-        can_enter(&first, true),
-        enters(&first, Ok(())),
-        enters(&later, Err(EnterError::Earlier)),
-        enters(&writer, Err(EnterError::Held)),
-        can_enter(&later, false),
-        can_enter(&writer, false),
+    const FIRST: Key = Reader(1, 1, 1);
+    const WRITER: Key = Writer(2, 2, 1);
+    const LATER: Key = Reader(3, 3, 1);
+    const CALLS: &[Call] = &[
+        Asks(FIRST, Ok(())),
+        Asks(WRITER, Ok(())),
+        Asks(LATER, Ok(())),
+        CanEnter(FIRST, true),
+        Enters(FIRST, Ok(())),
+        Enters(LATER, Err(EnterError::Earlier)),
+        Enters(WRITER, Err(EnterError::Held)),
+        CanEnter(LATER, false),
+        CanEnter(WRITER, false),
         // What is refused is refused again.
-        enters(&later, Err(EnterError::Earlier)),
-        enters(&writer, Err(EnterError::Held)),
-        can_enter(&later, false),
-        can_enter(&writer, false),
-        leaves(&first, Ok(())),
-        enters(&later, Err(EnterError::Earlier)),
-        can_enter(&writer, true),
-        enters(&writer, Ok(())),
-        can_enter(&later, false),
-        enters(&later, Err(EnterError::Held)),
-        leaves(&writer, Ok(())),
-        can_enter(&later, true),
+        Enters(LATER, Err(EnterError::Earlier)),
+        Enters(WRITER, Err(EnterError::Held)),
+        CanEnter(LATER, false),
+        CanEnter(WRITER, false),
+        Leaves(FIRST, Ok(())),
+        Enters(LATER, Err(EnterError::Earlier)),
+        CanEnter(WRITER, true),
+        Enters(WRITER, Ok(())),
+        CanEnter(LATER, false),
+        Enters(LATER, Err(EnterError::Held)),
+        Leaves(WRITER, Ok(())),
+        CanEnter(LATER, true),
     ];
-    check(&rt, rt.alloc(), &calls);
+    check(&rt, CALLS);
 }
 
 #[test]
 fn readers_hold_a_name_together(rt: HostRuntime) {
-    let first = reader(1, 1, 1);
-    let second = reader(2, 2, 1);
-    let calls = [
-        asks(&first, Ok(())),
-        asks(&second, Ok(())),
-        enters(&second, Ok(())),
-        can_enter(&first, true),
-        enters(&first, Ok(())),
-        leaves(&second, Ok(())),
-        leaves(&first, Ok(())),
+    const FIRST: Key = Reader(1, 1, 1);
+    const SECOND: Key = Reader(2, 2, 1);
+    const CALLS: &[Call] = &[
+        Asks(FIRST, Ok(())),
+        Asks(SECOND, Ok(())),
+        Enters(SECOND, Ok(())),
+        CanEnter(FIRST, true),
+        Enters(FIRST, Ok(())),
+        Leaves(SECOND, Ok(())),
+        Leaves(FIRST, Ok(())),
     ];
-    check(&rt, rt.alloc(), &calls);
+    check(&rt, CALLS);
 }
 
 /// Returns whether a request's refusals print so.
-fn request_refusals_print(alloc: Global) -> Option<bool> {
-    let busy = RequestError::NodeBusy;
-    let above = RequestError::NotAbove;
-    let memory = RequestError::Memory;
-    let text = format!(in alloc; "{busy} {above} {memory}").ok()?;
-    Some(text.as_str() == "NodeBusy NotAbove Memory")
+fn request_refusals_print(alloc: Global) -> bool {
+    prints(alloc, RequestError::NodeBusy, "NodeBusy")
+        && prints(alloc, RequestError::NotAbove, "NotAbove")
+        && prints(alloc, RequestError::Memory, "Memory")
 }
 
 /// Returns whether the refusals of a grant print so.
-fn enter_refusals_print(alloc: Global) -> Option<bool> {
-    let absent = EnterError::NotWaiting;
-    let held = EnterError::Held;
-    let earlier = EnterError::Earlier;
-    let memory = EnterError::Memory;
-    let text = format!(in alloc; "{absent} {held} {earlier} {memory}").ok()?;
-    Some(text.as_str() == "NotWaiting Held Earlier Memory")
-}
-
-/// Returns whether the refusal to end a hold prints so.
-fn leave_refusal_prints(alloc: Global) -> Option<bool> {
-    let text = format!(in alloc; "{}", LeaveError::NotHeld).ok()?;
-    Some(text.as_str() == "NotHeld")
+fn enter_refusals_print(alloc: Global) -> bool {
+    prints(alloc, EnterError::NotWaiting, "NotWaiting")
+        && prints(alloc, EnterError::Held, "Held")
+        && prints(alloc, EnterError::Earlier, "Earlier")
+        && prints(alloc, EnterError::Memory, "Memory")
 }
 
 #[test]
 fn a_refusal_is_printed_as_one_word(rt: HostRuntime) {
-    assert!(rt; request_refusals_print(rt.alloc()) == Some(true));
-    assert!(rt; enter_refusals_print(rt.alloc()) == Some(true));
-    assert!(rt; leave_refusal_prints(rt.alloc()) == Some(true));
+    assert!(rt; request_refusals_print(rt.alloc()));
+    assert!(rt; enter_refusals_print(rt.alloc()));
+    assert!(rt; prints(rt.alloc(), LeaveError::NotHeld, "NotHeld"));
 }
