@@ -1,5 +1,6 @@
 //! What `check` finds wrong in a text.
-use crate::helpers::{ONE_LOCK, TWO_LOCKS, is_judged, is_valid, prints};
+use crate::helpers::{Judged, ONE_LOCK, TWO_LOCKS, assert_judged, assert_rows, is_judged, printed};
+use Judged::{Invalid, Valid};
 use ra_trace::{Cause, TraceError, Verdict, check};
 use std::alloc::Global;
 use std::process::Abort;
@@ -17,55 +18,78 @@ use Edit::{PutIn, Replace};
 /// A text, a change of it, and which line is the first wrong one then.
 struct Case(&'static str, Edit, u64);
 
-/// Adds the lines of a text, with these in front of the line with this number, which is left out where it is not to stay.
-fn push_edited(
-    new: &mut String,
-    text: &str,
-    number: usize,
-    lines: &str,
-    stays: bool,
-) -> Option<()> {
-    for (place, line) in text.split_inclusive('\n').enumerate() {
-        if number == place + 1 {
-            new.push_str(lines).ok()?;
-        }
-        if stays || number != place + 1 {
-            new.push_str(line).ok()?;
+/// Adds a text. Returns whether there was room.
+fn adds(new: &mut String, text: &str) -> bool {
+    new.push_str(text).is_ok()
+}
+
+/// Adds these lines, and a line behind them where it is to stay. Returns whether there was room.
+fn adds_lines(new: &mut String, lines: &str, line: &str, stays: bool) -> bool {
+    adds(new, lines) && (!stays || adds(new, line))
+}
+
+/// Adds the lines of a text, with these in front of the line with this number, which is left out where it is not to stay. Returns
+/// whether there was room.
+fn adds_edited(new: &mut String, text: &str, number: usize, lines: &str, stays: bool) -> bool {
+    let mut last = 0usize;
+    for line in text.split_inclusive('\n') {
+        last = last.wrapping_add(1);
+        let added = if last == number {
+            adds_lines(new, lines, line, stays)
+        } else {
+            adds(new, line)
+        };
+        if !added {
+            return false;
         }
     }
-    Some(())
+    true
+}
+
+/// Adds the changed text of a case. Returns whether there was room.
+fn adds_case(new: &mut String, case: &Case) -> bool {
+    match case.1 {
+        PutIn(number, lines) => adds_edited(new, case.0, number, lines, true),
+        Replace(number, lines) => adds_edited(new, case.0, number, lines, false),
+    }
 }
 
 /// Returns whether a changed text is wrong where the case says, and for this cause.
 fn is_wrong(alloc: Global, case: &Case, cause: Cause) -> bool {
+    let line = case.2;
     let mut text = String::new(alloc);
-    let pushed = match case.1 {
-        PutIn(number, lines) => push_edited(&mut text, case.0, number, lines, true),
-        Replace(number, lines) => push_edited(&mut text, case.0, number, lines, false),
-    };
-    pushed.is_some() && is_invalid(alloc, text.as_str(), case.2, cause)
+    adds_case(&mut text, case)
+        && is_judged(alloc, text.as_bytes(), Verdict::Invalid { line, cause })
 }
 
-/// Returns whether this line of a text is the first wrong one, and for this cause.
-fn is_invalid(alloc: Global, text: &str, line: u64, cause: Cause) -> bool {
-    is_judged(alloc, text.as_bytes(), Verdict::Invalid { line, cause })
+/// Returns how many of these changed texts are wrong where their cases say, and for this cause, up to the first that is not.
+fn wrong(alloc: Global, cases: &[Case], cause: Cause) -> usize {
+    for place in 0..cases.len() {
+        if !is_wrong(alloc, &cases[place], cause) {
+            return place;
+        }
+    }
+    cases.len()
 }
 
 /// Asserts that each of these changed texts is wrong where its case says, and for this cause.
-fn assert_wrong<T: Abort + AllocGlobal>(rt: &T, cases: &[Case], cause: Cause) {
-    for case in cases {
-        let (PutIn(_, lines) | Replace(_, lines)) = case.1;
-        assert!(rt; is_wrong(rt.alloc(), case, cause), "{lines}");
-    }
+fn assert_wrong(rt: &(impl Abort + AllocGlobal), cases: &[Case], cause: Cause) {
+    assert_rows(rt, wrong(rt.alloc(), cases, cause), cases.len());
 }
 
 #[test]
 fn traces_of_runs_are_valid(rt: HostRuntime) {
-    let lost = "trace 1 2 0\nask 1 1 r X\nrequest 1 1 r X 1\nlose request 1 2 r X 1\nend\n";
-    assert!(rt; is_valid(rt.alloc(), ONE_LOCK, 1, 2));
-    assert!(rt; is_valid(rt.alloc(), TWO_LOCKS, 2, 8));
-    assert!(rt; is_valid(rt.alloc(), "trace 1 16 0\nend\n", 0, 0));
-    assert!(rt; is_valid(rt.alloc(), lost, 1, 1));
+    const ROWS: &[Judged] = &[
+        Valid(ONE_LOCK, 1, 2),
+        Valid(TWO_LOCKS, 2, 8),
+        Valid("trace 1 16 0\nend\n", 0, 0),
+        Valid(
+            "trace 1 2 0\nask 1 1 r X\nrequest 1 1 r X 1\nlose request 1 2 r X 1\nend\n",
+            1,
+            1,
+        ),
+    ];
+    assert_judged(&rt, ROWS);
 }
 
 const ENDS: &[Case] = &[
@@ -81,8 +105,11 @@ const ENDS: &[Case] = &[
 
 #[test]
 fn a_text_begins_with_the_first_line_and_ends_with_the_last(rt: HostRuntime) {
-    assert!(rt; is_invalid(rt.alloc(), "", 1, Cause::Line));
-    assert!(rt; is_invalid(rt.alloc(), "end\n", 1, Cause::Line));
+    const ROWS: &[Judged] = &[
+        Invalid("", 1, Cause::Line),
+        Invalid("end\n", 1, Cause::Line),
+    ];
+    assert_judged(&rt, ROWS);
     assert_wrong(&rt, ENDS, Cause::Line);
 }
 
@@ -133,9 +160,13 @@ const REFUSED_BY_THE_WORLD: &[Case] = &[
 
 #[test]
 fn the_world_refuses_asks_and_releases(rt: HostRuntime) {
-    let no_number_left = "trace 1 2 18446744073709551615\nask 1 1 r X\nrequest 1 1 r X 1\nend\n";
+    const NO_NUMBER_LEFT: &[Judged] = &[Invalid(
+        "trace 1 2 18446744073709551615\nask 1 1 r X\nrequest 1 1 r X 1\nend\n",
+        2,
+        Cause::Refused,
+    )];
     assert_wrong(&rt, REFUSED_BY_THE_WORLD, Cause::Refused);
-    assert!(rt; is_invalid(rt.alloc(), no_number_left, 2, Cause::Refused));
+    assert_judged(&rt, NO_NUMBER_LEFT);
 }
 
 const NOT_UNDER_WAY: &[Case] = &[
@@ -168,17 +199,33 @@ fn has_wrong_line(alloc: Global, text: &[u8]) -> bool {
     matches!(check(alloc, &mut reader), Ok(Verdict::Invalid { .. }))
 }
 
-#[test]
-fn no_front_of_a_trace_is_valid(rt: HostRuntime) {
-    let text = ONE_LOCK.as_bytes();
+/// Returns how many lengths have fronts of a text that are wrong, from 0 up to the first that is not, or to that of the text.
+fn wrong_fronts(alloc: Global, text: &[u8]) -> usize {
     for length in 0..text.len() {
-        assert!(rt; has_wrong_line(rt.alloc(), &text[..length]), "at {length}");
+        if !has_wrong_line(alloc, &text[..length]) {
+            return length;
+        }
     }
+    text.len()
+}
+
+/// Returns whether the ninth line of a text is wrong where the last byte is missing.
+fn lacks_its_last_byte(alloc: Global, text: &[u8]) -> bool {
     let wrong = Verdict::Invalid {
         line: 9,
         cause: Cause::Line,
     };
-    assert!(rt; is_judged(rt.alloc(), &text[..text.len() - 1], wrong));
+    match text.split_last() {
+        Some((_, front)) => is_judged(alloc, front, wrong),
+        None => false,
+    }
+}
+
+#[test]
+fn no_front_of_a_trace_is_valid(rt: HostRuntime) {
+    let text = ONE_LOCK.as_bytes();
+    assert_rows(&rt, wrong_fronts(rt.alloc(), text), text.len());
+    assert!(rt; lacks_its_last_byte(rt.alloc(), text));
 }
 
 const NO_LINES: &[Case] = &[
@@ -203,14 +250,22 @@ fn a_line_that_is_none_is_wrong_where_it_stands(rt: HostRuntime) {
     assert_wrong(&rt, NO_LINES, Cause::Line);
 }
 
+const CAUSES: &[(Cause, &str)] = &[
+    (Cause::Line, "Line"),
+    (Cause::Refused, "Refused"),
+    (Cause::NotUnderWay, "NotUnderWay"),
+    (Cause::Marks, "Marks"),
+    (Cause::Table, "Table"),
+];
+
+const FAULTS: &[(TraceError, &str)] = &[
+    (TraceError::Read, "Read"),
+    (TraceError::Limit, "Limit"),
+    (TraceError::Memory, "Memory"),
+];
+
 #[test]
 fn causes_and_faults_print_as_their_words(rt: HostRuntime) {
-    let alloc = rt.alloc();
-    assert!(rt; prints(alloc, &Cause::Line, "Line") && prints(alloc, &Cause::Refused, "Refused"));
-    assert!(rt; prints(alloc, &Cause::NotUnderWay, "NotUnderWay"));
-    assert!(rt; prints(alloc, &Cause::Marks, "Marks") && prints(alloc, &Cause::Table, "Table"));
-    assert!(rt;
-        prints(alloc, &TraceError::Read, "Read") && prints(alloc, &TraceError::Limit, "Limit")
-    );
-    assert!(rt; prints(alloc, &TraceError::Memory, "Memory"));
+    assert_rows(&rt, printed(rt.alloc(), CAUSES), CAUSES.len());
+    assert_rows(&rt, printed(rt.alloc(), FAULTS), FAULTS.len());
 }

@@ -1,5 +1,5 @@
 //! Fronts of a script: each has its answer.
-use crate::helpers::ONE_LOCK_SCRIPT;
+use crate::helpers::{ONE_LOCK_SCRIPT, assert_rows};
 use ra_schedule::Policy;
 use ra_script::{PerformError, ScriptError, perform, read_script};
 use std::alloc::Global;
@@ -50,15 +50,23 @@ fn is_performed(alloc: Global, text: &[u8], fault: Option<ScriptError>) -> bool 
     }
 }
 
+/// Returns whether a front of a text is read and performed so.
+fn is_answered(alloc: Global, text: &[u8], fault: Option<ScriptError>) -> bool {
+    is_read(alloc, text, fault) && is_performed(alloc, text, fault)
+}
+
+/// Returns how many lengths have fronts of a text that are answered so, from 0 up to the first that is not, or to that of the text.
+fn answered(alloc: Global, text: &[u8]) -> usize {
+    for length in 0..text.len() {
+        if !is_answered(alloc, &text[..length], fault_of(length)) {
+            return length;
+        }
+    }
+    text.len()
+}
+
 #[test]
 fn each_front_of_a_script_has_its_answer(rt: HostRuntime) {
     let text = ONE_LOCK_SCRIPT.as_bytes();
-    for length in 0..text.len() {
-        let fault = fault_of(length);
-        assert!(rt; is_read(rt.alloc(), &text[..length], fault), "at {length}");
-        assert!(rt;
-            is_performed(rt.alloc(), &text[..length], fault),
-            "at {length}"
-        );
-    }
+    assert_rows(&rt, answered(rt.alloc(), text), text.len());
 }

@@ -1,10 +1,11 @@
 //! What several files of tests use.
 use ra_stamp::Name;
-use ra_trace::{Verdict, check};
+use ra_trace::{Cause, Verdict, check};
 use std::alloc::Global;
 use std::fmt::Display;
 use std::io;
 use std::io::{Read, Write};
+use std::process::Abort;
 
 /// The trace of one client that locks and unlocks, at the first of two nodes.
 pub const ONE_LOCK: &str = "trace 1 2 0
@@ -137,13 +138,50 @@ pub fn all_kinds() -> Name {
     Name::new(b"a-B_9.z").unwrap()
 }
 
-/// Returns these texts, one behind the other.
-pub fn joined(alloc: Global, texts: &[&[u8]]) -> Option<Vec<u8>> {
-    let mut whole = Vec::new(alloc);
-    for text in texts {
-        whole.extend_from_slice(text).ok()?;
+/// A part of a text.
+#[derive(Clone, Copy)]
+pub enum Part<'a> {
+    Text(&'a str),
+    /// These bytes, so many times.
+    Times(&'a [u8], usize),
+}
+
+/// Adds bytes to a text, so many times. Returns whether there was room.
+fn adds_times(text: &mut Vec<u8>, bytes: &[u8], times: usize) -> bool {
+    for _ in 0..times {
+        if text.extend_from_slice(bytes).is_err() {
+            return false;
+        }
     }
-    Some(whole)
+    true
+}
+
+/// Adds a part to a text. Returns whether there was room.
+fn adds_part(text: &mut Vec<u8>, part: Part<'_>) -> bool {
+    match part {
+        Part::Text(part) => adds_times(text, part.as_bytes(), 1),
+        Part::Times(bytes, times) => adds_times(text, bytes, times),
+    }
+}
+
+/// Adds these parts to a text. Returns whether there was room.
+fn adds_parts(text: &mut Vec<u8>, parts: &[Part<'_>]) -> bool {
+    for part in parts {
+        if !adds_part(text, *part) {
+            return false;
+        }
+    }
+    true
+}
+
+/// Returns the text of these parts.
+pub fn text_of(alloc: Global, parts: &[Part<'_>]) -> Option<Vec<u8>> {
+    let mut text = Vec::new(alloc);
+    if adds_parts(&mut text, parts) {
+        Some(text)
+    } else {
+        None
+    }
 }
 
 /// Returns whether what a reader gives has this verdict.
@@ -169,10 +207,59 @@ pub fn is_valid(alloc: Global, text: &str, requests: u128, messages: u128) -> bo
     )
 }
 
+/// A text and its verdict.
+#[derive(Clone, Copy)]
+pub enum Judged<'a> {
+    /// It is the trace of a run with so many requests and messages.
+    Valid(&'a str, u128, u128),
+    /// This line of it is the first wrong one, for this cause.
+    Invalid(&'a str, u64, Cause),
+}
+
+/// Returns whether a text has its verdict.
+fn is_so(alloc: Global, row: Judged<'_>) -> bool {
+    match row {
+        Judged::Valid(text, requests, messages) => is_valid(alloc, text, requests, messages),
+        Judged::Invalid(text, line, cause) => {
+            is_judged(alloc, text.as_bytes(), Verdict::Invalid { line, cause })
+        }
+    }
+}
+
+/// Returns how many texts have their verdicts, up to the first that has not.
+fn judged_so(alloc: Global, rows: &[Judged<'_>]) -> usize {
+    for place in 0..rows.len() {
+        if !is_so(alloc, rows[place]) {
+            return place;
+        }
+    }
+    rows.len()
+}
+
+/// Asserts that each of these texts has its verdict.
+pub fn assert_judged(rt: &(impl Abort + AllocGlobal), rows: &[Judged<'_>]) {
+    assert_rows(rt, judged_so(rt.alloc(), rows), rows.len());
+}
+
 /// Returns whether a value prints as this word.
-pub fn prints<T: Display>(alloc: Global, value: &T, word: &str) -> bool {
+fn prints<T: Display>(alloc: Global, value: &T, word: &str) -> bool {
     match format!(in alloc; "{value}") {
         Ok(text) => text.as_str() == word,
         Err(_) => false,
     }
+}
+
+/// Returns how many values print as the word beside them, up to the first that does not.
+pub fn printed<T: Display>(alloc: Global, rows: &[(T, &str)]) -> usize {
+    for place in 0..rows.len() {
+        if !prints(alloc, &rows[place].0, rows[place].1) {
+            return place;
+        }
+    }
+    rows.len()
+}
+
+/// Asserts that each of so many rows is so, where so many are so up to the first that is not.
+pub fn assert_rows(rt: &impl Abort, so: usize, rows: usize) {
+    assert!(rt; so == rows, "row {so}, counted from 0");
 }

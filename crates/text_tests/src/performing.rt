@@ -1,5 +1,7 @@
 //! How a script is performed by readers that fail while it is read, and by writers that fail while what comes of it is written.
-use crate::helpers::{FailingWriter, ONE_LOCK, ONE_LOCK_LENGTH, ONE_LOCK_SCRIPT, Pieces, failing};
+use crate::helpers::{
+    FailingWriter, ONE_LOCK, ONE_LOCK_LENGTH, ONE_LOCK_SCRIPT, Pieces, assert_rows, failing,
+};
 use Form::{Lines, Trace};
 use ra_schedule::Policy;
 use ra_script::{PerformError, perform, perform_trace};
@@ -68,18 +70,28 @@ fn fails_to_read(alloc: Global, form: Form, before_fault: usize) -> bool {
         && !writer.differs
 }
 
+/// Returns behind how many bytes of the script the fault of a reader is named, from 0 up to the first where it is not.
+fn named_when_read(alloc: Global, form: Form) -> usize {
+    for before_fault in 0..=ONE_LOCK_SCRIPT.len() {
+        if !fails_to_read(alloc, form, before_fault) {
+            return before_fault;
+        }
+    }
+    ONE_LOCK_SCRIPT.len().wrapping_add(1)
+}
+
 #[test]
 fn a_reader_that_fails_behind_any_byte_is_a_fault(rt: HostRuntime) {
-    for before_fault in 0..=ONE_LOCK_SCRIPT.len() {
-        assert!(rt;
-            fails_to_read(rt.alloc(), Lines, before_fault),
-            "at {before_fault}"
-        );
-        assert!(rt;
-            fails_to_read(rt.alloc(), Trace, before_fault),
-            "at {before_fault}"
-        );
-    }
+    assert_rows(
+        &rt,
+        named_when_read(rt.alloc(), Lines),
+        ONE_LOCK_SCRIPT.len() + 1,
+    );
+    assert_rows(
+        &rt,
+        named_when_read(rt.alloc(), Trace),
+        ONE_LOCK_SCRIPT.len() + 1,
+    );
 }
 
 /// Returns whether the fault of a writer after so many bytes is named, and just these are written.
@@ -103,20 +115,22 @@ fn fails_to_write_each(alloc: Global, form: Form, before_fault: usize) -> bool {
         && fails_to_write(alloc, form, before_fault, None)
 }
 
+/// Returns behind how many of so many bytes the fault of a writer is named, from 0 up to the first where it is not.
+fn named_when_written(alloc: Global, form: Form, length: usize) -> usize {
+    for before_fault in 0..length {
+        if !fails_to_write_each(alloc, form, before_fault) {
+            return before_fault;
+        }
+    }
+    length
+}
+
 #[test]
 fn a_writer_that_fails_behind_any_byte_has_those_before(rt: HostRuntime) {
-    for before_fault in 0..ONE_LOCK_LINES_LENGTH {
-        assert!(rt;
-            fails_to_write_each(rt.alloc(), Lines, before_fault),
-            "at {before_fault}"
-        );
-    }
-    for before_fault in 0..ONE_LOCK_LENGTH {
-        assert!(rt;
-            fails_to_write_each(rt.alloc(), Trace, before_fault),
-            "at {before_fault}"
-        );
-    }
+    let lines = named_when_written(rt.alloc(), Lines, ONE_LOCK_LINES_LENGTH);
+    assert_rows(&rt, lines, ONE_LOCK_LINES_LENGTH);
+    let trace = named_when_written(rt.alloc(), Trace, ONE_LOCK_LENGTH);
+    assert_rows(&rt, trace, ONE_LOCK_LENGTH);
 }
 
 /// Returns whether all is written byte by byte, to a writer that would fail behind it.

@@ -1,64 +1,111 @@
 //! How far `check` reads, and what comes of readers that fail or give a text in pieces.
-use crate::helpers::{ONE_LOCK, ONE_LOCK_LENGTH, Pieces, TWO_LOCKS};
+use crate::helpers::{ONE_LOCK, ONE_LOCK_LENGTH, Part, Pieces, TWO_LOCKS, assert_rows, text_of};
+use Part::{Text, Times};
+use Way::{Failing, InPieces, Within};
 use ra_trace::{Cause, TraceError, Verdict, check, check_within};
 use std::alloc::Global;
+use std::process::Abort;
 
 /// What comes of a text.
 type Checked = Result<Verdict, TraceError>;
 
-/// Returns that a line is the first wrong one.
-fn invalid(line: u64, cause: Cause) -> Checked {
-    Ok(Verdict::Invalid { line, cause })
+/// How a text is read.
+#[derive(Clone, Copy)]
+enum Way {
+    /// In pieces of so many bytes.
+    InPieces(usize),
+    /// Byte by byte, from a reader that fails once it gave so many.
+    Failing(usize),
+    /// Within this limit.
+    Within(u8),
 }
 
-/// Returns that a text is the trace of a run.
-fn valid(requests: u128, messages: u128) -> Checked {
-    Ok(Verdict::Valid { requests, messages })
-}
+/// The parts of a text, how it is read, what comes of it, and how many of its bytes are taken.
+struct Case(&'static [Part<'static>], Way, Checked, usize);
 
-/// Returns whether this comes of a text in pieces of so many bytes, behind which so many bytes are left.
-fn comes_in_pieces(alloc: Global, text: &str, size: usize, wanted: &Checked, left: usize) -> bool {
-    let mut reader = Pieces {
-        bytes: text.as_bytes(),
+/// Returns a reader of a text.
+fn reader(text: &[u8], way: Way) -> Pieces<'_> {
+    let (size, before_fault) = match way {
+        InPieces(size) => (size, None),
+        Failing(before_fault) => (1, Some(before_fault)),
+        Within(_) => (64, None),
+    };
+    Pieces {
+        bytes: text,
         size,
-        before_fault: None,
-    };
-    check(alloc, &mut reader) == *wanted && reader.bytes.len() == left
+        before_fault,
+    }
 }
 
-/// Returns whether this comes of a text from a reader that fails once it gave so many bytes, and it gave so many then.
-fn comes_with_fault(
-    alloc: Global,
-    text: &str,
-    before_fault: usize,
-    wanted: &Checked,
-    taken: usize,
-) -> bool {
-    let mut reader = Pieces {
-        bytes: text.as_bytes(),
-        size: 1,
-        before_fault: Some(before_fault),
-    };
-    check(alloc, &mut reader) == *wanted
+/// Returns what comes of what a reader gives.
+fn checked(alloc: Global, reader: &mut Pieces<'_>, way: Way) -> Checked {
+    match way {
+        Within(limit) => check_within(alloc, reader, u64::from(limit)),
+        InPieces(_) | Failing(_) => check(alloc, reader),
+    }
+}
+
+/// Returns whether this comes of a text, of which so many bytes are taken.
+fn comes(alloc: Global, text: &[u8], way: Way, wanted: &Checked, taken: usize) -> bool {
+    let mut reader = reader(text, way);
+    checked(alloc, &mut reader, way) == *wanted
         && text.len().checked_sub(reader.bytes.len()) == Some(taken)
+}
+
+/// Returns whether a case is so.
+fn is_so(alloc: Global, case: &Case) -> bool {
+    match text_of(alloc, case.0) {
+        Some(text) => comes(alloc, &text, case.1, &case.2, case.3),
+        None => false,
+    }
+}
+
+/// Returns how many cases are so, up to the first that is not.
+fn are_so(alloc: Global, cases: &[Case]) -> usize {
+    for place in 0..cases.len() {
+        if !is_so(alloc, &cases[place]) {
+            return place;
+        }
+    }
+    cases.len()
+}
+
+/// Asserts that each case is so.
+fn assert_cases(rt: &(impl Abort + AllocGlobal), cases: &[Case]) {
+    assert_rows(rt, are_so(rt.alloc(), cases), cases.len());
 }
 
 #[test]
 fn the_pieces_of_a_text_do_not_matter(rt: HostRuntime) {
-    for size in [1, 2, 7, 64] {
-        assert!(rt;
-            comes_in_pieces(rt.alloc(), TWO_LOCKS, size, &valid(2, 8), 0),
-            "{size}"
-        );
+    const TEXT: &[Part] = &[Text(TWO_LOCKS)];
+    const VALID: Checked = Ok(Verdict::Valid {
+        requests: 2,
+        messages: 8,
+    });
+    const CASES: &[Case] = &[
+        Case(TEXT, InPieces(1), VALID, TWO_LOCKS.len()),
+        Case(TEXT, InPieces(2), VALID, TWO_LOCKS.len()),
+        Case(TEXT, InPieces(7), VALID, TWO_LOCKS.len()),
+        Case(TEXT, InPieces(64), VALID, TWO_LOCKS.len()),
+    ];
+    assert_cases(&rt, CASES);
+}
+
+/// Returns behind how many bytes of the trace of one lock the fault of a reader is named and it is not tried again, from 0 up to the
+/// first where it is not so.
+fn not_tried_again(alloc: Global) -> usize {
+    for taken in 0..=ONE_LOCK_LENGTH {
+        let text = ONE_LOCK.as_bytes();
+        if !comes(alloc, text, Failing(taken), &Err(TraceError::Read), taken) {
+            return taken;
+        }
     }
+    ONE_LOCK_LENGTH + 1
 }
 
 #[test]
 fn a_reader_that_failed_is_not_tried_again(rt: HostRuntime) {
-    for taken in 0..=ONE_LOCK.len() {
-        let fails = comes_with_fault(rt.alloc(), ONE_LOCK, taken, &Err(TraceError::Read), taken);
-        assert!(rt; fails, "at {taken}");
-    }
+    assert_rows(&rt, not_tried_again(rt.alloc()), ONE_LOCK.len() + 1);
 }
 
 /// `ONE_LOCK` with its fifth line and its sixth exchanged. The fifth ends with byte 84.
@@ -75,86 +122,61 @@ end
 
 #[test]
 fn nothing_behind_the_first_wrong_line_is_read(rt: HostRuntime) {
-    let marks = invalid(5, Cause::Marks);
-    assert!(rt; comes_with_fault(rt.alloc(), EXCHANGED, 90, &marks, 84));
-    assert!(rt; comes_with_fault(rt.alloc(), EXCHANGED, 84, &marks, 84));
-    assert!(rt; comes_with_fault(rt.alloc(), EXCHANGED, 83, &Err(TraceError::Read), 83));
-    assert!(rt; comes_with_fault(rt.alloc(), EXCHANGED, 70, &Err(TraceError::Read), 70));
-    assert!(rt; comes_in_pieces(rt.alloc(), EXCHANGED, 64, &marks, EXCHANGED.len() - 84));
+    const TEXT: &[Part] = &[Text(EXCHANGED)];
+    const MARKS: Checked = Ok(Verdict::Invalid {
+        line: 5,
+        cause: Cause::Marks,
+    });
+    const CASES: &[Case] = &[
+        Case(TEXT, Failing(90), MARKS, 84),
+        Case(TEXT, Failing(84), MARKS, 84),
+        Case(TEXT, Failing(83), Err(TraceError::Read), 83),
+        Case(TEXT, Failing(70), Err(TraceError::Read), 70),
+        Case(TEXT, InPieces(64), MARKS, 84),
+    ];
+    assert_cases(&rt, CASES);
 }
 
 /// 64 letters.
-const LETTERS: &str = "aaaaaaaaaaaaaaaaaaaaaaaaaaaaaaaaaaaaaaaaaaaaaaaaaaaaaaaaaaaaaaaa";
-
-/// Returns so many times these letters, with this behind them.
-fn letters(alloc: Global, count: usize, behind: &str) -> Option<String> {
-    let mut text = String::new(alloc);
-    for _ in 0..count {
-        text.push_str(LETTERS).ok()?;
-    }
-    text.push_str(behind).ok()?;
-    Some(text)
-}
-
-/// Returns whether this comes of such letters with this behind them, of which so many bytes are left.
-fn comes_of_letters(
-    alloc: Global,
-    count: usize,
-    behind: &str,
-    wanted: &Checked,
-    left: usize,
-) -> bool {
-    match letters(alloc, count, behind) {
-        Some(text) => comes_in_pieces(alloc, text.as_str(), 64, wanted, left),
-        None => false,
-    }
-}
+const LETTERS: &[u8] = b"aaaaaaaaaaaaaaaaaaaaaaaaaaaaaaaaaaaaaaaaaaaaaaaaaaaaaaaaaaaaaaaa";
 
 #[test]
 fn at_most_128_bytes_of_a_line_are_read(rt: HostRuntime) {
-    let none = invalid(1, Cause::Line);
-    assert!(rt; comes_of_letters(rt.alloc(), 2, "", &none, 0));
-    assert!(rt; comes_of_letters(rt.alloc(), 2, "\nx", &none, 2));
-    assert!(rt; comes_of_letters(rt.alloc(), 3, "", &none, 64));
-    assert!(rt; comes_of_letters(rt.alloc(), 1, "\nx", &none, 1));
-}
-
-/// Returns whether one byte is read behind the last line, and not two.
-fn is_read_one_byte_too_far(alloc: Global) -> bool {
-    match joined_with(alloc, ONE_LOCK, "xy") {
-        Some(text) => comes_in_pieces(alloc, text.as_str(), 64, &invalid(10, Cause::Line), 1),
-        None => false,
-    }
-}
-
-/// Returns a text with this behind it.
-fn joined_with(alloc: Global, text: &str, behind: &str) -> Option<String> {
-    let mut whole = String::new(alloc);
-    whole.push_str(text).ok()?;
-    whole.push_str(behind).ok()?;
-    Some(whole)
+    const NONE: Checked = Ok(Verdict::Invalid {
+        line: 1,
+        cause: Cause::Line,
+    });
+    const CASES: &[Case] = &[
+        Case(&[Times(LETTERS, 2)], InPieces(64), NONE, 128),
+        Case(&[Times(LETTERS, 2), Text("\nx")], InPieces(64), NONE, 128),
+        Case(&[Times(LETTERS, 3)], InPieces(64), NONE, 128),
+        Case(&[Times(LETTERS, 1), Text("\nx")], InPieces(64), NONE, 65),
+    ];
+    assert_cases(&rt, CASES);
 }
 
 #[test]
 fn one_byte_behind_the_last_line_is_read(rt: HostRuntime) {
-    assert!(rt; is_read_one_byte_too_far(rt.alloc()));
-}
-
-/// Returns whether this comes of the trace of one lock within a limit, of which so many bytes are taken.
-fn comes_within(alloc: Global, limit: u8, wanted: &Checked, taken: usize) -> bool {
-    let mut reader = Pieces {
-        bytes: ONE_LOCK.as_bytes(),
-        size: 64,
-        before_fault: None,
-    };
-    check_within(alloc, &mut reader, u64::from(limit)) == *wanted
-        && ONE_LOCK_LENGTH.checked_sub(reader.bytes.len()) == Some(taken)
+    const TEXT: &[Part] = &[Text(ONE_LOCK), Text("xy")];
+    const TENTH: Checked = Ok(Verdict::Invalid {
+        line: 10,
+        cause: Cause::Line,
+    });
+    const CASES: &[Case] = &[Case(TEXT, InPieces(64), TENTH, ONE_LOCK_LENGTH + 1)];
+    assert_cases(&rt, CASES);
 }
 
 #[test]
 fn a_text_has_at_most_as_many_bytes_as_the_limit_says(rt: HostRuntime) {
-    let alloc = rt.alloc();
-    assert!(rt; comes_within(alloc, 140, &valid(1, 2), 140));
-    assert!(rt; comes_within(alloc, 139, &Err(TraceError::Limit), 140));
-    assert!(rt; comes_within(alloc, 0, &Err(TraceError::Limit), 1));
+    const TEXT: &[Part] = &[Text(ONE_LOCK)];
+    const VALID: Checked = Ok(Verdict::Valid {
+        requests: 1,
+        messages: 2,
+    });
+    const CASES: &[Case] = &[
+        Case(TEXT, Within(140), VALID, 140),
+        Case(TEXT, Within(139), Err(TraceError::Limit), 140),
+        Case(TEXT, Within(0), Err(TraceError::Limit), 1),
+    ];
+    assert_cases(&rt, CASES);
 }

@@ -1,4 +1,8 @@
-use crate::helpers::{ONE_LOCK, ONE_LOCK_LENGTH, all_kinds, joined, prints, r};
+use crate::helpers::{
+    ONE_LOCK, ONE_LOCK_LENGTH, Part, all_kinds, assert_rows, printed, r, text_of,
+};
+use Answer::{Accepted, NoToml, Refused, TooDeep};
+use Part::{Text, Times};
 use ra_schedule::{Choice, DriveError, Op, Policy, Script};
 use ra_script::{
     ChoicesError, PerformError, ScriptError, perform_trace, read_choices, read_script,
@@ -24,57 +28,100 @@ node = 1
 ops = []
 "#;
 
-/// Returns whether a text is refused so.
-fn is_refused(alloc: Global, text: &[u8], wanted: ScriptError) -> bool {
-    match read_script(alloc, text) {
-        Ok(_) => false,
-        Err(fault) => fault == wanted,
+/// What comes of a text.
+#[derive(Clone, Copy)]
+enum Answer {
+    /// It is a script.
+    Accepted,
+    /// It is refused so.
+    Refused(ScriptError),
+    /// It is refused as no TOML, and has so many bytes.
+    NoToml(usize),
+    /// It is refused as no TOML or as another shape, though it is not too long.
+    TooDeep,
+}
+
+/// The parts of a text, and what comes of it.
+struct Case(&'static [Part<'static>], Answer);
+
+/// Returns how a text is refused, or `None` where it is a script.
+fn fault_of(alloc: Global, text: &[u8]) -> Option<ScriptError> {
+    read_script(alloc, text).err()
+}
+
+/// Returns whether a fault is that of a text that is no TOML or has another shape.
+fn is_of_no_script(fault: Option<ScriptError>) -> bool {
+    fault == Some(ScriptError::Toml) || fault == Some(ScriptError::Shape)
+}
+
+/// Returns whether this comes of a text.
+fn comes(alloc: Global, text: &[u8], answer: Answer) -> bool {
+    let fault = fault_of(alloc, text);
+    match answer {
+        Accepted => fault.is_none(),
+        Refused(wanted) => fault == Some(wanted),
+        NoToml(length) => text.len() == length && fault == Some(ScriptError::Toml),
+        TooDeep => text.len() <= 65_536 && is_of_no_script(fault),
     }
 }
 
-/// Returns whether a text is a script.
-fn is_accepted(alloc: Global, text: &[u8]) -> bool {
-    read_script(alloc, text).is_ok()
+/// Returns whether this comes of the text of these parts.
+fn comes_of_parts(alloc: Global, parts: &[Part<'_>], answer: Answer) -> bool {
+    match text_of(alloc, parts) {
+        Some(text) => comes(alloc, &text, answer),
+        None => false,
+    }
+}
+
+/// Returns how many cases are so, up to the first that is not.
+fn are_so(alloc: Global, cases: &[Case]) -> usize {
+    for place in 0..cases.len() {
+        if !comes_of_parts(alloc, cases[place].0, cases[place].1) {
+            return place;
+        }
+    }
+    cases.len()
+}
+
+/// Asserts that each case is so.
+fn assert_cases(rt: &(impl Abort + AllocGlobal), cases: &[Case]) {
+    assert_rows(rt, are_so(rt.alloc(), cases), cases.len());
+}
+
+/// What stands around a part of a script.
+#[derive(Clone, Copy)]
+struct Around(&'static str, &'static str);
+
+/// Returns how many of these texts are refused so between what stands around them, up to the first that is not.
+fn refused(alloc: Global, around: Around, texts: &[&str], wanted: ScriptError) -> usize {
+    for place in 0..texts.len() {
+        let parts = [Text(around.0), Text(texts[place]), Text(around.1)];
+        if !comes_of_parts(alloc, &parts, Refused(wanted)) {
+            return place;
+        }
+    }
+    texts.len()
+}
+
+/// Asserts that each of the texts is refused so between what stands around it.
+fn assert_refused_in(
+    rt: &(impl Abort + AllocGlobal),
+    around: Around,
+    texts: &[&str],
+    wanted: ScriptError,
+) {
+    assert_rows(rt, refused(rt.alloc(), around, texts, wanted), texts.len());
 }
 
 /// Asserts that each of the texts is refused so.
-fn assert_refused<T: Abort + AllocGlobal>(rt: &T, texts: &[&str], wanted: ScriptError) {
-    for text in texts {
-        assert!(rt; is_refused(rt.alloc(), text.as_bytes(), wanted), "{text}");
-    }
+fn assert_refused(rt: &(impl Abort + AllocGlobal), texts: &[&str], wanted: ScriptError) {
+    assert_refused_in(rt, Around("", ""), texts, wanted);
 }
 
-/// Returns the text of three parts.
-fn text_of(alloc: Global, parts: [&str; 3]) -> Option<Vec<u8>> {
-    let [front, middle, back] = parts;
-    joined(
-        alloc,
-        &[front.as_bytes(), middle.as_bytes(), back.as_bytes()],
-    )
-}
-
-/// Returns whether a text of three parts is refused so.
-fn parts_are_refused(alloc: Global, parts: [&str; 3], wanted: ScriptError) -> bool {
-    match text_of(alloc, parts) {
-        Some(text) => is_refused(alloc, &text, wanted),
-        None => false,
-    }
-}
-
-/// Returns whether a text of three parts is a script.
-fn parts_are_accepted(alloc: Global, parts: [&str; 3]) -> bool {
-    match text_of(alloc, parts) {
-        Some(text) => is_accepted(alloc, &text),
-        None => false,
-    }
-}
-
-/// Asserts that a script of one client at the one node is refused so with each of these lists of operations.
-fn assert_ops_refused<T: Abort + AllocGlobal>(rt: &T, lists: &[&str], wanted: ScriptError) {
-    for ops in lists {
-        let parts = ["client = [{node = 1, ops = [", *ops, "]}]\nnodes = 1\n"];
-        assert!(rt; parts_are_refused(rt.alloc(), parts, wanted), "{ops}");
-    }
+/// Asserts that a script of one client of the one node is refused so with each of these lists of operations.
+fn assert_ops_refused(rt: &(impl Abort + AllocGlobal), lists: &[&str], wanted: ScriptError) {
+    let around = Around("client = [{node = 1, ops = [", "]}]\nnodes = 1\n");
+    assert_refused_in(rt, around, lists, wanted);
 }
 
 /// Returns whether a client is at this node and has so many operations.
@@ -125,18 +172,13 @@ fn an_example_gives_its_nodes_clients_and_operations(rt: HostRuntime) {
     assert!(rt; example_is_read(rt.alloc()));
 }
 
-/// Returns whether a text of so many spaces is refused so.
-fn spaces_are_refused(alloc: Global, count: usize, wanted: ScriptError) -> bool {
-    match " ".repeat(alloc, count) {
-        Ok(text) => is_refused(alloc, text.as_bytes(), wanted),
-        Err(_) => false,
-    }
-}
-
 #[test]
 fn a_text_has_at_most_65536_bytes(rt: HostRuntime) {
-    assert!(rt; spaces_are_refused(rt.alloc(), 65_536, ScriptError::Shape));
-    assert!(rt; spaces_are_refused(rt.alloc(), 65_537, ScriptError::Limit));
+    const CASES: &[Case] = &[
+        Case(&[Times(b" ", 65_536)], Refused(ScriptError::Shape)),
+        Case(&[Times(b" ", 65_537)], Refused(ScriptError::Limit)),
+    ];
+    assert_cases(&rt, CASES);
 }
 
 const NO_TOML: &[&str] = &[
@@ -148,101 +190,97 @@ const NO_TOML: &[&str] = &[
 
 #[test]
 fn a_text_that_is_no_toml_is_refused(rt: HostRuntime) {
-    assert_refused(&rt, NO_TOML, ScriptError::Toml);
-    assert!(rt; is_refused(rt.alloc(), b"# \xff\n", ScriptError::Toml));
-    assert!(rt; is_refused(rt.alloc(), b"nodes = \"\xc3\"\n", ScriptError::Toml));
-}
-
-/// Returns a text with so many levels: the parts are what stands in front, what opens a level, what the last one has, what closes
-/// a level and what stands behind.
-fn nested(alloc: Global, parts: &[&str; 5], levels: usize) -> Option<Vec<u8>> {
-    let [front, open, middle, close, back] = parts;
-    let open = open.repeat(alloc, levels).ok()?;
-    let close = close.repeat(alloc, levels).ok()?;
-    let texts = [
-        front.as_bytes(),
-        open.as_bytes(),
-        middle.as_bytes(),
-        close.as_bytes(),
-        back.as_bytes(),
+    const NO_TEXT: &[Case] = &[
+        Case(&[Times(b"# \xff\n", 1)], Refused(ScriptError::Toml)),
+        Case(
+            &[Times(b"nodes = \"\xc3\"\n", 1)],
+            Refused(ScriptError::Toml),
+        ),
     ];
-    joined(alloc, &texts)
-}
-
-/// Returns whether a text with so many levels is no TOML and has so many bytes.
-fn is_no_toml(alloc: Global, parts: &[&str; 5], levels: usize, length: usize) -> bool {
-    match nested(alloc, parts, levels) {
-        Some(text) => text.len() == length && is_refused(alloc, &text, ScriptError::Toml),
-        None => false,
-    }
+    assert_refused(&rt, NO_TOML, ScriptError::Toml);
+    assert_cases(&rt, NO_TEXT);
 }
 
 #[test]
 fn deep_nesting_is_refused(rt: HostRuntime) {
-    let (open, closed) = (
-        ["nodes = ", "[", "", "", ""],
-        ["nodes = ", "[", "", "]", ""],
-    );
-    assert!(rt; is_no_toml(rt.alloc(), &open, 32_764, 32_772));
-    assert!(rt; is_no_toml(rt.alloc(), &closed, 32_764, 65_536));
-}
-
-/// Returns whether a text is refused as no TOML or as another shape.
-fn is_no_script(alloc: Global, text: &[u8]) -> bool {
-    matches!(
-        read_script(alloc, text),
-        Err(ScriptError::Toml | ScriptError::Shape)
-    )
-}
-
-/// Returns whether a text with so many levels is refused, though it is not too long.
-fn is_too_deep(alloc: Global, parts: &[&str; 5], levels: usize) -> bool {
-    match nested(alloc, parts, levels) {
-        Some(text) => text.len() <= 65_536 && is_no_script(alloc, &text),
-        None => false,
-    }
+    const CASES: &[Case] = &[
+        Case(&[Text("nodes = "), Times(b"[", 32_764)], NoToml(32_772)),
+        Case(
+            &[Text("nodes = "), Times(b"[", 32_764), Times(b"]", 32_764)],
+            NoToml(65_536),
+        ),
+    ];
+    assert_cases(&rt, CASES);
 }
 
 /// The parser has a bound of its own for some of these, and the others are no script.
 #[test]
 fn deep_tables_are_refused(rt: HostRuntime) {
-    let alloc = rt.alloc();
-    assert!(rt; is_too_deep(alloc, &["nodes = ", "{a=", "", "", ""], 21_842));
-    assert!(rt; is_too_deep(alloc, &["nodes", ".a", "", "", ""], 32_765));
-    assert!(rt; is_too_deep(alloc, &["[nodes", ".a", "", "", ""], 32_765));
-    assert!(rt; is_too_deep(alloc, &["nodes = 1\n[[client", ".a", "", "", ""], 32_759));
-    assert!(rt; is_too_deep(alloc, &["client = [", "[{a=", "", "", ""], 16_381));
+    const CASES: &[Case] = &[
+        Case(&[Text("nodes = "), Times(b"{a=", 21_842)], TooDeep),
+        Case(&[Text("nodes"), Times(b".a", 32_765)], TooDeep),
+        Case(&[Text("[nodes"), Times(b".a", 32_765)], TooDeep),
+        Case(
+            &[Text("nodes = 1\n[[client"), Times(b".a", 32_759)],
+            TooDeep,
+        ),
+        Case(&[Text("client = ["), Times(b"[{a=", 16_381)], TooDeep),
+    ];
+    assert_cases(&rt, CASES);
 }
 
-/// Tables, closed as they should be: inline ones, and those of a key, of a header and of an array's header with dots.
-const CLOSED_TABLES: [[&str; 5]; 4] = [
-    ["client = []\nnodes = ", "{a=", "1", "}", "\n"],
-    ["client = []\nnodes", ".a", " = 1\n", "", ""],
-    ["client = []\n[nodes", ".a", "]\n", "", ""],
-    [
+/// Tables, closed as they should be: what stands in front, what opens a level, what the last one has, what closes a level and what
+/// stands behind.
+struct Tables(
+    &'static str,
+    &'static [u8],
+    &'static str,
+    &'static [u8],
+    &'static str,
+);
+
+/// Inline tables, and those of a key, of a header and of an array's header with dots.
+const CLOSED_TABLES: &[Tables] = &[
+    Tables("client = []\nnodes = ", b"{a=", "1", b"}", "\n"),
+    Tables("client = []\nnodes", b".a", " = 1\n", b"", ""),
+    Tables("client = []\n[nodes", b".a", "]\n", b"", ""),
+    Tables(
         "nodes = 1\n[[client",
-        ".a",
+        b".a",
         "]]\nnode = 1\nops = []\n",
+        b"",
         "",
-        "",
-    ],
+    ),
 ];
 
-/// Returns whether closed tables of so many levels are refused.
-fn closed_tables_are_refused(alloc: Global, levels: usize) -> bool {
-    for parts in &CLOSED_TABLES {
-        if !is_too_deep(alloc, parts, levels) {
-            return false;
+/// Returns whether such tables of so many levels are refused.
+fn tables_are_refused(alloc: Global, tables: &Tables, levels: usize) -> bool {
+    let parts = [
+        Text(tables.0),
+        Times(tables.1, levels),
+        Text(tables.2),
+        Times(tables.3, levels),
+        Text(tables.4),
+    ];
+    comes_of_parts(alloc, &parts, TooDeep)
+}
+
+/// Returns how many of these tables are refused with so many levels, up to the first that is not.
+fn tables_refused(alloc: Global, rows: &[Tables], levels: usize) -> usize {
+    for place in 0..rows.len() {
+        if !tables_are_refused(alloc, &rows[place], levels) {
+            return place;
         }
     }
-    true
+    rows.len()
 }
 
 #[test]
 fn tables_in_tables_are_refused(rt: HostRuntime) {
-    assert!(rt; closed_tables_are_refused(rt.alloc(), 1));
-    assert!(rt; closed_tables_are_refused(rt.alloc(), 100));
-    assert!(rt; closed_tables_are_refused(rt.alloc(), 16_000));
+    let (alloc, tables) = (rt.alloc(), CLOSED_TABLES);
+    assert_rows(&rt, tables_refused(alloc, tables, 1), tables.len());
+    assert_rows(&rt, tables_refused(alloc, tables, 100), tables.len());
+    assert_rows(&rt, tables_refused(alloc, tables, 16_000), tables.len());
 }
 
 const OTHER_SHAPES: &[&str] = &[
@@ -278,19 +316,17 @@ fn a_number_of_nodes_is_an_integer(rt: HostRuntime) {
     assert_refused(&rt, OTHER_NUMBERS, ScriptError::Shape);
 }
 
-/// Returns whether a client is refused that has this value for its node, and one that has it for an operation.
-fn value_is_refused(alloc: Global, value: &str) -> bool {
-    let node = ["nodes = 1\nclient = [{node = ", value, ", ops = []}]\n"];
-    let op = ["nodes = 1\nclient = [{node = 1, ops = [", value, "]}]\n"];
-    parts_are_refused(alloc, node, ScriptError::Shape)
-        && parts_are_refused(alloc, op, ScriptError::Shape)
-}
+/// A script of one client, around its node.
+const NODE: Around = Around("nodes = 1\nclient = [{node = ", ", ops = []}]\n");
+
+/// A script of one client, around its only operation.
+const ONLY_OP: Around = Around("nodes = 1\nclient = [{node = 1, ops = [", "]}]\n");
 
 #[test]
 fn a_client_has_an_integer_and_strings(rt: HostRuntime) {
-    for value in ["1.0", "true", "2024-05-06", "[]", "{}"] {
-        assert!(rt; value_is_refused(rt.alloc(), value), "{value}");
-    }
+    const VALUES: &[&str] = &["1.0", "true", "2024-05-06", "[]", "{}"];
+    assert_refused_in(&rt, NODE, VALUES, ScriptError::Shape);
+    assert_refused_in(&rt, ONLY_OP, VALUES, ScriptError::Shape);
 }
 
 const THIRD_KEYS: &[&str] = &[
@@ -307,11 +343,14 @@ fn a_third_key_is_refused_anywhere(rt: HostRuntime) {
 
 #[test]
 fn the_same_document_may_be_written_in_other_ways(rt: HostRuntime) {
-    let first = "\"client\" = [{ops = [\"X r\"], node = 1}]\nnodes = 0x2\n";
-    let second =
+    const FIRST: &str = "\"client\" = [{ops = [\"X r\"], node = 1}]\nnodes = 0x2\n";
+    const SECOND: &str =
         "'nodes' = 2\r\n[[ client ]] # one\r\n\"n\\u006fde\" = +1\r\nops = ['''X r''']\r\n";
-    assert!(rt; is_accepted(rt.alloc(), first.as_bytes()));
-    assert!(rt; is_accepted(rt.alloc(), second.as_bytes()));
+    const CASES: &[Case] = &[
+        Case(&[Text(FIRST)], Accepted),
+        Case(&[Text(SECOND)], Accepted),
+    ];
+    assert_cases(&rt, CASES);
 }
 
 const WRONG_NODES: &[&str] = &[
@@ -324,14 +363,14 @@ const WRONG_NODES: &[&str] = &[
 
 #[test]
 fn there_are_1_to_16_nodes(rt: HostRuntime) {
+    const FIRST: &str = "nodes = 1\nclient = [{node = 1, ops = []}]\n";
+    const LAST: &str = "nodes = 16\nclient = [{node = 16, ops = []}]\n";
+    const CASES: &[Case] = &[
+        Case(&[Text(FIRST)], Accepted),
+        Case(&[Text(LAST)], Accepted),
+    ];
     assert_refused(&rt, WRONG_NODES, ScriptError::Nodes);
-    assert!(rt; is_accepted(rt.alloc(), b"nodes = 1\nclient = [{node = 1, ops = []}]\n"));
-    assert!(rt;
-        is_accepted(
-            rt.alloc(),
-            b"nodes = 16\nclient = [{node = 16, ops = []}]\n"
-        )
-    );
+    assert_cases(&rt, CASES);
 }
 
 const WRONG_CLIENTS: &[&str] = &[
@@ -342,41 +381,31 @@ const WRONG_CLIENTS: &[&str] = &[
     "nodes = 2\nclient = [{node = 1, ops = ['?']}, {node = 3, ops = []}]\n",
 ];
 
-/// Returns whether 64 clients are accepted, and one more is refused before its operation is looked at.
-fn clients_are_at_most_64(alloc: Global) -> bool {
-    let Ok(clients) = "[[client]]\nnode = 2\nops = []\n".repeat(alloc, 64) else {
-        return false;
-    };
-    let past = [
-        "nodes = 2\n",
-        clients.as_str(),
-        "[[client]]\nnode = 2\nops = ['?']\n",
-    ];
-    parts_are_accepted(alloc, ["nodes = 2\n", clients.as_str(), ""])
-        && parts_are_refused(alloc, past, ScriptError::Clients)
-}
-
+/// 64 clients are accepted, and one more is refused before its operation is looked at.
 #[test]
 fn there_are_1_to_64_clients_each_at_a_node(rt: HostRuntime) {
+    const NODES: Part = Text("nodes = 2\n");
+    const CLIENTS: Part = Times(b"[[client]]\nnode = 2\nops = []\n", 64);
+    const PAST: Part = Text("[[client]]\nnode = 2\nops = ['?']\n");
+    const CASES: &[Case] = &[
+        Case(&[NODES, CLIENTS], Accepted),
+        Case(&[NODES, CLIENTS, PAST], Refused(ScriptError::Clients)),
+    ];
     assert_refused(&rt, WRONG_CLIENTS, ScriptError::Clients);
-    assert!(rt; clients_are_at_most_64(rt.alloc()));
+    assert_cases(&rt, CASES);
 }
 
-/// Returns whether 1,024 operations of a client are accepted, and one more is refused before any is looked at, and before the
-/// next client is.
-fn operations_are_at_most_1024(alloc: Global) -> bool {
-    let Ok(ops) = "'X r', 'U r',\n".repeat(alloc, 512) else {
-        return false;
-    };
-    let front = "nodes = 1\nclient = [{node = 1, ops = [\n";
-    let past = [front, ops.as_str(), "'?']}, {node = 1, ops = ['?']}]\n"];
-    parts_are_accepted(alloc, [front, ops.as_str(), "]}]\n"])
-        && parts_are_refused(alloc, past, ScriptError::Limit)
-}
-
+/// 1,024 operations of a client are accepted, and one more is refused before any is looked at, and before the next client is.
 #[test]
 fn a_client_has_at_most_1024_operations(rt: HostRuntime) {
-    assert!(rt; operations_are_at_most_1024(rt.alloc()));
+    const FRONT: Part = Text("nodes = 1\nclient = [{node = 1, ops = [\n");
+    const OPS: Part = Times(b"'X r', 'U r',\n", 512);
+    const PAST: Part = Text("'?']}, {node = 1, ops = ['?']}]\n");
+    const CASES: &[Case] = &[
+        Case(&[FRONT, OPS, Text("]}]\n")], Accepted),
+        Case(&[FRONT, OPS, PAST], Refused(ScriptError::Limit)),
+    ];
+    assert_cases(&rt, CASES);
 }
 
 const NO_OPS: &[&str] = &[
@@ -427,27 +456,43 @@ fn a_name_is_locked_and_unlocked_in_turn(rt: HostRuntime) {
     assert_ops_refused(&rt, NOT_HELD, ScriptError::NotHeld);
     assert_ops_refused(&rt, ALREADY_HELD, ScriptError::AlreadyHeld);
     assert_refused(&rt, &[FIRST_OF_TWO], ScriptError::NotHeld);
-    assert!(rt; is_accepted(rt.alloc(), IN_TURN.as_bytes()));
+    assert_cases(&rt, &[Case(&[Text(IN_TURN)], Accepted)]);
 }
 
 /// Returns whether a text is read as these choices.
-fn are_read(alloc: Global, text: &str, wanted: &[Choice]) -> bool {
+fn is_read(alloc: Global, text: &str, wanted: &[Choice]) -> bool {
     match read_choices(alloc, text) {
         Ok(choices) => choices.as_slice() == wanted,
         Err(_) => false,
     }
 }
 
+/// Returns how many texts are read as the choices beside them, up to the first that is not.
+fn are_read(alloc: Global, rows: &[(&str, &[Choice])]) -> usize {
+    for place in 0..rows.len() {
+        let (text, wanted) = rows[place];
+        if !is_read(alloc, text, wanted) {
+            return place;
+        }
+    }
+    rows.len()
+}
+
 #[test]
 fn choices_are_read_in_order(rt: HostRuntime) {
-    let four = [
-        Choice::Client(1),
-        Choice::Message(0),
-        Choice::Lost(12),
-        Choice::Client(999_999_999),
+    const ROWS: &[(&str, &[Choice])] = &[
+        ("", &[]),
+        (
+            "c1 m0 l12 c999999999",
+            &[
+                Choice::Client(1),
+                Choice::Message(0),
+                Choice::Lost(12),
+                Choice::Client(999_999_999),
+            ],
+        ),
     ];
-    assert!(rt; are_read(rt.alloc(), "", &[]));
-    assert!(rt; are_read(rt.alloc(), "c1 m0 l12 c999999999", &four));
+    assert_rows(&rt, are_read(rt.alloc(), ROWS), ROWS.len());
 }
 
 const NO_CHOICES: &[&str] = &[
@@ -480,34 +525,45 @@ fn is_no_choice(alloc: Global, text: &str) -> bool {
     matches!(read_choices(alloc, text), Err(ChoicesError::Choice))
 }
 
-#[test]
-fn other_words_are_no_choices(rt: HostRuntime) {
-    for text in NO_CHOICES {
-        assert!(rt; is_no_choice(rt.alloc(), text), "{text}");
+/// Returns how many of these texts are no lists of choices, up to the first that is one.
+fn no_choices(alloc: Global, texts: &[&str]) -> usize {
+    for place in 0..texts.len() {
+        if !is_no_choice(alloc, texts[place]) {
+            return place;
+        }
     }
+    texts.len()
 }
 
-/// Returns whether the faults of a performance print as their words.
-fn perform_faults_print(alloc: Global) -> bool {
-    prints(alloc, &PerformError::Read, "Read")
-        && prints(alloc, &PerformError::Script(ScriptError::Toml), "Toml")
-        && prints(
-            alloc,
-            &PerformError::Drive(DriveError::TurnLimit),
-            "TurnLimit",
-        )
-        && prints(alloc, &PerformError::Memory, "Memory")
-        && prints(alloc, &PerformError::Write, "Write")
+#[test]
+fn other_words_are_no_choices(rt: HostRuntime) {
+    assert_rows(&rt, no_choices(rt.alloc(), NO_CHOICES), NO_CHOICES.len());
 }
+
+const SCRIPT_FAULTS: &[(ScriptError, &str)] = &[
+    (ScriptError::AlreadyHeld, "AlreadyHeld"),
+    (ScriptError::Memory, "Memory"),
+];
+
+const CHOICES_FAULTS: &[(ChoicesError, &str)] = &[
+    (ChoicesError::Choice, "Choice"),
+    (ChoicesError::Memory, "Memory"),
+];
+
+const PERFORM_FAULTS: &[(PerformError, &str)] = &[
+    (PerformError::Read, "Read"),
+    (PerformError::Script(ScriptError::Toml), "Toml"),
+    (PerformError::Drive(DriveError::TurnLimit), "TurnLimit"),
+    (PerformError::Memory, "Memory"),
+    (PerformError::Write, "Write"),
+];
 
 #[test]
 fn refusals_print_as_their_words(rt: HostRuntime) {
     let alloc = rt.alloc();
-    assert!(rt; prints(alloc, &ScriptError::AlreadyHeld, "AlreadyHeld"));
-    assert!(rt; prints(alloc, &ScriptError::Memory, "Memory"));
-    assert!(rt; prints(alloc, &ChoicesError::Choice, "Choice"));
-    assert!(rt; prints(alloc, &ChoicesError::Memory, "Memory"));
-    assert!(rt; perform_faults_print(alloc));
+    assert_rows(&rt, printed(alloc, SCRIPT_FAULTS), SCRIPT_FAULTS.len());
+    assert_rows(&rt, printed(alloc, CHOICES_FAULTS), CHOICES_FAULTS.len());
+    assert_rows(&rt, printed(alloc, PERFORM_FAULTS), PERFORM_FAULTS.len());
 }
 
 /// Returns whether a script is driven to its end, from the oldest message on, and this is its trace.

@@ -1,143 +1,228 @@
-ghost use Rattle.ra_stamp.specs.NodeId.{IsNodeNumber};
-
 use crate::helpers::{
-    FailingWriter, ONE_LOCK, ONE_LOCK_LENGTH, TWO_LOCKS, all_kinds, failing, is_judged, is_valid,
-    joined, prints, r,
+    FailingWriter, Judged, ONE_LOCK, ONE_LOCK_LENGTH, Part, TWO_LOCKS, all_kinds, assert_judged,
+    assert_rows, failing, is_judged, printed, r, text_of,
 };
-use ra_stamp::{Message, Mode, NodeId};
+use Act::{Ask, AskForAllKinds, Deliver, Leave, Lose};
+use Judged::{Invalid, Valid};
+use Part::{Text, Times};
+use Wire::{Replies, Requests};
+use ra_stamp::{Message, Mode, Name, NodeId};
 use ra_trace::{Cause, Verdict, WriteTraceError, write_trace};
 use ra_world::{NodeRefusal, RunError, Step, StepError, Steps};
 use std::alloc::Global;
 use std::io;
 use std::process::Abort;
 
-fn id(number: u16) -> NodeId
-    requires { IsNodeNumber number }
-{
-    NodeId::new(number).unwrap()
+/// A message of number 1 on `r`, of a writer where it is a REQUEST: its sender and its receiver.
+#[derive(Clone, Copy)]
+enum Wire {
+    Requests(u16, u16),
+    Replies(u16, u16),
 }
 
-fn request(from: u16, to: u16) -> Message
-    requires from { IsNodeNumber from }
-    requires to { IsNodeNumber to }
-{
-    Message::Request {
-        from: id(from),
-        to: id(to),
-        name: r(),
-        mode: Mode::Exclusive,
-        seq: 1,
+/// What happens in a run.
+#[derive(Clone, Copy)]
+enum Act {
+    /// At a node, a client asks for `r` exclusively.
+    Ask(u16, u32),
+    /// At a node, a client leaves `r`.
+    Leave(u16, u32),
+    /// At node 16, client 0 asks for a name with each kind of byte, shared.
+    AskForAllKinds,
+    Deliver(Wire),
+    Lose(Wire),
+}
+
+/// Returns the message, or `None` where a number is that of no node.
+fn message(wire: Wire) -> Option<Message> {
+    let (from, to) = match wire {
+        Requests(from, to) | Replies(from, to) => (from, to),
+    };
+    let (name, seq) = (r(), 1);
+    match (NodeId::new(from), NodeId::new(to)) {
+        (Some(from), Some(to)) => Some(match wire {
+            Requests(_, _) => Message::Request {
+                from,
+                to,
+                name,
+                mode: Mode::Exclusive,
+                seq,
+            },
+            Replies(_, _) => Message::Reply {
+                from,
+                to,
+                name,
+                seq,
+            },
+        }),
+        _ => None,
     }
 }
 
-fn reply(from: u16, to: u16) -> Message
-    requires from { IsNodeNumber from }
-    requires to { IsNodeNumber to }
-{
-    Message::Reply {
-        from: id(from),
-        to: id(to),
-        name: r(),
-        seq: 1,
+/// Returns the step by which a client asks, or `None` where there is no such node.
+fn ask(node: u16, client: u32, name: Name, mode: Mode) -> Option<Step> {
+    match NodeId::new(node) {
+        Some(node) => Some(Step::Ask {
+            node,
+            client,
+            name,
+            mode,
+        }),
+        None => None,
     }
 }
 
-fn ask(node: u16, client: u32) -> Step
-    requires { IsNodeNumber node }
-{
-    Step::Ask {
-        node: id(node),
-        client,
-        name: r(),
-        mode: Mode::Exclusive,
+/// Returns the step by which a client leaves `r`, or `None` where there is no such node.
+fn leave(node: u16, client: u32) -> Option<Step> {
+    match NodeId::new(node) {
+        Some(node) => Some(Step::Leave {
+            node,
+            client,
+            name: r(),
+        }),
+        None => None,
     }
 }
 
-fn leave(node: u16, client: u32) -> Step
-    requires { IsNodeNumber node }
-{
-    Step::Leave {
-        node: id(node),
-        client,
-        name: r(),
+/// Returns the step by which a message is delivered, or `None` where there is no such message.
+fn deliver(wire: Wire) -> Option<Step> {
+    match message(wire) {
+        Some(message) => Some(Step::Deliver(message)),
+        None => None,
     }
 }
 
-/// Returns the steps of the trace of one lock.
-fn one_lock() -> [Step; 4] {
-    [
-        ask(1, 1),
-        Step::Deliver(request(1, 2)),
-        Step::Deliver(reply(2, 1)),
-        leave(1, 1),
-    ]
-}
-
-/// Returns a list of these steps.
-fn steps_of(alloc: Global, list: &[Step]) -> Option<Steps> {
-    let mut steps = Steps::new(alloc);
-    for step in list {
-        steps.push(*step).ok()?;
+/// Returns the step by which a message is lost, or `None` where there is no such message.
+fn lose(wire: Wire) -> Option<Step> {
+    match message(wire) {
+        Some(message) => Some(Step::Lose(message)),
+        None => None,
     }
-    Some(steps)
 }
 
-/// Writes the trace of these steps, and returns the fault, or `None` where there is none.
+/// Returns the step of what happens, or `None` where a number is that of no node.
+fn step(act: Act) -> Option<Step> {
+    match act {
+        Ask(node, client) => ask(node, client, r(), Mode::Exclusive),
+        Leave(node, client) => leave(node, client),
+        AskForAllKinds => ask(16, 0, all_kinds(), Mode::Shared),
+        Deliver(wire) => deliver(wire),
+        Lose(wire) => lose(wire),
+    }
+}
+
+/// One client locks and unlocks, at the first of two nodes.
+const ONE_LOCKS: &[Act] = &[
+    Ask(1, 1),
+    Deliver(Requests(1, 2)),
+    Deliver(Replies(2, 1)),
+    Leave(1, 1),
+];
+
+/// Adds a step. Returns whether there is one, and room for it.
+fn adds(steps: &mut Steps, step: Option<Step>) -> bool {
+    match step {
+        Some(step) => steps.push(step).is_ok(),
+        None => false,
+    }
+}
+
+/// Adds the steps of all that happens. Returns whether there was room.
+fn adds_all(steps: &mut Steps, acts: &[Act]) -> bool {
+    for act in acts {
+        if !adds(steps, step(*act)) {
+            return false;
+        }
+    }
+    true
+}
+
+/// Writes the trace of what happens, and returns the fault, or `None` where there is none.
 fn fault_of(
     alloc: Global,
     nodes: u16,
-    list: &[Step],
+    acts: &[Act],
     writer: &mut FailingWriter<'_>,
 ) -> Option<WriteTraceError> {
-    let Some(steps) = steps_of(alloc, list) else {
-        return Some(WriteTraceError::Memory);
-    };
-    write_trace(alloc, nodes, 0, &steps, writer).err()
+    let mut steps = Steps::new(alloc);
+    if adds_all(&mut steps, acts) {
+        write_trace(alloc, nodes, 0, &steps, writer).err()
+    } else {
+        Some(WriteTraceError::Memory)
+    }
 }
 
-/// Returns whether these steps have this trace.
-fn is_written(alloc: Global, nodes: u16, list: &[Step], text: &str) -> bool {
-    let mut writer = failing(text, 1000, None);
-    fault_of(alloc, nodes, list, &mut writer).is_none() && writer.left.is_empty() && !writer.differs
+/// What happens among so many nodes, and its trace.
+struct Written(u16, &'static [Act], &'static str);
+
+/// Returns whether what happens has its trace.
+fn is_written(alloc: Global, row: &Written) -> bool {
+    let mut writer = failing(row.2, 1000, None);
+    fault_of(alloc, row.0, row.1, &mut writer).is_none()
+        && writer.left.is_empty()
+        && !writer.differs
 }
 
-/// Returns whether nothing is written of these steps, as they are no run.
-fn is_no_run(alloc: Global, nodes: u16, list: &[Step], cause: RunError) -> bool {
+/// Returns how many of these have their traces, up to the first that has not.
+fn written_so(alloc: Global, rows: &[Written]) -> usize {
+    for place in 0..rows.len() {
+        if !is_written(alloc, &rows[place]) {
+            return place;
+        }
+    }
+    rows.len()
+}
+
+/// Asserts that each of these has its trace.
+fn assert_written(rt: &(impl Abort + AllocGlobal), rows: &[Written]) {
+    assert_rows(rt, written_so(rt.alloc(), rows), rows.len());
+}
+
+/// What would happen among so many nodes, and why it is no run.
+struct Refused(u16, &'static [Act], RunError);
+
+/// Returns whether nothing is written of what would happen, as it is no run.
+fn is_no_run(alloc: Global, row: &Refused) -> bool {
     let mut writer = failing("", 0, None);
-    match fault_of(alloc, nodes, list, &mut writer) {
-        Some(WriteTraceError::Run(found)) => found == cause && !writer.differs,
+    match fault_of(alloc, row.0, row.1, &mut writer) {
+        Some(WriteTraceError::Run(found)) => found == row.2 && !writer.differs,
         _ => false,
     }
 }
 
-#[test]
-fn one_client_locks_and_unlocks(rt: HostRuntime) {
-    assert!(rt; is_written(rt.alloc(), 2, &one_lock(), ONE_LOCK));
-    assert!(rt; ONE_LOCK.len() == ONE_LOCK_LENGTH);
+/// Returns how many of these are no runs, up to the first that is one.
+fn no_runs(alloc: Global, rows: &[Refused]) -> usize {
+    for place in 0..rows.len() {
+        if !is_no_run(alloc, &rows[place]) {
+            return place;
+        }
+    }
+    rows.len()
 }
 
-/// Returns whether the steps of two locks have their trace.
-fn two_locks_are_written(alloc: Global) -> bool {
-    let steps = [
-        ask(1, 1),
-        ask(2, 2),
-        Step::Deliver(request(1, 2)),
-        Step::Deliver(request(1, 3)),
-        Step::Deliver(request(2, 1)),
-        Step::Deliver(request(2, 3)),
-        Step::Deliver(reply(2, 1)),
-        Step::Deliver(reply(3, 1)),
-        leave(1, 1),
-        Step::Deliver(reply(3, 2)),
-        Step::Deliver(reply(1, 2)),
-        leave(2, 2),
-    ];
-    is_written(alloc, 3, &steps, TWO_LOCKS)
+#[test]
+fn one_client_locks_and_unlocks(rt: HostRuntime) {
+    assert_written(&rt, &[Written(2, ONE_LOCKS, ONE_LOCK)]);
+    assert!(rt; ONE_LOCK.len() == ONE_LOCK_LENGTH);
 }
 
 #[test]
 fn two_clients_ask_at_once(rt: HostRuntime) {
-    assert!(rt; two_locks_are_written(rt.alloc()));
+    const ACTS: &[Act] = &[
+        Ask(1, 1),
+        Ask(2, 2),
+        Deliver(Requests(1, 2)),
+        Deliver(Requests(1, 3)),
+        Deliver(Requests(2, 1)),
+        Deliver(Requests(2, 3)),
+        Deliver(Replies(2, 1)),
+        Deliver(Replies(3, 1)),
+        Leave(1, 1),
+        Deliver(Replies(3, 2)),
+        Deliver(Replies(1, 2)),
+        Leave(2, 2),
+    ];
+    assert_written(&rt, &[Written(3, ACTS, TWO_LOCKS)]);
 }
 
 /// The reply to the first of two clients at one node is lost, and the second waits.
@@ -150,57 +235,60 @@ lose reply 2 1 r 1
 end
 ";
 
-/// Returns whether the steps of a lost reply have their trace.
-fn lost_reply_is_written(alloc: Global) -> bool {
-    let steps = [
-        ask(1, 1),
-        ask(1, 2),
-        Step::Deliver(request(1, 2)),
-        Step::Lose(reply(2, 1)),
-    ];
-    is_written(alloc, 2, &steps, LOST_REPLY)
-}
+/// What happens in that trace.
+const LOSES_REPLY: &[Act] = &[
+    Ask(1, 1),
+    Ask(1, 2),
+    Deliver(Requests(1, 2)),
+    Lose(Replies(2, 1)),
+];
 
 #[test]
 fn a_loss_and_a_step_without_marks_have_their_lines(rt: HostRuntime) {
-    assert!(rt; lost_reply_is_written(rt.alloc()));
+    assert_written(&rt, &[Written(2, LOSES_REPLY, LOST_REPLY)]);
 }
 
-/// Returns whether no trace is written of steps of which the one at this place is refused.
-fn is_refused_at(alloc: Global, list: &[Step], place: u64, cause: StepError) -> bool {
-    is_no_run(alloc, 2, list, RunError::Refused { place, cause })
-}
-
-/// Returns whether a message can't be delivered twice.
-fn second_delivery_is_refused(alloc: Global) -> bool {
-    let steps = [
-        ask(1, 1),
-        Step::Deliver(request(1, 2)),
-        Step::Deliver(request(1, 2)),
-    ];
-    is_refused_at(alloc, &steps, 3, StepError::NotUnderWay)
-}
-
-/// Returns whether a client can't ask twice.
-fn second_ask_is_refused(alloc: Global) -> bool {
-    let busy = StepError::Node(NodeRefusal::Busy);
-    is_refused_at(alloc, &[ask(1, 1), ask(1, 1)], 2, busy)
-}
+/// What can't happen.
+const NO_RUNS: &[Refused] = &[
+    Refused(
+        2,
+        &[Ask(3, 1)],
+        RunError::Refused {
+            place: 1,
+            cause: StepError::NoNode,
+        },
+    ),
+    Refused(17, &[Ask(3, 1)], RunError::BadCount),
+    Refused(0, &[], RunError::BadCount),
+    // A message can't be delivered twice.
+    Refused(
+        2,
+        &[Ask(1, 1), Deliver(Requests(1, 2)), Deliver(Requests(1, 2))],
+        RunError::Refused {
+            place: 3,
+            cause: StepError::NotUnderWay,
+        },
+    ),
+    // A client can't ask twice.
+    Refused(
+        2,
+        &[Ask(1, 1), Ask(1, 1)],
+        RunError::Refused {
+            place: 2,
+            cause: StepError::Node(NodeRefusal::Busy),
+        },
+    ),
+];
 
 #[test]
 fn nothing_is_written_where_the_steps_are_no_run(rt: HostRuntime) {
-    let alloc = rt.alloc();
-    assert!(rt; is_refused_at(alloc, &[ask(3, 1)], 1, StepError::NoNode));
-    assert!(rt; is_no_run(alloc, 17, &[ask(3, 1)], RunError::BadCount));
-    assert!(rt; is_no_run(alloc, 0, &[], RunError::BadCount));
-    assert!(rt; second_delivery_is_refused(alloc));
-    assert!(rt; second_ask_is_refused(alloc));
+    assert_rows(&rt, no_runs(rt.alloc(), NO_RUNS), NO_RUNS.len());
 }
 
 /// Returns whether just the front with so many bytes is written to a writer that fails then.
 fn front_is_written(alloc: Global, before_fault: usize, fault: Option<io::ErrorKind>) -> bool {
     let mut writer = failing(ONE_LOCK, before_fault, fault);
-    let failed = match fault_of(alloc, 2, &one_lock(), &mut writer) {
+    let failed = match fault_of(alloc, 2, ONE_LOCKS, &mut writer) {
         Some(found) => found == WriteTraceError::Write,
         None => false,
     };
@@ -210,7 +298,7 @@ fn front_is_written(alloc: Global, before_fault: usize, fault: Option<io::ErrorK
 /// Returns whether all is written to a writer that would fail behind it.
 fn whole_is_written(alloc: Global, fault: Option<io::ErrorKind>) -> bool {
     let mut writer = failing(ONE_LOCK, ONE_LOCK_LENGTH, fault);
-    fault_of(alloc, 2, &one_lock(), &mut writer).is_none()
+    fault_of(alloc, 2, ONE_LOCKS, &mut writer).is_none()
         && writer.left.is_empty()
         && !writer.differs
 }
@@ -231,17 +319,22 @@ fn a_writer_that_failed_is_not_tried_again(rt: HostRuntime) {
     assert!(rt; is_not_tried_again(rt.alloc(), None));
 }
 
+const FAULTS: &[(WriteTraceError, &str)] = &[
+    (WriteTraceError::Run(RunError::BadCount), "BadCount"),
+    (
+        WriteTraceError::Run(RunError::Refused {
+            place: 2,
+            cause: StepError::Node(NodeRefusal::NotHeld),
+        }),
+        "NotHeld",
+    ),
+    (WriteTraceError::Memory, "Memory"),
+    (WriteTraceError::Write, "Write"),
+];
+
 #[test]
 fn faults_are_printed_as_their_words(rt: HostRuntime) {
-    let alloc = rt.alloc();
-    let refused = RunError::Refused {
-        place: 2,
-        cause: StepError::Node(NodeRefusal::NotHeld),
-    };
-    assert!(rt; prints(alloc, &WriteTraceError::Run(RunError::BadCount), "BadCount"));
-    assert!(rt; prints(alloc, &WriteTraceError::Run(refused), "NotHeld"));
-    assert!(rt; prints(alloc, &WriteTraceError::Memory, "Memory"));
-    assert!(rt; prints(alloc, &WriteTraceError::Write, "Write"));
+    assert_rows(&rt, printed(rt.alloc(), FAULTS), FAULTS.len());
 }
 
 /// Returns whether no line that may stand there begins this text.
@@ -253,27 +346,21 @@ fn is_wrong_at(alloc: Global, text: &[u8], line: u64) -> bool {
     is_judged(alloc, text, wanted)
 }
 
-/// No number is left behind the first line.
-const LAST_NUMBER: &[u8] =
-    b"trace 1 16 18446744073709551615\nask 16 1 r X\nrequest 16 1 r X 1\nend\n";
-
-/// Returns whether the ask of that text is refused.
-fn ask_is_refused(alloc: Global) -> bool {
-    let wanted = Verdict::Invalid {
-        line: 2,
-        cause: Cause::Refused,
-    };
-    is_judged(alloc, LAST_NUMBER, wanted)
-}
-
 #[test]
 fn the_first_line_and_the_last_are_read(rt: HostRuntime) {
-    let alloc = rt.alloc();
-    assert!(rt; is_valid(alloc, "trace 1 16 18446744073709551615\nend\n", 0, 0));
-    assert!(rt; ask_is_refused(alloc));
-    // The last line is read, and what is left behind it is not.
-    assert!(rt; is_wrong_at(alloc, b"trace 1 2 0\nend\nend\nx", 3));
-    assert!(rt; is_wrong_at(alloc, b"trace 1 2 0\nend\n\n", 3));
+    const ROWS: &[Judged] = &[
+        Valid("trace 1 16 18446744073709551615\nend\n", 0, 0),
+        // No number is left behind the first line.
+        Invalid(
+            "trace 1 16 18446744073709551615\nask 16 1 r X\nrequest 16 1 r X 1\nend\n",
+            2,
+            Cause::Refused,
+        ),
+        // The last line is read, and what is left behind it is not.
+        Invalid("trace 1 2 0\nend\nend\nx", 3, Cause::Line),
+        Invalid("trace 1 2 0\nend\n\n", 3, Cause::Line),
+    ];
+    assert_judged(&rt, ROWS);
 }
 
 /// The least client asks for a name with each kind of byte, at the last of the nodes.
@@ -283,17 +370,6 @@ request 16 0 a-B_9.z S 1
 end
 ";
 
-/// Returns whether the ask for that name has this trace.
-fn all_kinds_are_written(alloc: Global) -> bool {
-    let asked = Step::Ask {
-        node: id(16),
-        client: 0,
-        name: all_kinds(),
-        mode: Mode::Shared,
-    };
-    is_written(alloc, 16, &[asked], ALL_KINDS)
-}
-
 /// The one request is lost.
 const LOST_REQUEST: &str = "trace 1 2 0
 ask 1 1 r X
@@ -302,24 +378,23 @@ lose request 1 2 r X 1
 end
 ";
 
-/// Returns whether the steps of a lost request have their trace.
-fn lost_request_is_written(alloc: Global) -> bool {
-    is_written(
-        alloc,
-        2,
-        &[ask(1, 1), Step::Lose(request(1, 2))],
-        LOST_REQUEST,
-    )
-}
-
 /// A text is the trace of one run at most. So where it is valid, its lines are read as the steps that it is written for.
 #[test]
 fn each_step_is_read(rt: HostRuntime) {
-    let alloc = rt.alloc();
-    assert!(rt; all_kinds_are_written(alloc) && is_valid(alloc, ALL_KINDS, 1, 15));
-    assert!(rt; is_written(alloc, 2, &one_lock(), ONE_LOCK) && is_valid(alloc, ONE_LOCK, 1, 2));
-    assert!(rt; lost_request_is_written(alloc) && is_valid(alloc, LOST_REQUEST, 1, 1));
-    assert!(rt; lost_reply_is_written(alloc) && is_valid(alloc, LOST_REPLY, 1, 2));
+    const WRITTEN: &[Written] = &[
+        Written(16, &[AskForAllKinds], ALL_KINDS),
+        Written(2, ONE_LOCKS, ONE_LOCK),
+        Written(2, &[Ask(1, 1), Lose(Requests(1, 2))], LOST_REQUEST),
+        Written(2, LOSES_REPLY, LOST_REPLY),
+    ];
+    const READ: &[Judged] = &[
+        Valid(ALL_KINDS, 1, 15),
+        Valid(ONE_LOCK, 1, 2),
+        Valid(LOST_REQUEST, 1, 1),
+        Valid(LOST_REPLY, 1, 2),
+    ];
+    assert_written(&rt, WRITTEN);
+    assert_judged(&rt, READ);
 }
 
 /// The greatest client locks and unlocks at the last of 16 nodes, with the last number.
@@ -364,7 +439,7 @@ end
 
 #[test]
 fn each_mark_is_read(rt: HostRuntime) {
-    assert!(rt; is_valid(rt.alloc(), GREATEST, 1, 30));
+    assert_judged(&rt, &[Valid(GREATEST, 1, 30)]);
 }
 
 /// The line feed is missing, or comes too early.
@@ -450,17 +525,25 @@ const NAMES: &[&[u8]] = &[
 
 /// Returns whether no line begins this text, neither as the first one nor behind the first one.
 fn is_no_line(alloc: Global, text: &[u8]) -> bool {
-    match joined(alloc, &[b"trace 1 16 0\n", text]) {
+    match text_of(alloc, &[Text("trace 1 16 0\n"), Times(text, 1)]) {
         Some(behind) => is_wrong_at(alloc, text, 1) && is_wrong_at(alloc, &behind, 2),
         None => false,
     }
 }
 
-/// Asserts that none of the texts begins with a line.
-fn assert_no_lines<T: Abort + AllocGlobal>(rt: &T, texts: &[&[u8]]) {
-    for text in texts {
-        assert!(rt; is_no_line(rt.alloc(), text), "{text:?}");
+/// Returns how many of these texts begin with no line, up to the first that does.
+fn no_lines(alloc: Global, texts: &[&[u8]]) -> usize {
+    for place in 0..texts.len() {
+        if !is_no_line(alloc, texts[place]) {
+            return place;
+        }
     }
+    texts.len()
+}
+
+/// Asserts that none of the texts begins with a line.
+fn assert_no_lines(rt: &(impl Abort + AllocGlobal), texts: &[&[u8]]) {
+    assert_rows(rt, no_lines(rt.alloc(), texts), texts.len());
 }
 
 #[test]
@@ -488,25 +571,28 @@ fn names_and_modes_are_as_they_are_written(rt: HostRuntime) {
     assert_no_lines(&rt, NAMES);
 }
 
-/// Returns whether these words and 100,000 such bytes are no line.
-fn long_line_is_none(alloc: Global, words: &[u8], byte: u8) -> bool {
-    match joined(alloc, &[words, &[byte; 100_000], b"\n"]) {
+/// Returns whether these words and 100,000 times this byte are no line.
+fn long_line_is_none(alloc: Global, words: &'static [u8], byte: &'static [u8]) -> bool {
+    match text_of(alloc, &[Times(words, 1), Times(byte, 100_000), Text("\n")]) {
         Some(line) => is_no_line(alloc, &line),
         None => false,
     }
 }
 
-/// Returns whether 100,000 such bytes are no line behind any words.
-fn long_lines_are_none(alloc: Global, byte: u8) -> bool {
-    long_line_is_none(alloc, b"", byte)
-        && long_line_is_none(alloc, b"ask ", byte)
-        && long_line_is_none(alloc, b"trace 1 2 ", byte)
-        && long_line_is_none(alloc, b"ask 1 1 ", byte)
+/// Returns behind how many of these words 100,000 times this byte are no line, up to the first where they are one.
+fn no_long_lines(alloc: Global, words: &[&'static [u8]], byte: &'static [u8]) -> usize {
+    for place in 0..words.len() {
+        if !long_line_is_none(alloc, words[place], byte) {
+            return place;
+        }
+    }
+    words.len()
 }
 
 #[test]
 fn a_long_line_is_refused(rt: HostRuntime) {
-    assert!(rt; long_lines_are_none(rt.alloc(), b'1'));
-    assert!(rt; long_lines_are_none(rt.alloc(), b' '));
-    assert!(rt; long_lines_are_none(rt.alloc(), b'a'));
+    const WORDS: &[&[u8]] = &[b"", b"ask ", b"trace 1 2 ", b"ask 1 1 "];
+    assert_rows(&rt, no_long_lines(rt.alloc(), WORDS, b"1"), WORDS.len());
+    assert_rows(&rt, no_long_lines(rt.alloc(), WORDS, b" "), WORDS.len());
+    assert_rows(&rt, no_long_lines(rt.alloc(), WORDS, b"a"), WORDS.len());
 }
