@@ -56,31 +56,49 @@ fn number(place: usize, byte: u8) -> u64 {
     u64::from_be_bytes(digits)
 }
 
-/// Returns the frame that the REQUEST is with this byte at the place, or `None` where a node or the name cannot be so.
-fn frame_of(name: Name, place: usize, byte: u8) -> Option<Frame> {
-    let node = u16::from(byte);
-    let from = NodeId::new(if place == 2 { node } else { 1 })?;
-    let to = NodeId::new(if place == 3 { node } else { 2 })?;
-    let name = if place == 22 {
-        Name::new(&[byte]).ok()?
+/// Returns the node with the number of this byte where that stands at the place of the node, or else this one.
+fn node_of(place: usize, byte: u8, own_place: usize, own: u16) -> Option<NodeId> {
+    NodeId::new(if place == own_place {
+        u16::from(byte)
     } else {
-        name
-    };
-    let mode = if place == 4 && byte == 0 {
+        own
+    })
+}
+
+/// Returns the name of this byte where that stands at the place of the name, or else this one.
+fn name_of(name: Name, place: usize, byte: u8) -> Option<Name> {
+    if place == 22 {
+        Name::new(&[byte]).ok()
+    } else {
+        Some(name)
+    }
+}
+
+/// Returns the mode that the REQUEST has with this byte at the place.
+fn mode_of(place: usize, byte: u8) -> Mode {
+    if place == 4 && byte == 0 {
         Mode::Shared
     } else {
         Mode::Exclusive
-    };
-    Some(Frame {
-        clock: number(place.wrapping_sub(13), byte),
-        message: Message::Request {
-            from,
-            to,
-            name,
-            mode,
-            seq: number(place.wrapping_sub(5), byte),
-        },
-    })
+    }
+}
+
+/// Returns the frame that the REQUEST is with this byte at the place, or `None` where a node or the name cannot be so.
+fn frame_of(name: Name, place: usize, byte: u8) -> Option<Frame> {
+    let (from, to) = (node_of(place, byte, 2, 1), node_of(place, byte, 3, 2));
+    match (from, to, name_of(name, place, byte)) {
+        (Some(from), Some(to), Some(name)) => Some(Frame {
+            clock: number(place.wrapping_sub(13), byte),
+            message: Message::Request {
+                from,
+                to,
+                name,
+                mode: mode_of(place, byte),
+                seq: number(place.wrapping_sub(5), byte),
+            },
+        }),
+        _ => None,
+    }
 }
 
 /// Returns whether these bytes, the REQUEST with this byte at the place, are read as the frame that they are.

@@ -1,4 +1,4 @@
-use crate::helpers::{node, prints, r};
+use crate::helpers::{assert_none_wrong, assert_rows, node, printed, r};
 use ra_frame::{Frame, FrameError, decode, encode};
 use ra_stamp::{Message, Mode, Name};
 use std::alloc::Global;
@@ -289,11 +289,19 @@ fn meets(case: &Case) -> bool {
     is_refused(&with(&ASKS, case.1), case.2)
 }
 
+/// Returns what is wrong in the first case that is not met, or `None` where all are.
+fn first_not_met(cases: &[Case]) -> Option<&'static str> {
+    for case in cases {
+        if !meets(case) {
+            return Some(case.0);
+        }
+    }
+    None
+}
+
 #[test]
 fn the_first_wrong_field_is_named(rt: HostRuntime) {
-    for case in CASES {
-        assert!(rt; meets(case), "{}", case.0);
-    }
+    assert_none_wrong(&rt, first_not_met(CASES));
 }
 
 #[test]
@@ -346,19 +354,22 @@ fn a_frame_fits_by_its_ranges(rt: HostRuntime) {
     assert!(rt; frames_fit_by_their_ranges(name.unwrap()));
 }
 
+const FAULTS: &[(FrameError, &str)] = &[
+    (FrameError::Short, "Short"),
+    (FrameError::Version, "Version"),
+    (FrameError::Kind, "Kind"),
+    (FrameError::From, "From"),
+    (FrameError::To, "To"),
+    (FrameError::SameNode, "SameNode"),
+    (FrameError::Mode, "Mode"),
+    (FrameError::Seq, "Seq"),
+    (FrameError::Clock, "Clock"),
+    (FrameError::NameLength, "NameLength"),
+    (FrameError::NameByte, "NameByte"),
+    (FrameError::Trailing, "Trailing"),
+];
+
 #[test]
 fn faults_print_their_names(rt: HostRuntime) {
-    let alloc = rt.alloc();
-    assert!(rt; prints(alloc, FrameError::Short, "Short"));
-    assert!(rt; prints(alloc, FrameError::Version, "Version"));
-    assert!(rt; prints(alloc, FrameError::Kind, "Kind"));
-    assert!(rt; prints(alloc, FrameError::From, "From"));
-    assert!(rt; prints(alloc, FrameError::To, "To"));
-    assert!(rt; prints(alloc, FrameError::SameNode, "SameNode"));
-    assert!(rt; prints(alloc, FrameError::Mode, "Mode"));
-    assert!(rt; prints(alloc, FrameError::Seq, "Seq"));
-    assert!(rt; prints(alloc, FrameError::Clock, "Clock"));
-    assert!(rt; prints(alloc, FrameError::NameLength, "NameLength"));
-    assert!(rt; prints(alloc, FrameError::NameByte, "NameByte"));
-    assert!(rt; prints(alloc, FrameError::Trailing, "Trailing"));
+    assert_rows(&rt, printed(rt.alloc(), FAULTS), FAULTS.len());
 }

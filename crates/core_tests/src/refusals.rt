@@ -1,5 +1,5 @@
 //! What is refused: nodes that cannot be, and messages for others or from strangers; and how faults are printed.
-use crate::helpers::{node, prints, r};
+use crate::helpers::{assert_rows, node, printed, r};
 use crate::steps::{Step, Wire, follow};
 use Mode::Shared;
 use Step::RefusesToTake;
@@ -8,34 +8,39 @@ use ra_automaton::{Automaton, LeaveError, NewError, ReceiveError, RequestError};
 use ra_stamp::{Mode, NodeId};
 use std::alloc::Global;
 
-/// Returns whether there is a node `me` of `nodes`.
-fn is_made(alloc: Global, me: NodeId, nodes: u16) -> bool {
-    match r() {
-        Some(name) => Automaton::new(alloc, me, nodes, name, 0).is_ok(),
-        None => false,
+/// The number of a node, a number of nodes, and why there is no such node, or `None` where there is one.
+struct Made(u16, u16, Option<NewError>);
+
+/// Returns whether there is such a node, or there is none for this reason.
+fn is_so(alloc: Global, row: &Made) -> bool {
+    match (NodeId::new(row.0), r()) {
+        (Some(me), Some(name)) => Automaton::new(alloc, me, row.1, name, 0).err() == row.2,
+        _ => false,
     }
 }
 
-/// Returns whether there is no node `me` of `nodes`, for this reason.
-fn is_not_made(alloc: Global, me: NodeId, nodes: u16, fault: NewError) -> bool {
-    match r() {
-        Some(name) => match Automaton::new(alloc, me, nodes, name, 0) {
-            Ok(_) => false,
-            Err(found) => found == fault,
-        },
-        None => false,
+/// Returns how many rows are so, up to the first that is not.
+fn are_so(alloc: Global, rows: &[Made]) -> usize {
+    for place in 0..rows.len() {
+        if !is_so(alloc, &rows[place]) {
+            return place;
+        }
     }
+    rows.len()
 }
 
 #[test]
 fn there_are_one_to_sixteen_nodes(rt: HostRuntime) {
-    let alloc = rt.alloc();
-    assert!(rt; is_made(alloc, node(1), 1) && is_made(alloc, node(16), 16));
-    assert!(rt; is_made(alloc, node(3), 3));
-    assert!(rt; is_not_made(alloc, node(1), 0, NewError::BadCount));
-    assert!(rt; is_not_made(alloc, node(1), 17, NewError::BadCount));
-    assert!(rt; is_not_made(alloc, node(4), 3, NewError::BadNode));
-    assert!(rt; is_not_made(alloc, node(2), 0, NewError::BadCount));
+    const ROWS: &[Made] = &[
+        Made(1, 1, None),
+        Made(16, 16, None),
+        Made(3, 3, None),
+        Made(1, 0, Some(NewError::BadCount)),
+        Made(1, 17, Some(NewError::BadCount)),
+        Made(4, 3, Some(NewError::BadNode)),
+        Made(2, 0, Some(NewError::BadCount)),
+    ];
+    assert_rows(&rt, are_so(rt.alloc(), ROWS), ROWS.len());
 }
 
 #[test]
@@ -55,18 +60,34 @@ fn messages_come_from_another_node_to_this_one(rt: HostRuntime) {
     follow(&rt, node(2), 3, 0, STEPS);
 }
 
+const NEW_FAULTS: &[(NewError, &str)] = &[
+    (NewError::BadCount, "BadCount"),
+    (NewError::BadNode, "BadNode"),
+    (NewError::Memory, "Memory"),
+];
+
+const REQUEST_FAULTS: &[(RequestError, &str)] = &[
+    (RequestError::NotIdle, "NotIdle"),
+    (RequestError::Exhausted, "Exhausted"),
+    (RequestError::Memory, "Memory"),
+];
+
+const RECEIVE_FAULTS: &[(ReceiveError, &str)] = &[
+    (ReceiveError::WrongNode, "WrongNode"),
+    (ReceiveError::Stranger, "Stranger"),
+    (ReceiveError::Memory, "Memory"),
+];
+
+const LEAVE_FAULTS: &[(LeaveError, &str)] = &[
+    (LeaveError::NotHeld, "NotHeld"),
+    (LeaveError::Memory, "Memory"),
+];
+
 #[test]
 fn faults_print_their_names(rt: HostRuntime) {
     let alloc = rt.alloc();
-    assert!(rt; prints(alloc, NewError::BadCount, "BadCount"));
-    assert!(rt; prints(alloc, NewError::BadNode, "BadNode"));
-    assert!(rt; prints(alloc, NewError::Memory, "Memory"));
-    assert!(rt; prints(alloc, RequestError::NotIdle, "NotIdle"));
-    assert!(rt; prints(alloc, RequestError::Exhausted, "Exhausted"));
-    assert!(rt; prints(alloc, RequestError::Memory, "Memory"));
-    assert!(rt; prints(alloc, ReceiveError::WrongNode, "WrongNode"));
-    assert!(rt; prints(alloc, ReceiveError::Stranger, "Stranger"));
-    assert!(rt; prints(alloc, ReceiveError::Memory, "Memory"));
-    assert!(rt; prints(alloc, LeaveError::NotHeld, "NotHeld"));
-    assert!(rt; prints(alloc, LeaveError::Memory, "Memory"));
+    assert_rows(&rt, printed(alloc, NEW_FAULTS), NEW_FAULTS.len());
+    assert_rows(&rt, printed(alloc, REQUEST_FAULTS), REQUEST_FAULTS.len());
+    assert_rows(&rt, printed(alloc, RECEIVE_FAULTS), RECEIVE_FAULTS.len());
+    assert_rows(&rt, printed(alloc, LEAVE_FAULTS), LEAVE_FAULTS.len());
 }

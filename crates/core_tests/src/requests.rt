@@ -1,5 +1,5 @@
 //! What becomes of a REQUEST at a node that is idle, waits or is inside.
-use crate::helpers::node;
+use crate::helpers::{assert_none_wrong, node};
 use crate::steps::{Answer, NOTHING, Step, done_by, follow};
 use Answer::{Defer, Reply};
 use Mode::{Exclusive, Shared};
@@ -110,18 +110,29 @@ fn meets_inside(alloc: Global, case: &Case) -> bool {
     )
 }
 
+/// Returns the label of the first case that a node does not meet, while it is inside or while it waits, or `None` where it meets all.
+fn first_not_met(alloc: Global, cases: &[Case], inside: bool) -> Option<&'static str> {
+    for case in cases {
+        let met = if inside {
+            meets_inside(alloc, case)
+        } else {
+            meets_waiting(alloc, case)
+        };
+        if !met {
+            return Some(case.0);
+        }
+    }
+    None
+}
+
 #[test]
 fn a_waiting_node_defers_what_it_goes_before(rt: HostRuntime) {
-    for case in CASES {
-        assert!(rt; meets_waiting(rt.alloc(), case), "{}", case.0);
-    }
+    assert_none_wrong(&rt, first_not_met(rt.alloc(), CASES, false));
 }
 
 #[test]
 fn a_node_inside_defers_what_it_goes_before(rt: HostRuntime) {
-    for case in CASES {
-        assert!(rt; meets_inside(rt.alloc(), case), "{}", case.0);
-    }
+    assert_none_wrong(&rt, first_not_met(rt.alloc(), CASES, true));
 }
 
 #[test]

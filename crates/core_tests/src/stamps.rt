@@ -1,6 +1,6 @@
 ghost use Rattle.ra_stamp.specs.NodeId.{IsNodeNumber};
 
-use crate::helpers::{node, prints, r};
+use crate::helpers::{assert_rows, node, printed, prints, r};
 use ra_stamp::{
     Entry, Mark, Marks, Memory, Message, Messages, Mode, Name, NameError, NodeId, Stamp, conflicts,
 };
@@ -71,11 +71,30 @@ fn is_bad(bytes: &[u8]) -> bool {
     is_refused(bytes, NameError::BadByte)
 }
 
+/// Returns how many of these are bad, up to the first that is not.
+fn bad(names: &[&[u8]]) -> usize {
+    for place in 0..names.len() {
+        if !is_bad(names[place]) {
+            return place;
+        }
+    }
+    names.len()
+}
+
 #[test]
 fn names_are_of_letters_digits_and_three_signs(rt: HostRuntime) {
+    const BAD: &[&[u8]] = &[
+        b"a b",
+        b"a/b",
+        b"a:b",
+        b"a@b",
+        b"a[b",
+        b"a`b",
+        b"a{b",
+        b"\xc3\xa4",
+    ];
     assert!(rt; is_name(b"AZaz09_-."));
-    assert!(rt; is_bad(b"a b") && is_bad(b"a/b") && is_bad(b"a:b") && is_bad(b"a@b"));
-    assert!(rt; is_bad(b"a[b") && is_bad(b"a`b") && is_bad(b"a{b") && is_bad(b"\xc3\xa4"));
+    assert_rows(&rt, bad(BAD), BAD.len());
 }
 
 /// Returns whether two names are ordered so.
@@ -86,28 +105,85 @@ fn compare(a: &[u8], b: &[u8], order: Ordering) -> bool {
     }
 }
 
+/// Returns how many pairs of names are ordered as is said beside them, up to the first that is not.
+fn ordered(rows: &[(&[u8], &[u8], Ordering)]) -> usize {
+    for place in 0..rows.len() {
+        let (a, b, order) = rows[place];
+        if !compare(a, b, order) {
+            return place;
+        }
+    }
+    rows.len()
+}
+
 #[test]
 fn names_are_ordered_by_their_bytes(rt: HostRuntime) {
-    assert!(rt; compare(b"a", b"ab", Ordering::Less));
-    assert!(rt; compare(b"ab", b"b", Ordering::Less));
-    assert!(rt; compare(b"b", b"B", Ordering::Greater));
-    assert!(rt; compare(b"a", b"a", Ordering::Equal));
+    const ROWS: &[(&[u8], &[u8], Ordering)] = &[
+        (b"a", b"ab", Ordering::Less),
+        (b"ab", b"b", Ordering::Less),
+        (b"b", b"B", Ordering::Greater),
+        (b"a", b"a", Ordering::Equal),
+    ];
+    assert_rows(&rt, ordered(ROWS), ROWS.len());
+}
+
+/// Returns how many pairs of modes conflict or do not, as is said beside them, up to the first that does otherwise.
+fn conflicting(rows: &[(Mode, Mode, bool)]) -> usize {
+    for place in 0..rows.len() {
+        let (one, other, wanted) = rows[place];
+        if conflicts(one, other) != wanted {
+            return place;
+        }
+    }
+    rows.len()
 }
 
 #[test]
 fn only_two_shared_modes_go_together(rt: HostRuntime) {
-    assert!(rt; !conflicts(Mode::Shared, Mode::Shared));
-    assert!(rt; conflicts(Mode::Shared, Mode::Exclusive));
-    assert!(rt; conflicts(Mode::Exclusive, Mode::Shared));
-    assert!(rt; conflicts(Mode::Exclusive, Mode::Exclusive));
+    const ROWS: &[(Mode, Mode, bool)] = &[
+        (Mode::Shared, Mode::Shared, false),
+        (Mode::Shared, Mode::Exclusive, true),
+        (Mode::Exclusive, Mode::Shared, true),
+        (Mode::Exclusive, Mode::Exclusive, true),
+    ];
+    assert_rows(&rt, conflicting(ROWS), ROWS.len());
+}
+
+/// The number and the node of two stamps, and how they are ordered.
+struct Pair(u64, u16, u64, u16, Ordering);
+
+/// Returns whether two stamps are ordered so.
+fn stamps_are_ordered(pair: &Pair) -> bool {
+    match (NodeId::new(pair.1), NodeId::new(pair.3)) {
+        (Some(one), Some(other)) => {
+            let (seq, node) = (pair.0, one);
+            let one = Stamp { seq, node };
+            let (seq, node) = (pair.2, other);
+            one.cmp(&Stamp { seq, node }) == pair.4
+        }
+        _ => false,
+    }
+}
+
+/// Returns how many pairs of stamps are ordered as they say, up to the first that is not.
+fn ordered_stamps(pairs: &[Pair]) -> usize {
+    for place in 0..pairs.len() {
+        if !stamps_are_ordered(&pairs[place]) {
+            return place;
+        }
+    }
+    pairs.len()
 }
 
 #[test]
 fn equal_numbers_go_to_the_lower_node(rt: HostRuntime) {
-    assert!(rt; stamp(1, 1).cmp(&stamp(1, 2)) == Ordering::Less);
-    assert!(rt; stamp(1, 16).cmp(&stamp(2, 1)) == Ordering::Less);
-    assert!(rt; stamp(2, 1).cmp(&stamp(1, 16)) == Ordering::Greater);
-    assert!(rt; stamp(7, 3).cmp(&stamp(7, 3)) == Ordering::Equal);
+    const PAIRS: &[Pair] = &[
+        Pair(1, 1, 1, 2, Ordering::Less),
+        Pair(1, 16, 2, 1, Ordering::Less),
+        Pair(2, 1, 1, 16, Ordering::Greater),
+        Pair(7, 3, 7, 3, Ordering::Equal),
+    ];
+    assert_rows(&rt, ordered_stamps(PAIRS), PAIRS.len());
 }
 
 /// Returns whether a message has these parts.
@@ -144,19 +220,28 @@ fn has_seq_at(messages: &Messages, place: u64, seq: u64) -> bool {
     }
 }
 
-/// Returns whether three messages that an empty list takes are listed as they were put.
-fn takes_three(messages: &mut Messages, name: Name) -> bool {
+/// Returns whether a list is empty, and takes three messages.
+fn takes_messages(messages: &mut Messages, name: Name) -> bool {
     messages.len() == 0
         && messages.at(0).is_none()
         && messages.push(request(name, 1)).is_ok()
         && messages.push(request(name, 2)).is_ok()
         && messages.push(request(name, 1)).is_ok()
-        && messages.len() == 3
+}
+
+/// Returns whether three messages are listed as they were put.
+fn lists_messages(messages: &Messages) -> bool {
+    messages.len() == 3
         && has_seq_at(messages, 0, 1)
         && has_seq_at(messages, 1, 2)
         && has_seq_at(messages, 2, 1)
         && messages.at(3).is_none()
         && messages.at(u64::MAX).is_none()
+}
+
+/// Returns whether three messages that an empty list takes are listed as they were put.
+fn takes_three(messages: &mut Messages, name: Name) -> bool {
+    takes_messages(messages, name) && lists_messages(messages)
 }
 
 /// Returns whether a new list of messages lists three of them in order.
@@ -181,20 +266,28 @@ fn has_mark_at(marks: &Marks, place: u64, mark: Mark) -> bool {
     }
 }
 
-/// Returns whether an empty list takes three marks of an entry, with room that is made for two, and lists them as they
-/// were put.
-fn takes_marks(marks: &mut Marks, entry: &Entry) -> bool {
+/// Returns whether an empty list takes three marks of an entry, with room that is made for two.
+fn puts_marks(marks: &mut Marks, entry: &Entry) -> bool {
     marks.reserve(2).is_ok()
         && marks.len() == 0
         && marks.push(Mark::Requested(*entry)).is_ok()
         && marks.push(Mark::Entered(*entry)).is_ok()
         && marks.reserve(0).is_ok()
         && marks.push(Mark::Left(*entry)).is_ok()
-        && marks.len() == 3
+}
+
+/// Returns whether three marks of an entry are listed as they were put.
+fn lists_marks(marks: &Marks, entry: &Entry) -> bool {
+    marks.len() == 3
         && has_mark_at(marks, 0, Mark::Requested(*entry))
         && has_mark_at(marks, 1, Mark::Entered(*entry))
         && has_mark_at(marks, 2, Mark::Left(*entry))
         && marks.at(3).is_none()
+}
+
+/// Returns whether an empty list takes three marks of an entry, and lists them as they were put.
+fn takes_marks(marks: &mut Marks, entry: &Entry) -> bool {
+    puts_marks(marks, entry) && lists_marks(marks, entry)
 }
 
 /// Returns whether a new list of marks lists three of them in order.
@@ -248,12 +341,16 @@ fn more_room_than_there_is_is_refused(rt: HostRuntime) {
     assert!(rt; room_is_refused(rt.alloc()));
 }
 
+const NAME_FAULTS: &[(NameError, &str)] = &[
+    (NameError::Empty, "Empty"),
+    (NameError::TooLong, "TooLong"),
+    (NameError::BadByte, "BadByte"),
+];
+
 #[test]
 fn faults_print_their_names(rt: HostRuntime) {
-    assert!(rt; prints(rt.alloc(), Memory, "Memory"));
-    assert!(rt; prints(rt.alloc(), NameError::Empty, "Empty"));
-    assert!(rt; prints(rt.alloc(), NameError::TooLong, "TooLong"));
-    assert!(rt; prints(rt.alloc(), NameError::BadByte, "BadByte"));
+    assert!(rt; prints(rt.alloc(), &Memory, "Memory"));
+    assert_rows(&rt, printed(rt.alloc(), NAME_FAULTS), NAME_FAULTS.len());
 }
 
 /// Returns the entry of a request of client 7 at node 2 for the name.
@@ -278,15 +375,15 @@ fn name_prints(alloc: Global, name: Name, line: &str) -> bool {
 fn marks_print(alloc: Global, name: Name) -> bool {
     prints(
         alloc,
-        Mark::Requested(entry(name, Mode::Exclusive)),
+        &Mark::Requested(entry(name, Mode::Exclusive)),
         "request 2 7 disk-1 X 3",
     ) && prints(
         alloc,
-        Mark::Entered(entry(name, Mode::Shared)),
+        &Mark::Entered(entry(name, Mode::Shared)),
         "enter 2 7 disk-1 S 3",
     ) && prints(
         alloc,
-        Mark::Left(entry(name, Mode::Exclusive)),
+        &Mark::Left(entry(name, Mode::Exclusive)),
         "leave 2 7 disk-1 X 3",
     )
 }

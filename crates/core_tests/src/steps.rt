@@ -2,7 +2,7 @@
 ghost use Rattle.std.specs.Prelude.{◌≡◌, IfSome};
 ghost use Rattle.ra_stamp.specs.Message.{name_of};
 
-use crate::helpers::{node, r};
+use crate::helpers::{assert_rows, node, r};
 use Answer::{Defer, Reply};
 use Mode::Shared;
 use Phase::{Idle, Inside, Waiting};
@@ -290,6 +290,31 @@ fn ignores_reply(alloc: Global, automaton: &mut Automaton, from: u16, seq: u64) 
         && deferred_by(automaton) == deferred
 }
 
+/// Returns whether a node shows this, where it is something to be shown.
+fn is_shown(automaton: &Automaton, step: Step) -> bool {
+    match step {
+        Is(me) => is(automaton, me),
+        IsIdle(highest) => shows(automaton, Idle, highest),
+        Waits(mode, seq, highest) => shows(automaton, Waiting { seq, mode }, highest),
+        IsInside(mode, seq, highest) => shows(automaton, Inside { seq, mode }, highest),
+        Awaits(awaited) => awaited_by(automaton) == awaited,
+        Defers(deferred) => deferred_by(automaton) == deferred,
+        DefersOf(other, deferred) => defers_of(automaton, other, deferred),
+        _ => false,
+    }
+}
+
+/// Returns whether a node refuses this, or shows it.
+fn refuses_or_shows(alloc: Global, automaton: &mut Automaton, step: Step) -> bool {
+    match step {
+        RefusesToAsk(fault) => refuses_to_ask(alloc, automaton, fault),
+        RefusesToLeave => refuses_to_leave(alloc, automaton),
+        RefusesToLeaveAndAsk => refuses_to_leave_and_ask(alloc, automaton),
+        RefusesToTake(wire, fault) => refuses_to_take(alloc, automaton, wire, fault),
+        _ => is_shown(automaton, step),
+    }
+}
+
 /// Returns whether a step of a node is so.
 fn does(alloc: Global, automaton: &mut Automaton, step: Step) -> bool {
     match step {
@@ -304,17 +329,7 @@ fn does(alloc: Global, automaton: &mut Automaton, step: Step) -> bool {
         LeavesAndAsks(mode, sends, entered) => {
             leaves_and_asks(alloc, automaton, mode, sends, entered)
         }
-        RefusesToAsk(fault) => refuses_to_ask(alloc, automaton, fault),
-        RefusesToLeave => refuses_to_leave(alloc, automaton),
-        RefusesToLeaveAndAsk => refuses_to_leave_and_ask(alloc, automaton),
-        RefusesToTake(wire, fault) => refuses_to_take(alloc, automaton, wire, fault),
-        Is(me) => is(automaton, me),
-        IsIdle(highest) => shows(automaton, Idle, highest),
-        Waits(mode, seq, highest) => shows(automaton, Waiting { seq, mode }, highest),
-        IsInside(mode, seq, highest) => shows(automaton, Inside { seq, mode }, highest),
-        Awaits(awaited) => awaited_by(automaton) == awaited,
-        Defers(deferred) => deferred_by(automaton) == deferred,
-        DefersOf(other, deferred) => defers_of(automaton, other, deferred),
+        _ => refuses_or_shows(alloc, automaton, step),
     }
 }
 
@@ -343,7 +358,7 @@ pub fn done_by(alloc: Global, me: NodeId, nodes: u16, start: u64, steps: &[Step]
 /// Makes node `me` of `nodes`, which has met the number `start`, and tests its steps.
 pub fn follow(rt: &(impl Abort + AllocGlobal), me: NodeId, nodes: u16, start: u64, steps: &[Step]) {
     match done_by(rt.alloc(), me, nodes, start, steps) {
-        Some(done) => assert!(rt; done == steps.len(), "step {done}, counted from 0"),
+        Some(done) => assert_rows(rt, done, steps.len()),
         None => panic!(rt; "there is no such node"),
     }
 }
