@@ -1,13 +1,39 @@
-//! What the tests of worlds share: what happens in a world, and the text of its report.
+//! What the tests of worlds share: what happens in a world, and what it shows, one after the other.
 ghost use Rattle.ra_stamp.specs.NodeId.{IsNodeNumber};
 
-use crate::helpers::r;
-use Act::{Ask, Deliver, Leave, Lose};
-use ra_stamp::{Memory, Message, Mode, Name, NodeId};
-use ra_world::{Step, StepError, World, report_text};
+use crate::helpers::{assert_rows, is_quiet_after, prints, r};
+use Act::{
+    Accepts, Ask, Deliver, HasSteps, IsQuiet, Leave, LeavesWith, Lock, Lose, Refuses, Rejects,
+    Reports, UnderWay,
+};
+use Wire::{Replies, Requests};
+use Wish::{Asks, Delivers, Leaves, Loses};
+use ra_stamp::{Mark, Memory, Message, Mode, Name, NodeId};
+use ra_world::{Report, Step, StepError, World, report_text};
 use std::alloc::Global;
+use std::process::Abort;
 
-/// What happens in a world.
+/// A message for the name `r`.
+#[derive(Clone, Copy)]
+pub enum Wire {
+    /// The REQUEST of node 1 with number 1, to this node.
+    Requests(u16),
+    /// The REPLY of a node to another, with this number.
+    Replies(u16, u16, u64),
+}
+
+/// A step that may come next.
+#[derive(Clone, Copy)]
+pub enum Wish {
+    /// At a node, a client asks for the name `r` exclusively.
+    Asks(u16, u32),
+    /// At node 1, client 1 leaves the name `r`.
+    Leaves,
+    Delivers(Wire),
+    Loses(Wire),
+}
+
+/// What happens in a world, or what it shows.
 #[derive(Clone, Copy)]
 pub enum Act {
     /// At a node, a client asks for a name of one letter exclusively.
@@ -18,6 +44,24 @@ pub enum Act {
     Deliver(u32),
     /// The message that was sent first of those under way is lost.
     Lose,
+    /// So many times client 1 of node 1 asks for the name `r`, so many messages are delivered, and it leaves.
+    Lock(u32, u32),
+    /// Client 1 leaves the name `r` at node 1, with this one message and one mark, which is printed so.
+    LeavesWith(Wire, &'static str),
+    /// It neither accepts nor makes this step, for this cause.
+    Refuses(Wish, StepError),
+    /// It accepts this step.
+    Accepts(Wish),
+    /// It does not accept this step.
+    Rejects(Wish),
+    /// It has made so many steps.
+    HasSteps(u64),
+    /// These messages are under way, and no others, in this order.
+    UnderWay(&'static [Wire]),
+    /// Its report has this text.
+    Reports(&'static str),
+    /// It reports so many marks, requests and messages, and no other total.
+    IsQuiet(u64, u128, u128),
 }
 
 /// Returns the node with this number.
@@ -27,79 +71,109 @@ pub fn node(number: u16) -> NodeId
     NodeId::new(number).unwrap()
 }
 
-/// Returns the step by which a client asks for the name `r` exclusively.
-pub fn ask(number: u16, client: u32) -> Step
-    requires { IsNodeNumber number }
-{
-    Step::Ask {
-        node: node(number),
-        client,
-        name: r(),
-        mode: Mode::Exclusive,
+/// Returns the message, or `None` where a number is that of no node.
+fn message(wire: Wire) -> Option<Message> {
+    let name = r();
+    match wire {
+        Requests(to) => match NodeId::new(to) {
+            Some(to) => Some(Message::Request {
+                from: node(1),
+                to,
+                name,
+                mode: Mode::Exclusive,
+                seq: 1,
+            }),
+            None => None,
+        },
+        Replies(from, to, seq) => match (NodeId::new(from), NodeId::new(to)) {
+            (Some(from), Some(to)) => Some(Message::Reply {
+                from,
+                to,
+                name,
+                seq,
+            }),
+            _ => None,
+        },
     }
 }
 
-/// Returns the step by which client 1 leaves the name `r` at node 1.
-pub fn leave() -> Step {
-    Step::Leave {
-        node: node(1),
-        client: 1,
-        name: r(),
+/// Returns the step by which a client asks, or `None` where there is no such node or name.
+fn ask(number: u16, client: u32, letter: u8) -> Option<Step> {
+    let mode = Mode::Exclusive;
+    match (NodeId::new(number), Name::new(&[letter])) {
+        (Some(node), Ok(name)) => Some(Step::Ask {
+            node,
+            client,
+            name,
+            mode,
+        }),
+        _ => None,
     }
 }
 
-/// Returns the REQUEST of node 1 with number 1 for the name `r`.
-pub fn request(to: u16) -> Message
-    requires { IsNodeNumber to }
-{
-    Message::Request {
-        from: node(1),
-        to: node(to),
-        name: r(),
-        mode: Mode::Exclusive,
-        seq: 1,
+/// Returns the step by which a client leaves, or `None` where there is no such node or name.
+fn leave(number: u16, client: u32, letter: u8) -> Option<Step> {
+    match (NodeId::new(number), Name::new(&[letter])) {
+        (Some(node), Ok(name)) => Some(Step::Leave { node, client, name }),
+        _ => None,
     }
 }
 
-/// Returns a REPLY for the name `r`.
-pub fn reply(from: u16, to: u16, seq: u64) -> Message
-    requires from { IsNodeNumber from }
-    requires to { IsNodeNumber to }
-{
-    Message::Reply {
-        from: node(from),
-        to: node(to),
-        name: r(),
-        seq,
+/// Returns the step by which a message is delivered, or `None` where there is none.
+fn deliver(message: Option<Message>) -> Option<Step> {
+    match message {
+        Some(message) => Some(Step::Deliver(message)),
+        None => None,
     }
 }
 
-/// Returns whether a world makes this step.
-fn makes(alloc: Global, world: &mut World, step: &Step) -> bool {
-    world.step(alloc, step).is_ok()
+/// Returns the step by which a message is lost, or `None` where there is none.
+fn lose(message: Option<Message>) -> Option<Step> {
+    match message {
+        Some(message) => Some(Step::Lose(message)),
+        None => None,
+    }
 }
 
-/// Returns whether a world neither accepts nor makes this step, for this cause.
-pub fn refuses(alloc: Global, world: &mut World, step: &Step, cause: StepError) -> bool {
-    !world.accepts(step) && is_refused(alloc, world, step, cause)
+/// Returns the step, or `None` where a number is that of no node.
+pub fn step(wish: Wish) -> Option<Step> {
+    match wish {
+        Asks(number, client) => ask(number, client, b'r'),
+        Leaves => leave(1, 1, b'r'),
+        Delivers(wire) => deliver(message(wire)),
+        Loses(wire) => lose(message(wire)),
+    }
 }
 
-/// Returns whether a world does not make this step, for this cause.
-fn is_refused(alloc: Global, world: &mut World, step: &Step, cause: StepError) -> bool {
-    match world.step(alloc, step) {
-        Ok(_) => false,
-        Err(found) => found == cause,
+/// Returns whether there is a step, and a world makes it.
+fn makes(alloc: Global, world: &mut World, step: Option<Step>) -> bool {
+    match step {
+        Some(step) => world.step(alloc, &step).is_ok(),
+        None => false,
+    }
+}
+
+/// Returns whether there is a step, and a world neither accepts nor makes it, for this cause.
+fn refuses(alloc: Global, world: &mut World, step: Option<Step>, cause: StepError) -> bool {
+    match step {
+        Some(step) => !world.accepts(&step) && world.step(alloc, &step).err() == Some(cause),
+        None => false,
+    }
+}
+
+/// Returns whether there is a step, and a world accepts it or does not.
+fn accepts(world: &World, step: Option<Step>, wanted: bool) -> bool {
+    match step {
+        Some(step) => world.accepts(&step) == wanted,
+        None => false,
     }
 }
 
 /// Delivers the message that was sent first of those under way, so many times. Returns whether there is one each time.
 fn delivers(alloc: Global, world: &mut World, times: u32) -> bool {
     for _ in 0..times {
-        let delivered = match world.message_at(0) {
-            Some(message) => makes(alloc, world, &Step::Deliver(message)),
-            None => false,
-        };
-        if !delivered {
+        let first = world.message_at(0);
+        if !makes(alloc, world, deliver(first)) {
             return false;
         }
     }
@@ -108,65 +182,76 @@ fn delivers(alloc: Global, world: &mut World, times: u32) -> bool {
 
 /// Loses the message that was sent first of those under way. Returns whether there is one.
 fn loses(alloc: Global, world: &mut World) -> bool {
-    match world.message_at(0) {
-        Some(message) => makes(alloc, world, &Step::Lose(message)),
-        None => false,
-    }
+    let first = world.message_at(0);
+    makes(alloc, world, lose(first))
 }
 
-/// Returns whether a client asks for a name of one letter exclusively.
-fn asks(alloc: Global, world: &mut World, number: u16, client: u32, letter: u8) -> bool {
-    let mode = Mode::Exclusive;
-    match (NodeId::new(number), Name::new(&[letter])) {
-        (Some(node), Ok(name)) => {
-            let step = Step::Ask {
-                node,
-                client,
-                name,
-                mode,
-            };
-            makes(alloc, world, &step)
-        }
-        _ => false,
-    }
+/// Client 1 of node 1 asks for the name `r`, so many messages are delivered, and it leaves. Returns whether all of this happens.
+fn locks(alloc: Global, world: &mut World, deliveries: u32) -> bool {
+    makes(alloc, world, ask(1, 1, b'r'))
+        && delivers(alloc, world, deliveries)
+        && makes(alloc, world, leave(1, 1, b'r'))
 }
 
-/// Returns whether a client leaves a name of one letter.
-fn leaves(alloc: Global, world: &mut World, number: u16, client: u32, letter: u8) -> bool {
-    match (NodeId::new(number), Name::new(&[letter])) {
-        (Some(node), Ok(name)) => makes(alloc, world, &Step::Leave { node, client, name }),
-        _ => false,
-    }
-}
-
-/// Returns whether this happens in a world.
-fn does(alloc: Global, world: &mut World, act: Act) -> bool {
-    match act {
-        Ask(number, client, letter) => asks(alloc, world, number, client, letter),
-        Leave(number, client, letter) => leaves(alloc, world, number, client, letter),
-        Deliver(times) => delivers(alloc, world, times),
-        Lose => loses(alloc, world),
-    }
-}
-
-/// Returns whether all of this happens in a world.
-pub fn plays(alloc: Global, world: &mut World, acts: &[Act]) -> bool {
-    for act in acts {
-        if !does(alloc, world, *act) {
+/// Returns whether this happens so many times.
+fn locks_often(alloc: Global, world: &mut World, times: u32, deliveries: u32) -> bool {
+    for _ in 0..times {
+        if !locks(alloc, world, deliveries) {
             return false;
         }
     }
     true
 }
 
-/// Makes the world in which this has happened.
-pub fn played(alloc: Global, nodes: u16, start: u64, acts: &[Act]) -> Option<World> {
-    let mut world = World::new(alloc, nodes, start).ok()?;
-    if plays(alloc, &mut world, acts) {
-        Some(world)
-    } else {
-        None
+/// Returns whether there is one mark, which is printed so.
+fn is_one_mark(alloc: Global, marks: &[Mark], expected: &str) -> bool {
+    match marks {
+        [mark] => prints(alloc, mark, expected),
+        _ => false,
     }
+}
+
+/// Returns whether there is one message, which is this one.
+fn is_one_message(messages: &[Message], expected: Option<Message>) -> bool {
+    match (messages, expected) {
+        ([message], Some(expected)) => *message == expected,
+        _ => false,
+    }
+}
+
+/// Returns whether a world makes this step, with this one message and one mark, which is printed so.
+fn makes_with(alloc: Global, world: &mut World, step: &Step, wire: Wire, mark: &str) -> bool {
+    match world.step(alloc, step) {
+        Ok(outcome) => {
+            is_one_message(outcome.sends.as_slice(), message(wire))
+                && is_one_mark(alloc, outcome.marks.as_slice(), mark)
+        }
+        Err(_) => false,
+    }
+}
+
+/// Returns whether client 1 leaves the name `r` at node 1, with this one message and one mark, which is printed so.
+fn leaves_with(alloc: Global, world: &mut World, wire: Wire, mark: &str) -> bool {
+    match leave(1, 1, b'r') {
+        Some(step) => makes_with(alloc, world, &step, wire, mark),
+        None => false,
+    }
+}
+
+/// Returns whether there is this message, and it stands at this place of those under way.
+fn is_at(world: &World, place: u64, expected: Option<Message>) -> bool {
+    expected.is_some() && world.message_at(place) == expected
+}
+
+/// Returns whether these messages are under way, and no others, in this order.
+fn are_under_way(world: &World, wires: &[Wire]) -> bool {
+    for place in 0..wires.len() {
+        if !is_at(world, place as u64, message(wires[place])) {
+            return false;
+        }
+    }
+    let count = wires.len() as u64;
+    world.under_way() == count && world.message_at(count).is_none()
 }
 
 /// Returns whether there is this text.
@@ -178,17 +263,75 @@ pub fn is_text(found: Result<String, Memory>, text: &str) -> bool {
 }
 
 /// Returns whether a world's report has this text.
-pub fn reports(alloc: Global, world: &World, text: &str) -> bool {
+fn reports(alloc: Global, world: &World, text: &str) -> bool {
     match world.report(alloc) {
         Ok(report) => is_text(report_text(alloc, &report), text),
         Err(_) => false,
     }
 }
 
-/// Returns whether the report of the world in which this has happened has this text.
-pub fn leads_to(alloc: Global, nodes: u16, start: u64, acts: &[Act], text: &str) -> bool {
-    match played(alloc, nodes, start, acts) {
-        Some(world) => reports(alloc, &world, text),
-        None => false,
+/// Returns whether a report has so many marks, requests and messages, and no other total.
+fn is_quiet(report: &Report, marks: u64, requests: u128, sent: u128) -> bool {
+    report.marks.len() == marks && is_quiet_after(report, requests, sent)
+}
+
+/// Returns whether a world reports so many marks, requests and messages, and no other total.
+fn reports_quiet(alloc: Global, world: &World, marks: u64, requests: u128, sent: u128) -> bool {
+    match world.report(alloc) {
+        Ok(report) => is_quiet(&report, marks, requests, sent),
+        Err(_) => false,
+    }
+}
+
+/// Returns whether a world shows this, where it is something to be shown.
+fn shows(alloc: Global, world: &World, act: Act) -> bool {
+    match act {
+        Accepts(wish) => accepts(world, step(wish), true),
+        Rejects(wish) => accepts(world, step(wish), false),
+        HasSteps(count) => world.steps() == count,
+        UnderWay(wires) => are_under_way(world, wires),
+        Reports(text) => reports(alloc, world, text),
+        IsQuiet(marks, requests, sent) => reports_quiet(alloc, world, marks, requests, sent),
+        _ => false,
+    }
+}
+
+/// Returns whether this happens in a world, or it shows this.
+fn does(alloc: Global, world: &mut World, act: Act) -> bool {
+    match act {
+        Ask(number, client, letter) => makes(alloc, world, ask(number, client, letter)),
+        Leave(number, client, letter) => makes(alloc, world, leave(number, client, letter)),
+        Deliver(times) => delivers(alloc, world, times),
+        Lose => loses(alloc, world),
+        Lock(times, deliveries) => locks_often(alloc, world, times, deliveries),
+        LeavesWith(wire, mark) => leaves_with(alloc, world, wire, mark),
+        Refuses(wish, cause) => refuses(alloc, world, step(wish), cause),
+        _ => shows(alloc, world, act),
+    }
+}
+
+/// Returns how much of this happens in a world, up to the first that does not.
+fn done(alloc: Global, world: &mut World, acts: &[Act]) -> usize {
+    for place in 0..acts.len() {
+        if !does(alloc, world, acts[place]) {
+            return place;
+        }
+    }
+    acts.len()
+}
+
+/// Makes a world, and returns how much of this happens in it, up to the first that does not.
+fn done_by(alloc: Global, nodes: u16, start: u64, acts: &[Act]) -> Option<usize> {
+    match World::new(alloc, nodes, start) {
+        Ok(mut world) => Some(done(alloc, &mut world, acts)),
+        Err(_) => None,
+    }
+}
+
+/// Makes a world of so many nodes, whose numbers begin at `start`, and asserts that all of this happens in it.
+pub fn follow(rt: &(impl Abort + AllocGlobal), nodes: u16, start: u64, acts: &[Act]) {
+    match done_by(rt.alloc(), nodes, start, acts) {
+        Some(done) => assert_rows(rt, done, acts.len()),
+        None => panic!(rt; "there is no such world"),
     }
 }

@@ -3,6 +3,7 @@ use ra_stamp::Name;
 use ra_world::Report;
 use std::alloc::Global;
 use std::fmt::Display;
+use std::process::Abort;
 
 /// The name `r`.
 pub fn r() -> Name {
@@ -15,6 +16,21 @@ pub fn prints<T: Display>(alloc: Global, value: &T, expected: &str) -> bool {
         Ok(text) => text.as_str() == expected,
         Err(_) => false,
     }
+}
+
+/// Returns how many values are printed as is said beside them, up to the first that is not.
+pub fn printed<T: Display>(alloc: Global, rows: &[(T, &str)]) -> usize {
+    for place in 0..rows.len() {
+        if !prints(alloc, &rows[place].0, rows[place].1) {
+            return place;
+        }
+    }
+    rows.len()
+}
+
+/// Asserts that each of so many rows is so, where so many are so up to the first that is not.
+pub fn assert_rows(rt: &impl Abort, so: usize, rows: usize) {
+    assert!(rt; so == rows, "row {so}, counted from 0");
 }
 
 /// Returns whether so many requests and messages were made, and nothing is under way or lost, waits or is queued.

@@ -4,6 +4,8 @@
 #[cfg(test)]
 mod acts;
 #[cfg(test)]
+mod drives;
+#[cfg(test)]
 mod helpers;
 #[cfg(test)]
 mod messages;

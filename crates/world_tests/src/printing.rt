@@ -1,7 +1,7 @@
 //! What is printed of worlds and of schedules: refusals, reports and faults.
-use crate::acts::{Act, is_text, leads_to, node};
-use crate::helpers::prints;
-use Act::{Ask, Deliver, Leave};
+use crate::acts::{Act, follow, is_text, node};
+use crate::helpers::{assert_rows, printed, prints};
+use Act::{Ask, Deliver, Leave, Reports};
 use ra_schedule::{AddClientError, AddOpError, DriveError, NewScriptError};
 use ra_stamp::{Entry, Mark, Mode, Name, Stamp};
 use ra_world::{NewError, NodeRefusal, RunError, StepError, mark_line};
@@ -12,35 +12,52 @@ fn prints_cause(alloc: Global, cause: StepError, word: &str) -> bool {
     prints(alloc, &cause, word) && prints(alloc, &RunError::Refused { place: 7, cause }, word)
 }
 
-/// Returns whether the three causes of nodes are printed as their words.
-fn prints_refusals_of_nodes(alloc: Global) -> bool {
-    prints_cause(alloc, StepError::Node(NodeRefusal::Busy), "Busy")
-        && prints_cause(alloc, StepError::Node(NodeRefusal::Exhausted), "Exhausted")
-        && prints_cause(alloc, StepError::Node(NodeRefusal::NotHeld), "NotHeld")
+/// Returns how many causes are printed as is said beside them, up to the first that is not.
+fn causes_printed(alloc: Global, rows: &[(StepError, &str)]) -> usize {
+    for place in 0..rows.len() {
+        let (cause, word) = rows[place];
+        if !prints_cause(alloc, cause, word) {
+            return place;
+        }
+    }
+    rows.len()
 }
 
-/// Returns whether the causes beside these are printed as their words.
-fn prints_other_causes(alloc: Global) -> bool {
-    prints_cause(alloc, StepError::NoNode, "NoNode")
-        && prints_cause(alloc, StepError::NotUnderWay, "NotUnderWay")
-        && prints_cause(alloc, StepError::Memory, "Memory")
-}
+const CAUSES: &[(StepError, &str)] = &[
+    (StepError::Node(NodeRefusal::Busy), "Busy"),
+    (StepError::Node(NodeRefusal::Exhausted), "Exhausted"),
+    (StepError::Node(NodeRefusal::NotHeld), "NotHeld"),
+    (StepError::NoNode, "NoNode"),
+    (StepError::NotUnderWay, "NotUnderWay"),
+    (StepError::Memory, "Memory"),
+];
+
+const RUN_FAULTS: &[(RunError, &str)] = &[
+    (RunError::BadCount, "BadCount"),
+    (RunError::Memory, "Memory"),
+];
+
+const NEW_FAULTS: &[(NewError, &str)] = &[
+    (NewError::BadCount, "BadCount"),
+    (NewError::Memory, "Memory"),
+];
 
 #[test]
 fn refusals_are_printed_as_their_words(rt: HostRuntime) {
     let alloc = rt.alloc();
-    assert!(rt; prints_refusals_of_nodes(alloc));
-    assert!(rt; prints_other_causes(alloc));
-    assert!(rt; prints(alloc, &RunError::BadCount, "BadCount"));
-    assert!(rt; prints(alloc, &RunError::Memory, "Memory"));
-    assert!(rt;
-        prints(alloc, &NewError::BadCount, "BadCount") && prints(alloc, &NewError::Memory, "Memory")
-    );
+    assert_rows(&rt, causes_printed(alloc, CAUSES), CAUSES.len());
+    assert_rows(&rt, printed(alloc, RUN_FAULTS), RUN_FAULTS.len());
+    assert_rows(&rt, printed(alloc, NEW_FAULTS), NEW_FAULTS.len());
 }
 
 #[test]
 fn a_report_is_printed_as_its_lines(rt: HostRuntime) {
-    let text = "request 1 1 r X 1
+    const ACTS: &[Act] = &[
+        Ask(1, 1, b'r'),
+        Deliver(2),
+        Leave(1, 1, b'r'),
+        Reports(
+            "request 1 1 r X 1
 enter 1 1 r X 1
 leave 1 1 r X 1
 requests 1
@@ -49,9 +66,10 @@ under-way 0
 lost 0
 waiting 0
 queued 0
-";
-    let acts = [Ask(1, 1, b'r'), Deliver(2), Leave(1, 1, b'r')];
-    assert!(rt; leads_to(rt.alloc(), 2, 0, &acts, text));
+",
+        ),
+    ];
+    follow(&rt, 2, 0, ACTS);
 }
 
 /// Returns whether the mark Requested of a reader with this name and the greatest numbers has this line.
@@ -79,35 +97,36 @@ fn the_greatest_numbers_are_printed(rt: HostRuntime) {
     assert!(rt; greatest_mark_has_line(rt.alloc(), name, line));
 }
 
-/// Returns whether the causes why there is no script or no client are printed as their words.
-fn prints_script_faults(alloc: Global) -> bool {
-    prints(alloc, &NewScriptError::Nodes, "Nodes")
-        && prints(alloc, &NewScriptError::Memory, "Memory")
-        && prints(alloc, &AddClientError::Clients, "Clients")
-        && prints(alloc, &AddClientError::Memory, "Memory")
-}
+const SCRIPT_FAULTS: &[(NewScriptError, &str)] = &[
+    (NewScriptError::Nodes, "Nodes"),
+    (NewScriptError::Memory, "Memory"),
+];
 
-/// Returns whether the causes why an operation is not added are printed as their words.
-fn prints_op_faults(alloc: Global) -> bool {
-    prints(alloc, &AddOpError::Clients, "Clients")
-        && prints(alloc, &AddOpError::Limit, "Limit")
-        && prints(alloc, &AddOpError::NotHeld, "NotHeld")
-        && prints(alloc, &AddOpError::AlreadyHeld, "AlreadyHeld")
-        && prints(alloc, &AddOpError::Memory, "Memory")
-}
+const CLIENT_FAULTS: &[(AddClientError, &str)] = &[
+    (AddClientError::Clients, "Clients"),
+    (AddClientError::Memory, "Memory"),
+];
 
-/// Returns whether the causes why a script is not driven to an end are printed as their words.
-fn prints_drive_faults(alloc: Global) -> bool {
-    prints(alloc, &DriveError::TurnLimit, "TurnLimit")
-        && prints(alloc, &DriveError::BadPlace, "BadPlace")
-        && prints(alloc, &DriveError::NotEnabled, "NotEnabled")
-        && prints(alloc, &DriveError::Memory, "Memory")
-}
+const OP_FAULTS: &[(AddOpError, &str)] = &[
+    (AddOpError::Clients, "Clients"),
+    (AddOpError::Limit, "Limit"),
+    (AddOpError::NotHeld, "NotHeld"),
+    (AddOpError::AlreadyHeld, "AlreadyHeld"),
+    (AddOpError::Memory, "Memory"),
+];
+
+const DRIVE_FAULTS: &[(DriveError, &str)] = &[
+    (DriveError::TurnLimit, "TurnLimit"),
+    (DriveError::BadPlace, "BadPlace"),
+    (DriveError::NotEnabled, "NotEnabled"),
+    (DriveError::Memory, "Memory"),
+];
 
 #[test]
 fn faults_are_printed_as_their_words(rt: HostRuntime) {
     let alloc = rt.alloc();
-    assert!(rt; prints_script_faults(alloc));
-    assert!(rt; prints_op_faults(alloc));
-    assert!(rt; prints_drive_faults(alloc));
+    assert_rows(&rt, printed(alloc, SCRIPT_FAULTS), SCRIPT_FAULTS.len());
+    assert_rows(&rt, printed(alloc, CLIENT_FAULTS), CLIENT_FAULTS.len());
+    assert_rows(&rt, printed(alloc, OP_FAULTS), OP_FAULTS.len());
+    assert_rows(&rt, printed(alloc, DRIVE_FAULTS), DRIVE_FAULTS.len());
 }

@@ -1,89 +1,151 @@
 //! Runs of a list of steps: what is reported of them, and where they are refused.
-use crate::acts::{ask, is_text, leave, request};
+use crate::acts::{Wire, Wish, is_text, step};
+use crate::helpers::assert_rows;
+use Answer::{Refused, Reported};
+use Wire::Requests;
+use Wish::{Asks, Leaves, Loses};
 use ra_world::{
     NewError, NodeRefusal, Report, RunError, Step, StepError, Steps, World, report_text, run,
 };
 use std::alloc::Global;
+use std::process::Abort;
 
-/// Returns what `run` answers for these steps, from 0.
-fn answer(alloc: Global, nodes: u16, list: &[Step]) -> Result<Report, RunError> {
-    let mut steps = Steps::new(alloc);
-    for step in list {
-        if steps.push(*step).is_err() {
-            return Err(RunError::Memory);
+/// What `run` answers.
+#[derive(Clone, Copy)]
+enum Answer {
+    /// The steps are made, and their report has this text.
+    Reported(&'static str),
+    /// They are refused so.
+    Refused(RunError),
+}
+
+/// So many nodes, the steps of a run from 0, and what is answered.
+struct Case(u16, &'static [Wish], Answer);
+
+/// Adds a step, if there is one. Returns whether there is, and there was room.
+fn adds(steps: &mut Steps, step: Option<Step>) -> bool {
+    match step {
+        Some(step) => steps.push(step).is_ok(),
+        None => false,
+    }
+}
+
+/// Adds these steps. Returns whether there was room.
+fn adds_all(steps: &mut Steps, wishes: &[Wish]) -> bool {
+    for wish in wishes {
+        if !adds(steps, step(*wish)) {
+            return false;
         }
     }
-    run(alloc, nodes, 0, &steps)
+    true
 }
 
-/// Returns whether `run` refuses these steps so.
-fn refuses_run(alloc: Global, nodes: u16, list: &[Step], fault: RunError) -> bool {
-    match answer(alloc, nodes, list) {
-        Ok(_) => false,
-        Err(found) => found == fault,
+/// Returns what `run` answers for these steps, from 0.
+fn answer_to(alloc: Global, nodes: u16, wishes: &[Wish]) -> Result<Report, RunError> {
+    let mut steps = Steps::new(alloc);
+    if adds_all(&mut steps, wishes) {
+        run(alloc, nodes, 0, &steps)
+    } else {
+        Err(RunError::Memory)
     }
 }
 
-/// Returns whether `run` makes these steps, with this text of their report.
-fn runs(alloc: Global, nodes: u16, list: &[Step], text: &str) -> bool {
-    match answer(alloc, nodes, list) {
-        Ok(report) => is_text(report_text(alloc, &report), text),
-        Err(_) => false,
+/// Returns whether a case is answered as it says.
+fn is_so(alloc: Global, case: &Case) -> bool {
+    match (answer_to(alloc, case.0, case.1), case.2) {
+        (Ok(report), Reported(text)) => is_text(report_text(alloc, &report), text),
+        (Err(found), Refused(fault)) => found == fault,
+        _ => false,
     }
 }
 
-/// Returns whether a run of these two steps of two nodes is refused at this place, for this cause.
-fn ends_at(alloc: Global, steps: &[Step; 2], place: u64, cause: StepError) -> bool {
-    refuses_run(alloc, 2, steps, RunError::Refused { place, cause })
+/// Returns how many cases are answered as they say, up to the first that is not.
+fn are_so(alloc: Global, cases: &[Case]) -> usize {
+    for place in 0..cases.len() {
+        if !is_so(alloc, &cases[place]) {
+            return place;
+        }
+    }
+    cases.len()
+}
+
+/// Asserts that each case is answered as it says.
+fn assert_cases(rt: &(impl Abort + AllocGlobal), cases: &[Case]) {
+    assert_rows(rt, are_so(rt.alloc(), cases), cases.len());
 }
 
 #[test]
 fn a_run_ends_at_the_first_step_that_is_refused(rt: HostRuntime) {
-    let alloc = rt.alloc();
-    let busy = StepError::Node(NodeRefusal::Busy);
-    let not_held = StepError::Node(NodeRefusal::NotHeld);
-    assert!(rt; ends_at(alloc, &[ask(1, 1), ask(1, 1)], 2, busy));
-    assert!(rt; ends_at(alloc, &[leave(), leave()], 1, not_held));
-    assert!(rt; ends_at(alloc, &[ask(3, 1), ask(3, 1)], 1, StepError::NoNode));
-}
-
-/// Returns whether there is no run and no world of so many nodes.
-fn is_bad_count(alloc: Global, nodes: u16) -> bool {
-    refuses_run(alloc, nodes, &[], RunError::BadCount) && makes_no_world(alloc, nodes)
+    const CASES: &[Case] = &[
+        Case(
+            2,
+            &[Asks(1, 1), Asks(1, 1)],
+            Refused(RunError::Refused {
+                place: 2,
+                cause: StepError::Node(NodeRefusal::Busy),
+            }),
+        ),
+        Case(
+            2,
+            &[Leaves, Leaves],
+            Refused(RunError::Refused {
+                place: 1,
+                cause: StepError::Node(NodeRefusal::NotHeld),
+            }),
+        ),
+        Case(
+            2,
+            &[Asks(3, 1), Asks(3, 1)],
+            Refused(RunError::Refused {
+                place: 1,
+                cause: StepError::NoNode,
+            }),
+        ),
+    ];
+    assert_cases(&rt, CASES);
 }
 
 /// Returns whether there is no world of so many nodes.
 fn makes_no_world(alloc: Global, nodes: u16) -> bool {
-    match World::new(alloc, nodes, 0) {
-        Ok(_) => false,
-        Err(found) => found == NewError::BadCount,
-    }
+    World::new(alloc, nodes, 0).err() == Some(NewError::BadCount)
 }
 
-#[test]
-fn a_cluster_has_one_to_sixteen_nodes(rt: HostRuntime) {
-    let alloc = rt.alloc();
-    let text = "requests 0
+/// The report of a run of no steps.
+const NOTHING: &str = "requests 0
 messages 0
 under-way 0
 lost 0
 waiting 0
 queued 0
 ";
-    assert!(rt; is_bad_count(alloc, 0) && is_bad_count(alloc, 17));
-    assert!(rt; runs(alloc, 1, &[], text) && runs(alloc, 16, &[], text));
+
+#[test]
+fn a_cluster_has_one_to_sixteen_nodes(rt: HostRuntime) {
+    const CASES: &[Case] = &[
+        Case(0, &[], Refused(RunError::BadCount)),
+        Case(17, &[], Refused(RunError::BadCount)),
+        Case(1, &[], Reported(NOTHING)),
+        Case(16, &[], Reported(NOTHING)),
+    ];
+    assert_cases(&rt, CASES);
+    assert!(rt; makes_no_world(rt.alloc(), 0) && makes_no_world(rt.alloc(), 17));
 }
 
 #[test]
 fn the_client_of_a_lost_request_waits(rt: HostRuntime) {
-    let text = "request 1 1 r X 1
+    const CASES: &[Case] = &[Case(
+        2,
+        &[Asks(1, 1), Loses(Requests(2))],
+        Reported(
+            "request 1 1 r X 1
 requests 1
 messages 1
 under-way 0
 lost 1
 waiting 1
 queued 0
-";
-    let steps = [ask(1, 1), Step::Lose(request(2))];
-    assert!(rt; runs(rt.alloc(), 2, &steps, text));
+",
+        ),
+    )];
+    assert_cases(&rt, CASES);
 }

@@ -1,5 +1,5 @@
 //! How bytes are read up to a limit and written, also where a reader or a writer fails.
-use crate::helpers::prints;
+use crate::helpers::{assert_rows, printed, prints};
 use ra_world::{ReadFault, WriteFault, read_up_to, write_out};
 use std::alloc::Global;
 use std::io;
@@ -190,10 +190,13 @@ fn a_writer_that_failed_is_not_tried_again(rt: HostRuntime) {
     assert!(rt; is_not_written_again(None));
 }
 
+const READ_FAULTS: &[(ReadFault, &str)] = &[
+    (ReadFault::Read, "Read"),
+    (ReadFault::Memory, "Memory"),
+];
+
 #[test]
 fn faults_are_printed_as_their_words(rt: HostRuntime) {
-    let alloc = rt.alloc();
-    assert!(rt; prints(alloc, &ReadFault::Read, "Read"));
-    assert!(rt; prints(alloc, &ReadFault::Memory, "Memory"));
-    assert!(rt; prints(alloc, &WriteFault, "Write"));
+    assert_rows(&rt, printed(rt.alloc(), READ_FAULTS), READ_FAULTS.len());
+    assert!(rt; prints(rt.alloc(), &WriteFault, "Write"));
 }
