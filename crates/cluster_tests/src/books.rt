@@ -1,10 +1,10 @@
 //! The book of a node.
 use crate::helpers;
-use crate::helpers::{prints, r};
+use crate::helpers::{assert_prints, r};
 use Call::{Ask, Leave, Receive};
 use Step::{
     Asked, Fails, Gave, Got, Has, HasFault, IsFree, IsHeld, IsNew, Loses, Posts, Refuses,
-    RefusesByte, RefusesToLose, Takes, WasSent,
+    RefusesByte, RefusesToLose, Takes, TakesAgain, WasSent,
 };
 use Wire::{Asks, Replies};
 use ra_cluster::{
@@ -13,6 +13,7 @@ use ra_cluster::{
 use ra_frame::{Frame, FrameError, encode};
 use ra_stamp::{Entry, Mark, Message, Mode, Name, NodeId};
 use std::alloc::Global;
+use std::process::Abort;
 
 /// A REQUEST of number 1 from node 1 to node 2 for `r`, exclusively, at clock 1.
 pub const ASKS: [u8; 23] = [
@@ -36,7 +37,7 @@ const ASKS_LAST: [u8; 23] = [
 
 /// A call of a book, in which all that is asked for or left is `r`.
 #[derive(Clone, Copy)]
-enum Call<'a> {
+pub enum Call<'a> {
     /// This client asks for it.
     Ask(u32, Mode),
     /// This client leaves it.
@@ -47,7 +48,7 @@ enum Call<'a> {
 
 /// A message.
 #[derive(Clone, Copy)]
-enum Wire {
+pub enum Wire {
     /// That of [`ASKS`].
     Asks,
     /// That of [`REPLIES`].
@@ -56,17 +57,23 @@ enum Wire {
 
 /// What becomes of the request that client 1 asks with.
 #[derive(Clone, Copy)]
-enum Turn {
+pub enum Turn {
+    /// It is made.
     Requested,
+    /// The client enters with it.
     Entered,
+    /// The client leaves.
     Left,
 }
 
 /// What a book does or shows.
 #[derive(Clone, Copy)]
-enum Step<'a> {
+pub enum Step<'a> {
     /// It takes the call, whatever comes of it.
     Takes(Call<'a>),
+    /// It takes the call, and where there was no memory, when it is made again. Then it was as before, with so many events and sent
+    /// frames, and this clock.
+    TakesAgain(Call<'a>, u64, u64, u64),
     /// It takes the call, which sends just a frame with this text, or none, and has just this mark, or none.
     Posts(Call<'a>, Option<&'a [u8; 23]>, Option<Turn>),
     /// It refuses the call, for this reason.
@@ -122,10 +129,7 @@ fn make(alloc: Global, book: &mut Book, name: Name, call: Call<'_>) -> Result<Po
 }
 
 fn takes(alloc: Global, book: &mut Book, name: Name, call: Call<'_>) -> bool {
-    match make(alloc, book, name, call) {
-        Ok(_) => true,
-        Err(_) => false,
-    }
+    make(alloc, book, name, call).is_ok()
 }
 
 fn refuses(alloc: Global, book: &mut Book, name: Name, call: Call<'_>, fault: BookError) -> bool {
@@ -220,7 +224,8 @@ fn has(book: &Book, events: u64, sent: u64, clock: u64) -> bool {
     book.events().len() == events && book.sent_len() == sent && book.clock() == clock
 }
 
-fn was_sent(book: &Book, name: Name, place: u64, clock: u64, wire: Wire, lost: bool) -> bool {
+/// Returns whether a book sent the message at this place and clock, with this flag.
+pub fn was_sent(book: &Book, name: Name, place: u64, clock: u64, wire: Wire, lost: bool) -> bool {
     match message(name, wire) {
         Some(message) => {
             let frame = Frame { clock, message };
@@ -248,11 +253,6 @@ fn got(book: &Book, name: Name, place: u64, clock: u64, other: u64, wire: Wire) 
     }
 }
 
-fn asked(book: &Book, name: Name, place: u64, clock: u64) -> bool {
-    let (client, mode) = (1, Mode::Exclusive);
-    happened(book, place, clock, BookKind::Asked { client, name, mode })
-}
-
 fn is_new(book: &Book, name: &Name) -> bool {
     book.me().get() == 2
         && book.nodes() == 3
@@ -263,10 +263,31 @@ fn is_new(book: &Book, name: &Name) -> bool {
         && book.node().highest(name) == 7
 }
 
+/// Makes a call, and again where there was no memory. Returns whether the book was as before then: with so many events and sent
+/// frames, and this clock.
+fn takes_again(
+    alloc: Global,
+    book: &mut Book,
+    name: Name,
+    call: Call<'_>,
+    events: u64,
+    sent: u64,
+    clock: u64,
+) -> bool {
+    if refuses(alloc, book, name, call, BookError::Memory) {
+        has(book, events, sent, clock) && takes(alloc, book, name, call)
+    } else {
+        true
+    }
+}
+
 /// Returns whether a book does or shows this.
-fn does(alloc: Global, book: &mut Book, name: Name, step: Step<'_>) -> bool {
+pub fn does(alloc: Global, book: &mut Book, name: Name, step: Step<'_>) -> bool {
     match step {
         Takes(call) => takes(alloc, book, name, call),
+        TakesAgain(call, events, sent, clock) => {
+            takes_again(alloc, book, name, call, events, sent, clock)
+        }
         Posts(call, text, turn) => posts(alloc, book, name, call, text, turn),
         Refuses(call, fault) => refuses(alloc, book, name, call, fault),
         RefusesByte(place, byte, fault) => refuses_byte(alloc, book, name, place, byte, fault),
@@ -279,7 +300,10 @@ fn does(alloc: Global, book: &mut Book, name: Name, step: Step<'_>) -> bool {
         RefusesToLose(clock, fault) => loses(book, name, clock, Some(fault)),
         Has(events, sent, clock) => has(book, events, sent, clock),
         WasSent(place, clock, wire, lost) => was_sent(book, name, place, clock, wire, lost),
-        Asked(place, clock) => asked(book, name, place, clock),
+        Asked(place, clock) => {
+            let (client, mode) = (1, Mode::Exclusive);
+            happened(book, place, clock, BookKind::Asked { client, name, mode })
+        }
         Gave(place, clock) => happened(book, place, clock, BookKind::Gave { client: 1, name }),
         Got(place, clock, other, wire) => got(book, name, place, clock, other, wire),
         IsFree => book.holder(&name).is_none(),
@@ -309,6 +333,21 @@ fn book_does(alloc: Global, me: u16, nodes: u16, start: u64, steps: &[Step<'_>])
     }
 }
 
+/// Ends the test where it does not.
+fn assert_book_does<R: Abort + AllocGlobal>(
+    rt: &R,
+    me: u16,
+    nodes: u16,
+    start: u64,
+    steps: &[Step<'_>],
+) {
+    assert!(rt;
+        book_does(rt.alloc(), me, nodes, start, steps),
+        "{} steps",
+        steps.len()
+    );
+}
+
 /// Returns whether there is no book of this node of so many, for this reason.
 fn is_no_book(alloc: Global, me: u16, nodes: u16, fault: NewError) -> bool {
     match NodeId::new(me) {
@@ -330,240 +369,262 @@ fn bad_counts_and_nodes_make_no_book(rt: HostRuntime) {
 
 #[test]
 fn a_new_book_is_empty(rt: HostRuntime) {
-    assert!(rt; book_does(rt.alloc(), 2, 3, 7, &[IsNew, IsFree]));
+    assert_book_does(&rt, 2, 3, 7, &[IsNew, IsFree]);
 }
 
 /// Client 1 asks for `r`, exclusively.
-const ASK: Call<'static> = Ask(1, Mode::Exclusive);
+pub const ASK: Call<'static> = Ask(1, Mode::Exclusive);
 
 /// It leaves it.
-const LEAVE: Call<'static> = Leave(1);
+pub const LEAVE: Call<'static> = Leave(1);
 
 #[test]
 fn frames_carry_the_clock_of_their_event(rt: HostRuntime) {
-    let asks = [Posts(ASK, Some(&ASKS), Some(Turn::Requested))];
-    assert!(rt; book_does(rt.alloc(), 1, 2, 0, &asks));
-    let answers = [
-        Posts(Receive(&ASKS), Some(&REPLIES), None),
-        // A frame that comes twice is taken twice: no book knows what was sent.
-        Takes(Receive(&ASKS)),
-        WasSent(1, 3, Replies, false),
-        Has(2, 2, 3),
-    ];
-    assert!(rt; book_does(rt.alloc(), 2, 2, 0, &answers));
+    assert_book_does(
+        &rt,
+        1,
+        2,
+        0,
+        &[Posts(ASK, Some(&ASKS), Some(Turn::Requested))],
+    );
+    assert_book_does(
+        &rt,
+        2,
+        2,
+        0,
+        &[
+            Posts(Receive(&ASKS), Some(&REPLIES), None),
+            // A frame that comes twice is taken twice: no book knows what was sent.
+            Takes(Receive(&ASKS)),
+            WasSent(1, 3, Replies, false),
+            Has(2, 2, 3),
+        ],
+    );
 }
 
 #[test]
 fn a_client_enters_and_leaves(rt: HostRuntime) {
-    let steps = [
-        Takes(ASK),
-        IsFree,
-        Posts(Receive(&REPLIES), None, Some(Turn::Entered)),
-        IsHeld,
-        Posts(LEAVE, None, Some(Turn::Left)),
-        IsFree,
-        Has(3, 1, 4),
-    ];
-    assert!(rt; book_does(rt.alloc(), 1, 2, 0, &steps));
+    assert_book_does(
+        &rt,
+        1,
+        2,
+        0,
+        &[
+            Takes(ASK),
+            IsFree,
+            Posts(Receive(&REPLIES), None, Some(Turn::Entered)),
+            IsHeld,
+            Posts(LEAVE, None, Some(Turn::Left)),
+            IsFree,
+            Has(3, 1, 4),
+        ],
+    );
 }
 
 #[test]
 fn a_book_keeps_what_happened(rt: HostRuntime) {
-    let lock = [
-        Takes(ASK),
-        Takes(Receive(&REPLIES)),
-        Takes(LEAVE),
-        Asked(0, 1),
-        Got(1, 3, 2, Replies),
-        Gave(2, 4),
-        WasSent(0, 1, Asks, false),
-        Has(3, 1, 4),
-    ];
-    assert!(rt; book_does(rt.alloc(), 1, 2, 0, &lock));
-    let answer = [
-        Takes(Receive(&ASKS)),
-        Got(0, 2, 1, Asks),
-        WasSent(0, 2, Replies, false),
-        Has(1, 1, 2),
-    ];
-    assert!(rt; book_does(rt.alloc(), 2, 2, 0, &answer));
+    assert_book_does(
+        &rt,
+        1,
+        2,
+        0,
+        &[
+            Takes(ASK),
+            Takes(Receive(&REPLIES)),
+            Takes(LEAVE),
+            Asked(0, 1),
+            Got(1, 3, 2, Replies),
+            Gave(2, 4),
+            WasSent(0, 1, Asks, false),
+            Has(3, 1, 4),
+        ],
+    );
+    assert_book_does(
+        &rt,
+        2,
+        2,
+        0,
+        &[
+            Takes(Receive(&ASKS)),
+            Got(0, 2, 1, Asks),
+            WasSent(0, 2, Replies, false),
+            Has(1, 1, 2),
+        ],
+    );
 }
 
 #[test]
 fn a_frame_is_flagged_once(rt: HostRuntime) {
-    let steps = [
-        Takes(ASK),
-        RefusesToLose(9, MarkLostError::NotSent),
-        WasSent(0, 1, Asks, false),
-        Loses(1),
-        RefusesToLose(1, MarkLostError::AlreadyLost),
-        RefusesToLose(9, MarkLostError::NotSent),
-        WasSent(0, 1, Asks, true),
-        Has(1, 1, 1),
-    ];
-    assert!(rt; book_does(rt.alloc(), 1, 2, 0, &steps));
+    assert_book_does(
+        &rt,
+        1,
+        2,
+        0,
+        &[
+            Takes(ASK),
+            RefusesToLose(9, MarkLostError::NotSent),
+            WasSent(0, 1, Asks, false),
+            Loses(1),
+            RefusesToLose(1, MarkLostError::AlreadyLost),
+            RefusesToLose(9, MarkLostError::NotSent),
+            WasSent(0, 1, Asks, true),
+            Has(1, 1, 1),
+        ],
+    );
 }
 
 #[test]
 fn a_book_keeps_its_first_fault(rt: HostRuntime) {
-    let steps = [
-        Takes(ASK),
-        Fails(Stop::Gate),
-        Fails(Stop::Send),
-        HasFault(Stop::Gate),
-        Refuses(ASK, BookError::Failed),
-        Refuses(LEAVE, BookError::Failed),
-        Refuses(Receive(&REPLIES), BookError::Failed),
-        // Before it looks at the bytes.
-        Refuses(Receive(&[]), BookError::Failed),
-        Has(1, 1, 1),
-        Loses(1),
-    ];
-    assert!(rt; book_does(rt.alloc(), 1, 2, 0, &steps));
+    assert_book_does(
+        &rt,
+        1,
+        2,
+        0,
+        &[
+            Takes(ASK),
+            Fails(Stop::Gate),
+            Fails(Stop::Send),
+            HasFault(Stop::Gate),
+            Refuses(ASK, BookError::Failed),
+            Refuses(LEAVE, BookError::Failed),
+            Refuses(Receive(&REPLIES), BookError::Failed),
+            // Before it looks at the bytes.
+            Refuses(Receive(&[]), BookError::Failed),
+            Has(1, 1, 1),
+            Loses(1),
+        ],
+    );
 }
 
 #[test]
 fn the_last_clock_is_reached_and_not_passed(rt: HostRuntime) {
     let last = 1 << 62;
-    let steps = [
-        Refuses(Receive(&ASKS_LAST), BookError::ClockFull),
-        Has(0, 0, 0),
-        Takes(Receive(&ASKS_LATE)),
-        WasSent(0, last, Replies, false),
-        Has(1, 1, last),
-        // A book at the last clock takes nothing more, and what the node refuses comes first.
-        Refuses(ASK, BookError::ClockFull),
-        Refuses(Receive(&ASKS), BookError::ClockFull),
-        Refuses(LEAVE, BookError::NotHeld),
-        Has(1, 1, last),
-    ];
-    assert!(rt; book_does(rt.alloc(), 2, 3, 0, &steps));
+    assert_book_does(
+        &rt,
+        2,
+        3,
+        0,
+        &[
+            Refuses(Receive(&ASKS_LAST), BookError::ClockFull),
+            Has(0, 0, 0),
+            Takes(Receive(&ASKS_LATE)),
+            WasSent(0, last, Replies, false),
+            Has(1, 1, last),
+            // A book at the last clock takes nothing more, and what the node refuses comes first.
+            Refuses(ASK, BookError::ClockFull),
+            Refuses(Receive(&ASKS), BookError::ClockFull),
+            Refuses(LEAVE, BookError::NotHeld),
+            Has(1, 1, last),
+        ],
+    );
 }
 
 #[test]
 fn refused_bytes_leave_the_book(rt: HostRuntime) {
-    let steps = [
-        RefusesByte(0, 3, BookError::Frame(FrameError::Version)),
-        RefusesByte(2, 2, BookError::Frame(FrameError::SameNode)),
-        RefusesByte(12, 0, BookError::Frame(FrameError::Seq)),
-        RefusesByte(13, 0x40, BookError::Frame(FrameError::Clock)),
-        RefusesByte(3, 3, BookError::WrongNode),
-        RefusesByte(2, 5, BookError::Stranger),
-        Refuses(Receive(&[]), BookError::Frame(FrameError::Short)),
-        Refuses(Receive(&ASKS[..22]), BookError::Frame(FrameError::Short)),
-        Has(0, 0, 0),
-    ];
-    assert!(rt; book_does(rt.alloc(), 2, 3, 0, &steps));
+    assert_book_does(
+        &rt,
+        2,
+        3,
+        0,
+        &[
+            RefusesByte(0, 3, BookError::Frame(FrameError::Version)),
+            RefusesByte(2, 2, BookError::Frame(FrameError::SameNode)),
+            RefusesByte(12, 0, BookError::Frame(FrameError::Seq)),
+            RefusesByte(13, 0x40, BookError::Frame(FrameError::Clock)),
+            RefusesByte(3, 3, BookError::WrongNode),
+            RefusesByte(2, 5, BookError::Stranger),
+            Refuses(Receive(&[]), BookError::Frame(FrameError::Short)),
+            Refuses(Receive(&ASKS[..22]), BookError::Frame(FrameError::Short)),
+            Has(0, 0, 0),
+        ],
+    );
 }
 
 #[test]
 fn what_the_node_refuses_leaves_the_book(rt: HostRuntime) {
-    let steps = [
-        Refuses(LEAVE, BookError::NotHeld),
-        Takes(ASK),
-        Refuses(ASK, BookError::Busy),
-        Has(1, 1, 1),
-        // Another client of the node queues, which is an event.
-        Posts(Ask(2, Mode::Shared), None, None),
-        Has(2, 1, 2),
-    ];
-    assert!(rt; book_does(rt.alloc(), 1, 2, 0, &steps));
+    assert_book_does(
+        &rt,
+        1,
+        2,
+        0,
+        &[
+            Refuses(LEAVE, BookError::NotHeld),
+            Takes(ASK),
+            Refuses(ASK, BookError::Busy),
+            Has(1, 1, 1),
+            // Another client of the node queues, which is an event.
+            Posts(Ask(2, Mode::Shared), None, None),
+            Has(2, 1, 2),
+        ],
+    );
 }
 
 #[test]
 fn an_ask_past_the_last_number_leaves_the_book(rt: HostRuntime) {
-    let steps = [Refuses(ASK, BookError::Exhausted), Has(0, 0, 0)];
-    assert!(rt; book_does(rt.alloc(), 1, 2, u64::MAX, &steps));
-}
-
-/// Makes a call, and again where there was no memory. Returns whether the book was as before then: with so many events and sent
-/// frames, and this clock.
-fn takes_again(
-    alloc: Global,
-    book: &mut Book,
-    name: Name,
-    call: Call<'_>,
-    events: u64,
-    sent: u64,
-    clock: u64,
-) -> bool {
-    if refuses(alloc, book, name, call, BookError::Memory) {
-        has(book, events, sent, clock) && takes(alloc, book, name, call)
-    } else {
-        true
-    }
-}
-
-/// Client 1 asks for `r`, enters and leaves, each again where there was no memory. Returns whether the book was as before each time,
-/// and has kept all at the end.
-fn locks_again(alloc: Global, book: &mut Book, name: Name) -> bool {
-    takes_again(alloc, book, name, ASK, 0, 0, 0)
-        && takes_again(alloc, book, name, Receive(&REPLIES), 1, 1, 1)
-        && takes_again(alloc, book, name, LEAVE, 2, 1, 3)
-        && has(book, 3, 1, 4)
-        && was_sent(book, name, 0, 1, Asks, false)
-}
-
-/// The same for the book of node 1 of 2.
-fn book_locks_again(alloc: Global) -> bool {
-    let (Some(me), Some(name)) = (NodeId::new(1), r()) else {
-        return false;
-    };
-    match Book::new(alloc, me, 2, 0) {
-        Ok(mut book) => locks_again(alloc, &mut book, name),
-        Err(_) => false,
-    }
+    assert_book_does(
+        &rt,
+        1,
+        2,
+        u64::MAX,
+        &[Refuses(ASK, BookError::Exhausted), Has(0, 0, 0)],
+    );
 }
 
 /// Where an allocation is refused, whichever it is, the book is as before, and takes the call when it is made again.
 #[test]
 fn a_call_that_found_no_memory_can_be_made_again(rt: HostRuntime) {
-    assert!(rt; book_locks_again(rt.alloc()));
+    let steps = [
+        TakesAgain(ASK, 0, 0, 0),
+        TakesAgain(Receive(&REPLIES), 1, 1, 1),
+        TakesAgain(LEAVE, 2, 1, 3),
+        Has(3, 1, 4),
+        WasSent(0, 1, Asks, false),
+    ];
+    assert_book_does(&rt, 1, 2, 0, &steps);
 }
 
-fn prints_first_refusals(alloc: Global) -> bool {
-    prints(alloc, BookError::Failed, "Failed")
-        && prints(alloc, BookError::Frame(FrameError::Trailing), "Trailing")
-        && prints(alloc, BookError::Busy, "Busy")
-        && prints(alloc, BookError::Exhausted, "Exhausted")
-        && prints(alloc, BookError::NotHeld, "NotHeld")
-}
-
-fn prints_last_refusals(alloc: Global) -> bool {
-    prints(alloc, BookError::WrongNode, "WrongNode")
-        && prints(alloc, BookError::Stranger, "Stranger")
-        && prints(alloc, BookError::ClockFull, "ClockFull")
-        && prints(alloc, BookError::Memory, "Memory")
-}
+/// Why a book refuses an event, and the word of it.
+const BOOK_ERRORS: &[(BookError, &str)] = &[
+    (BookError::Failed, "Failed"),
+    (BookError::Frame(FrameError::Trailing), "Trailing"),
+    (BookError::Busy, "Busy"),
+    (BookError::Exhausted, "Exhausted"),
+    (BookError::NotHeld, "NotHeld"),
+    (BookError::WrongNode, "WrongNode"),
+    (BookError::Stranger, "Stranger"),
+    (BookError::ClockFull, "ClockFull"),
+    (BookError::Memory, "Memory"),
+];
 
 #[test]
 fn refusals_of_events_are_printed_as_their_words(rt: HostRuntime) {
-    assert!(rt; prints_first_refusals(rt.alloc()));
-    assert!(rt; prints_last_refusals(rt.alloc()));
+    assert_prints(&rt, BOOK_ERRORS);
 }
 
-fn prints_first_faults(alloc: Global) -> bool {
-    prints(alloc, Stop::Memory, "Memory")
-        && prints(alloc, Stop::Send, "Send")
-        && prints(alloc, Stop::Clock, "Clock")
-        && prints(alloc, Stop::Exhausted, "Exhausted")
-}
-
-fn prints_last_faults(alloc: Global) -> bool {
-    prints(alloc, Stop::Frame, "Frame")
-        && prints(alloc, Stop::Refused, "Refused")
-        && prints(alloc, Stop::Gate, "Gate")
-        && prints(alloc, Stop::Spawn, "Spawn")
-}
+/// For what a book is stopped, and the word of it.
+const FAULTS: &[(Stop, &str)] = &[
+    (Stop::Memory, "Memory"),
+    (Stop::Send, "Send"),
+    (Stop::Clock, "Clock"),
+    (Stop::Exhausted, "Exhausted"),
+    (Stop::Frame, "Frame"),
+    (Stop::Refused, "Refused"),
+    (Stop::Gate, "Gate"),
+    (Stop::Spawn, "Spawn"),
+];
 
 #[test]
 fn faults_are_printed_as_their_words(rt: HostRuntime) {
-    assert!(rt; prints_first_faults(rt.alloc()));
-    assert!(rt; prints_last_faults(rt.alloc()));
+    assert_prints(&rt, FAULTS);
 }
+
+/// Why a book flags no frame, and the word of it.
+const FLAG_ERRORS: &[(MarkLostError, &str)] = &[
+    (MarkLostError::NotSent, "NotSent"),
+    (MarkLostError::AlreadyLost, "AlreadyLost"),
+];
 
 #[test]
 fn refusals_of_flags_are_printed_as_their_words(rt: HostRuntime) {
-    assert!(rt; prints(rt.alloc(), MarkLostError::NotSent, "NotSent"));
-    assert!(rt; prints(rt.alloc(), MarkLostError::AlreadyLost, "AlreadyLost"));
+    assert_prints(&rt, FLAG_ERRORS);
 }

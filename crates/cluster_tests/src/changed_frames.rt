@@ -28,18 +28,7 @@ fn with(place: usize, byte: u8) -> [u8; 23] {
     bytes
 }
 
-/// Makes the book of node 2 of 3, whose client 1 has asked for a name exclusively.
-fn asked_book(alloc: Global, name: Name) -> Option<Book> {
-    let mut book = Book::new(alloc, NodeId::new(2)?, 3, 0).ok()?;
-    if book.ask(alloc, 1, name, Mode::Exclusive).is_ok() {
-        Some(book)
-    } else {
-        None
-    }
-}
-
-/// Returns whether such a book has nothing but the ask: one event, two REQUESTs, the clock 1, no fault, and the number 1, which
-/// waits.
+/// Returns whether a book has nothing but the ask: one event, two REQUESTs, the clock 1, no fault, and the number 1, which waits.
 fn is_as_before(book: &Book, name: &Name) -> bool {
     book.events().len() == 1
         && book.sent_len() == 2
@@ -50,62 +39,63 @@ fn is_as_before(book: &Book, name: &Name) -> bool {
         && book.node().queued() == 0
 }
 
-/// Returns whether such a book takes the bytes, or `None` where it takes them without an event, or does not and is not as before.
-fn takes(alloc: Global, name: Name, bytes: &[u8]) -> Option<bool> {
-    let mut book = asked_book(alloc, name)?;
-    let taken = book.receive(alloc, bytes).is_ok();
-    let is_so = if taken {
+/// Client 1 of a new book asks for a name exclusively, and the bytes come. Returns whether the book takes them, or why not; or `None`
+/// where it takes them without an event, or does not and is not as before.
+fn outcome_at(
+    alloc: Global,
+    book: &mut Book,
+    name: &Name,
+    bytes: &[u8],
+) -> Option<Result<(), BookError>> {
+    if book.ask(alloc, 1, *name, Mode::Exclusive).is_err() {
+        return None;
+    }
+    let outcome = match book.receive(alloc, bytes) {
+        Ok(_) => Ok(()),
+        Err(fault) => Err(fault),
+    };
+    let is_so = if outcome.is_ok() {
         book.events().len() == 2
     } else {
-        is_as_before(&book, &name)
+        is_as_before(book, name)
     };
-    if is_so { Some(taken) } else { None }
+    if is_so { Some(outcome) } else { None }
+}
+
+/// The same for the book of node 2 of 3 and the name `r`.
+fn outcome(alloc: Global, bytes: &[u8]) -> Option<Result<(), BookError>> {
+    let (name, me) = (r()?, NodeId::new(2)?);
+    match Book::new(alloc, me, 3, 0) {
+        Ok(mut book) => outcome_at(alloc, &mut book, &name, bytes),
+        Err(_) => None,
+    }
 }
 
 /// Returns with how many of the 256 bytes at the place the REQUEST is taken, or `None` where a book is not as it is to be.
-fn count_taken(alloc: Global, name: Name, place: usize) -> Option<u32> {
+fn count_taken(alloc: Global, place: usize) -> Option<u32> {
     let mut count = 0u32;
     for byte in 0..=u8::MAX {
-        if takes(alloc, name, &with(place, byte))? {
+        if outcome(alloc, &with(place, byte))?.is_ok() {
             count = count.wrapping_add(1);
         }
     }
     Some(count)
 }
 
-/// Returns whether it is taken with as many as it is to be.
-fn is_taken(alloc: Global, place: usize) -> bool {
-    match r() {
-        Some(name) => count_taken(alloc, name, place) == TAKEN.get(place).copied(),
-        None => false,
-    }
-}
-
 #[test]
 fn with_another_byte_a_frame_is_taken_or_leaves_the_book(rt: HostRuntime) {
     for place in 0..23 {
-        assert!(rt; is_taken(rt.alloc(), place), "at {place}");
+        assert!(rt;
+            count_taken(rt.alloc(), place) == TAKEN.get(place).copied(),
+            "at {place}"
+        );
     }
-}
-
-/// Returns whether the bytes are a short frame, and leave the book.
-fn is_short(alloc: Global, bytes: &[u8]) -> bool {
-    let Some(name) = r() else {
-        return false;
-    };
-    let Some(mut book) = asked_book(alloc, name) else {
-        return false;
-    };
-    let is_refused = match book.receive(alloc, bytes) {
-        Ok(_) => false,
-        Err(found) => found == BookError::Frame(FrameError::Short),
-    };
-    is_refused && is_as_before(&book, &name)
 }
 
 #[test]
 fn each_part_of_a_frame_leaves_the_book(rt: HostRuntime) {
+    let short = Some(Err(BookError::Frame(FrameError::Short)));
     for end in 0..23 {
-        assert!(rt; is_short(rt.alloc(), &ASKS[..end]), "{end} bytes");
+        assert!(rt; outcome(rt.alloc(), &ASKS[..end]) == short, "{end} bytes");
     }
 }

@@ -1,7 +1,7 @@
 //! How a script that threads do comes to its end, or does not.
 use crate::helpers::ran;
+use crate::plans::{Client, script_of};
 use ra_cluster::{ClusterError, Gate, Settled};
-use ra_schedule::Script;
 use ra_world::{Report, report_text, run};
 use std::alloc::Global;
 use std::process::Abort;
@@ -37,31 +37,40 @@ pub fn is_done(alloc: Global, nodes: u16, settled: &Settled, requests: u128, sen
         && is_of_the_steps(alloc, nodes, settled)
 }
 
-/// Returns whether threads bring a script to its end behind a gate, with so many requests and messages.
+/// Returns whether threads bring the script of so many nodes with these clients to its end behind a gate, with so many requests and
+/// messages.
 pub fn ends_behind<R: Threads + Wait + Abort + Sync, G: Gate>(
     rt: &R,
     alloc: Global,
-    script: &Script,
+    nodes: u16,
+    clients: &[Client],
     gate: &G,
     requests: u128,
     sent: u128,
 ) -> bool {
-    match ran(rt, alloc, script, gate) {
-        Ok(settled) => is_done(alloc, script.nodes(), &settled, requests, sent),
-        _ => false,
+    let Some(script) = script_of(alloc, nodes, clients) else {
+        return false;
+    };
+    match ran(rt, alloc, &script, gate) {
+        Ok(settled) => is_done(alloc, nodes, &settled, requests, sent),
+        Err(_) => false,
     }
 }
 
-/// Returns whether threads do not bring a script to its end behind a gate, for this reason.
+/// Returns whether threads do not bring such a script to its end behind a gate, for this reason.
 pub fn fails_behind<R: Threads + Wait + Abort + Sync, G: Gate>(
     rt: &R,
     alloc: Global,
-    script: &Script,
+    nodes: u16,
+    clients: &[Client],
     gate: &G,
     fault: ClusterError,
 ) -> bool {
-    match ran(rt, alloc, script, gate) {
+    let Some(script) = script_of(alloc, nodes, clients) else {
+        return false;
+    };
+    match ran(rt, alloc, &script, gate) {
+        Ok(_) => false,
         Err(found) => found == fault,
-        _ => false,
     }
 }

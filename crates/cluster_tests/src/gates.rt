@@ -1,9 +1,8 @@
 //! Scripts that threads do behind gates that hold them up, and gates that stop them.
 use crate::endings::{ends_behind, fails_behind};
-use crate::helpers::{Counting, comes_to, ran};
-use crate::plans::{Client, READS_R, TWO_WRITERS, USES_A, USES_B, USES_R, script_of};
+use crate::helpers::{Counting, comes_to};
+use crate::plans::{Client, READS_R, TWO_WRITERS, USES_A, USES_B, USES_R};
 use ra_cluster::{ClusterError, Gate, Stop};
-use ra_schedule::Script;
 use ra_stamp::{Entry, NodeId};
 use std::alloc::Global;
 use std::process::Abort;
@@ -13,7 +12,7 @@ use std::thread;
 use std::thread::Threads;
 
 /// How the gate of two clients holds up the one until the other comes.
-#[derive(Clone, Copy, PartialEq, Eq)]
+#[derive(Clone, Copy)]
 enum Meeting {
     /// Client 1 stays inside until client 2 is inside.
     Inside,
@@ -55,19 +54,14 @@ impl Meets {
         false
     }
 
-    /// Returns whether nobody waited in vain, so that a cluster which goes on after the gate's `false` is found out too.
-    fn has_met(&self) -> bool {
-        self.missed.load(Ordering::SeqCst) == 0
-    }
-
-    /// Returns whether it was called so often for the steps of node 1 and node 2.
-    fn has_stepped(&self, one: u64, two: u64) -> bool {
-        self.steps.0.load(Ordering::SeqCst) == one && self.steps.1.load(Ordering::SeqCst) == two
-    }
-
-    /// Returns whether it was called once for each client inside.
-    fn has_seen_both(&self) -> bool {
-        self.insides.0.load(Ordering::SeqCst) == 1 && self.insides.1.load(Ordering::SeqCst) == 1
+    /// Returns whether it was called so often for the steps of node 1 and node 2 and once for each client inside, and nobody waited in
+    /// vain, so that a cluster which goes on after the gate's `false` is found out too.
+    fn has_seen(&self, one: u64, two: u64) -> bool {
+        self.steps.0.load(Ordering::SeqCst) == one
+            && self.steps.1.load(Ordering::SeqCst) == two
+            && self.insides.0.load(Ordering::SeqCst) == 1
+            && self.insides.1.load(Ordering::SeqCst) == 1
+            && self.missed.load(Ordering::SeqCst) == 0
     }
 }
 
@@ -79,7 +73,7 @@ impl Gate for Meets {
             (&self.steps.1, &self.steps.0)
         };
         let before = own.fetch_add(1, Ordering::SeqCst);
-        self.at != Meeting::Steps || before != 0 || self.meets(other)
+        !matches!(self.at, Meeting::Steps) || before != 0 || self.meets(other)
     }
 
     fn inside(&self, entry: &Entry) -> bool {
@@ -112,82 +106,86 @@ struct Met {
 /// Returns whether two clients meet, and come to their end.
 fn meet<R: Threads + Wait + Abort + Sync>(rt: &R, alloc: Global, met: &Met) -> bool {
     let gate = Meets::new(met.at);
-    match script_of(alloc, met.nodes, &met.clients) {
-        Some(script) => {
-            ends_behind(rt, alloc, &script, &gate, 2, met.sent)
-                && gate.has_stepped(met.one, met.two)
-                && gate.has_seen_both()
-                && gate.has_met()
-        }
-        None => false,
-    }
+    ends_behind(rt, alloc, met.nodes, &met.clients, &gate, 2, met.sent)
+        && gate.has_seen(met.one, met.two)
+}
+
+/// Ends the test where they do not.
+fn assert_meet<R: AllocGlobal + Threads + Wait + Abort + Sync>(rt: &R, met: &Met) {
+    assert!(rt; meet(rt, rt.alloc(), met));
 }
 
 #[test]
 fn readers_of_two_nodes_are_inside_together(rt: HostRuntime) {
-    let met = Met {
-        at: Meeting::Inside,
-        nodes: 2,
-        clients: [
-            Client {
-                node: 1,
-                ops: READS_R,
-            },
-            Client {
-                node: 2,
-                ops: READS_R,
-            },
-        ],
-        sent: 4,
-        one: 4,
-        two: 4,
-    };
-    assert!(rt; meet(&rt, rt.alloc(), &met));
+    assert_meet(
+        &rt,
+        &Met {
+            at: Meeting::Inside,
+            nodes: 2,
+            clients: [
+                Client {
+                    node: 1,
+                    ops: READS_R,
+                },
+                Client {
+                    node: 2,
+                    ops: READS_R,
+                },
+            ],
+            sent: 4,
+            one: 4,
+            two: 4,
+        },
+    );
 }
 
 #[test]
 fn two_nodes_step_at_once(rt: HostRuntime) {
-    let met = Met {
-        at: Meeting::Steps,
-        nodes: 2,
-        clients: [
-            Client {
-                node: 1,
-                ops: USES_A,
-            },
-            Client {
-                node: 2,
-                ops: USES_B,
-            },
-        ],
-        sent: 4,
-        one: 4,
-        two: 4,
-    };
-    assert!(rt; meet(&rt, rt.alloc(), &met));
+    assert_meet(
+        &rt,
+        &Met {
+            at: Meeting::Steps,
+            nodes: 2,
+            clients: [
+                Client {
+                    node: 1,
+                    ops: USES_A,
+                },
+                Client {
+                    node: 2,
+                    ops: USES_B,
+                },
+            ],
+            sent: 4,
+            one: 4,
+            two: 4,
+        },
+    );
 }
 
 /// While a client is inside, others of its node ask and are let in.
 #[test]
 fn a_client_is_inside_with_no_lock_held(rt: HostRuntime) {
-    let met = Met {
-        at: Meeting::Both,
-        nodes: 1,
-        clients: [
-            Client {
-                node: 1,
-                ops: USES_A,
-            },
-            Client {
-                node: 1,
-                ops: USES_B,
-            },
-        ],
-        sent: 0,
-        one: 4,
-        two: 0,
-    };
-    assert!(rt; meet(&rt, rt.alloc(), &met));
+    assert_meet(
+        &rt,
+        &Met {
+            at: Meeting::Both,
+            nodes: 1,
+            clients: [
+                Client {
+                    node: 1,
+                    ops: USES_A,
+                },
+                Client {
+                    node: 1,
+                    ops: USES_B,
+                },
+            ],
+            sent: 0,
+            one: 4,
+            two: 0,
+        },
+    );
 }
 
 /// A gate of two nodes that stays in each step for some time, and stops the cluster where another step of the node comes meanwhile.
@@ -238,71 +236,78 @@ const FOUR_WRITERS: &[Client] = &[
     },
 ];
 
-/// Returns whether four writers come to their end where each node steps alone.
-fn step_alone<R: Threads + Wait + Abort + Sync>(rt: &R, alloc: Global) -> bool {
+#[test]
+fn a_node_steps_under_its_lock(rt: HostRuntime) {
     let gate = Alone {
         within: (AtomicU64::new(0), AtomicU64::new(0)),
     };
-    match script_of(alloc, 2, FOUR_WRITERS) {
-        Some(script) => ends_behind(rt, alloc, &script, &gate, 4, 8),
-        None => false,
-    }
+    assert!(rt; ends_behind(&rt, rt.alloc(), 2, FOUR_WRITERS, &gate, 4, 8));
 }
 
-#[test]
-fn a_node_steps_under_its_lock(rt: HostRuntime) {
-    assert!(rt; step_alone(&rt, rt.alloc()));
-}
-
-/// Returns whether a gate that lets so many steps pass, and either nobody or everybody be inside, stops a script.
-fn stops<R: Threads + Wait + Abort + Sync>(
-    rt: &R,
-    alloc: Global,
-    script: &Script,
+/// How many nodes two writers have, how many of their steps a gate lets pass, and whether it lets everybody be inside or nobody.
+#[derive(Clone, Copy)]
+struct Stopped {
+    nodes: u16,
     steps: u64,
     inside: bool,
-) -> bool {
-    let gate = Counting::new(steps, inside);
-    fails_behind(rt, alloc, script, &gate, ClusterError::Fault(Stop::Gate))
 }
 
-/// Returns whether a gate that lets so many steps pass lets a script come to its end.
-fn passes<R: Threads + Wait + Abort + Sync>(
-    rt: &R,
-    alloc: Global,
-    script: &Script,
-    steps: u64,
-) -> bool {
+/// Gates that stop two writers. Where there are three nodes the run takes 12 steps: two asks, two leaves and eight frames that come.
+const STOPPED: &[Stopped] = &[
+    Stopped {
+        nodes: 3,
+        steps: u64::MAX,
+        inside: false,
+    },
+    Stopped {
+        nodes: 3,
+        steps: 0,
+        inside: true,
+    },
+    Stopped {
+        nodes: 3,
+        steps: 1,
+        inside: true,
+    },
+    Stopped {
+        nodes: 3,
+        steps: 5,
+        inside: true,
+    },
+    Stopped {
+        nodes: 3,
+        steps: 11,
+        inside: true,
+    },
+    Stopped {
+        nodes: 2,
+        steps: u64::MAX,
+        inside: false,
+    },
+];
+
+/// Returns whether such a gate stops two writers.
+fn stops<R: Threads + Wait + Abort + Sync>(rt: &R, alloc: Global, row: Stopped) -> bool {
+    let gate = Counting::new(row.steps, row.inside);
+    let fault = ClusterError::Fault(Stop::Gate);
+    fails_behind(rt, alloc, row.nodes, TWO_WRITERS, &gate, fault)
+}
+
+/// Returns whether a gate that lets so many steps pass lets two writers of three nodes come to their end.
+fn passes<R: Threads + Wait + Abort + Sync>(rt: &R, alloc: Global, steps: u64) -> bool {
     let gate = Counting::new(steps, true);
-    ran(rt, alloc, script, &gate).is_ok()
-}
-
-/// Returns whether two writers are stopped by each gate that does not let all 12 steps pass, or nobody be inside: the run takes two
-/// asks, two leaves and eight frames that come.
-fn gates_stop<R: Threads + Wait + Abort + Sync>(rt: &R, alloc: Global) -> bool {
-    match script_of(alloc, 3, TWO_WRITERS) {
-        Some(script) => {
-            stops(rt, alloc, &script, u64::MAX, false)
-                && stops(rt, alloc, &script, 0, true)
-                && stops(rt, alloc, &script, 1, true)
-                && stops(rt, alloc, &script, 5, true)
-                && stops(rt, alloc, &script, 11, true)
-                && passes(rt, alloc, &script, 12)
-        }
-        None => false,
-    }
-}
-
-/// Returns whether two writers of as many nodes are stopped by a gate that lets nobody be inside.
-fn stops_inside<R: Threads + Wait + Abort + Sync>(rt: &R, alloc: Global) -> bool {
-    match script_of(alloc, 2, TWO_WRITERS) {
-        Some(script) => stops(rt, alloc, &script, u64::MAX, false),
-        None => false,
-    }
+    ends_behind(rt, alloc, 3, TWO_WRITERS, &gate, 2, 8)
 }
 
 #[test]
 fn a_gate_stops_the_cluster(rt: HostRuntime) {
-    assert!(rt; gates_stop(&rt, rt.alloc()));
-    assert!(rt; stops_inside(&rt, rt.alloc()));
+    for row in STOPPED {
+        assert!(rt;
+            stops(&rt, rt.alloc(), *row),
+            "{} nodes, {} steps",
+            row.nodes,
+            row.steps
+        );
+    }
+    assert!(rt; passes(&rt, rt.alloc(), 12));
 }

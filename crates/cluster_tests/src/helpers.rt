@@ -95,10 +95,17 @@ pub fn reply(name: Name, from: u16, to: u16) -> Option<Message> {
 }
 
 /// Returns whether a value prints as this text.
-pub fn prints(alloc: Global, value: impl Display + Drop, text: &str) -> bool {
+fn prints(alloc: Global, value: &impl Display, text: &str) -> bool {
     match value.to_string(alloc) {
         Ok(printed) => printed.as_str() == text,
         Err(_) => false,
+    }
+}
+
+/// Ends the test where one of these values does not print as the text beside it.
+pub fn assert_prints<R: Abort + AllocGlobal, T: Display>(rt: &R, rows: &[(T, &str)]) {
+    for row in rows {
+        assert!(rt; prints(rt.alloc(), &row.0, row.1), "{}", row.1);
     }
 }
 

@@ -13,6 +13,8 @@ mod gates;
 #[cfg(test)]
 mod helpers;
 #[cfg(test)]
+mod histories;
+#[cfg(test)]
 mod outcomes;
 #[cfg(test)]
 mod plans;

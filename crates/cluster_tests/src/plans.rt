@@ -53,11 +53,15 @@ pub const TWO_WRITERS: &[Client] = &[
 
 /// Returns the operation.
 fn op(does: Does) -> Option<Op> {
-    match does {
-        Locks(letter) => Some(Op::Lock(Name::new(&[letter]).ok()?, Mode::Exclusive)),
-        Shares(letter) => Some(Op::Lock(Name::new(&[letter]).ok()?, Mode::Shared)),
-        Unlocks(letter) => Some(Op::Unlock(Name::new(&[letter]).ok()?)),
-    }
+    let letter = match does {
+        Locks(letter) | Shares(letter) | Unlocks(letter) => letter,
+    };
+    let name = Name::new(&[letter]).ok()?;
+    Some(match does {
+        Locks(_) => Op::Lock(name, Mode::Exclusive),
+        Shares(_) => Op::Lock(name, Mode::Shared),
+        Unlocks(_) => Op::Unlock(name),
+    })
 }
 
 /// Adds an operation of the last client. Returns whether that succeeds.
@@ -69,7 +73,7 @@ fn adds_op(script: &mut Script, does: Does) -> bool {
 }
 
 /// Adds a client at a node. Returns whether that succeeds.
-pub fn adds_client(alloc: Global, script: &mut Script, node: u16, ops: &[Does]) -> bool {
+fn adds_client(alloc: Global, script: &mut Script, node: u16, ops: &[Does]) -> bool {
     if script.add_client(alloc, node).is_err() {
         return false;
     }
@@ -95,16 +99,6 @@ fn adds_clients(alloc: Global, script: &mut Script, clients: &[Client]) -> bool 
 pub fn script_of(alloc: Global, nodes: u16, clients: &[Client]) -> Option<Script> {
     let mut script = Script::new(alloc, nodes).ok()?;
     if adds_clients(alloc, &mut script, clients) {
-        Some(script)
-    } else {
-        None
-    }
-}
-
-/// Makes the script of so many nodes with one client, at this node.
-pub fn script_of_client(alloc: Global, nodes: u16, node: u16, ops: &[Does]) -> Option<Script> {
-    let mut script = Script::new(alloc, nodes).ok()?;
-    if adds_client(alloc, &mut script, node, ops) {
         Some(script)
     } else {
         None

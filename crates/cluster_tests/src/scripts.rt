@@ -1,8 +1,8 @@
 //! Scripts that threads do.
 use crate::endings::{ends_behind, fails_behind, is_done};
-use crate::helpers::{Counting, prints, ran};
+use crate::helpers::{Counting, assert_prints, ran};
 use crate::plans::Does::{Locks, Shares, Unlocks};
-use crate::plans::{Client, Does, READS_R, TWO_WRITERS, script_of};
+use crate::plans::{Client, Does, LOCKS_R, READS_R, TWO_WRITERS, script_of};
 use ra_cluster::{ClusterError, OpenGate, Settled, Stop};
 use std::alloc::Global;
 use std::process::Abort;
@@ -18,41 +18,62 @@ fn is_refused<R: Threads + Wait + Abort + Sync>(
     fault: ClusterError,
 ) -> bool {
     let gate = Counting::open();
-    match script_of(alloc, 1, &[Client { node: 1, ops }]) {
-        Some(script) => {
-            fails_behind(rt, alloc, &script, &gate, fault) && gate.steps.load(Ordering::SeqCst) == 0
-        }
-        None => false,
-    }
+    fails_behind(rt, alloc, 1, &[Client { node: 1, ops }], &gate, fault)
+        && gate.steps.load(Ordering::SeqCst) == 0
 }
+
+/// Ends the test where it is not.
+fn assert_refused<R: AllocGlobal + Threads + Wait + Abort + Sync>(
+    rt: &R,
+    shows: &str,
+    ops: &'static [Does],
+    fault: ClusterError,
+) {
+    assert!(rt; is_refused(rt, rt.alloc(), ops, fault), "{shows}");
+}
+
+/// A client locks a name below the one that it holds.
+const FALLING: &[Does] = &[Locks(b'b'), Locks(b'a'), Unlocks(b'a'), Unlocks(b'b')];
+
+/// It does so after it gave the lower one back.
+const FALLING_LATER: &[Does] = &[Locks(b'a'), Unlocks(b'a'), Locks(b'b'), Shares(b'a')];
+
+/// It gives one of two names back.
+const ONE_OF_TWO: &[Does] = &[Locks(b'a'), Locks(b'b'), Unlocks(b'b')];
 
 #[test]
 fn names_out_of_order_or_kept_are_refused_before_any_step(rt: HostRuntime) {
-    let alloc = rt.alloc();
-    let falling = &[Locks(b'b'), Locks(b'a'), Unlocks(b'a'), Unlocks(b'b')];
-    assert!(rt; is_refused(&rt, alloc, falling, ClusterError::OutOfOrder));
-    let later = &[Locks(b'a'), Unlocks(b'a'), Locks(b'b'), Shares(b'a')];
-    assert!(rt; is_refused(&rt, alloc, later, ClusterError::OutOfOrder));
-    assert!(rt; is_refused(&rt, alloc, &[Locks(b'r')], ClusterError::Unreleased));
-    let one_of_two = &[Locks(b'a'), Locks(b'b'), Unlocks(b'b')];
-    assert!(rt; is_refused(&rt, alloc, one_of_two, ClusterError::Unreleased));
+    assert_refused(&rt, "falling", FALLING, ClusterError::OutOfOrder);
+    assert_refused(
+        &rt,
+        "falling later",
+        FALLING_LATER,
+        ClusterError::OutOfOrder,
+    );
+    assert_refused(&rt, "kept", LOCKS_R, ClusterError::Unreleased);
+    assert_refused(
+        &rt,
+        "one of two is kept",
+        ONE_OF_TWO,
+        ClusterError::Unreleased,
+    );
 }
 
-/// Returns whether a client alone does these with so many requests, and the node steps once for each.
-fn is_done_alone<R: Threads + Wait + Abort + Sync>(
+/// Ends the test where a client alone does not do these with so many requests, or the node does not step once for each.
+fn assert_done_alone<R: AllocGlobal + Threads + Wait + Abort + Sync>(
     rt: &R,
-    alloc: Global,
     ops: &'static [Does],
     requests: u128,
-) -> bool {
+) {
     let gate = Counting::open();
-    match script_of(alloc, 1, &[Client { node: 1, ops }]) {
-        Some(script) => {
-            ends_behind(rt, alloc, &script, &gate, requests, 0)
-                && gate.steps.load(Ordering::SeqCst) == ops.len() as u64
-        }
-        None => false,
-    }
+    let clients = [Client { node: 1, ops }];
+    let ends = ends_behind(rt, rt.alloc(), 1, &clients, &gate, requests, 0);
+    let steps = gate.steps.load(Ordering::SeqCst);
+    assert!(rt;
+        ends && steps == ops.len() as u64,
+        "{} operations",
+        ops.len()
+    );
 }
 
 /// A client locks and unlocks one name after the other.
@@ -70,8 +91,8 @@ const OVERLAPPING: &[Does] = &[
 
 #[test]
 fn names_in_order_are_taken_and_given_back(rt: HostRuntime) {
-    assert!(rt; is_done_alone(&rt, rt.alloc(), ONE_BY_ONE, 2));
-    assert!(rt; is_done_alone(&rt, rt.alloc(), OVERLAPPING, 3));
+    assert_done_alone(&rt, ONE_BY_ONE, 2);
+    assert_done_alone(&rt, OVERLAPPING, 3);
 }
 
 /// Returns whether a run has so many steps and marks, and is at its end with two requests and eight messages.
@@ -96,24 +117,9 @@ fn two_writers_of_three_nodes(rt: HostRuntime) {
     assert!(rt; two_writers_end(&rt, rt.alloc()));
 }
 
-/// Returns whether these clients of so many nodes come to their end, with so many requests and messages.
-fn all_end<R: Threads + Wait + Abort + Sync>(
-    rt: &R,
-    alloc: Global,
-    nodes: u16,
-    clients: &[Client],
-    requests: u128,
-    sent: u128,
-) -> bool {
-    match script_of(alloc, nodes, clients) {
-        Some(script) => ends_behind(rt, alloc, &script, &OpenGate, requests, sent),
-        None => false,
-    }
-}
-
 #[test]
 fn no_clients_do_nothing(rt: HostRuntime) {
-    assert!(rt; all_end(&rt, rt.alloc(), 16, &[], 0, 0));
+    assert!(rt; ends_behind(&rt, rt.alloc(), 16, &[], &OpenGate, 0, 0));
 }
 
 /// A client has `a` exclusively and `b` shared at a time.
@@ -174,25 +180,22 @@ const TWELVE: &[Client] = &[
 #[test]
 fn many_clients_of_many_nodes(rt: HostRuntime) {
     // 4 clients with two locks and 8 with one, and 6 messages for each.
-    assert!(rt; all_end(&rt, rt.alloc(), 4, TWELVE, 16, 96));
+    assert!(rt; ends_behind(&rt, rt.alloc(), 4, TWELVE, &OpenGate, 16, 96));
 }
 
-fn prints_first_faults(alloc: Global) -> bool {
-    prints(alloc, ClusterError::OutOfOrder, "OutOfOrder")
-        && prints(alloc, ClusterError::Unreleased, "Unreleased")
-        && prints(alloc, ClusterError::Fault(Stop::Gate), "Fault")
-        && prints(alloc, ClusterError::Settle, "Settle")
-}
-
-fn prints_last_faults(alloc: Global) -> bool {
-    prints(alloc, ClusterError::PlanUnmet, "PlanUnmet")
-        && prints(alloc, ClusterError::Lost, "Lost")
-        && prints(alloc, ClusterError::UnderWay, "UnderWay")
-        && prints(alloc, ClusterError::Memory, "Memory")
-}
+/// Why threads do not bring a script to its end, and the word of it.
+const ERRORS: &[(ClusterError, &str)] = &[
+    (ClusterError::OutOfOrder, "OutOfOrder"),
+    (ClusterError::Unreleased, "Unreleased"),
+    (ClusterError::Fault(Stop::Gate), "Fault"),
+    (ClusterError::Settle, "Settle"),
+    (ClusterError::PlanUnmet, "PlanUnmet"),
+    (ClusterError::Lost, "Lost"),
+    (ClusterError::UnderWay, "UnderWay"),
+    (ClusterError::Memory, "Memory"),
+];
 
 #[test]
 fn cluster_faults_are_printed_as_their_words(rt: HostRuntime) {
-    assert!(rt; prints_first_faults(rt.alloc()));
-    assert!(rt; prints_last_faults(rt.alloc()));
+    assert_prints(&rt, ERRORS);
 }

@@ -1,164 +1,104 @@
 //! Sites, and the post between them.
-use crate::helpers::{entry, in_a_thread, prints, r};
+use crate::books::Wire::Asks;
+use crate::books::was_sent;
+use crate::helpers::{assert_prints, entry, r};
+use crate::settling::{LOST_ONCE, comes};
 use crate::steps::Step::{
     ClosesPost, HasLeft, HasLeftOne, HasStepped, Locks, LosesAllInboxes, LosesInbox, Pumps,
     RefusesToLock, RefusesToSend, RefusesToUnlock, Sends, Stops, Unlocks,
 };
-use crate::steps::{asks, books_after, cluster_does, does_from, have_ended, runs, stopped};
-use ra_cluster::{
-    Book, BookError, NewPostError, Post, SendError, Sent, SiteError, Stop, is_cluster, settle,
-};
-use ra_frame::{Frame, FrameError};
-use ra_stamp::{Mark, Mode, Name, NodeId};
-use ra_world::{Report, Step};
+use crate::steps::{assert_cluster_does, assert_does_from, books_after, have_ended, runs, stopped};
+use ra_cluster::{Book, BookError, NewPostError, Post, SendError, SiteError, Stop};
+use ra_frame::FrameError;
+use ra_stamp::Mode;
 use std::alloc::Global;
+use std::process::Abort;
 use std::sync::Wait;
+use std::thread::Threads;
 
 /// The last clock, behind which there is none for an event.
 const LAST_CLOCK: u64 = 1 << 62;
 
-fn is_no_post(alloc: Global, nodes: u16) -> bool {
+/// Returns whether the post of so many nodes has as many inboxes, or there is no post for so many.
+fn is_post(alloc: Global, nodes: u16, is_there: bool) -> bool {
     match Post::new(alloc, nodes) {
-        Err(NewPostError::BadCount) => true,
-        _ => false,
+        Ok((_post, inboxes)) => is_there && inboxes.len() == usize::from(nodes),
+        Err(fault) => !is_there && matches!(fault, NewPostError::BadCount),
     }
 }
 
-fn is_post(alloc: Global, nodes: u16) -> bool {
-    match Post::new(alloc, nodes) {
-        Ok((_post, inboxes)) => inboxes.len() == usize::from(nodes),
-        Err(_) => false,
-    }
-}
+/// How many nodes there are, and whether there is a post for so many.
+const COUNTS: &[(u16, bool)] = &[(0, false), (17, false), (1, true), (16, true)];
 
 #[test]
 fn a_post_has_1_to_16_nodes(rt: HostRuntime) {
-    let alloc = rt.alloc();
-    assert!(rt; is_no_post(alloc, 0) && is_no_post(alloc, 17));
-    assert!(rt; is_post(alloc, 1) && is_post(alloc, 16));
+    for row in COUNTS {
+        assert!(rt; is_post(rt.alloc(), row.0, row.1), "{} nodes", row.0);
+    }
 }
 
 #[test]
 fn a_frame_comes_to_its_node(rt: HostRuntime) {
-    let steps = [
-        Sends(1, 1, 2),
-        ClosesPost,
-        HasLeftOne,
-        HasLeft(1, 2, 0),
-        HasLeft(0, 1, 0),
-    ];
-    assert!(rt;
-        in_a_thread(
-            &rt,
-            || cluster_does(&rt, rt.alloc(), &steps, &[runs(0), runs(0)])
-        )
+    assert_cluster_does(
+        &rt,
+        &[
+            Sends(1, 1, 2),
+            ClosesPost,
+            HasLeftOne,
+            HasLeft(1, 2, 0),
+            HasLeft(0, 1, 0),
+        ],
+        &[runs(0), runs(0)],
     );
 }
 
 #[test]
 fn a_closed_post_sends_nothing(rt: HostRuntime) {
-    let steps = [
-        RefusesToSend(1, 3, SendError::Refused),
-        LosesAllInboxes,
-        RefusesToSend(1, 2, SendError::Refused),
-        ClosesPost,
-        RefusesToSend(1, 2, SendError::Closed),
-        RefusesToSend(1, 3, SendError::Closed),
-        ClosesPost,
-    ];
-    assert!(rt;
-        in_a_thread(
-            &rt,
-            || cluster_does(&rt, rt.alloc(), &steps, &[runs(0), runs(0)])
-        )
+    assert_cluster_does(
+        &rt,
+        &[
+            RefusesToSend(1, 3, SendError::Refused),
+            LosesAllInboxes,
+            RefusesToSend(1, 2, SendError::Refused),
+            ClosesPost,
+            RefusesToSend(1, 2, SendError::Closed),
+            RefusesToSend(1, 3, SendError::Closed),
+            ClosesPost,
+        ],
+        &[runs(0), runs(0)],
     );
 }
 
 #[test]
 fn one_node_is_let_in_at_once(rt: HostRuntime) {
-    let steps = [
-        Locks(1),
-        RefusesToLock(1, SiteError::Refused(BookError::Busy)),
-        Unlocks(1),
-        RefusesToUnlock(1, SiteError::Refused(BookError::NotHeld)),
-        Stops(1, Stop::Gate),
-        RefusesToLock(1, SiteError::Refused(BookError::Failed)),
-        RefusesToUnlock(1, SiteError::Refused(BookError::Failed)),
-    ];
-    assert!(rt;
-        in_a_thread(
-            &rt,
-            || cluster_does(&rt, rt.alloc(), &steps, &[stopped(Stop::Gate, 2)])
-        )
+    assert_cluster_does(
+        &rt,
+        &[
+            Locks(1),
+            RefusesToLock(1, SiteError::Refused(BookError::Busy)),
+            Unlocks(1),
+            RefusesToUnlock(1, SiteError::Refused(BookError::NotHeld)),
+            Stops(1, Stop::Gate),
+            RefusesToLock(1, SiteError::Refused(BookError::Failed)),
+            RefusesToUnlock(1, SiteError::Refused(BookError::Failed)),
+        ],
+        &[stopped(Stop::Gate, 2)],
     );
 }
 
-/// Returns whether the REQUEST to node 2 is the one frame that a book sent, at clock 1, and is lost.
-fn has_lost_one(book: &Book, name: Name) -> bool {
-    match asks(name, 1, 2) {
-        Some(message) => {
-            let frame = Frame { clock: 1, message };
-            let lost = Sent { frame, lost: true };
-            book.sent(0) == Some(lost) && book.sent(1).is_none()
-        }
-        None => false,
-    }
-}
-
-/// Returns the steps in which client 1 of node 1 asks, and the REQUEST to node 2 is lost.
-fn steps_of_a_loss(name: Name) -> Option<[Step; 2]> {
-    let asks_once = Step::Ask {
-        node: NodeId::new(1)?,
-        client: 1,
-        name,
-        mode: Mode::Exclusive,
-    };
-    Some([asks_once, Step::Lose(asks(name, 1, 2)?)])
-}
-
-/// Returns whether this is the report of these steps.
-fn is_report_of_a_loss(report: &Report, name: Name) -> bool {
-    let Some(entry) = entry(name, 1, 1, Mode::Exclusive, 1) else {
-        return false;
-    };
-    report.marks.as_slice() == [Mark::Requested(entry)].as_slice()
-        && report.requests == 1
-        && report.sent == 1
-        && report.under_way == 0
-        && report.lost == 1
-        && report.waiting == 1
-        && report.queued == 0
-}
-
-/// Returns whether books settle into the run of these steps.
-fn settle_into_a_loss(alloc: Global, books: &[Book], name: Name) -> bool {
-    let Some(steps) = steps_of_a_loss(name) else {
-        return false;
-    };
-    if !is_cluster(books) {
-        return false;
-    }
-    match settle(alloc, books, &[]) {
-        Ok(settled) => {
-            settled.steps.as_slice() == steps.as_slice()
-                && is_report_of_a_loss(&settled.report, name)
-        }
-        Err(_) => false,
-    }
-}
-
-/// Returns whether both books are stopped, since the one frame was lost, and settle into its loss.
+/// Returns whether both books are stopped, since the one frame, a REQUEST to node 2 at clock 1, was lost, and settle into its loss.
 fn is_loss(alloc: Global, books: &[Book]) -> bool {
     let (Some(one), Some(name)) = (books.first(), r()) else {
         return false;
     };
     have_ended(books, &[stopped(Stop::Send, 1), stopped(Stop::Send, 0)])
-        && has_lost_one(one, name)
-        && settle_into_a_loss(alloc, books, name)
+        && was_sent(one, name, 0, 1, Asks, true)
+        && one.sent(1).is_none()
+        && comes(alloc, books, &[], LOST_ONCE)
 }
 
 /// Returns whether the frame that a closed post does not take is lost.
-fn loses_its_frame<R: Wait>(rt: &R, alloc: Global) -> bool {
+fn loses_its_frame<R: Threads + Wait + Abort + Sync>(rt: &R, alloc: Global) -> bool {
     let locks = RefusesToLock(1, SiteError::Stopped(Stop::Send));
     match books_after(rt, alloc, 2, 0, u64::MAX, &[ClosesPost, locks]) {
         Some(books) => is_loss(alloc, &books),
@@ -168,7 +108,7 @@ fn loses_its_frame<R: Wait>(rt: &R, alloc: Global) -> bool {
 
 #[test]
 fn a_frame_that_is_not_taken_is_lost_and_stops_all(rt: HostRuntime) {
-    assert!(rt; in_a_thread(&rt, || loses_its_frame(&rt, rt.alloc())));
+    assert!(rt; loses_its_frame(&rt, rt.alloc()));
 }
 
 /// Returns whether the frame that was sent at this place is lost, or is not.
@@ -197,7 +137,7 @@ fn is_loss_of(books: &[Book], lost_two: bool, lost_three: bool) -> bool {
 
 /// Returns whether the frames to nodes 2 and 3 are lost, or are not, where the inbox at the place `gone` is gone, and that of node
 /// `there` is there.
-fn tries_both<R: Wait>(
+fn tries_both<R: Threads + Wait + Abort + Sync>(
     rt: &R,
     alloc: Global,
     gone: usize,
@@ -219,8 +159,8 @@ fn tries_both<R: Wait>(
 
 #[test]
 fn each_frame_of_an_event_is_tried(rt: HostRuntime) {
-    assert!(rt; in_a_thread(&rt, || tries_both(&rt, rt.alloc(), 1, 3, true, false)));
-    assert!(rt; in_a_thread(&rt, || tries_both(&rt, rt.alloc(), 2, 2, false, true)));
+    assert!(rt; tries_both(&rt, rt.alloc(), 1, 3, true, false));
+    assert!(rt; tries_both(&rt, rt.alloc(), 2, 2, false, true));
 }
 
 #[test]
@@ -234,17 +174,17 @@ fn a_strange_frame_stops_all_and_ends_the_pump(rt: HostRuntime) {
         HasLeft(1, 2, 1),
     ];
     let ended = [stopped(Stop::Refused, 0), stopped(Stop::Refused, 0)];
-    assert!(rt; in_a_thread(&rt, || cluster_does(&rt, rt.alloc(), &steps, &ended)));
+    assert_cluster_does(&rt, &steps, &ended);
     // It ends where the post stays open, too.
     let steps = [Sends(1, 5, 2), Pumps(2)];
-    assert!(rt; in_a_thread(&rt, || cluster_does(&rt, rt.alloc(), &steps, &ended)));
+    assert_cluster_does(&rt, &steps, &ended);
 }
 
 #[test]
 fn a_frame_at_the_last_clock_stops_all(rt: HostRuntime) {
     let steps = [Sends(LAST_CLOCK, 1, 2), ClosesPost, Pumps(2)];
     let ended = [stopped(Stop::Clock, 0), stopped(Stop::Clock, 0)];
-    assert!(rt; in_a_thread(&rt, || cluster_does(&rt, rt.alloc(), &steps, &ended)));
+    assert_cluster_does(&rt, &steps, &ended);
 }
 
 #[test]
@@ -259,7 +199,7 @@ fn the_pump_of_a_stopped_node_stops_no_other(rt: HostRuntime) {
         HasLeft(1, 2, 1),
     ];
     let ended = [runs(0), stopped(Stop::Gate, 0)];
-    assert!(rt; in_a_thread(&rt, || cluster_does(&rt, rt.alloc(), &steps, &ended)));
+    assert_cluster_does(&rt, &steps, &ended);
 }
 
 #[test]
@@ -271,7 +211,7 @@ fn a_closed_gate_lets_nobody_ask(rt: HostRuntime) {
         HasLeft(1, 2, 0),
     ];
     let ended = [stopped(Stop::Gate, 0), stopped(Stop::Gate, 0)];
-    assert!(rt; in_a_thread(&rt, || does_from(&rt, rt.alloc(), 0, 0, &steps, &ended)));
+    assert_does_from(&rt, 0, 0, &steps, &ended);
     // A node that was stopped before keeps its fault, and answers it.
     let steps = [
         Stops(1, Stop::Send),
@@ -281,7 +221,7 @@ fn a_closed_gate_lets_nobody_ask(rt: HostRuntime) {
         HasLeft(1, 2, 0),
     ];
     let ended = [stopped(Stop::Send, 0), stopped(Stop::Gate, 0)];
-    assert!(rt; in_a_thread(&rt, || does_from(&rt, rt.alloc(), 0, 0, &steps, &ended)));
+    assert_does_from(&rt, 0, 0, &steps, &ended);
 }
 
 /// Returns whether the one book has ended so that client 1 still holds `r`.
@@ -294,7 +234,7 @@ fn is_kept_inside(books: &[Book]) -> bool {
 }
 
 /// Returns whether a client is not let out where the gate lets one step pass.
-fn keeps_inside<R: Wait>(rt: &R, alloc: Global) -> bool {
+fn keeps_inside<R: Threads + Wait + Abort + Sync>(rt: &R, alloc: Global) -> bool {
     let steps = [
         Locks(1),
         RefusesToUnlock(1, SiteError::Stopped(Stop::Gate)),
@@ -308,7 +248,7 @@ fn keeps_inside<R: Wait>(rt: &R, alloc: Global) -> bool {
 
 #[test]
 fn a_closed_gate_lets_nobody_leave(rt: HostRuntime) {
-    assert!(rt; in_a_thread(&rt, || keeps_inside(&rt, rt.alloc())));
+    assert!(rt; keeps_inside(&rt, rt.alloc()));
 }
 
 #[test]
@@ -322,44 +262,41 @@ fn a_closed_gate_lets_no_frame_in_and_ends_the_pump(rt: HostRuntime) {
         HasLeft(1, 2, 1),
     ];
     let ended = [stopped(Stop::Gate, 0), stopped(Stop::Gate, 0)];
-    assert!(rt; in_a_thread(&rt, || does_from(&rt, rt.alloc(), 0, 0, &steps, &ended)));
+    assert_does_from(&rt, 0, 0, &steps, &ended);
 }
 
 #[test]
 fn a_name_with_no_number_left_is_refused(rt: HostRuntime) {
     let steps = [RefusesToLock(1, SiteError::Refused(BookError::Exhausted))];
-    assert!(rt;
-        in_a_thread(
-            &rt,
-            || does_from(
-                &rt,
-                rt.alloc(),
-                u64::MAX,
-                u64::MAX,
-                &steps,
-                &[runs(0), runs(0)]
-            )
-        )
-    );
+    let ended = [runs(0), runs(0)];
+    assert_does_from(&rt, u64::MAX, u64::MAX, &steps, &ended);
 }
 
-fn prints_post_refusals(alloc: Global) -> bool {
-    prints(alloc, NewPostError::BadCount, "BadCount")
-        && prints(alloc, NewPostError::Memory, "Memory")
-        && prints(alloc, SendError::Closed, "Closed")
-        && prints(alloc, SendError::Refused, "Refused")
-}
+/// Why there is no post, and the word of it.
+const POST_ERRORS: &[(NewPostError, &str)] = &[
+    (NewPostError::BadCount, "BadCount"),
+    (NewPostError::Memory, "Memory"),
+];
 
-/// Those that wrap another print the word within.
-fn prints_site_refusals(alloc: Global) -> bool {
-    let frame = BookError::Frame(FrameError::Trailing);
-    prints(alloc, SiteError::Refused(BookError::Busy), "Busy")
-        && prints(alloc, SiteError::Refused(frame), "Trailing")
-        && prints(alloc, SiteError::Stopped(Stop::Gate), "Gate")
-}
+/// Why a post sends nothing, and the word of it.
+const SEND_ERRORS: &[(SendError, &str)] = &[
+    (SendError::Closed, "Closed"),
+    (SendError::Refused, "Refused"),
+];
+
+/// What a site refuses, and the word of it: those that wrap another print the word within.
+const SITE_ERRORS: &[(SiteError, &str)] = &[
+    (SiteError::Refused(BookError::Busy), "Busy"),
+    (
+        SiteError::Refused(BookError::Frame(FrameError::Trailing)),
+        "Trailing",
+    ),
+    (SiteError::Stopped(Stop::Gate), "Gate"),
+];
 
 #[test]
 fn what_posts_and_sites_refuse_is_printed_as_its_word(rt: HostRuntime) {
-    assert!(rt; prints_post_refusals(rt.alloc()));
-    assert!(rt; prints_site_refusals(rt.alloc()));
+    assert_prints(&rt, POST_ERRORS);
+    assert_prints(&rt, SEND_ERRORS);
+    assert_prints(&rt, SITE_ERRORS);
 }

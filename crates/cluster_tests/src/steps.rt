@@ -1,5 +1,5 @@
 //! What a cluster of sites with a post does and shows, step by step.
-use crate::helpers::{Counting, books_of, entry, r, request, sites_of};
+use crate::helpers::{Counting, books_of, entry, in_a_thread, r, request, sites_of};
 use Step::{
     ClosesPost, HasLeft, HasLeftOne, HasStepped, Locks, LosesAllInboxes, LosesInbox, Pumps,
     RefusesToLock, RefusesToSend, RefusesToUnlock, Sends, Stops, Unlocks,
@@ -10,8 +10,10 @@ use ra_cluster::{
 use ra_frame::Frame;
 use ra_stamp::{Message, Mode, Name, NodeId};
 use std::alloc::Global;
+use std::process::Abort;
 use std::sync::Wait;
 use std::sync::atomic::Ordering;
+use std::thread::Threads;
 
 /// What a cluster does or shows. All requests are for `r`, exclusively, with number 1, and all that lock it are client 1 of their
 /// node.
@@ -75,16 +77,19 @@ pub fn stopped(stop: Stop, events: u64) -> Ended {
 
 /// The sites of a cluster, its post with the inboxes, and its gate.
 #[derive(Drop)]
-struct Cluster {
+pub struct Cluster {
     nodes: u16,
-    sites: Vec<Site>,
-    post: Post,
-    inboxes: Vec<Inbox>,
+    /// The site of each node.
+    pub sites: Vec<Site>,
+    /// The post between them.
+    pub post: Post,
+    /// The inbox of each node.
+    pub inboxes: Vec<Inbox>,
     gate: Counting,
 }
 
 /// Makes a cluster of so many nodes, whose numbers begin at `start` and whose gate lets so many steps pass.
-fn make_cluster(alloc: Global, nodes: u16, start: u64, most: u64) -> Option<Cluster> {
+pub fn make_cluster(alloc: Global, nodes: u16, start: u64, most: u64) -> Option<Cluster> {
     let sites = sites_of(alloc, nodes, start)?;
     let (post, inboxes) = Post::new(alloc, nodes).ok()?;
     let gate = Counting::new(most, true);
@@ -102,16 +107,18 @@ fn site(sites: &[Site], number: u16) -> Option<&Site> {
     sites.get(usize::from(number).wrapping_sub(1))
 }
 
-/// Sends such a REQUEST of this clock between these nodes. Returns whether the refusal is this one.
+/// Sends a message in a frame of this clock. Returns whether the refusal is this one.
 fn sends<R: Wait>(
     rt: &R,
     alloc: Global,
     post: &Post,
     clock: u64,
-    message: &Message,
+    message: Option<Message>,
     refusal: Option<SendError>,
 ) -> bool {
-    let message = *message;
+    let Some(message) = message else {
+        return false;
+    };
     let frame = Frame { clock, message };
     if !frame.fits() {
         return false;
@@ -180,19 +187,35 @@ fn pumps<R: Wait>(rt: &R, alloc: Global, all: &Cluster, number: u16) -> bool {
     }
 }
 
-/// Returns the book of a new site that takes all frames which are left in an inbox of a closed post: that of the node with this
-/// number, of so many.
-fn book_of_the_rest<R: Wait>(
+/// A new site of a node of so many takes all frames that are left in an inbox. Returns how many events its book has then, and the
+/// first.
+fn taken<R: Wait>(
     rt: &R,
     alloc: Global,
+    me: NodeId,
     nodes: u16,
-    number: u16,
     inbox: &Inbox,
-) -> Option<Book> {
-    let site = Site::new(alloc, NodeId::new(number)?, nodes, 0).ok()?;
-    let (post, _inboxes) = Post::new(alloc, nodes).ok()?;
-    site.pump(rt, alloc, inbox, &post, &[], &OpenGate);
-    Some(site.close())
+    post: &Post,
+) -> Option<(u64, Option<BookEvent>)> {
+    let site = Site::new(alloc, me, nodes, 0).ok()?;
+    site.pump(rt, alloc, inbox, post, &[], &OpenGate);
+    let book = site.close();
+    Some((book.events().len(), book.events().at(0)))
+}
+
+/// Returns this for the inbox at a place, that of the node with this number. The site sends by a post of its own.
+fn taken_from<R: Wait>(
+    rt: &R,
+    alloc: Global,
+    all: &Cluster,
+    place: usize,
+    number: u16,
+) -> Option<(u64, Option<BookEvent>)> {
+    let (inbox, me) = (all.inboxes.get(place)?, NodeId::new(number)?);
+    match Post::new(alloc, all.nodes) {
+        Ok((post, _inboxes)) => taken(rt, alloc, me, all.nodes, inbox, &post),
+        Err(_) => None,
+    }
 }
 
 fn has_left<R: Wait>(
@@ -203,52 +226,25 @@ fn has_left<R: Wait>(
     number: u16,
     frames: u64,
 ) -> bool {
-    match all.inboxes.get(place) {
-        Some(inbox) => match book_of_the_rest(rt, alloc, all.nodes, number, inbox) {
-            Some(book) => book.events().len() == frames,
-            None => false,
-        },
+    match taken_from(rt, alloc, all, place, number) {
+        Some((events, _)) => events == frames,
         None => false,
     }
 }
 
-/// Returns whether a book has just the event that the message came, in a frame of clock 1.
-fn heard_once(book: &Book, message: &Message) -> bool {
+/// Returns whether just the message is left in the inbox of node 2, in a frame of clock 1.
+fn has_left_one<R: Wait>(rt: &R, alloc: Global, all: &Cluster, message: &Message) -> bool {
     let (clock, message) = (1, *message);
     let kind = BookKind::Got(Frame { clock, message });
-    book.events().at(0) == Some(BookEvent { clock: 2, kind }) && book.events().len() == 1
-}
-
-fn has_left_one<R: Wait>(rt: &R, alloc: Global, all: &Cluster, message: &Message) -> bool {
-    match all.inboxes.get(1) {
-        Some(inbox) => match book_of_the_rest(rt, alloc, all.nodes, 2, inbox) {
-            Some(book) => heard_once(&book, message),
-            None => false,
-        },
-        None => false,
+    match taken_from(rt, alloc, all, 1, 2) {
+        Some((1, Some(first))) => first == BookEvent { clock: 2, kind },
+        _ => false,
     }
 }
 
 /// Returns the REQUEST between these nodes.
-pub fn asks(name: Name, from: u16, to: u16) -> Option<Message> {
+fn asks(name: Name, from: u16, to: u16) -> Option<Message> {
     request(name, from, to, Mode::Exclusive)
-}
-
-/// Returns whether a REQUEST of this clock between these nodes is sent, or is not for this reason.
-fn sends_between<R: Wait>(
-    rt: &R,
-    alloc: Global,
-    all: &Cluster,
-    name: Name,
-    clock: u64,
-    from: u16,
-    to: u16,
-    refusal: Option<SendError>,
-) -> bool {
-    match asks(name, from, to) {
-        Some(message) => sends(rt, alloc, &all.post, clock, &message, refusal),
-        None => false,
-    }
 }
 
 fn loses_inbox(all: &mut Cluster, place: usize) -> bool {
@@ -263,9 +259,9 @@ fn loses_inbox(all: &mut Cluster, place: usize) -> bool {
 /// Returns whether a cluster does or shows this.
 fn does<R: Wait>(rt: &R, alloc: Global, all: &mut Cluster, name: Name, step: Step) -> bool {
     match step {
-        Sends(clock, from, to) => sends_between(rt, alloc, all, name, clock, from, to, None),
+        Sends(clock, from, to) => { sends(rt, alloc, &all.post, clock, asks(name, from, to), None) }
         RefusesToSend(from, to, fault) => {
-            sends_between(rt, alloc, all, name, 1, from, to, Some(fault))
+            sends(rt, alloc, &all.post, 1, asks(name, from, to), Some(fault))
         }
         ClosesPost => {
             all.post.close(rt);
@@ -303,7 +299,7 @@ fn does_all<R: Wait>(rt: &R, alloc: Global, all: &mut Cluster, name: Name, steps
 
 /// Has a cluster do and show all of this, in order, and returns its books, or `None` where it does not. The cluster is of so many
 /// nodes, its numbers begin at `start`, and its gate lets so many steps pass.
-pub fn books_after<R: Wait>(
+fn books_of_steps<R: Wait>(
     rt: &R,
     alloc: Global,
     nodes: u16,
@@ -319,6 +315,21 @@ pub fn books_after<R: Wait>(
     books_of(alloc, all.sites)
 }
 
+/// The same in a thread.
+pub fn books_after<R: Threads + Wait + Abort + Sync>(
+    rt: &R,
+    alloc: Global,
+    nodes: u16,
+    start: u64,
+    most: u64,
+    steps: &[Step],
+) -> Option<Vec<Book>> {
+    in_a_thread(
+        rt,
+        move || books_of_steps(rt, alloc, nodes, start, most, steps),
+    )
+}
+
 /// Returns whether the books have ended so, and there are no others.
 pub fn have_ended(books: &[Book], ended: &[Ended]) -> bool {
     for (book, ended) in books.iter().zip(ended.iter()) {
@@ -331,7 +342,7 @@ pub fn have_ended(books: &[Book], ended: &[Ended]) -> bool {
 
 /// Returns whether a cluster of as many nodes as end so, whose numbers begin at `start` and whose gate lets so many steps pass, does
 /// and shows all of this, in order.
-pub fn does_from<R: Wait>(
+fn does_from<R: Threads + Wait + Abort + Sync>(
     rt: &R,
     alloc: Global,
     start: u64,
@@ -348,7 +359,26 @@ pub fn does_from<R: Wait>(
     }
 }
 
+/// Ends the test where it does not.
+pub fn assert_does_from<R: AllocGlobal + Threads + Wait + Abort + Sync>(
+    rt: &R,
+    start: u64,
+    most: u64,
+    steps: &[Step],
+    ended: &[Ended],
+) {
+    assert!(rt;
+        does_from(rt, rt.alloc(), start, most, steps, ended),
+        "{} steps",
+        steps.len()
+    );
+}
+
 /// The same from number 0, and all steps pass.
-pub fn cluster_does<R: Wait>(rt: &R, alloc: Global, steps: &[Step], ended: &[Ended]) -> bool {
-    does_from(rt, alloc, 0, u64::MAX, steps, ended)
+pub fn assert_cluster_does<R: AllocGlobal + Threads + Wait + Abort + Sync>(
+    rt: &R,
+    steps: &[Step],
+    ended: &[Ended],
+) {
+    assert_does_from(rt, 0, u64::MAX, steps, ended);
 }

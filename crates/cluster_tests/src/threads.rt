@@ -1,8 +1,9 @@
 //! The threads that do a script, at sites that the test makes.
 use crate::helpers::{books_of, entry, in_a_thread, r, sites_of};
 use crate::plans::Does::{Locks, Shares, Unlocks};
-use crate::plans::{Does, USES_R, script_of_client};
-use ra_cluster::{Book, Grant, OpenGate, Post, ScriptRun, Site, Stop, run_threads};
+use crate::plans::{Client, USES_R, script_of};
+use crate::steps::{Ended, have_ended, runs, stopped};
+use ra_cluster::{Grant, OpenGate, Post, ScriptRun, Site, Stop, run_threads};
 use ra_schedule::Script;
 use ra_stamp::{Mode, Name};
 use std::alloc::Global;
@@ -43,12 +44,15 @@ fn are_both(grants: &[Grant], name: Name) -> bool {
 }
 
 /// A client locks `r` exclusively and unlocks it, and then shared.
-const USES_R_TWICE: &[Does] = &[Locks(b'r'), Unlocks(b'r'), Shares(b'r'), Unlocks(b'r')];
+const USES_R_TWICE: Client = Client {
+    node: 1,
+    ops: &[Locks(b'r'), Unlocks(b'r'), Shares(b'r'), Unlocks(b'r')],
+};
 
 /// Returns whether both grants of a client are kept.
 fn keeps_both<R: Threads + Wait + Abort + Sync>(rt: &R, alloc: Global) -> Option<bool> {
     let name = r()?;
-    let script = script_of_client(alloc, 2, 1, USES_R_TWICE)?;
+    let script = script_of(alloc, 2, &[USES_R_TWICE])?;
     let sites = sites_of(alloc, 2, 0)?;
     let grants = run_at(rt, alloc, &script, &sites)?;
     Some(are_both(&grants, name))
@@ -59,40 +63,25 @@ fn each_grant_is_kept(rt: HostRuntime) {
     assert!(rt; keeps_both(&rt, rt.alloc()) == Some(true));
 }
 
-/// Returns whether the books of two nodes have no event, and these faults.
-fn have_faults(books: &[Book], first: Option<Stop>, second: Option<Stop>) -> bool {
-    match books {
-        [one, two] => {
-            one.fault() == first
-                && two.fault() == second
-                && one.events().len() == 0
-                && two.events().len() == 0
-        }
-        _ => false,
-    }
-}
-
-/// Has a client at this node of two use `r` at these sites. Returns whether no grant is kept, and the books have no event and these
-/// faults then.
+/// Has a client at this node of two use `r` at these sites. Returns whether no grant is kept, and the books have ended so then.
 fn ends_so<R: Threads + Wait + Abort + Sync>(
     rt: &R,
     alloc: Global,
     node: u16,
     sites: Vec<Site>,
-    first: Option<Stop>,
-    second: Option<Stop>,
+    ended: &[Ended],
 ) -> Option<bool> {
-    let script = script_of_client(alloc, 2, node, USES_R)?;
+    let script = script_of(alloc, 2, &[Client { node, ops: USES_R }])?;
     let grants = run_at(rt, alloc, &script, &sites)?;
     let books = books_of(alloc, sites)?;
-    Some(grants.is_empty() && have_faults(&books, first, second))
+    Some(grants.is_empty() && have_ended(&books, ended))
 }
 
 /// Returns whether a client of node 2, which is stopped, stops no other.
 fn stops_no_other<R: Threads + Wait + Abort + Sync>(rt: &R, alloc: Global) -> Option<bool> {
     let sites = sites_of(alloc, 2, 0)?;
     sites.get(1)?.stop(rt, Stop::Clock);
-    ends_so(rt, alloc, 2, sites, None, Some(Stop::Clock))
+    ends_so(rt, alloc, 2, sites, &[runs(0), stopped(Stop::Clock, 0)])
 }
 
 #[test]
@@ -103,8 +92,8 @@ fn a_client_of_a_stopped_node_stops_no_other(rt: HostRuntime) {
 /// Returns whether a client of node 1 stops all where no number is left for any name.
 fn stops_all<R: Threads + Wait + Abort + Sync>(rt: &R, alloc: Global) -> Option<bool> {
     let sites = sites_of(alloc, 2, u64::MAX)?;
-    let fault = Some(Stop::Exhausted);
-    ends_so(rt, alloc, 1, sites, fault, fault)
+    let ended = stopped(Stop::Exhausted, 0);
+    ends_so(rt, alloc, 1, sites, &[ended, ended])
 }
 
 #[test]

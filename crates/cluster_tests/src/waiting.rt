@@ -1,7 +1,8 @@
 //! Clients that wait at sites which threads share.
-use crate::helpers::{Counting, books_of, comes_to, entry, in_a_thread, r, sites_of};
+use crate::helpers::{Counting, books_of, comes_to, entry, in_a_thread, r};
+use crate::steps::{Cluster, make_cluster};
 use ra_cluster::{
-    Book, BookError, Gate, Grant, Inbox, OpenGate, Post, Site, SiteError, Stop, is_cluster, settle,
+    Book, BookError, Gate, Grant, OpenGate, Site, SiteError, Stop, is_cluster, settle,
 };
 use ra_stamp::{Mode, Name};
 use std::alloc::Global;
@@ -22,7 +23,7 @@ fn stop_all<R: Wait>(rt: &R, sites: &[Site], stop: Stop) {
 }
 
 /// What comes once client 2 has asked for a name that client 1 of its node holds.
-#[derive(Clone, Copy, PartialEq, Eq)]
+#[derive(Clone, Copy)]
 enum Then {
     /// Client 1 leaves the name.
     Leaves,
@@ -30,68 +31,78 @@ enum Then {
     LeavesAndStops,
     /// The node is stopped.
     Stops,
+    /// The post is closed, and client 1 leaves the name. At the end all nodes are stopped, if they are not yet.
+    LeavesBehindAClosedPost,
 }
 
 /// Yields a few hundred times, each time after it had the site's lock, so that a client which is about to sleep at the site most
 /// likely does. Nothing can tell that it does.
-fn let_others_sleep<R: Wait>(
-    rt: &R,
-    alloc: Global,
-    name: &Name,
-    site: &Site,
-    post: &Post,
-    sites: &[Site],
-) {
+fn let_others_sleep<R: Wait>(rt: &R, alloc: Global, name: &Name, site: &Site, all: &Cluster) {
     for _ in 0..300u32 {
         // Client 1 holds the name, so it is refused, which wakes nobody.
-        let _busy = site.lock(rt, alloc, 1, *name, Mode::Shared, post, sites, &OpenGate);
+        let _busy = site.lock(
+            rt,
+            alloc,
+            1,
+            *name,
+            Mode::Shared,
+            &all.post,
+            &all.sites,
+            &OpenGate,
+        );
         thread::yield_now();
     }
 }
 
-/// Does what comes once client 2 waits.
-fn go_on<R: Wait>(
+/// Does what comes once client 2 waits. Returns whether client 1 may leave, where it does.
+fn goes_on<R: Wait>(
     rt: &R,
     alloc: Global,
     then: Then,
     name: &Name,
     site: &Site,
-    post: &Post,
-    sites: &[Site],
-) {
-    if then == Then::Stops {
-        site.stop(rt, Stop::Refused);
-        return;
+    all: &Cluster,
+) -> bool {
+    if matches!(then, Then::LeavesBehindAClosedPost) {
+        all.post.close(rt);
+    } else {
+        let_others_sleep(rt, alloc, name, site, all);
     }
-    let left = site.unlock(rt, alloc, 1, *name, post, sites, &OpenGate);
-    if then == Then::LeavesAndStops || left.is_err() {
-        site.stop(rt, Stop::Refused);
+    let may_leave = matches!(then, Then::Stops)
+        || site
+            .unlock(rt, alloc, 1, *name, &all.post, &all.sites, &OpenGate)
+            .is_ok();
+    // Where nothing else did, this ends the wait of client 2.
+    if !matches!(then, Then::Leaves) || !may_leave {
+        stop_all(rt, &all.sites, Stop::Refused);
     }
+    may_leave
 }
 
-/// Has client 1 lock a name at a site and client 2 ask for it, and then this come. Returns whether client 2 has asked, and puts what
-/// it gets where it is told.
+/// Has client 1 lock a name at a site and client 2 ask for it, and then this come. Returns whether client 2 has asked, and client 1
+/// may leave, where it does; and puts what client 2 gets where it is told.
 fn locks_behind<R: Threads + Wait + Abort + Sync>(
     rt: &R,
     alloc: Global,
     then: Then,
     name: &Name,
-    site: &Site,
-    post: &Post,
-    sites: &[Site],
+    all: &Cluster,
     there: &Mutex<Answer>,
 ) -> bool {
+    let Some(site) = all.sites.first() else {
+        return false;
+    };
     let (x, gate, ended) = (Mode::Exclusive, Counting::open(), AtomicU64::new(0));
     let (gate, ended) = (&gate, &ended);
     if site
-        .lock(rt, alloc, 1, *name, x, post, sites, gate)
+        .lock(rt, alloc, 1, *name, x, &all.post, &all.sites, gate)
         .is_err()
     {
         return false;
     }
     thread::scope(thread::scope_env(), rt, move |scope| {
         let waits = scope.spawn(move || {
-            *there.lock(rt) = Some(site.lock(rt, alloc, 2, *name, x, post, sites, gate));
+            *there.lock(rt) = Some(site.lock(rt, alloc, 2, *name, x, &all.post, &all.sites, gate));
             ended.fetch_add(1, Ordering::SeqCst);
         });
         if waits.is_err() {
@@ -99,26 +110,28 @@ fn locks_behind<R: Threads + Wait + Abort + Sync>(
         }
         // The gate is told of the step under the lock, so what comes from now on comes after the ask.
         let asked = comes_to(&gate.steps, 2);
-        let_others_sleep(rt, alloc, name, site, post, sites);
-        go_on(rt, alloc, then, name, site, post, sites);
+        let may_leave = goes_on(rt, alloc, then, name, site, all);
         // The scope would wait for ever for a client that is not woken.
         assert!(rt; comes_to(ended, 1), "client 2 is woken");
-        asked
+        asked && may_leave
     })
 }
 
 /// Has client 2 of a node lock a name that client 1 holds, and returns what client 2 gets.
-fn locked_behind<R: Threads + Wait + Abort + Sync>(rt: &R, alloc: Global, then: Then) -> Answer {
+fn answer_behind<R: Threads + Wait + Abort + Sync>(rt: &R, alloc: Global, then: Then) -> Answer {
     let name = r()?;
-    let sites = sites_of(alloc, 1, 0)?;
-    let (post, _inboxes) = Post::new(alloc, 1).ok()?;
+    let all = make_cluster(alloc, 1, 0, u64::MAX)?;
     let answer = Mutex::new(None);
-    let site = sites.first()?;
-    if locks_behind(rt, alloc, then, &name, site, &post, &sites, &answer) {
+    if locks_behind(rt, alloc, then, &name, &all, &answer) {
         answer.into_inner()
     } else {
         None
     }
+}
+
+/// The same in a thread.
+fn locked_behind<R: Threads + Wait + Abort + Sync>(rt: &R, alloc: Global, then: Then) -> Answer {
+    in_a_thread(rt, move || answer_behind(rt, alloc, then))
 }
 
 /// Returns whether client 2 is let in, once this has come.
@@ -134,91 +147,48 @@ fn is_let_in<R: Threads + Wait + Abort + Sync>(rt: &R, alloc: Global, then: Then
 
 #[test]
 fn a_client_waits_for_another_of_its_node(rt: HostRuntime) {
-    assert!(rt; in_a_thread(&rt, || is_let_in(&rt, rt.alloc(), Then::Leaves)));
+    assert!(rt; is_let_in(&rt, rt.alloc(), Then::Leaves));
 }
 
 /// Where client 2 was not yet asleep it need not be woken, and then this says less.
 #[test]
 fn a_stop_ends_the_wait(rt: HostRuntime) {
     let stopped = Some(Err(SiteError::Stopped(Stop::Refused)));
-    assert!(rt;
-        in_a_thread(
-            &rt,
-            || locked_behind(&rt, rt.alloc(), Then::Stops) == stopped
-        )
-    );
+    assert!(rt; locked_behind(&rt, rt.alloc(), Then::Stops) == stopped);
 }
 
 /// The leave lets client 2 in, so it has its grant whatever comes before it looks. Mostly the stop does.
 #[test]
 fn a_grant_goes_before_a_fault(rt: HostRuntime) {
     for _ in 0..20u8 {
-        assert!(rt; in_a_thread(&rt, || is_let_in(&rt, rt.alloc(), Then::LeavesAndStops)));
+        assert!(rt; is_let_in(&rt, rt.alloc(), Then::LeavesAndStops));
     }
 }
 
-/// Has client 1 lock a name at a site, client 2 ask for it there, the post closed, and client 1 leave the name. Returns whether
-/// client 1 may leave then, and puts what client 2 gets where it is told. At the end all sites are stopped, if they are not yet.
-fn leaves_behind_a_closed_post<R: Threads + Wait + Abort + Sync>(
-    rt: &R,
-    alloc: Global,
-    name: &Name,
-    site: &Site,
-    post: &Post,
-    sites: &[Site],
-    there: &Mutex<Answer>,
-) -> bool {
-    let (x, gate, ended) = (Mode::Exclusive, Counting::open(), AtomicU64::new(0));
-    let (gate, ended) = (&gate, &ended);
-    if site
-        .lock(rt, alloc, 1, *name, x, post, sites, gate)
-        .is_err()
-    {
-        return false;
-    }
-    thread::scope(thread::scope_env(), rt, move |scope| {
-        let waits = scope.spawn(move || {
-            *there.lock(rt) = Some(site.lock(rt, alloc, 2, *name, x, post, sites, gate));
-            ended.fetch_add(1, Ordering::SeqCst);
-        });
-        let asked = waits.is_ok() && comes_to(&gate.steps, 2);
-        post.close(rt);
-        let left = site.unlock(rt, alloc, 1, *name, post, sites, gate);
-        // Where nothing else did, this ends the wait of client 2.
-        stop_all(rt, sites, Stop::Spawn);
-        assert!(rt; waits.is_err() || comes_to(ended, 1), "client 2 is woken");
-        asked && left.is_ok()
-    })
-}
-
-/// Has two clients of node 1 of two do this, while the nodes take their frames.
+/// Has two clients of node 1 of two lock a name, of which the first leaves it behind a closed post, while the nodes take their frames.
 fn leaves_while_pumped<R: Threads + Wait + Abort + Sync>(
     rt: &R,
     alloc: Global,
     name: &Name,
-    post: &Post,
-    inboxes: &[Inbox],
-    sites: &[Site],
+    all: &Cluster,
     there: &Mutex<Answer>,
 ) -> bool {
-    let Some(first) = sites.first() else {
-        return false;
-    };
     let ended = AtomicU64::new(0);
     let ended = &ended;
     thread::scope(thread::scope_env(), rt, move |scope| {
-        for (site, inbox) in sites.iter().zip(inboxes.iter()) {
+        for (site, inbox) in all.sites.iter().zip(all.inboxes.iter()) {
             let pumps = scope.spawn(move || {
-                site.pump(rt, alloc, inbox, post, sites, &OpenGate);
+                site.pump(rt, alloc, inbox, &all.post, &all.sites, &OpenGate);
                 ended.fetch_add(1, Ordering::SeqCst);
             });
             if pumps.is_err() {
-                post.close(rt);
+                all.post.close(rt);
                 return false;
             }
         }
-        let left = leaves_behind_a_closed_post(rt, alloc, name, first, post, sites, there);
-        post.close(rt);
+        let then = Then::LeavesBehindAClosedPost;
+        let left = locks_behind(rt, alloc, then, name, all, there);
+        all.post.close(rt);
         assert!(rt; comes_to(ended, 2), "the pumps end");
         left
     })
@@ -246,13 +216,12 @@ fn is_taken_behind_a_closed_post<R: Threads + Wait + Abort + Sync>(
     alloc: Global,
 ) -> Option<bool> {
     let name = r()?;
-    let sites = sites_of(alloc, 2, 0)?;
-    let (post, inboxes) = Post::new(alloc, 2).ok()?;
+    let all = make_cluster(alloc, 2, 0, u64::MAX)?;
     let locked = Mutex::new(None);
-    let left = leaves_while_pumped(rt, alloc, &name, &post, &inboxes, &sites, &locked);
+    let left = leaves_while_pumped(rt, alloc, &name, &all, &locked);
     let stopped = Some(Err(SiteError::Stopped(Stop::Send)));
     let waited = locked.into_inner() == stopped;
-    let books = books_of(alloc, sites)?;
+    let books = books_of(alloc, all.sites)?;
     Some(left && waited && has_lost_the_second(&books))
 }
 
@@ -276,30 +245,29 @@ fn hammer<R: Wait>(
     alloc: Global,
     name: &Name,
     site: &Site,
-    post: &Post,
-    sites: &[Site],
+    all: &Cluster,
     closing: Option<u32>,
     grants: &Mutex<Vec<Grant>>,
 ) {
     let x = Mode::Exclusive;
     for turn in 0..10_000u32 {
-        let Ok(grant) = site.lock(rt, alloc, 1, *name, x, post, sites, &OpenGate) else {
+        let Ok(grant) = site.lock(rt, alloc, 1, *name, x, &all.post, &all.sites, &OpenGate) else {
             return;
         };
         // It holds the name, and whoever waits for it would wait for ever.
         if grants.lock(rt).push(grant).is_err() {
-            stop_all(rt, sites, Stop::Memory);
+            stop_all(rt, &all.sites, Stop::Memory);
             return;
         }
         if closing == Some(turn) {
-            post.close(rt);
+            all.post.close(rt);
         }
-        match site.unlock(rt, alloc, 1, *name, post, sites, &OpenGate) {
+        match site.unlock(rt, alloc, 1, *name, &all.post, &all.sites, &OpenGate) {
             Ok(()) => {}
             // The node is stopped, so that nobody else need be.
             Err(SiteError::Refused(BookError::Failed)) => return,
             Err(_) => {
-                stop_all(rt, sites, Stop::Refused);
+                stop_all(rt, &all.sites, Stop::Refused);
                 return;
             }
         }
@@ -312,33 +280,32 @@ fn closes_under_traffic<R: Threads + Wait + Abort + Sync>(
     rt: &R,
     alloc: Global,
     name: &Name,
-    post: &Post,
-    inboxes: &[Inbox],
-    sites: &[Site],
+    all: &Cluster,
     grants: &Mutex<Vec<Grant>>,
 ) -> bool {
     let ended = AtomicU64::new(0);
     let ended = &ended;
     thread::scope(thread::scope_env(), rt, move |scope| {
-        let closings = [Some(CLOSING), None];
-        for ((site, inbox), closing) in sites.iter().zip(inboxes.iter()).zip(closings) {
+        let mut closing = Some(CLOSING);
+        for (site, inbox) in all.sites.iter().zip(all.inboxes.iter()) {
             let pumps = scope.spawn(move || {
-                site.pump(rt, alloc, inbox, post, sites, &OpenGate);
+                site.pump(rt, alloc, inbox, &all.post, &all.sites, &OpenGate);
                 ended.fetch_add(1, Ordering::SeqCst);
             });
             let locks = scope.spawn(move || {
-                hammer(rt, alloc, name, site, post, sites, closing, grants);
+                hammer(rt, alloc, name, site, all, closing, grants);
                 // Where it came to no such turn, the pumps would wait for ever.
                 if closing.is_some() {
-                    post.close(rt);
+                    all.post.close(rt);
                 }
                 ended.fetch_add(1, Ordering::SeqCst);
             });
             if pumps.is_err() || locks.is_err() {
-                stop_all(rt, sites, Stop::Spawn);
-                post.close(rt);
+                stop_all(rt, &all.sites, Stop::Spawn);
+                all.post.close(rt);
                 return false;
             }
+            closing = None;
         }
         assert!(rt; comes_to(ended, 4), "the clients and the pumps end");
         true
@@ -365,12 +332,11 @@ fn settle_into_a_loss(alloc: Global, books: &[Book], grants: &[Grant]) -> bool {
 /// Returns whether the books settle so where the post was closed, with each grant, those of node 1 up to the closing among them.
 fn settles_after_traffic<R: Threads + Wait + Abort + Sync>(rt: &R, alloc: Global) -> Option<bool> {
     let name = r()?;
-    let sites = sites_of(alloc, 2, 0)?;
-    let (post, inboxes) = Post::new(alloc, 2).ok()?;
+    let all = make_cluster(alloc, 2, 0, u64::MAX)?;
     let kept = Mutex::new(Vec::new(alloc));
-    let begun = closes_under_traffic(rt, alloc, &name, &post, &inboxes, &sites, &kept);
+    let begun = closes_under_traffic(rt, alloc, &name, &all, &kept);
     let grants = kept.into_inner();
-    let books = books_of(alloc, sites)?;
+    let books = books_of(alloc, all.sites)?;
     let is_so = begun && books.len() == 2 && grants.len() > CLOSING as usize;
     Some(is_so && settle_into_a_loss(alloc, &books, &grants))
 }

@@ -1,0 +1,145 @@
+//! Books to which something was done, and grants that clients got.
+use crate::books::{Step, does};
+use crate::helpers::{entry, r};
+use Done::{At, Passes};
+use ra_cluster::{Book, Grant};
+use ra_frame::{Frame, encode};
+use ra_stamp::{Mode, Name, NodeId};
+use std::alloc::Global;
+
+/// A book in which nothing has happened: that of node `me` of so many, where each name begins with the number `start`.
+#[derive(Clone, Copy)]
+pub struct Made {
+    /// Its node.
+    pub me: u16,
+    /// How many nodes there are.
+    pub nodes: u16,
+    /// The number that each name begins with.
+    pub start: u64,
+}
+
+/// The book of node 1 of two, from number 0.
+pub const ONE: Made = Made {
+    me: 1,
+    nodes: 2,
+    start: 0,
+};
+
+/// The book of node 2 of two, from number 0.
+pub const TWO: Made = Made {
+    me: 2,
+    nodes: 2,
+    start: 0,
+};
+
+/// What is done to books, each of which stands at the place of its node. All is about `r`.
+#[derive(Clone, Copy)]
+pub enum Done {
+    /// The book of this node does or shows this.
+    At(u16, Step<'static>),
+    /// The frame that the book of this node sent at the place comes to the node that it is for.
+    Passes(u16, u64),
+}
+
+/// The grant of a request: its node, client, mode and number.
+#[derive(Clone, Copy)]
+pub struct Granted(pub u16, pub u32, pub Mode, pub u64);
+
+/// Adds a book to the others. Returns whether that succeeds.
+fn adds_book(alloc: Global, books: &mut Vec<Book>, made: Made) -> bool {
+    let Some(me) = NodeId::new(made.me) else {
+        return false;
+    };
+    match Book::new(alloc, me, made.nodes, made.start) {
+        Ok(book) => books.push(book).is_ok(),
+        Err(_) => false,
+    }
+}
+
+/// Adds books to the others. Returns whether that succeeds.
+fn adds_books(alloc: Global, books: &mut Vec<Book>, all: &[Made]) -> bool {
+    for made in all {
+        if !adds_book(alloc, books, *made) {
+            return false;
+        }
+    }
+    true
+}
+
+/// Returns the frame that the book of a node sent at this place.
+fn sent(books: &[Book], number: u16, place: u64) -> Option<Frame> {
+    let book = books.get(usize::from(number).wrapping_sub(1))?;
+    let sent = book.sent(place)?;
+    Some(sent.frame)
+}
+
+/// A frame comes to the node that it is for. Returns whether its book takes it.
+fn takes(alloc: Global, books: &mut [Book], frame: &Frame) -> bool {
+    let place = usize::from(frame.message.to().get()).wrapping_sub(1);
+    if !frame.fits() {
+        return false;
+    }
+    let Some(book) = books.get_mut(place) else {
+        return false;
+    };
+    match encode(alloc, frame) {
+        Ok(bytes) => book.receive(alloc, bytes.as_slice()).is_ok(),
+        Err(_) => false,
+    }
+}
+
+/// Does this to the books. Returns whether it can be done.
+fn is_done(alloc: Global, books: &mut [Book], name: Name, done: Done) -> bool {
+    match done {
+        At(number, step) => match books.get_mut(usize::from(number).wrapping_sub(1)) {
+            Some(book) => does(alloc, book, name, step),
+            None => false,
+        },
+        Passes(number, place) => match sent(books, number, place) {
+            Some(frame) => takes(alloc, books, &frame),
+            None => false,
+        },
+    }
+}
+
+/// Does all of this to the books, in order. Returns whether it can be done.
+fn are_done(alloc: Global, books: &mut [Book], name: Name, all: &[Done]) -> bool {
+    for done in all {
+        if !is_done(alloc, books, name, *done) {
+            return false;
+        }
+    }
+    true
+}
+
+/// Makes these books, to which all of this was done, in order.
+pub fn books_after(alloc: Global, made: &[Made], all: &[Done]) -> Option<Vec<Book>> {
+    let name = r()?;
+    let mut books = Vec::new(alloc);
+    if adds_books(alloc, &mut books, made) && are_done(alloc, &mut books, name, all) {
+        Some(books)
+    } else {
+        None
+    }
+}
+
+/// Adds a grant for a name to the others. Returns whether that succeeds.
+fn adds_grant(grants: &mut Vec<Grant>, name: Name, granted: Granted) -> bool {
+    let Granted(node, client, mode, seq) = granted;
+    match entry(name, node, client, mode, seq) {
+        Some(entry) => grants.push(Grant { entry }).is_ok(),
+        None => false,
+    }
+}
+
+/// Returns these grants for `r`.
+pub fn grants_of(alloc: Global, all: &[Granted]) -> Option<Vec<Grant>> {
+    let name = r()?;
+    let mut grants = Vec::new(alloc);
+    for granted in all {
+        if !adds_grant(&mut grants, name, *granted) {
+            return None;
+        }
+    }
+    Some(grants)
+}
