@@ -1,6 +1,6 @@
 //! The command `answer`: what it says to a request and to a reply, and its help.
 use crate::frames::{ANSWER, REPLY, REQUEST, REQUEST_LINE};
-use crate::helpers::{Case, meets, prints};
+use crate::helpers::{Case, assert_answers, assert_meets};
 use ra_cli::answer;
 use std::alloc::Global;
 
@@ -55,9 +55,7 @@ const REQUESTS: &[Case] = &[
 
 #[test]
 fn a_request_is_answered_in_either_case_with_a_line_feed_or_not(rt: HostRuntime) {
-    for case in REQUESTS {
-        assert!(rt; meets(&rt, case), "{}", case.shows);
-    }
+    assert_meets(&rt, REQUESTS);
 }
 
 /// Returns whether a request of node 1 is answered by `answer` itself.
@@ -100,9 +98,7 @@ const REPLIES: &[Case] = &[
 
 #[test]
 fn an_idle_node_says_nothing_to_a_reply(rt: HostRuntime) {
-    for case in REPLIES {
-        assert!(rt; meets(&rt, case), "{}", case.shows);
-    }
+    assert_meets(&rt, REPLIES);
 }
 
 const ANSWER_HELP: &str = "Answer one frame, a line of hexadecimal digits, as an idle node does
@@ -122,5 +118,5 @@ Example, a REQUEST of node 1 for the name r, answered by node 2 of 3:
 
 #[test]
 fn help_on_answer_prints_a_frame(rt: HostRuntime) {
-    assert!(rt; prints(&rt, "ra answer --help", "", 0, ANSWER_HELP));
+    assert_answers(&rt, "ra answer --help", "", 0, ANSWER_HELP);
 }

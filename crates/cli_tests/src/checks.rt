@@ -1,10 +1,11 @@
 //! The command `check`, and the traces that `sim` prints.
 use crate::helpers::{
-    Case, Refused, fails_at_each_byte, fails_in_fronts, is_answer, is_left, is_refusal, is_written,
-    meets, prints, refuses, run, run_line, run_taking, words_of, words_with,
+    Answered, Case, Refused, assert_answers, assert_fails_at_each_byte, assert_fails_in_fronts,
+    assert_meets, assert_refuses, assert_written, is_answer, is_refusal, prints, run, status_alone,
 };
 use crate::scripts::{A_DEADLOCK, A_QUEUE, A_WRITER, ONE_CLIENT, ONE_ORDER, TWO_CLIENTS};
 use std::alloc::Global;
+use std::process::Abort;
 use std::sync::Wait;
 use std::thread::Threads;
 
@@ -51,25 +52,12 @@ lose request 1 2 r X 1
 end
 ";
 
-/// Returns whether a script by listed choices has this trace, with status 3.
-fn has_trace<T: AllocGlobal + Threads + Wait + Sync>(
-    rt: &T,
-    choices: &str,
-    script: &str,
-    trace: &str,
-) -> bool {
-    let line = "ra sim --trace --policy listed --choices";
-    match words_with(rt.alloc(), line, choices) {
-        Some(words) => is_answer(&run(rt, words.as_slice(), script), 3, trace),
-        None => false,
-    }
-}
-
 #[test]
 fn sim_prints_the_trace_of_its_run(rt: HostRuntime) {
-    assert!(rt; prints(&rt, "ra sim --trace", ONE_CLIENT, 0, ALONE));
-    assert!(rt; prints(&rt, "ra sim --trace", TWO_CLIENTS, 0, AT_ONCE));
-    assert!(rt; has_trace(&rt, "c1 l0", ONE_CLIENT, LOST));
+    assert_answers(&rt, "ra sim --trace", ONE_CLIENT, 0, ALONE);
+    assert_answers(&rt, "ra sim --trace", TWO_CLIENTS, 0, AT_ONCE);
+    let listed = "ra sim --trace --policy listed --choices";
+    assert!(rt; is_answer(&run(&rt, listed, Some("c1 l0"), ONE_CLIENT), 3, LOST));
 }
 
 /// Traces, and what is said of them.
@@ -99,9 +87,7 @@ const TRACES: &[Case] = &[
 
 #[test]
 fn traces_of_runs_are_valid(rt: HostRuntime) {
-    for case in TRACES {
-        assert!(rt; meets(&rt, case), "{}", case.shows);
-    }
+    assert_meets(&rt, TRACES);
 }
 
 /// A line, counted from 1, that is put in before the one that stands there, or stands in its place.
@@ -137,7 +123,7 @@ fn edited(alloc: Global, trace: &str, edit: &Edit) -> Option<String> {
 }
 
 /// Returns whether the verdict, with status 3, is said of the two clients' trace with an edit.
-fn is_invalid<T: AllocGlobal + Threads + Wait + Sync>(rt: &T, edit: &Edit) -> bool {
+fn is_invalid<T: AllocGlobal + Threads + Wait + Abort + Sync>(rt: &T, edit: &Edit) -> bool {
     match edited(rt.alloc(), AT_ONCE, edit) {
         Some(trace) => prints(rt, "ra check", trace.as_str(), 3, edit.verdict),
         None => false,
@@ -187,7 +173,7 @@ fn the_first_wrong_line_is_named(rt: HostRuntime) {
 
 #[test]
 fn an_empty_text_is_no_trace(rt: HostRuntime) {
-    assert!(rt; prints(&rt, "ra check", "", 3, "invalid 1 Line\n"));
+    assert_answers(&rt, "ra check", "", 3, "invalid 1 Line\n");
 }
 
 /// The trace of the client alone, with its fifth and sixth lines exchanged.
@@ -204,7 +190,7 @@ end
 
 #[test]
 fn two_lines_that_are_exchanged_are_wrong_at_the_first(rt: HostRuntime) {
-    assert!(rt; prints(&rt, "ra check", EXCHANGED, 3, "invalid 5 Marks\n"));
+    assert_answers(&rt, "ra check", EXCHANGED, 3, "invalid 5 Marks\n");
 }
 
 /// The trace of the client alone, and a byte behind it.
@@ -221,62 +207,49 @@ x";
 
 #[test]
 fn what_stands_behind_a_trace_is_a_wrong_line(rt: HostRuntime) {
-    assert!(rt; prints(&rt, "ra check", FOLLOWED, 3, "invalid 10 Line\n"));
+    assert_answers(&rt, "ra check", FOLLOWED, 3, "invalid 10 Line\n");
 }
 
 /// Returns whether what these words print of a script, with this status, is a trace with this verdict.
-fn is_valid<T: AllocGlobal + Threads + Wait + Sync>(
+fn is_valid<T: AllocGlobal + Threads + Wait + Abort + Sync>(
     rt: &T,
     line: &str,
     script: &str,
     status: u8,
     verdict: &str,
 ) -> bool {
-    let Some(answered) = run_line(rt, line, script) else {
-        return false;
-    };
+    let answered = run(rt, line, None, script);
     match str::from_utf8(answered.output.as_slice()) {
         Ok(trace) => answered.status == status && prints(rt, "ra check", trace, 0, verdict),
         Err(_) => false,
     }
 }
 
-/// Returns whether it is so with status 0 by each of four policies.
-fn is_valid_by_each<T: AllocGlobal + Threads + Wait + Sync>(
+/// The words of four policies.
+const POLICIES: &[&str] = &[
+    "ra sim --trace --policy oldest",
+    "ra sim --trace --policy newest",
+    "ra sim --trace --policy seeded --seed 1",
+    "ra sim --trace --policy seeded --seed 99",
+];
+
+/// Ends the test where it is not so with status 0 by one of them.
+fn assert_valid<T: AllocGlobal + Threads + Wait + Abort + Sync>(
     rt: &T,
     script: &str,
     verdict: &str,
-) -> bool {
-    is_valid(rt, "ra sim --trace --policy oldest", script, 0, verdict)
-        && is_valid(rt, "ra sim --trace --policy newest", script, 0, verdict)
-        && is_valid(
-            rt,
-            "ra sim --trace --policy seeded --seed 1",
-            script,
-            0,
-            verdict,
-        )
-        && is_valid(
-            rt,
-            "ra sim --trace --policy seeded --seed 99",
-            script,
-            0,
-            verdict,
-        )
+) {
+    for line in POLICIES {
+        assert!(rt; is_valid(rt, line, script, 0, verdict), "{line}: {script}");
+    }
 }
 
 #[test]
 fn each_trace_that_sim_prints_is_valid(rt: HostRuntime) {
-    let (two, four) = (
-        "valid\nrequests 2\nmessages 8\n",
-        "valid\nrequests 4\nmessages 8\n",
-    );
-    assert!(rt; is_valid_by_each(&rt, TWO_CLIENTS, two) && is_valid_by_each(&rt, ONE_ORDER, four));
-    let (three, queued) = (
-        "valid\nrequests 3\nmessages 12\n",
-        "valid\nrequests 2\nmessages 4\n",
-    );
-    assert!(rt; is_valid_by_each(&rt, A_WRITER, three) && is_valid_by_each(&rt, A_QUEUE, queued));
+    assert_valid(&rt, TWO_CLIENTS, "valid\nrequests 2\nmessages 8\n");
+    assert_valid(&rt, ONE_ORDER, "valid\nrequests 4\nmessages 8\n");
+    assert_valid(&rt, A_WRITER, "valid\nrequests 3\nmessages 12\n");
+    assert_valid(&rt, A_QUEUE, "valid\nrequests 2\nmessages 4\n");
 }
 
 #[test]
@@ -317,7 +290,7 @@ input or the output failed.
 
 #[test]
 fn help_on_check_prints_a_trace(rt: HostRuntime) {
-    assert!(rt; prints(&rt, "ra check --help", "", 0, HELP));
+    assert_answers(&rt, "ra check --help", "", 0, HELP);
 }
 
 /// Words that are no check.
@@ -341,23 +314,19 @@ const NO_CHECKS: &[Refused] = &[
 
 #[test]
 fn words_that_are_no_check_are_refused(rt: HostRuntime) {
-    for case in NO_CHECKS {
-        assert!(rt; refuses(&rt, case), "{}", case.words);
-    }
+    assert_refuses(&rt, NO_CHECKS);
 }
 
 #[test]
 fn a_reader_that_fails_behind_any_byte_of_a_trace_is_a_fault(rt: HostRuntime) {
-    assert!(rt; fails_at_each_byte(&rt, "ra check", ALONE.as_bytes()));
+    assert_fails_at_each_byte(&rt, "ra check", ALONE.as_bytes());
 }
 
 #[test]
 fn a_writer_that_fails_has_a_front_of_the_verdict(rt: HostRuntime) {
     let printed = "valid\nrequests 1\nmessages 2\n";
-    assert!(rt;
-        fails_in_fronts(&rt, "ra check", ALONE, printed)
-            && is_written(&rt, "ra check", ALONE, printed, 0)
-    );
+    assert_fails_in_fronts(&rt, "ra check", ALONE, printed);
+    assert_written(&rt, "ra check", ALONE, printed, 0);
 }
 
 /// Adds the line of a client that asks, which has 52 bytes, and returns whether there was memory for it.
@@ -385,23 +354,21 @@ enter 1 1 a_name_that_has_thirty_two_bytes X 1
     Some(trace)
 }
 
-/// Returns whether a trace is refused as too long, and one byte behind the limit is read.
-fn is_too_long<T: AllocGlobal + Threads + Wait + Sync>(
-    rt: &T,
-    words: &[String],
-    trace: &[u8],
-) -> bool {
+/// Returns whether `ra check` refuses a trace as too long, and reads one byte behind the limit. No thread looks for its end, which
+/// may come late.
+fn is_too_long<T: AllocGlobal + Threads + Wait + Sync>(rt: &T, trace: &[u8]) -> bool {
     let mut bytes = trace;
-    let answered = run_taking(rt, words, &mut bytes);
-    is_refusal(&answered, "Limit") && is_left(bytes, trace, 16_777_217)
+    let mut output = Vec::new(rt.alloc());
+    let status = status_alone(rt, "ra check", None, &mut bytes, &mut output);
+    let answered = Answered { status, output };
+    is_refusal(&answered, "Limit") && trace.get(16_777_217..) == Some(bytes)
 }
 
-/// Returns whether it is so for a trace with no wrong line within the limit, and `ra check`.
+/// Returns whether it is so for a trace with no wrong line within the limit.
 fn stops_at_the_limit<T: AllocGlobal + Threads + Wait + Sync>(rt: &T) -> bool {
-    let alloc = rt.alloc();
-    match (words_of(alloc, "ra check"), long_queue(alloc)) {
-        (Some(words), Some(trace)) => is_too_long(rt, words.as_slice(), trace.as_bytes()),
-        _ => false,
+    match long_queue(rt.alloc()) {
+        Some(trace) => is_too_long(rt, trace.as_bytes()),
+        None => false,
     }
 }
 

@@ -1,6 +1,7 @@
 //! The policy `listed`: choices that are made one after the other, and those that cannot be made.
-use crate::helpers::{is_answer, prints, refuses_input, run, words_with};
+use crate::helpers::{assert_answers, is_answer, refuses_input, run};
 use crate::scripts::{A_QUEUE, NOTHING, ONE_CLIENT, ONE_CLIENT_PRINTED, TWO_READERS};
+use std::process::Abort;
 use std::sync::Wait;
 use std::thread::Threads;
 
@@ -19,15 +20,16 @@ struct Listed {
 }
 
 /// Returns whether `ra sim` by these choices makes this of a script.
-fn is_made<T: AllocGlobal + Threads + Wait + Sync>(rt: &T, case: &Listed) -> bool {
+fn is_made<T: AllocGlobal + Threads + Wait + Abort + Sync>(rt: &T, case: &Listed) -> bool {
     let line = "ra sim --policy listed --choices";
-    match words_with(rt.alloc(), line, case.choices) {
-        Some(words) => is_answer(
-            &run(rt, words.as_slice(), case.script),
-            case.status,
-            case.output,
-        ),
-        None => false,
+    let answered = run(rt, line, Some(case.choices), case.script);
+    is_answer(&answered, case.status, case.output)
+}
+
+/// Ends the test where it makes something else of one of the scripts.
+fn assert_made<T: AllocGlobal + Threads + Wait + Abort + Sync>(rt: &T, cases: &[Listed]) {
+    for case in cases {
+        assert!(rt; is_made(rt, case), "{}", case.choices);
     }
 }
 
@@ -95,14 +97,12 @@ const CHOICES: &[Listed] = &[
 
 #[test]
 fn listed_choices_are_made_one_after_the_other(rt: HostRuntime) {
-    for case in CHOICES {
-        assert!(rt; is_made(&rt, case), "{}", case.choices);
-    }
+    assert_made(&rt, CHOICES);
 }
 
 #[test]
 fn no_choice_is_made_where_none_is_listed(rt: HostRuntime) {
-    assert!(rt; prints(&rt, "ra sim --policy listed", ONE_CLIENT, 3, NOTHING));
+    assert_answers(&rt, "ra sim --policy listed", ONE_CLIENT, 3, NOTHING);
 }
 
 /// Choices that cannot be made.
@@ -190,9 +190,7 @@ const NO_CHOICES: &[Listed] = &[
 
 #[test]
 fn choices_that_cannot_be_made_are_refused(rt: HostRuntime) {
-    for case in NO_CHOICES {
-        assert!(rt; is_made(&rt, case), "{}", case.choices);
-    }
+    assert_made(&rt, NO_CHOICES);
 }
 
 #[test]
@@ -200,5 +198,5 @@ fn choices_are_read_whatever_the_policy_and_before_the_script(rt: HostRuntime) {
     let wrong = "ra sim --policy newest --choices q1";
     assert!(rt; refuses_input(&rt, wrong, "nodes =", "Choice"));
     let unused = "ra sim --policy newest --choices c9";
-    assert!(rt; prints(&rt, unused, ONE_CLIENT, 0, ONE_CLIENT_PRINTED));
+    assert_answers(&rt, unused, ONE_CLIENT, 0, ONE_CLIENT_PRINTED);
 }

@@ -1,14 +1,13 @@
 //! The command `cluster`.
 use crate::helpers::{
-    Case, Refused, fails_in_fronts, is_answer, is_read_fault, is_word, is_written, meets, prints,
-    refuses, run_line, words_of,
+    Case, Refused, assert_answers, assert_fails_in_fronts, assert_meets, assert_prints,
+    assert_refuses, assert_written, is_answer, is_read_fault, run,
 };
 use crate::scripts::{
     A_DEADLOCK, A_KEEPER, A_QUEUE, A_QUEUE_PRINTED, A_WRITER, ALONE, ALONE_PRINTED, APART, NOTHING,
     ONE_CLIENT, ONE_CLIENT_PRINTED, ONE_ORDER, SIXTEEN_NODES, SIXTEEN_NODES_PRINTED, TWO_CLIENTS,
     TWO_NAMES, TWO_READERS,
 };
-use crate::threads::holds_in_a_thread;
 use ra_cluster::{ClusterError, Stop};
 use ra_script::ScriptError;
 use std::io;
@@ -80,33 +79,21 @@ struct Run {
 
 /// Returns whether a text is that of a run: the marks of each client, in their order, and the totals, where nothing is left. With
 /// so many lines in all, no mark names another client.
-fn is_output(run: &Run, output: &str) -> bool {
-    output.ends_with(run.totals)
-        && output.split_terminator('\n').count() == run.lines
-        && has_marks(output, "1", run.first)
-        && has_marks(output, "2", run.second)
-        && has_marks(output, "3", run.third)
+fn is_output(row: &Run, output: &str) -> bool {
+    output.ends_with(row.totals)
+        && output.split_terminator('\n').count() == row.lines
+        && has_marks(output, "1", row.first)
+        && has_marks(output, "2", row.second)
+        && has_marks(output, "3", row.third)
 }
 
 /// Returns whether a script is run by threads so.
-fn runs<T: AllocGlobal + Threads + Wait + Sync>(rt: &T, run: &Run) -> bool {
-    let Some(answered) = run_line(rt, "ra cluster", run.script) else {
-        return false;
-    };
+fn runs<T: AllocGlobal + Threads + Wait + Abort + Sync>(rt: &T, row: &Run) -> bool {
+    let answered = run(rt, "ra cluster", None, row.script);
     match str::from_utf8(answered.output.as_slice()) {
-        Ok(output) => answered.status == 0 && is_output(run, output),
+        Ok(output) => answered.status == 0 && is_output(row, output),
         Err(_) => false,
     }
-}
-
-/// Returns whether it is so each time.
-fn always_runs<T: AllocGlobal + Threads + Wait + Abort + Sync>(rt: &T, run: &Run) -> bool {
-    for _ in 0..RUNS {
-        if !holds_in_a_thread(rt, || runs(rt, run)) {
-            return false;
-        }
-    }
-    true
 }
 
 /// Scripts that have one output.
@@ -136,19 +123,13 @@ const ONE_OUTPUT: &[Case] = &[
 
 #[test]
 fn a_script_of_one_client_has_one_output(rt: HostRuntime) {
-    for case in ONE_OUTPUT {
-        assert!(rt;
-            holds_in_a_thread(&rt, || meets(&rt, case)),
-            "{}",
-            case.shows
-        );
-    }
+    assert_meets(&rt, ONE_OUTPUT);
 }
 
 #[test]
 fn a_script_of_no_operation_has_no_marks(rt: HostRuntime) {
     let idle = "nodes = 3\nclient = [{ node = 2, ops = [] }]";
-    assert!(rt; holds_in_a_thread(&rt, || prints(&rt, "ra cluster", idle, 0, NOTHING)));
+    assert_answers(&rt, "ra cluster", idle, 0, NOTHING);
 }
 
 /// Scripts whose marks come in an order that is up to the threads.
@@ -225,40 +206,32 @@ const IN_ORDER: &[Run] = &[
 
 #[test]
 fn each_client_does_its_operations_in_order(rt: HostRuntime) {
-    for run in IN_ORDER {
-        assert!(rt; always_runs(&rt, run), "{}", run.shows);
+    for row in IN_ORDER {
+        for _ in 0..RUNS {
+            assert!(rt; runs(&rt, row), "{}", row.shows);
+        }
     }
 }
 
 /// Returns whether a script is run by threads so that no writer is inside with another client.
-fn runs_with_writers_alone<T: AllocGlobal + Threads + Wait + Sync>(rt: &T, script: &str) -> bool {
-    let Some(answered) = run_line(rt, "ra cluster", script) else {
-        return false;
-    };
+fn has_writers_alone<T: AllocGlobal + Threads + Wait + Abort + Sync>(rt: &T, script: &str) -> bool {
+    let answered = run(rt, "ra cluster", None, script);
     match str::from_utf8(answered.output.as_slice()) {
         Ok(output) => answered.status == 0 && writers_are_alone(output),
         Err(_) => false,
     }
 }
 
-/// Returns whether it is so each time.
-fn always_has_writers_alone<T: AllocGlobal + Threads + Wait + Abort + Sync>(
-    rt: &T,
-    script: &str,
-) -> bool {
-    for _ in 0..RUNS {
-        if !holds_in_a_thread(rt, || runs_with_writers_alone(rt, script)) {
-            return false;
-        }
-    }
-    true
-}
+/// Scripts with a writer, and one name.
+const WRITERS: &[&str] = &[TWO_CLIENTS, A_WRITER, A_QUEUE];
 
 #[test]
 fn no_two_conflicting_clients_are_inside_together(rt: HostRuntime) {
-    assert!(rt; always_has_writers_alone(&rt, TWO_CLIENTS));
-    assert!(rt; always_has_writers_alone(&rt, A_WRITER));
-    assert!(rt; always_has_writers_alone(&rt, A_QUEUE));
+    for script in WRITERS {
+        for _ in 0..RUNS {
+            assert!(rt; has_writers_alone(&rt, script), "{script}");
+        }
+    }
 }
 
 /// What the queue at one node prints where the second client goes first. The one that goes second has the next number.
@@ -277,26 +250,16 @@ queued 0
 ";
 
 /// Returns whether the queue at one node is run by threads with one of its two outputs.
-fn takes_turns<T: AllocGlobal + Threads + Wait + Sync>(rt: &T) -> bool {
-    let Some(answered) = run_line(rt, "ra cluster", A_QUEUE) else {
-        return false;
-    };
+fn takes_turns<T: AllocGlobal + Threads + Wait + Abort + Sync>(rt: &T) -> bool {
+    let answered = run(rt, "ra cluster", None, A_QUEUE);
     is_answer(&answered, 0, A_QUEUE_PRINTED) || is_answer(&answered, 0, SECOND_FIRST)
-}
-
-/// Returns whether it is so each time.
-fn always_takes_turns<T: AllocGlobal + Threads + Wait + Abort + Sync>(rt: &T) -> bool {
-    for _ in 0..RUNS {
-        if !holds_in_a_thread(rt, || takes_turns(rt)) {
-            return false;
-        }
-    }
-    true
 }
 
 #[test]
 fn clients_of_one_node_take_turns(rt: HostRuntime) {
-    assert!(rt; always_takes_turns(&rt));
+    for _ in 0..RUNS {
+        assert!(rt; takes_turns(&rt));
+    }
 }
 
 /// Scripts that lock names out of order, or keep one.
@@ -335,13 +298,7 @@ client = [{ node = 1, ops = [\"X r\"] }, { node = 1, ops = [\"S b\", \"S a\", \"
 
 #[test]
 fn names_are_locked_in_ascending_order_and_given_back(rt: HostRuntime) {
-    for case in NO_ORDER {
-        assert!(rt;
-            holds_in_a_thread(&rt, || refuses(&rt, case)),
-            "{}",
-            case.input
-        );
-    }
+    assert_refuses(&rt, NO_ORDER);
 }
 
 /// Scripts with a client that locks names out of order, and one that does what is none.
@@ -365,13 +322,7 @@ const NO_OPERATIONS: &[Refused] = &[
 
 #[test]
 fn what_is_no_script_is_refused_first(rt: HostRuntime) {
-    for case in NO_OPERATIONS {
-        assert!(rt;
-            holds_in_a_thread(&rt, || refuses(&rt, case)),
-            "{}",
-            case.word
-        );
-    }
+    assert_refuses(&rt, NO_OPERATIONS);
 }
 
 /// Texts that are no document of a script.
@@ -400,116 +351,63 @@ const NO_DOCUMENTS: &[Refused] = &[
 
 #[test]
 fn what_is_no_document_of_a_script_is_refused(rt: HostRuntime) {
-    for case in NO_DOCUMENTS {
-        assert!(rt;
-            holds_in_a_thread(&rt, || refuses(&rt, case)),
-            "{}",
-            case.input
-        );
-    }
+    assert_refuses(&rt, NO_DOCUMENTS);
 }
 
-/// Returns whether the fault of a reader that fails behind the last byte of a script is printed.
-fn fails_at_the_end<T: AllocGlobal + Threads + Wait + Sync>(rt: &T, script: &str) -> bool {
-    let bytes = script.as_bytes();
-    match words_of(rt.alloc(), "ra cluster") {
-        Some(words) => {
-            is_read_fault(
-                rt,
-                words.as_slice(),
-                bytes,
-                bytes.len(),
-                io::ErrorKind::Interrupted,
-            )
-        }
-        None => false,
-    }
+/// Ends the test where the fault of a reader that fails behind the last byte of a script is not printed.
+fn assert_fails_at_the_end<T: AllocGlobal + Threads + Wait + Abort + Sync>(rt: &T, script: &str) {
+    let (bytes, fault) = (script.as_bytes(), io::ErrorKind::Interrupted);
+    assert!(rt;
+        is_read_fault(rt, "ra cluster", bytes, script.len(), fault),
+        "{script}"
+    );
 }
 
 #[test]
 fn a_fault_of_the_reader_comes_before_what_is_wrong_with_the_script(rt: HostRuntime) {
-    assert!(rt; holds_in_a_thread(&rt, || fails_at_the_end(&rt, "nodes = ")));
-    assert!(rt; holds_in_a_thread(&rt, || fails_at_the_end(&rt, A_KEEPER)));
-    assert!(rt; holds_in_a_thread(&rt, || fails_at_the_end(&rt, TWO_NAMES)));
+    assert_fails_at_the_end(&rt, "nodes = ");
+    assert_fails_at_the_end(&rt, A_KEEPER);
+    assert_fails_at_the_end(&rt, TWO_NAMES);
 }
 
 #[test]
 fn a_writer_that_fails_has_a_front_of_what_the_threads_did(rt: HostRuntime) {
-    assert!(rt; fails_in_fronts(&rt, "ra cluster", ONE_CLIENT, ONE_CLIENT_PRINTED));
-    assert!(rt; fails_in_fronts(&rt, "ra cluster", TWO_NAMES, "refused OutOfOrder\n"));
+    assert_fails_in_fronts(&rt, "ra cluster", ONE_CLIENT, ONE_CLIENT_PRINTED);
+    assert_fails_in_fronts(&rt, "ra cluster", TWO_NAMES, "refused OutOfOrder\n");
     // It fails only where something is left to be written.
-    assert!(rt;
-        holds_in_a_thread(
-            &rt,
-            || is_written(&rt, "ra cluster", ONE_CLIENT, ONE_CLIENT_PRINTED, 0),
-        )
-    );
+    assert_written(&rt, "ra cluster", ONE_CLIENT, ONE_CLIENT_PRINTED, 0);
 }
 
-/// A refusal of a cluster, and its word.
-struct Fault {
-    fault: ClusterError,
-    word: &'static str,
-}
-
-/// The refusals of a cluster.
-const FAULTS: &[Fault] = &[
-    Fault {
-        fault: ClusterError::OutOfOrder,
-        word: "OutOfOrder",
-    },
-    Fault {
-        fault: ClusterError::Unreleased,
-        word: "Unreleased",
-    },
-    Fault {
-        fault: ClusterError::Fault(Stop::Send),
-        word: "Fault",
-    },
-    Fault {
-        fault: ClusterError::Fault(Stop::Memory),
-        word: "Fault",
-    },
-    Fault {
-        fault: ClusterError::Settle,
-        word: "Settle",
-    },
-    Fault {
-        fault: ClusterError::PlanUnmet,
-        word: "PlanUnmet",
-    },
-    Fault {
-        fault: ClusterError::Lost,
-        word: "Lost",
-    },
-    Fault {
-        fault: ClusterError::UnderWay,
-        word: "UnderWay",
-    },
-    Fault {
-        fault: ClusterError::Memory,
-        word: "Memory",
-    },
+/// Why threads do not bring a script to its end, and the word of it.
+const CLUSTER_ERRORS: &[(ClusterError, &str)] = &[
+    (ClusterError::OutOfOrder, "OutOfOrder"),
+    (ClusterError::Unreleased, "Unreleased"),
+    (ClusterError::Fault(Stop::Send), "Fault"),
+    (ClusterError::Fault(Stop::Memory), "Fault"),
+    (ClusterError::Settle, "Settle"),
+    (ClusterError::PlanUnmet, "PlanUnmet"),
+    (ClusterError::Lost, "Lost"),
+    (ClusterError::UnderWay, "UnderWay"),
+    (ClusterError::Memory, "Memory"),
 ];
 
 /// Where there is memory and threads start, most of these are the answer to no script, so that only the words are shown.
 #[test]
 fn each_refusal_of_a_cluster_is_printed_by_its_word(rt: HostRuntime) {
-    for case in FAULTS {
-        assert!(rt;
-            is_word(rt.alloc(), &case.fault, case.word),
-            "{}",
-            case.word
-        );
-    }
+    assert_prints(&rt, CLUSTER_ERRORS);
 }
+
+/// Why a script is not read, and the word of it.
+const SCRIPT_ERRORS: &[(ScriptError, &str)] = &[
+    (ScriptError::Limit, "Limit"),
+    (ScriptError::Memory, "Memory"),
+];
 
 /// Where there is memory, `Memory` is the answer to no script, so that only the word is shown.
 #[test]
 fn each_refusal_of_a_script_to_be_run_is_printed_by_its_word(rt: HostRuntime) {
-    assert!(rt; is_word(rt.alloc(), &ScriptError::Limit, "Limit"));
-    assert!(rt; is_word(rt.alloc(), &ScriptError::Memory, "Memory"));
-    assert!(rt; holds_in_a_thread(&rt, || fails_at_the_end(&rt, ONE_CLIENT)));
+    assert_prints(&rt, SCRIPT_ERRORS);
+    assert_fails_at_the_end(&rt, ONE_CLIENT);
 }
 
 /// Words that are no run by threads.
@@ -548,13 +446,7 @@ const NO_CLUSTERS: &[Refused] = &[
 
 #[test]
 fn words_that_are_no_cluster_are_refused(rt: HostRuntime) {
-    for case in NO_CLUSTERS {
-        assert!(rt;
-            holds_in_a_thread(&rt, || refuses(&rt, case)),
-            "{}",
-            case.words
-        );
-    }
+    assert_refuses(&rt, NO_CLUSTERS);
 }
 
 const HELP: &str = "Run a script by threads, and print who asked, entered and left, and what it cost
@@ -590,5 +482,5 @@ threads, and Settle, PlanUnmet, Lost or UnderWay where what the nodes wrote down
 
 #[test]
 fn help_on_cluster_prints_a_script_and_its_conditions(rt: HostRuntime) {
-    assert!(rt; holds_in_a_thread(&rt, || prints(&rt, "ra cluster --help", "", 0, HELP)));
+    assert_answers(&rt, "ra cluster --help", "", 0, HELP);
 }

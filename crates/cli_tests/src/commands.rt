@@ -1,6 +1,6 @@
 //! Words that are no command, and the help that lists the commands.
 use crate::frames::REQUEST;
-use crate::helpers::{Refused, prints, refuses};
+use crate::helpers::{Refused, assert_answers, assert_refuses};
 use ra_cli::{CommandFault, refuse_words};
 use std::alloc::Global;
 
@@ -70,9 +70,7 @@ const NO_COMMANDS: &[Refused] = &[
 
 #[test]
 fn words_that_are_no_command_are_refused(rt: HostRuntime) {
-    for case in NO_COMMANDS {
-        assert!(rt; refuses(&rt, case), "{}", case.words);
-    }
+    assert_refuses(&rt, NO_COMMANDS);
 }
 
 const HELP: &str = "Lock named resources by messages alone
@@ -94,7 +92,8 @@ Status 3: a run that ended with something left to do, or a trace that is none.
 
 #[test]
 fn help_lists_the_commands(rt: HostRuntime) {
-    assert!(rt; prints(&rt, "ra --help", "", 0, HELP) && prints(&rt, "ra -h", "", 0, HELP));
+    assert_answers(&rt, "ra --help", "", 0, HELP);
+    assert_answers(&rt, "ra -h", "", 0, HELP);
 }
 
 /// Returns whether the fault of a command line that is not there is status 2, and printed so.

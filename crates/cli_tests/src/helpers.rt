@@ -1,5 +1,5 @@
 //! What several files of tests use.
-use crate::threads::holds_in_a_thread;
+use crate::threads::in_a_thread;
 use ra_cli::serve;
 use std::alloc::Global;
 use std::fmt::Display;
@@ -105,24 +105,16 @@ fn push_word(alloc: Global, words: &mut Vec<String>, word: &str) -> bool {
     }
 }
 
-/// Returns the words of a line.
-pub fn words_of(alloc: Global, line: &str) -> Option<Vec<String>> {
-    let mut words = Vec::new(alloc);
+/// Adds the words of a line, and a last one where there is one, which may have spaces. Returns whether there was memory for them.
+fn push_words(alloc: Global, words: &mut Vec<String>, line: &str, last: Option<&str>) -> bool {
     for word in line.split(' ') {
-        if !push_word(alloc, &mut words, word) {
-            return None;
+        if !push_word(alloc, words, word) {
+            return false;
         }
     }
-    Some(words)
-}
-
-/// Returns the words of a line and a last one, which may have spaces.
-pub fn words_with(alloc: Global, line: &str, last: &str) -> Option<Vec<String>> {
-    let mut words = words_of(alloc, line)?;
-    if push_word(alloc, &mut words, last) {
-        Some(words)
-    } else {
-        None
+    match last {
+        Some(last) => push_word(alloc, words, last),
+        None => true,
     }
 }
 
@@ -151,48 +143,56 @@ pub fn repeated(
     if is_made { Some(text) } else { None }
 }
 
-/// Returns what `ra` makes of these words and what a reader gives that fails once.
-pub fn run_on<T: AllocGlobal + Threads + Wait + Sync>(
+/// Returns the status that `ra` answers to the words of a line, and a last one where there is one, or 255 where there is no memory
+/// for them.
+pub fn status_alone<T: AllocGlobal + Threads + Wait + Sync, R: Read, W: Write>(
     rt: &T,
-    words: &[String],
-    reader: &mut FailingReader<'_>,
-) -> Answered {
+    line: &str,
+    last: Option<&str>,
+    reader: &mut R,
+    writer: &mut W,
+) -> u8 {
     let alloc = rt.alloc();
-    let mut output = Vec::new(alloc);
-    let status = serve(rt, alloc, words, reader, &mut output);
+    let mut words = Vec::new(alloc);
+    if push_words(alloc, &mut words, line, last) {
+        serve(rt, alloc, words.as_slice(), reader, writer)
+    } else {
+        u8::MAX
+    }
+}
+
+/// The same by a thread, since the command may be one that waits for threads.
+fn status_of<T: AllocGlobal + Threads + Wait + Abort + Sync, R: Read + Send, W: Write + Send>(
+    rt: &T,
+    line: &str,
+    last: Option<&str>,
+    reader: &mut R,
+    writer: &mut W,
+) -> u8 {
+    in_a_thread(rt, move || status_alone(rt, line, last, reader, writer))
+}
+
+/// Returns what `ra` makes of the words of a line, and a last one where there is one, and what a reader gives.
+pub fn run_on<T: AllocGlobal + Threads + Wait + Abort + Sync, R: Read + Send>(
+    rt: &T,
+    line: &str,
+    last: Option<&str>,
+    reader: &mut R,
+) -> Answered {
+    let mut output = Vec::new(rt.alloc());
+    let status = status_of(rt, line, last, reader, &mut output);
     Answered { status, output }
 }
 
-/// Returns what `ra` makes of these words and the bytes that it takes.
-pub fn run_taking<T: AllocGlobal + Threads + Wait + Sync>(
+/// Returns what `ra` makes of the words of a line, and a last one where there is one, and an input.
+pub fn run<T: AllocGlobal + Threads + Wait + Abort + Sync>(
     rt: &T,
-    words: &[String],
-    bytes: &mut &[u8],
-) -> Answered {
-    let alloc = rt.alloc();
-    let mut output = Vec::new(alloc);
-    let status = serve(rt, alloc, words, bytes, &mut output);
-    Answered { status, output }
-}
-
-/// Returns what `ra` makes of these words and an input.
-pub fn run<T: AllocGlobal + Threads + Wait + Sync>(
-    rt: &T,
-    words: &[String],
+    line: &str,
+    last: Option<&str>,
     input: &str,
 ) -> Answered {
     let mut bytes = input.as_bytes();
-    run_taking(rt, words, &mut bytes)
-}
-
-/// Returns what `ra` makes of the words of a line and an input.
-pub fn run_line<T: AllocGlobal + Threads + Wait + Sync>(
-    rt: &T,
-    line: &str,
-    input: &str,
-) -> Option<Answered> {
-    let words = words_of(rt.alloc(), line)?;
-    Some(run(rt, words.as_slice(), input))
+    run_on(rt, line, last, &mut bytes)
 }
 
 /// Returns whether `ra` answers this status and prints this text.
@@ -201,99 +201,112 @@ pub fn is_answer(answered: &Answered, status: u8, text: &str) -> bool {
 }
 
 /// Returns whether `ra`, with the line of its words and an input, answers this status and prints this text.
-pub fn prints<T: AllocGlobal + Threads + Wait + Sync>(
+pub fn prints<T: AllocGlobal + Threads + Wait + Abort + Sync>(
     rt: &T,
     line: &str,
     input: &str,
     status: u8,
     text: &str,
 ) -> bool {
-    match run_line(rt, line, input) {
-        Some(answered) => is_answer(&answered, status, text),
-        None => false,
-    }
+    is_answer(&run(rt, line, None, input), status, text)
+}
+
+/// Ends the test where it does not.
+pub fn assert_answers<T: AllocGlobal + Threads + Wait + Abort + Sync>(
+    rt: &T,
+    line: &str,
+    input: &str,
+    status: u8,
+    text: &str,
+) {
+    assert!(rt; prints(rt, line, input, status, text), "{line}");
 }
 
 /// Returns whether `ra`, with the line of its words and an input, answers this status.
-pub fn has_status<T: AllocGlobal + Threads + Wait + Sync>(
+pub fn has_status<T: AllocGlobal + Threads + Wait + Abort + Sync>(
     rt: &T,
     line: &str,
     input: &str,
     status: u8,
 ) -> bool {
-    match run_line(rt, line, input) {
-        Some(answered) => answered.status == status,
-        None => false,
-    }
+    run(rt, line, None, input).status == status
 }
 
-/// Returns whether `ra` makes this of the command.
-pub fn meets<T: AllocGlobal + Threads + Wait + Sync>(rt: &T, case: &Case) -> bool {
-    prints(rt, case.words, case.input, case.status, case.output)
-}
-
-/// Returns whether a line is this word and a line feed.
-fn is_line(line: &[u8], word: &str) -> bool {
-    match line.strip_suffix(b"\n") {
-        Some(found) => found == word.as_bytes(),
-        None => false,
+/// Ends the test where `ra` makes something else of one of the commands.
+pub fn assert_meets<T: AllocGlobal + Threads + Wait + Abort + Sync>(rt: &T, cases: &[Case]) {
+    for case in cases {
+        assert!(rt;
+            prints(rt, case.words, case.input, case.status, case.output),
+            "{}",
+            case.shows
+        );
     }
 }
 
 /// Returns whether `ra` answers status 2, and prints the line of a refusal by this word.
 pub fn is_refusal(answered: &Answered, word: &str) -> bool {
     match answered.output.as_slice().strip_prefix(b"refused ") {
-        Some(rest) => answered.status == 2 && is_line(rest, word),
+        Some(rest) => answered.status == 2 && rest.strip_suffix(b"\n") == Some(word.as_bytes()),
         None => false,
     }
 }
 
 /// Returns whether `ra` refuses an input by this word, with status 2.
-pub fn refuses_input<T: AllocGlobal + Threads + Wait + Sync>(
+pub fn refuses_input<T: AllocGlobal + Threads + Wait + Abort + Sync>(
     rt: &T,
     line: &str,
     input: &str,
     word: &str,
 ) -> bool {
-    match run_line(rt, line, input) {
-        Some(answered) => is_refusal(&answered, word),
-        None => false,
+    is_refusal(&run(rt, line, None, input), word)
+}
+
+/// Ends the test where `ra` does not refuse one of the commands by its word, with status 2.
+pub fn assert_refuses<T: AllocGlobal + Threads + Wait + Abort + Sync>(rt: &T, cases: &[Refused]) {
+    for case in cases {
+        assert!(rt;
+            refuses_input(rt, case.words, case.input, case.word),
+            "{}: {}",
+            case.words,
+            case.input
+        );
     }
 }
 
-/// Returns whether `ra` refuses the command by its word, with status 2.
-pub fn refuses<T: AllocGlobal + Threads + Wait + Sync>(rt: &T, case: &Refused) -> bool {
-    refuses_input(rt, case.words, case.input, case.word)
-}
-
-/// Returns whether a fault is printed by this word.
-pub fn is_word<T: Display>(alloc: Global, fault: &T, word: &str) -> bool {
-    match fault.to_string(alloc) {
-        Ok(text) => text.as_str() == word,
+/// Returns whether a value prints as this text.
+fn prints_as(alloc: Global, value: &impl Display, text: &str) -> bool {
+    match value.to_string(alloc) {
+        Ok(printed) => printed.as_str() == text,
         Err(_) => false,
     }
 }
 
-/// Returns whether a slice is what is left of another behind so many bytes.
-pub fn is_left(left: &[u8], bytes: &[u8], taken: usize) -> bool {
-    match bytes.get(taken..) {
-        Some(rest) => left == rest,
-        None => false,
+/// Ends the test where one of these values does not print as the text beside it.
+pub fn assert_prints<R: Abort + AllocGlobal, T: Display>(rt: &R, rows: &[(T, &str)]) {
+    for row in rows {
+        assert!(rt; prints_as(rt.alloc(), &row.0, row.1), "{}", row.1);
     }
 }
 
-/// Returns whether a slice is the first so many bytes of another.
-pub fn is_front(front: &[u8], bytes: &[u8], many: usize) -> bool {
-    match bytes.get(..many) {
-        Some(first) => front == first,
-        None => false,
-    }
-}
+/// The faults of a reader.
+pub const FAULTS: [io::ErrorKind; 3] = [
+    io::ErrorKind::Interrupted,
+    io::ErrorKind::WouldBlock,
+    io::ErrorKind::BrokenPipe,
+];
+
+/// The faults of a writer, and that it takes nothing.
+pub const WRITER_FAULTS: [Option<io::ErrorKind>; 4] = [
+    Some(io::ErrorKind::Interrupted),
+    Some(io::ErrorKind::WouldBlock),
+    Some(io::ErrorKind::BrokenPipe),
+    None,
+];
 
 /// Returns whether the fault of a reader that fails once, behind so many of its bytes, is printed, and no byte is read after it.
-pub fn is_read_fault<T: AllocGlobal + Threads + Wait + Sync>(
+pub fn is_read_fault<T: AllocGlobal + Threads + Wait + Abort + Sync>(
     rt: &T,
-    words: &[String],
+    line: &str,
     bytes: &[u8],
     before_fault: usize,
     fault: io::ErrorKind,
@@ -303,112 +316,75 @@ pub fn is_read_fault<T: AllocGlobal + Threads + Wait + Sync>(
         before_fault: Some(before_fault),
         fault,
     };
-    let answered = run_on(rt, words, &mut reader);
-    is_answer(&answered, 1, "refused Read\n") && is_left(reader.bytes, bytes, before_fault)
+    let answered = run_on(rt, line, None, &mut reader);
+    is_answer(&answered, 1, "refused Read\n") && bytes.get(before_fault..) == Some(reader.bytes)
 }
 
-/// Returns whether it is so behind each of the bytes, and before the first. Each time a thread finds it out, since the command may
-/// be one that waits for threads.
-pub fn fails_at_each_byte<T: AllocGlobal + Threads + Wait + Abort + Sync>(
+/// Ends the test where it is not so of the first fault behind one of the bytes, or before the first.
+pub fn assert_fails_at_each_byte<T: AllocGlobal + Threads + Wait + Abort + Sync>(
     rt: &T,
     line: &str,
     bytes: &[u8],
-) -> bool {
-    let Some(words) = words_of(rt.alloc(), line) else {
-        return false;
-    };
-    let words = words.as_slice();
-    let fault = io::ErrorKind::Interrupted;
+) {
     for place in 0..=bytes.len() {
-        if !holds_in_a_thread(rt, || is_read_fault(rt, words, bytes, place, fault)) {
-            return false;
-        }
+        assert!(rt;
+            is_read_fault(rt, line, bytes, place, io::ErrorKind::Interrupted),
+            "{line}: behind {place} bytes"
+        );
     }
-    true
 }
 
 /// Returns whether `ra` answers this status where a writer fails once, or takes nothing once, behind so many bytes of what it
 /// prints, and whether the writer has those bytes and no more.
-fn leaves_a_front<T: AllocGlobal + Threads + Wait + Sync>(
+fn leaves_a_front<T: AllocGlobal + Threads + Wait + Abort + Sync>(
     rt: &T,
-    words: &[String],
+    line: &str,
     input: &str,
     printed: &[u8],
     before_fault: usize,
     fault: Option<io::ErrorKind>,
     status: u8,
 ) -> bool {
-    let alloc = rt.alloc();
     let mut reader = input.as_bytes();
     let mut writer = FailingWriter {
-        taken: Vec::new(alloc),
+        taken: Vec::new(rt.alloc()),
         before_fault: Some(before_fault),
         fault,
     };
-    let answered = serve(rt, alloc, words, &mut reader, &mut writer);
-    answered == status && is_front(writer.taken.as_slice(), printed, before_fault)
+    status_of(rt, line, None, &mut reader, &mut writer) == status
+        && printed.get(..before_fault) == Some(writer.taken.as_slice())
 }
 
-/// Returns whether this fault of a writer, behind any of these bytes but the last, is status 1 and leaves a front of them. Each
-/// time a thread finds it out, since the command may be one that waits for threads.
-fn fails_behind_each<T: AllocGlobal + Threads + Wait + Abort + Sync>(
-    rt: &T,
-    words: &[String],
-    input: &str,
-    printed: &[u8],
-    fault: Option<io::ErrorKind>,
-) -> bool {
-    for place in 0..printed.len() {
-        if !holds_in_a_thread(
-            rt,
-            || leaves_a_front(rt, words, input, printed, place, fault, 1),
-        ) {
-            return false;
-        }
-    }
-    true
-}
-
-/// Returns whether each fault of a writer, behind any of these bytes but the last, is status 1 and leaves a front of them.
-pub fn fails_in_fronts<T: AllocGlobal + Threads + Wait + Abort + Sync>(
+/// Ends the test where a fault of a writer, behind one of these bytes but the last, is not status 1 or does not leave a front of them.
+pub fn assert_fails_in_fronts<T: AllocGlobal + Threads + Wait + Abort + Sync>(
     rt: &T,
     line: &str,
     input: &str,
     printed: &str,
-) -> bool {
-    let Some(words) = words_of(rt.alloc(), line) else {
-        return false;
-    };
-    let words = words.as_slice();
+) {
     let printed = printed.as_bytes();
-    fails_behind_each(rt, words, input, printed, Some(io::ErrorKind::Interrupted))
-        && fails_behind_each(rt, words, input, printed, Some(io::ErrorKind::WouldBlock))
-        && fails_behind_each(rt, words, input, printed, Some(io::ErrorKind::BrokenPipe))
-        && fails_behind_each(rt, words, input, printed, None)
+    for fault in WRITER_FAULTS {
+        for place in 0..printed.len() {
+            assert!(rt;
+                leaves_a_front(rt, line, input, printed, place, fault, 1),
+                "{line}: behind {place} bytes"
+            );
+        }
+    }
 }
 
-/// Returns whether a writer that would fail behind the last byte that `ra` prints gets all, with this status.
-pub fn is_written<T: AllocGlobal + Threads + Wait + Sync>(
+/// Ends the test where a writer that would fail behind the last byte that `ra` prints does not get all, with this status.
+pub fn assert_written<T: AllocGlobal + Threads + Wait + Abort + Sync>(
     rt: &T,
     line: &str,
     input: &str,
     printed: &str,
     status: u8,
-) -> bool {
+) {
     let fault = Some(io::ErrorKind::BrokenPipe);
-    let place = printed.len();
-    match words_of(rt.alloc(), line) {
-        Some(words) => {
-            leaves_a_front(
-                rt,
-                words.as_slice(),
-                input,
-                printed.as_bytes(),
-                place,
-                fault,
-                status,
-            )
-        }
-        None => false,
-    }
+    let (bytes, place) = (printed.as_bytes(), printed.len());
+    assert!(rt;
+        leaves_a_front(rt, line, input, bytes, place, fault, status),
+        "{line}"
+    );
 }

@@ -1,6 +1,7 @@
 //! What `answer` refuses: lines that are no frame, frames for others and from strangers, and numbers of no node.
 use crate::frames::{ANSWER, FED_TWICE, FOLLOWED, REQUEST};
-use crate::helpers::{Refused, refuses, refuses_input, repeated};
+use crate::helpers::{Refused, assert_refuses, refuses_input, repeated};
+use std::process::Abort;
 use std::sync::Wait;
 use std::thread::Threads;
 
@@ -110,9 +111,7 @@ const REFUSALS: &[Refused] = &[
 
 #[test]
 fn each_refusal_is_printed_by_its_word(rt: HostRuntime) {
-    for case in REFUSALS {
-        assert!(rt; refuses(&rt, case), "{}", case.input);
-    }
+    assert_refuses(&rt, REFUSALS);
 }
 
 /// Inputs that are refused for two causes.
@@ -171,9 +170,7 @@ const TWO_CAUSES: &[Refused] = &[
 
 #[test]
 fn of_two_causes_the_first_is_named(rt: HostRuntime) {
-    for case in TWO_CAUSES {
-        assert!(rt; refuses(&rt, case), "{}", case.input);
-    }
+    assert_refuses(&rt, TWO_CAUSES);
 }
 
 /// Numbers of no node, with an input that is a frame and one that is none.
@@ -222,13 +219,11 @@ const NUMBERS: &[Refused] = &[
 
 #[test]
 fn the_numbers_of_the_command_are_checked_before_the_input(rt: HostRuntime) {
-    for case in NUMBERS {
-        assert!(rt; refuses(&rt, case), "{}", case.words);
-    }
+    assert_refuses(&rt, NUMBERS);
 }
 
 /// Returns whether 256 digits are refused by this word with a text behind them.
-fn refuses_digits<T: AllocGlobal + Threads + Wait + Sync>(
+fn refuses_digits<T: AllocGlobal + Threads + Wait + Abort + Sync>(
     rt: &T,
     behind: &str,
     word: &str,
@@ -239,20 +234,42 @@ fn refuses_digits<T: AllocGlobal + Threads + Wait + Sync>(
     }
 }
 
+/// Ends the test where they are not.
+fn assert_refuses_digits<T: AllocGlobal + Threads + Wait + Abort + Sync>(
+    rt: &T,
+    behind: &str,
+    word: &str,
+) {
+    assert!(rt; refuses_digits(rt, behind, word), "{behind}");
+}
+
 /// Returns whether 256 digits are refused with 256 more behind a line feed.
-fn refuses_two_lines<T: AllocGlobal + Threads + Wait + Sync>(rt: &T) -> bool {
+fn refuses_two_lines<T: AllocGlobal + Threads + Wait + Abort + Sync>(rt: &T) -> bool {
     match repeated(rt.alloc(), "\n", "0", 256, "") {
         Some(second) => refuses_digits(rt, second.as_str(), "Line"),
         None => false,
     }
 }
 
+/// Lines with something behind them.
+const FOLLOWED_LINES: &[Refused] = &[
+    Refused {
+        words: ANSWER,
+        input: FOLLOWED,
+        word: "Line",
+    },
+    Refused {
+        words: ANSWER,
+        input: FED_TWICE,
+        word: "Line",
+    },
+];
+
 #[test]
 fn a_line_has_at_most_256_bytes_and_nothing_behind_it(rt: HostRuntime) {
-    assert!(rt; refuses_digits(&rt, "", "Version") && refuses_digits(&rt, "\n", "Version"));
-    assert!(rt; refuses_digits(&rt, "0", "Line") && refuses_two_lines(&rt));
-    assert!(rt;
-        refuses_input(&rt, ANSWER, FOLLOWED, "Line")
-            && refuses_input(&rt, ANSWER, FED_TWICE, "Line")
-    );
+    assert_refuses_digits(&rt, "", "Version");
+    assert_refuses_digits(&rt, "\n", "Version");
+    assert_refuses_digits(&rt, "0", "Line");
+    assert!(rt; refuses_two_lines(&rt));
+    assert_refuses(&rt, FOLLOWED_LINES);
 }

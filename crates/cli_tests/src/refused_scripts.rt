@@ -1,53 +1,44 @@
 //! What `sim` refuses: texts that are no script, and words that are no simulation.
 use crate::helpers::{
-    FailingReader, Refused, has_status, is_refusal, is_word, refuses, refuses_input, repeated,
-    run_on, words_of,
+    FailingReader, Refused, assert_prints, assert_refuses, has_status, is_refusal, refuses_input,
+    repeated, run_on,
 };
 use crate::scripts::ONE_CLIENT;
-use crate::threads::holds_in_a_thread;
 use ra_schedule::DriveError;
 use ra_script::{ChoicesError, PerformError};
 use ra_trace::TraceError;
 use std::io;
+use std::process::Abort;
 use std::sync::Wait;
 use std::thread::Threads;
 
-/// Returns whether words are refused by this word where the first read would fail, and nothing is read.
-fn is_refused_unread<T: AllocGlobal + Threads + Wait + Sync>(
+/// Ends the test where the words of a line are not refused by this word where the first read would fail, or something is read.
+fn assert_refuses_unread<T: AllocGlobal + Threads + Wait + Abort + Sync>(
     rt: &T,
-    words: &[String],
+    line: &str,
     word: &str,
-) -> bool {
+) {
     let mut reader = FailingReader {
         bytes: ONE_CLIENT.as_bytes(),
         before_fault: Some(0),
         fault: io::ErrorKind::BrokenPipe,
     };
-    let answered = run_on(rt, words, &mut reader);
-    is_refusal(&answered, word)
-        && reader.bytes == ONE_CLIENT.as_bytes()
-        && matches!(reader.before_fault, Some(0))
-}
-
-/// Returns whether it is so for the words of a line.
-fn refuses_unread<T: AllocGlobal + Threads + Wait + Sync>(rt: &T, line: &str, word: &str) -> bool {
-    match words_of(rt.alloc(), line) {
-        Some(words) => is_refused_unread(rt, words.as_slice(), word),
-        None => false,
-    }
+    let is_refused = is_refusal(&run_on(rt, line, None, &mut reader), word);
+    let is_unread = reader.bytes == ONE_CLIENT.as_bytes() && matches!(reader.before_fault, Some(0));
+    assert!(rt; is_refused && is_unread, "{line}");
 }
 
 #[test]
 fn words_and_choices_are_refused_before_anything_is_read(rt: HostRuntime) {
-    assert!(rt; refuses_unread(&rt, "ra sim --choices q1", "Choice"));
-    assert!(rt; refuses_unread(&rt, "ra sim --policy latest", "Usage"));
-    assert!(rt; refuses_unread(&rt, "ra sim --seed x", "Usage"));
+    assert_refuses_unread(&rt, "ra sim --choices q1", "Choice");
+    assert_refuses_unread(&rt, "ra sim --policy latest", "Usage");
+    assert_refuses_unread(&rt, "ra sim --seed x", "Usage");
 }
 
 /// Returns whether after 65,537 of these bytes the reader is not asked again, and the text is refused.
-fn is_too_long<T: AllocGlobal + Threads + Wait + Sync>(
+fn is_too_long<T: AllocGlobal + Threads + Wait + Abort + Sync>(
     rt: &T,
-    words: &[String],
+    line: &str,
     bytes: &[u8],
 ) -> bool {
     let mut reader = FailingReader {
@@ -55,28 +46,30 @@ fn is_too_long<T: AllocGlobal + Threads + Wait + Sync>(
         before_fault: Some(65_537),
         fault: io::ErrorKind::BrokenPipe,
     };
-    let answered = run_on(rt, words, &mut reader);
+    let answered = run_on(rt, line, None, &mut reader);
     is_refusal(&answered, "Limit") && reader.bytes.len() == 3
 }
 
 /// Returns whether it is so for 65,540 spaces and the words of a line.
-fn stops_at_the_limit<T: AllocGlobal + Threads + Wait + Sync>(rt: &T, line: &str) -> bool {
-    let alloc = rt.alloc();
-    match (words_of(alloc, line), repeated(alloc, "", " ", 65_540, "")) {
-        (Some(words), Some(spaces)) => is_too_long(rt, words.as_slice(), spaces.as_bytes()),
-        _ => false,
+fn stops_at_the_limit<T: AllocGlobal + Threads + Wait + Abort + Sync>(rt: &T, line: &str) -> bool {
+    match repeated(rt.alloc(), "", " ", 65_540, "") {
+        Some(spaces) => is_too_long(rt, line, spaces.as_bytes()),
+        None => false,
     }
 }
 
+/// The words of commands that read a script.
+const READERS: &[&str] = &["ra sim", "ra sim --trace", "ra cluster"];
+
 #[test]
 fn a_text_that_is_too_long_is_refused_before_a_fault_behind_it(rt: HostRuntime) {
-    assert!(rt; stops_at_the_limit(&rt, "ra sim"));
-    assert!(rt; stops_at_the_limit(&rt, "ra sim --trace"));
-    assert!(rt; holds_in_a_thread(&rt, || stops_at_the_limit(&rt, "ra cluster")));
+    for line in READERS {
+        assert!(rt; stops_at_the_limit(&rt, line), "{line}");
+    }
 }
 
 /// Returns whether `ra sim` refuses a text by `Limit` that is a piece so many times, with what stands before and behind.
-fn refuses_repeated<T: AllocGlobal + Threads + Wait + Sync>(
+fn refuses_repeated<T: AllocGlobal + Threads + Wait + Abort + Sync>(
     rt: &T,
     before: &str,
     piece: &str,
@@ -141,9 +134,7 @@ const NO_SCRIPTS: &[Refused] = &[
 #[test]
 fn a_script_is_refused_by_one_word(rt: HostRuntime) {
     assert!(rt; refuses_repeated(&rt, "", " ", 65_537, ""));
-    for case in NO_SCRIPTS {
-        assert!(rt; refuses(&rt, case), "{}", case.input);
-    }
+    assert_refuses(&rt, NO_SCRIPTS);
 }
 
 /// How a script of one client begins.
@@ -153,7 +144,7 @@ const BEFORE: &str = "nodes = 1\nclient = [{ node = 1, ops = [";
 const TWICE: &str = "\"X r\", \"U r\", ";
 
 /// Returns whether 1,024 operations are done.
-fn does_most<T: AllocGlobal + Threads + Wait + Sync>(rt: &T) -> bool {
+fn does_most<T: AllocGlobal + Threads + Wait + Abort + Sync>(rt: &T) -> bool {
     match repeated(rt.alloc(), BEFORE, TWICE, 512, "] }]") {
         Some(script) => has_status(rt, "ra sim", script.as_str(), 0),
         None => false,
@@ -236,18 +227,25 @@ const NO_SIMULATIONS: &[Refused] = &[
 
 #[test]
 fn words_that_are_no_simulation_are_refused(rt: HostRuntime) {
-    for case in NO_SIMULATIONS {
-        assert!(rt; refuses(&rt, case), "{}", case.words);
-    }
+    assert_refuses(&rt, NO_SIMULATIONS);
 }
+
+/// Why a script is not performed, and the word of it.
+const PERFORM_ERRORS: &[(PerformError, &str)] = &[
+    (PerformError::Drive(DriveError::TurnLimit), "TurnLimit"),
+    (PerformError::Memory, "Memory"),
+];
+
+/// Why choices are not read, and the word of it.
+const CHOICES_ERRORS: &[(ChoicesError, &str)] = &[(ChoicesError::Memory, "Memory")];
+
+/// Why a trace is not checked, and the word of it.
+const TRACE_ERRORS: &[(TraceError, &str)] = &[(TraceError::Memory, "Memory")];
 
 /// No script here has as many turns as there may be, and memory is there, so that only the words are shown.
 #[test]
 fn refusals_that_no_script_meets_are_printed_by_their_words(rt: HostRuntime) {
-    let alloc = rt.alloc();
-    let limit = PerformError::Drive(DriveError::TurnLimit);
-    assert!(rt; is_word(alloc, &limit, "TurnLimit"));
-    assert!(rt; is_word(alloc, &PerformError::Memory, "Memory"));
-    assert!(rt; is_word(alloc, &ChoicesError::Memory, "Memory"));
-    assert!(rt; is_word(alloc, &TraceError::Memory, "Memory"));
+    assert_prints(&rt, PERFORM_ERRORS);
+    assert_prints(&rt, CHOICES_ERRORS);
+    assert_prints(&rt, TRACE_ERRORS);
 }

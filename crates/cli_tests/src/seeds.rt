@@ -1,7 +1,7 @@
 //! The policy `seeded`.
-use crate::helpers::{Answered, has_status, run, run_line, words_with};
+use crate::helpers::{Answered, has_status, run};
 use crate::scripts::{A_WRITER, TWO_CLIENTS};
-use std::alloc::Global;
+use std::process::Abort;
 use std::sync::Wait;
 use std::thread::Threads;
 
@@ -17,42 +17,43 @@ fn are_the_same(one: &Answered, other: &Answered) -> bool {
     one.status == other.status && one.output.as_slice() == other.output.as_slice()
 }
 
-/// Returns the words of a run by a seed.
-fn seeded(alloc: Global, seed: u64) -> Option<Vec<String>> {
-    let seed = seed.to_string(alloc).ok()?;
-    words_with(alloc, "ra sim --policy seeded --seed", seed.as_str())
-}
-
-/// Returns whether by these words, twice, the same is printed of a script, with this end and status 0.
-fn leads_to<T: AllocGlobal + Threads + Wait + Sync>(
+/// Returns whether by the words of a line, twice, the same is printed of a script, with this end and status 0.
+fn leads_to<T: AllocGlobal + Threads + Wait + Abort + Sync>(
     rt: &T,
-    words: &[String],
+    line: &str,
     script: &str,
     end: &str,
 ) -> bool {
-    let one = run(rt, words, script);
-    let other = run(rt, words, script);
+    let one = run(rt, line, None, script);
+    let other = run(rt, line, None, script);
     one.status == 0 && one.output.ends_with(end.as_bytes()) && are_the_same(&one, &other)
 }
 
-/// Returns whether it is so by each seed below 100.
-fn each_leads_to<T: AllocGlobal + Threads + Wait + Sync>(rt: &T, script: &str, end: &str) -> bool {
-    for seed in 0..100 {
-        let is_led = match seeded(rt.alloc(), seed) {
-            Some(words) => leads_to(rt, words.as_slice(), script, end),
-            None => false,
-        };
-        if !is_led {
-            return false;
-        }
+/// Returns whether it is so by a seed.
+fn seed_leads_to<T: AllocGlobal + Threads + Wait + Abort + Sync>(
+    rt: &T,
+    seed: u64,
+    script: &str,
+    end: &str,
+) -> bool {
+    match format!(in rt.alloc(); "ra sim --policy seeded --seed {seed}") {
+        Ok(line) => leads_to(rt, line.as_str(), script, end),
+        Err(_) => false,
     }
-    true
 }
 
 #[test]
 fn each_seed_leads_to_the_end(rt: HostRuntime) {
-    assert!(rt; each_leads_to(&rt, TWO_CLIENTS, TWO_CLIENTS_TOTALS));
-    assert!(rt; each_leads_to(&rt, A_WRITER, A_WRITER_TOTALS));
+    for seed in 0..100u64 {
+        assert!(rt;
+            seed_leads_to(&rt, seed, TWO_CLIENTS, TWO_CLIENTS_TOTALS),
+            "seed {seed}"
+        );
+        assert!(rt;
+            seed_leads_to(&rt, seed, A_WRITER, A_WRITER_TOTALS),
+            "seed {seed}"
+        );
+    }
 }
 
 /// Two lines of words, and whether they print the same of a script, with the same status.
@@ -63,13 +64,16 @@ struct Pair {
 }
 
 /// Returns whether it is so of the script of the writer and the readers.
-fn is_so<T: AllocGlobal + Threads + Wait + Sync>(rt: &T, pair: &Pair) -> bool {
-    match (
-        run_line(rt, pair.one, A_WRITER),
-        run_line(rt, pair.other, A_WRITER),
-    ) {
-        (Some(one), Some(other)) => are_the_same(&one, &other) == pair.same,
-        _ => false,
+fn is_so<T: AllocGlobal + Threads + Wait + Abort + Sync>(rt: &T, pair: &Pair) -> bool {
+    let one = run(rt, pair.one, None, A_WRITER);
+    let other = run(rt, pair.other, None, A_WRITER);
+    are_the_same(&one, &other) == pair.same
+}
+
+/// Ends the test where it is not so of one of the pairs.
+fn assert_so<T: AllocGlobal + Threads + Wait + Abort + Sync>(rt: &T, pairs: &[Pair]) {
+    for pair in pairs {
+        assert!(rt; is_so(rt, pair), "{}", pair.other);
     }
 }
 
@@ -99,9 +103,7 @@ const SEEDS: &[Pair] = &[
 
 #[test]
 fn the_seed_is_0_where_there_is_none(rt: HostRuntime) {
-    for pair in SEEDS {
-        assert!(rt; is_so(&rt, pair), "{}", pair.other);
-    }
+    assert_so(&rt, SEEDS);
 }
 
 #[test]
@@ -137,7 +139,5 @@ const POLICIES: &[Pair] = &[
 /// A policy that draws no words does not look at the seed.
 #[test]
 fn another_policy_has_no_seed(rt: HostRuntime) {
-    for pair in POLICIES {
-        assert!(rt; is_so(&rt, pair), "{}", pair.other);
-    }
+    assert_so(&rt, POLICIES);
 }

@@ -1,5 +1,5 @@
 //! The command `sim` by policies that choose by themselves, and its help.
-use crate::helpers::{Case, meets, prints};
+use crate::helpers::{Case, assert_answers, assert_meets};
 use crate::scripts::{
     A_DEADLOCK, A_KEEPER, A_QUEUE, A_QUEUE_PRINTED, A_WRITER, ALONE, ALONE_PRINTED, APART,
     ONE_CLIENT, ONE_CLIENT_PRINTED, ONE_ORDER, SIXTEEN_NODES, SIXTEEN_NODES_PRINTED, TWO_CLIENTS,
@@ -229,9 +229,7 @@ const SCRIPTS: &[Case] = &[
 
 #[test]
 fn scripts_print_their_marks_and_totals(rt: HostRuntime) {
-    for case in SCRIPTS {
-        assert!(rt; meets(&rt, case), "{}", case.shows);
-    }
+    assert_meets(&rt, SCRIPTS);
 }
 
 /// What the two clients that lock two names in one order print.
@@ -257,7 +255,7 @@ queued 0
 
 #[test]
 fn names_that_are_locked_in_one_order_are_held_in_turn(rt: HostRuntime) {
-    assert!(rt; prints(&rt, "ra sim", ONE_ORDER, 0, ONE_ORDER_PRINTED));
+    assert_answers(&rt, "ra sim", ONE_ORDER, 0, ONE_ORDER_PRINTED);
 }
 
 const HELP: &str =
@@ -295,5 +293,5 @@ Status 2: the words or the script are refused. Status 1: the input or the output
 
 #[test]
 fn help_on_sim_prints_a_script(rt: HostRuntime) {
-    assert!(rt; prints(&rt, "ra sim --help", "", 0, HELP));
+    assert_answers(&rt, "ra sim --help", "", 0, HELP);
 }

@@ -1,4 +1,4 @@
-//! What a thread finds out of a command that may wait for threads, so that a test fails where the command does not end.
+//! What a thread does with a command that may wait for threads, so that a test fails where the command does not end.
 use std::process::Abort;
 use std::sync::atomic::{AtomicU64, Ordering};
 use std::thread;
@@ -18,24 +18,24 @@ fn comes_to_an_end(ends: &AtomicU64) -> bool {
     false
 }
 
-/// Returns whether this holds, which a thread finds out. Where the thread does not end, or none can be started, the test ends after
-/// many looks.
-pub fn holds_in_a_thread<R: Threads + Abort, F: FnOnce() -> bool + Send>(rt: &R, holds: F) -> bool
-    requires { F.pre holds }
+/// Returns what this gives, which a thread of its own does. Where the thread does not end, or none can be started, the test ends
+/// after many looks.
+pub fn in_a_thread<R: Threads + Abort, T: Send, F: FnOnce() -> T + Send>(rt: &R, does: F) -> T
+    requires { F.pre does }
 {
     let ends = AtomicU64::new(0);
     let ends = &ends;
-    let (is_so, ()) = thread::join(
+    let (given, ()) = thread::join(
         rt,
-        move || -> bool
-            requires { F.pre holds }
+        move || -> T
+            requires { F.pre does }
         {
-            let is_so = holds();
+            let given = does();
             ends.fetch_add(1, Ordering::SeqCst);
-            is_so
+            given
         },
         // Without it `join` would wait for ever for a thread that does not end.
         move || assert!(rt; comes_to_an_end(ends), "the command ends"),
     );
-    is_so
+    given
 }
