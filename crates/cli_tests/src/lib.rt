@@ -14,6 +14,8 @@ mod commands;
 #[cfg(test)]
 mod frames;
 #[cfg(test)]
+mod growth;
+#[cfg(test)]
 mod helpers;
 #[cfg(test)]
 mod refused_frames;

@@ -21,7 +21,7 @@ pub const ASKS: [u8; 23] = [
 ];
 
 /// The REPLY to it, at clock 2.
-const REPLIES: [u8; 23] = [
+pub const REPLIES: [u8; 23] = [
     1, 2, 2, 1, 0, 0, 0, 0, 0, 0, 0, 0, 1, 0, 0, 0, 0, 0, 0, 0, 2, 1, b'r',
 ];
 
@@ -220,7 +220,8 @@ fn loses(book: &mut Book, name: Name, clock: u64, refusal: Option<MarkLostError>
     }
 }
 
-fn has(book: &Book, events: u64, sent: u64, clock: u64) -> bool {
+/// Returns whether a book has so many events and sent frames, and this clock.
+pub fn has(book: &Book, events: u64, sent: u64, clock: u64) -> bool {
     book.events().len() == events && book.sent_len() == sent && book.clock() == clock
 }
 

@@ -11,6 +11,8 @@ mod endings;
 #[cfg(test)]
 mod gates;
 #[cfg(test)]
+mod growth;
+#[cfg(test)]
 mod helpers;
 #[cfg(test)]
 mod histories;

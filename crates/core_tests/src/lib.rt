@@ -8,6 +8,8 @@ mod changed_frames;
 #[cfg(test)]
 mod frames;
 #[cfg(test)]
+mod growth;
+#[cfg(test)]
 mod helpers;
 #[cfg(test)]
 mod numbers;

@@ -4,6 +4,8 @@
 #[cfg(test)]
 mod bags;
 #[cfg(test)]
+mod growth;
+#[cfg(test)]
 mod helpers;
 #[cfg(test)]
 mod names;

@@ -1,5 +1,5 @@
 -- What comes of a script that threads run, told of the input.
-use Rattle.std.proofs.Common.{◌≡◌, ◌↔◌, ℕ, List, Option, Some, None, Ok, Err, Result, refl}
+use Rattle.std.proofs.Common.{◌≡◌, ◌↔◌, ℕ, ◌*◌, ◌-◌, List, Option, Some, None, Ok, Err, Result, refl}
 use Rattle.std.specs.Prelude.{IfSome, IsErrOf}
 use Rattle.std.specs.Io.KnownBytes.{Consumes, Appends}
 use Rattle.ra_world.specs.declared.report.Report.{Report}
@@ -12,7 +12,7 @@ use Rattle.ra_script.specs.ScriptText.{script_of}
 use Rattle.ra_cluster.specs.declared.cluster.ClusterError.{ClusterError}
 use Rattle.ra_cluster.specs.declared.cluster.ClusterError.TheVariants as cluster
 use Rattle.ra_cluster.specs.Order.{IsOutOfOrder, IsUnreleased}
-use Rattle.ra_cluster.specs.Plan.{MeetsPlan, IsQuietEnd}
+use Rattle.ra_cluster.specs.Plan.{MeetsPlan, IsQuietEnd, locks_of}
 use Rattle.ra_cli.specs.ClusterRun.{IsClusterRun, RunsCluster, RefusesRun, MayRun, of_cluster}
 
 -- a fact on the known bytes leads to another one
@@ -20,35 +20,42 @@ pub of_known : (old : Option (List ℕ)) (P Q : List ℕ → Type 0) → ((input
 of_known None P Q f h = tt
 of_known (Some input) P Q f h = f input h
 
--- the report is that of a run of the script's nodes
-abbrev pub HasRun : ScriptState → Report → Type 0
-HasRun script report = (moves : List Move) × IsRun script.nodes 0 moves × Reports script.nodes 0 moves report
+-- what `run_cluster` says of a report
+pub record Brings (script : ScriptState) (report : Report) : Type 0 where
+  pub run : (moves : List Move) × IsRun script.nodes 0 moves × Reports script.nodes 0 moves report
+  pub plan : MeetsPlan script report.marks.items
+  pub ended : IsQuietEnd report
+  pub none_waits : report.waiting ≡ 0
+  pub requests : report.requests ≡ locks_of script
+  pub count : report.sent ≡ 2 * (script.nodes - 1) * locks_of script
 
 -- the lines of a report on the script of a text
-pub runs : (text : List ℕ) (script : ScriptState) (report : Report) → script_of text ≡ Ok script → HasRun script report → MeetsPlan script report.marks.items
-    → IsQuietEnd report → IsClusterRun text (report_text report)
-runs text script report is (moves, run, reports) plan ended =
+pub runs : (text : List ℕ) (script : ScriptState) (report : Report) → script_of text ≡ Ok script → Brings script report
+    → IsClusterRun text (report_text report)
+runs text script report is brings =
     record {
       script = script;
       script_is = is;
-      moves = moves;
-      run = run;
+      moves = brings.run.0;
+      run = brings.run.1;
       report = report;
-      reports = reports;
-      plan = plan;
-      ended = ended;
+      reports = brings.run.2;
+      plan = brings.plan;
+      ended = brings.ended;
+      none_waits = brings.none_waits;
+      requests = brings.requests;
+      count = brings.count;
       output_is = refl;
     }
 
 pub runs_cluster : (old new before after : Option (List ℕ)) (script : ScriptState) (report : Report)
     → IfSome old (λ input. (script_of input ≡ Ok script) × Consumes old new input) → (text : List ℕ) × (script_of text ≡ Ok script)
-    → HasRun script report → MeetsPlan script report.marks.items → IsQuietEnd report → Appends before after (report_text report)
-    → RunsCluster old new before after
-runs_cluster old new before after script report known some ran plan ended appends = (
+    → Brings script report → Appends before after (report_text report) → RunsCluster old new before after
+runs_cluster old new before after script report known some brings appends = (
   of_known old (λ input. (script_of input ≡ Ok script) × Consumes old new input)
       (λ input. (output : List ℕ) × IsClusterRun input output × Consumes old new input × Appends before after output)
-      (λ input h. (report_text report, runs input script report h.0 ran plan ended, h.1, appends)) known,
-  (some.0, report_text report, runs some.0 script report some.1 ran plan ended, appends),
+      (λ input h. (report_text report, runs input script report h.0 brings, h.1, appends)) known,
+  (some.0, report_text report, runs some.0 script report some.1 brings, appends),
 )
 
 -- a refusal that is none of the two first

@@ -1,5 +1,5 @@
 -- What `ra cluster` does.
-use Rattle.std.specs.Prelude.{◌≡◌, ◌≢◌, ℕ, List, Option, IfSome, Ok, Err}
+use Rattle.std.specs.Prelude.{◌≡◌, ◌≢◌, ℕ, ◌*◌, ◌-◌, List, Option, IfSome, Ok, Err}
 use Rattle.std.specs.Io.KnownBytes.{Consumes, Appends}
 use Rattle.ra_world.specs.declared.error.ReadFault.{ReadFault}
 use Rattle.ra_world.specs.declared.error.ReadFault.TheVariants as read
@@ -15,12 +15,13 @@ use Rattle.ra_script.specs.ScriptText.{script_of}
 use Rattle.ra_cluster.specs.declared.cluster.ClusterError.{ClusterError}
 use Rattle.ra_cluster.specs.declared.cluster.ClusterError.TheVariants as cluster
 use Rattle.ra_cluster.specs.Order.{IsOutOfOrder, IsUnreleased}
-use Rattle.ra_cluster.specs.Plan.{MeetsPlan, IsQuietEnd}
+use Rattle.ra_cluster.specs.Plan.{MeetsPlan, IsQuietEnd, locks_of}
 use Rattle.ra_cli.specs.declared.error.RunScriptError.{RunScriptError}
 use Rattle.ra_cli.specs.declared.error.RunScriptError.TheVariants as fault
 
 -- The input is the text of a script, and the output is the lines of the report of a run of its nodes, from numbers that begin at
--- 0: the marks of each client are those of its operations, in order, and nobody is queued and no message is lost or under way.
+-- 0: the marks of each client are those of its operations, in order, nobody waits or is queued, no message is lost or under way,
+-- each lock of the script was requested, and two messages to or from each other node were sent for each.
 pub record IsClusterRun (input output : List ℕ) : Type 0 where
   pub script : ScriptState
   pub script_is : script_of input ≡ Ok script
@@ -30,6 +31,9 @@ pub record IsClusterRun (input output : List ℕ) : Type 0 where
   pub reports : Reports script.nodes 0 moves report
   pub plan : MeetsPlan script report.marks.items
   pub ended : IsQuietEnd report
+  pub none_waits : report.waiting ≡ 0
+  pub requests : report.requests ≡ locks_of script
+  pub count : report.sent ≡ 2 * (script.nodes - 1) * locks_of script
   pub output_is : output ≡ report_text report
 
 -- What was to be read, where it is known, is a script that a cluster of threads brought to its end; it was read to its end, and

@@ -1,4 +1,4 @@
-ghost use Rattle.std.specs.Prelude.{◌≡◌, ◌≢◌, ◌≤◌, ◌⊎◌, List, ℕ, ◌∷◌, [], ◌++◌, length, Ok, Some, All, OnOk, IfOk, IfErr, OnErr, IfSome, IsErrOf};
+ghost use Rattle.std.specs.Prelude.{◌≡◌, ◌≢◌, ◌<◌, ◌≤◌, ◌⊎◌, List, ℕ, ◌∷◌, [], ◌++◌, length, Ok, Some, All, OnOk, IfOk, IfErr, OnErr, IfSome, IsErrOf};
 ghost use Rattle.std.specs.Io.KnownBytes.{Consumes, Appends};
 ghost use Rattle.hex.specs.Hex.{decode_of, encode_lower};
 ghost use Rattle.ra_frame.specs.Fits.{Fits};
@@ -73,6 +73,7 @@ fn frame_in(alloc: Global, input: &[u8]) -> Result<Frame, AnswerError>
     ensures err { IfErr result (λ fault.
         (node nodes : ℕ) → IsMember node nodes → Refuses node nodes input.now fault) }
     ensures early { IfErr result (λ fault. fault ≢ AnswerError.Write) }
+    ensures unread { IsErrOf result AnswerError.Read → ⊥ }
 {
     let Some(digits) = line_of(input) else {
         return Err(AnswerError::Line);
@@ -157,6 +158,7 @@ fn answer_to(alloc: Global, me: NodeId, nodes: u16, input: &[u8]) -> Result<Vec<
     ensures ok { IfOk result (λ output. IsAnswered me nodes input.now output.items) }
     ensures err { IfErr result (Refuses me nodes input.now) }
     ensures early { IfErr result (λ fault. fault ≢ AnswerError.Write) }
+    ensures unread { IsErrOf result AnswerError.Read → ⊥ }
 {
     let frame = frame_in(alloc, input)?;
     let reaction = reaction_to(alloc, me, nodes, &frame.message)?;
@@ -214,6 +216,9 @@ pub fn answer<R: Read, W: Write>(
         (front : List ℕ) × (back : List ℕ) × IsAnswered node nodes input (front ++ back) × (back ≢ [])
         × Appends (W.contents writer.old) (W.contents writer.new) front) }
 
+    // A fault of the reader comes only before it gave all that may be taken.
+    ensures failed { IsErrOf result AnswerError.Read → (taken : List ℕ) × (length taken < 258)
+        × Consumes (R.remaining reader.old) (R.remaining reader.new) taken }
     ensures at_most { (taken : List ℕ) × (length taken ≤ 258)
         × Consumes (R.remaining reader.old) (R.remaining reader.new) taken }
 {

@@ -1,5 +1,5 @@
 //! A script that threads run, from its text to the lines of the report.
-ghost use Rattle.std.specs.Prelude.{◌≡◌, ◌≢◌, ◌≤◌, ◌⊎◌, ◌++◌, List, ℕ, [], Ok, length, IfOk, IfErr, OnOk, IfSome, IsErrOf, string_bytes};
+ghost use Rattle.std.specs.Prelude.{◌≡◌, ◌≢◌, ◌<◌, ◌≤◌, ◌⊎◌, ◌++◌, List, ℕ, [], Ok, length, IfOk, IfErr, OnOk, IfSome, IsErrOf, string_bytes};
 ghost use Rattle.std.specs.Io.KnownBytes.{Consumes, Appends};
 ghost use Rattle.ra_world.specs.Lines as lines;
 ghost use Rattle.ra_script.specs.ScriptText.{script_of};
@@ -31,6 +31,8 @@ fn script_from<R: Read>(alloc: Global, reader: &mut R) -> Result<Script, RunScri
     ensures refused { IfErr result (λ fault.
         IfSome (R.remaining reader.old) (λ input. RefusesRun input fault)) }
     ensures early { IfErr result (λ fault. fault ≢ RunScriptError.Write) }
+    ensures failed { IsErrOf result RunScriptError.Read → (taken : List ℕ) × (length taken < 65537)
+        × Consumes (R.remaining reader.old) (R.remaining reader.new) taken }
     ensures at_most { (taken : List ℕ) × (length taken ≤ 65537)
         × Consumes (R.remaining reader.old) (R.remaining reader.new) taken }
 {
@@ -92,6 +94,9 @@ pub fn run_script<T: Threads + Wait + Sync, R: Read, W: Write>(
     ensures front { IsErrOf result RunScriptError.Write → IfSome (R.remaining reader.old) (λ input.
         (front back : List ℕ) × IsClusterRun input (front ++ back) × (back ≢ [])
         × Appends (W.contents writer.old) (W.contents writer.new) front) }
+    // A fault of the reader comes only before it gave all that may be taken.
+    ensures failed { IsErrOf result RunScriptError.Read → (taken : List ℕ) × (length taken < 65537)
+        × Consumes (R.remaining reader.old) (R.remaining reader.new) taken }
     ensures at_most { (taken : List ℕ) × (length taken ≤ 65537)
         × Consumes (R.remaining reader.old) (R.remaining reader.new) taken }
 {

@@ -1,6 +1,7 @@
 -- What is said of a script that was brought to its end.
-use Rattle.std.proofs.Common.{◌≡◌, ◌↔◌, ℕ, ◌*◌, ◌-◌, List, length, map, Some, None, Result, Ok, Err, All, refl, sym, ap, ◌∙◌, subst}
-use Rattle.std.specs.Prelude.{IfOk, IsErrAnd, IsErrOf, MatchResult}
+use Rattle.std.proofs.Common.{◌≡◌, ◌≢◌, ◌⊎◌, ◌↔◌, Bool, false, ℕ, ◌*◌, ◌-◌, List, length, map, Some, None, Result, Ok, Err, All, refl, sym, ap, ◌∙◌, subst, inl, inr}
+use Rattle.std.specs.Prelude.{AllPairs, IfOk, IfErr, IsErrAnd, IsErrOf, IsTrue, MatchResult}
+use Rattle.std.specs.List.{Any}
 use Rattle.ra_schedule.specs.Script.{ScriptState}
 use Rattle.ra_world.specs.declared.report.Report.{Report}
 use Rattle.ra_world.specs.Traffic.{Move}
@@ -9,13 +10,17 @@ use Rattle.ra_world.specs.World.{Reports}
 use Rattle.ra_world.specs.MainTheorem.{MainTheorem}
 use Rattle.ra_cluster.specs.declared.cluster.ClusterError.{ClusterError}
 use Rattle.ra_cluster.specs.declared.cluster.ClusterError.TheVariants.{OutOfOrder, Unreleased, Fault, Settle, PlanUnmet, Lost, UnderWay, Memory}
+use Rattle.ra_cluster.specs.declared.error.SettleError.{SettleError}
+use Rattle.ra_cluster.specs.declared.error.SettleError.TheVariants as settling
+use Rattle.ra_cluster.specs.declared.grant.Grant.{Grant}
 use Rattle.ra_cluster.specs.declared.settled.Settled.{Settled}
 use Rattle.ra_cluster.specs.declared.stop.Stop.{Stop}
 use Rattle.ra_cluster.specs.Book.{BookState}
 use Rattle.ra_cluster.specs.Plan.{MeetsPlan, IsQuietEnd, locks_of}
-use Rattle.ra_cluster.specs.Settled.{IsCluster, IsSettledRun, start_of}
-use Rattle.ra_cluster.specs.Outcome.{first_fault, IsDone, IsOfThreads, IsOfSettling, RefusesReport}
-use Rattle.ra_cluster.proofs.SettledReport.{run_from_zero}
+use Rattle.ra_cluster.specs.Settled.{IsSettledOrder, IsSettledRun, Placed, IsGranted, BooksFit, HasUnsent, HasTwice, Repeats, settled_steps, start_of}
+use Rattle.ra_cluster.specs.Outcome.{first_fault, AreOf, AreSound, IsOutcome, IsDone, IsOfThreads, RefusesReport, RefusesSound}
+use Rattle.ra_cluster.proofs.Causes.{not_all, not_apart}
+use Rattle.ra_cluster.proofs.SettledReport.{from_zero}
 use Rattle.ra_cluster.proofs.LockCounts.{waits_for_none, requests_are_locks, messages_are}
 
 -- ---- Refusals
@@ -26,38 +31,85 @@ pub refused : {T : Type 0} (P : T → Type 0) (Q : ClusterError → Type 0) (e :
 refused P Q e why (Ok v) is = absurd is
 refused P Q e why (Err x) is = subst Q (sym is) why
 
-pub settle_is : IsOfSettling Settle
-settle_is = ((λ is. absurd (cc), λ is. absurd (cc)), λ stop is. absurd (cc))
+pub memory_is : IsOfThreads Memory
+memory_is = (λ is. absurd (cc), λ is. absurd (cc))
 
-pub memory_is : IsOfSettling Memory
-memory_is = ((λ is. absurd (cc), λ is. absurd (cc)), λ stop is. absurd (cc))
+-- what is true and not
+pub never : {b : Bool} → IsTrue b → b ≡ false → ⊥
+never is not = absurd (cc)
 
--- a report is not refused for what the script, the books or memory say
-pub report_is : (script : ScriptState) (report : Report) (e : ClusterError) → RefusesReport script report e → IsOfSettling e
-report_is script report OutOfOrder why = absurd why
-report_is script report Unreleased why = absurd why
-report_is script report (Fault stop) why = absurd why
-report_is script report Settle why = absurd why
-report_is script report PlanUnmet why = ((λ is. absurd (cc), λ is. absurd (cc)), λ stop is. absurd (cc))
-report_is script report Lost why = ((λ is. absurd (cc), λ is. absurd (cc)), λ stop is. absurd (cc))
-report_is script report UnderWay why = ((λ is. absurd (cc), λ is. absurd (cc)), λ stop is. absurd (cc))
-report_is script report Memory why = absurd why
+module _ (script : ScriptState) (books : List BookState) (grants : List Grant) where
+  -- books that settling refuses do not fit together, or not with what was granted
+  unsound : (e : SettleError) → e ≢ settling.Memory → (IsErrOf {T = Settled} (Err e) settling.NotSent → HasUnsent books)
+      → (IsErrOf {T = Settled} (Err e) settling.Twice → HasTwice books × (HasUnsent books → ⊥))
+      → (IsErrOf {T = Settled} (Err e) settling.GrantMissing → BooksFit books × Any (λ g. IsGranted books g.entry → ⊥) grants)
+      → (IsErrOf {T = Settled} (Err e) settling.GrantTwice → BooksFit books × Repeats grants × All (λ g. IsGranted books g.entry) grants)
+      → AreSound books grants → ⊥
+  unsound settling.NotSent apart unsent twice missing again sound = sound.fit.0 (unsent refl)
+  unsound settling.Twice apart unsent twice missing again sound = sound.fit.1 (twice refl).0
+  unsound settling.GrantMissing apart unsent twice missing again sound =
+      not_all (λ (g : Grant). IsGranted books g.entry) grants (missing refl).1 sound.granted
+  unsound settling.GrantTwice apart unsent twice missing again sound = not_apart grants (again refl).1 sound.once
+  unsound settling.Memory apart unsent twice missing again sound = apart refl
+
+  pub unsettled : (e : SettleError) (fault : ClusterError) → AreOf script books
+      → ((fault ≡ Memory) × (e ≡ settling.Memory)) ⊎ ((fault ≡ Settle) × (e ≢ settling.Memory))
+      → (IsErrOf {T = Settled} (Err e) settling.NotSent → HasUnsent books)
+      → (IsErrOf {T = Settled} (Err e) settling.Twice → HasTwice books × (HasUnsent books → ⊥))
+      → (IsErrOf {T = Settled} (Err e) settling.GrantMissing → BooksFit books × Any (λ g. IsGranted books g.entry → ⊥) grants)
+      → (IsErrOf {T = Settled} (Err e) settling.GrantTwice → BooksFit books × Repeats grants × All (λ g. IsGranted books g.entry) grants)
+      → RefusesSound script books grants fault
+  unsettled e fault are (inl (is, of)) unsent twice missing again = subst (RefusesSound script books grants) (sym is) are
+  unsettled e fault are (inr (is, apart)) unsent twice missing again =
+      subst (RefusesSound script books grants) (sym is) (λ of sound. unsound e apart unsent twice missing again sound)
+
+  -- a report is refused for none of what the script, the books or memory say
+  pub unreported : (settled : Settled) (e : ClusterError) → IsOutcome script books grants settled → RefusesReport script settled.report e
+      → RefusesSound script books grants e
+  unreported settled OutOfOrder outcome why = absurd why
+  unreported settled Unreleased outcome why = absurd why
+  unreported settled (Fault stop) outcome why = absurd why
+  unreported settled Settle outcome why = absurd why
+  unreported settled PlanUnmet outcome why = (settled, outcome, why)
+  unreported settled Lost outcome why = (settled, outcome, why)
+  unreported settled UnderWay outcome why = (settled, outcome, why)
+  unreported settled Memory outcome why = absurd why
 
 -- ---- The end of a script
 
-pub done_by : (books : List BookState) (script : ScriptState) (settled : Settled) → IsCluster books → length books ≡ script.nodes → All (λ b. b.start ≡ 0) books
+-- what settling says of the books of a script's nodes
+pub outcome_by : (books : List BookState) (script : ScriptState) (grants : List Grant) (settled : Settled) → AreOf script books
     → (moves : List Move) × (map (λ move. move.step) moves ≡ settled.steps.items) × IsSettledRun books moves
     × Reports (length books) (start_of books) moves settled.report
-    → MainTheorem (length books) settled.report → MeetsPlan script settled.report.marks.items × IsQuietEnd settled.report → IsDone script settled
-done_by books script settled cluster count zero run main met =
-    let has = run_from_zero books script.nodes settled.steps.items settled.report cluster count zero run in
-    let theorem : MainTheorem script.nodes settled.report = subst (λ (n : ℕ). MainTheorem n settled.report) count main in
-    let requests = requests_are_locks _ _ has.0 script settled.report has.3 met.0 in
+    → MainTheorem (length books) settled.report
+    → (placed : List Placed) × IsSettledOrder books placed × (settled.steps.items ≡ settled_steps books placed)
+    → BooksFit books → All (λ g. IsGranted books g.entry) grants → AllPairs (λ a b. a ≢ b) grants → IsOutcome script books grants settled
+outcome_by books script grants settled are run main ordered fit granted once =
+    let zero = from_zero books are.cluster.some are.start in
     record {
-      moves = has.0;
-      moves_are = has.1;
-      run = has.2;
-      reports = has.3;
+      are = are;
+      sound = record { fit = fit; granted = granted; once = once };
+      placed = ordered.0;
+      order = ordered.1;
+      steps_are = ordered.2;
+      moves = run.0;
+      moves_are = run.1;
+      settled_run = run.2;
+      run = subst (λ (n : ℕ). IsRun n 0 run.0) are.count (subst (λ (s : ℕ). IsRun (length books) s run.0) zero run.2.run);
+      reports = subst (λ (n : ℕ). Reports n 0 run.0 settled.report) are.count (subst (λ (s : ℕ). Reports (length books) s run.0 settled.report) zero run.3);
+      main_theorem = subst (λ (n : ℕ). MainTheorem n settled.report) are.count main;
+    }
+
+pub done_by : (books : List BookState) (script : ScriptState) (grants : List Grant) (settled : Settled) → IsOutcome script books grants settled
+    → MeetsPlan script settled.report.marks.items × IsQuietEnd settled.report → IsDone script settled
+done_by books script grants settled outcome met =
+    let theorem = outcome.main_theorem in
+    let requests = requests_are_locks _ _ outcome.moves script settled.report outcome.reports met.0 in
+    record {
+      moves = outcome.moves;
+      moves_are = outcome.moves_are;
+      run = outcome.run;
+      reports = outcome.reports;
       main_theorem = theorem;
       plan = met.0;
       ended = met.1;
@@ -101,29 +153,30 @@ module _ (script : ScriptState) (Q : ClusterError → Type 0) where
   count (Ok s) whole = whole.count
   count (Err e) whole = tt
 
+-- those of the books, with their outcome
+module _ (script : ScriptState) (books : List BookState) (grants : List Grant) where
+  abbrev pub Ended : Result Settled ClusterError → Type 0
+  Ended r = MatchResult r (λ settled. IsOutcome script books grants settled × IsDone script settled) (RefusesSound script books grants)
+
+  pub outcome : (r : Result Settled ClusterError) → Ended r → IfOk r (IsOutcome script books grants)
+  outcome (Ok s) whole = whole.0
+  outcome (Err e) whole = tt
+
+  pub done : (r : Result Settled ClusterError) → Ended r → Whole script (RefusesSound script books grants) r
+  done (Ok s) whole = whole.1
+  done (Err e) whole = whole
+
+  pub refuses : (r : Result Settled ClusterError) → Ended r → IfErr r (RefusesSound script books grants)
+  refuses (Ok s) whole = tt
+  refuses (Err e) whole = whole
+
 -- and joined again
-pub done_of : (script : ScriptState) (r : Result Settled ClusterError)
-    → IfOk r (λ settled. (moves : List Move) × (map (λ move. move.step) moves ≡ settled.steps.items)
-    × IsRun script.nodes 0 moves × Reports script.nodes 0 moves settled.report)
-    → IfOk r (λ settled. MainTheorem script.nodes settled.report) → IfOk r (λ settled. MeetsPlan script settled.report.marks.items)
-    → IfOk r (λ settled. IsQuietEnd settled.report) → IfOk r (λ settled. settled.report.waiting ≡ 0)
-    → IfOk r (λ settled. settled.report.requests ≡ locks_of script)
-    → IfOk r (λ settled. settled.report.sent ≡ 2 * (script.nodes - 1) * locks_of script)
-    → (IsErrOf r OutOfOrder → ⊥) → (IsErrOf r Unreleased → ⊥) → MatchResult r (IsDone script) IsOfThreads
-done_of script (Ok s) run main plan ended waits requests count in_order released =
-    record {
-      moves = run.0;
-      moves_are = run.1;
-      run = run.2;
-      reports = run.3;
-      main_theorem = main;
-      plan = plan;
-      ended = ended;
-      none_waits = waits;
-      requests = requests;
-      count = count;
-    }
-done_of script (Err e) run main plan ended waits requests count in_order released = (λ is. in_order (ap Err is), λ is. released (ap Err is))
+pub done_of : (script : ScriptState) (books : List BookState) (grants : List Grant) (r : Result Settled ClusterError)
+    → IfOk r (IsOutcome script books grants) → IfOk r (λ settled. MeetsPlan script settled.report.marks.items)
+    → IfOk r (λ settled. IsQuietEnd settled.report) → (IsErrOf r OutOfOrder → ⊥) → (IsErrOf r Unreleased → ⊥)
+    → MatchResult r (IsDone script) IsOfThreads
+done_of script books grants (Ok s) outcome plan ended in_order released = done_by books script grants s outcome (plan, ended)
+done_of script books grants (Err e) outcome plan ended in_order released = (λ is. in_order (ap Err is), λ is. released (ap Err is))
 
 -- ---- Refusals that there are not
 
@@ -141,9 +194,14 @@ same_fault books found stop at = (
 )
 
 -- where they have none, none is answered
-pub no_fault : {T : Type 0} (P : T → Type 0) (books : List BookState) (stop : Stop) → None ≡ first_fault books → (r : Result T ClusterError) → MatchResult r P IsOfSettling
-    → IsErrOf r (Fault stop) ↔ (first_fault books ≡ Some stop)
-no_fault P books stop none r whole = (
-  λ is. absurd (not_refused P IsOfSettling (Fault stop) (λ late. late.1 stop refl) r whole is),
+pub no_fault : (script : ScriptState) (books : List BookState) (grants : List Grant) (stop : Stop) → None ≡ first_fault books
+    → (r : Result Settled ClusterError) → Ended script books grants r → IsErrOf r (Fault stop) ↔ (first_fault books ≡ Some stop)
+no_fault script books grants stop none r whole = (
+  λ is. absurd (not_refused _ (RefusesSound script books grants) (Fault stop) (λ late. late) r whole is),
   λ is. let wrong = none ∙ is in absurd (cc),
 )
+
+-- where one has, nothing else is
+pub some_fault : (books : List BookState) (found : Stop) (Q : ClusterError → Type 0) → Some found ≡ first_fault books → first_fault books ≡ None
+    → Q (Fault found)
+some_fault books found Q at none = let wrong = at ∙ none in absurd (cc)

@@ -1,5 +1,5 @@
 -- What comes of a script that threads did.
-use Rattle.std.specs.Prelude.{◌≡◌, ◌≢◌, ◌*◌, ◌-◌, List, [], ◌∷◌, map, Option, Some, None}
+use Rattle.std.specs.Prelude.{◌≡◌, ◌≢◌, ◌*◌, ◌-◌, List, [], ◌∷◌, All, AllPairs, map, length, Option, Some, None}
 use Rattle.ra_schedule.specs.Script.{ScriptState}
 use Rattle.ra_world.specs.declared.report.Report.{Report}
 use Rattle.ra_world.specs.Traffic.{Move}
@@ -8,10 +8,12 @@ use Rattle.ra_world.specs.World.{Reports}
 use Rattle.ra_world.specs.MainTheorem.{MainTheorem}
 use Rattle.ra_cluster.specs.declared.cluster.ClusterError.{ClusterError}
 use Rattle.ra_cluster.specs.declared.cluster.ClusterError.TheVariants.{OutOfOrder, Unreleased, Fault, Settle, PlanUnmet, Lost, UnderWay, Memory}
+use Rattle.ra_cluster.specs.declared.grant.Grant.{Grant}
 use Rattle.ra_cluster.specs.declared.settled.Settled.{Settled}
 use Rattle.ra_cluster.specs.declared.stop.Stop.{Stop}
 use Rattle.ra_cluster.specs.Book.{BookState}
 use Rattle.ra_cluster.specs.Plan.{MeetsPlan, IsQuietEnd, locks_of}
+use Rattle.ra_cluster.specs.Settled.{IsCluster, IsSettledOrder, IsSettledRun, Placed, IsGranted, BooksFit, settled_steps}
 
 -- the fault, or the other one where there is none
 abbrev pub fault_or : Option Stop → Option Stop → Option Stop
@@ -22,6 +24,61 @@ fault_or None other = other
 abbrev pub first_fault : List BookState → Option Stop
 first_fault [] = None
 first_fault (book ∷ books) = fault_or book.fault (first_fault books)
+
+-- the books are those of the nodes of a script, in order, with numbers that begin at 0
+pub record AreOf (script : ScriptState) (books : List BookState) : Type 0 where
+  pub cluster : IsCluster books
+  pub count : length books ≡ script.nodes
+  pub start : All (λ b. b.start ≡ 0) books
+
+-- they fit together, and what the clients were granted stands in them, each once
+pub record AreSound (books : List BookState) (grants : List Grant) : Type 0 where
+  pub fit : BooksFit books
+  pub granted : All (λ g. IsGranted books g.entry) grants
+  pub once : AllPairs (λ a b. a ≢ b) grants
+
+-- What the books of a script's nodes settle into: the steps are those of these very books in the settled order, with their losses
+-- behind them, and the report is that of the run of these steps. As there is one settled order, there is one such outcome.
+pub record IsOutcome (script : ScriptState) (books : List BookState) (grants : List Grant) (settled : Settled) : Type 0 where
+  pub are : AreOf script books
+  pub sound : AreSound books grants
+  pub placed : List Placed
+  pub order : IsSettledOrder books placed
+  pub steps_are : settled.steps.items ≡ settled_steps books placed
+  pub moves : List Move
+  pub moves_are : map (λ move. move.step) moves ≡ settled.steps.items
+  pub settled_run : IsSettledRun books moves
+  pub run : IsRun script.nodes 0 moves
+  pub reports : Reports script.nodes 0 moves settled.report
+  pub main_theorem : MainTheorem script.nodes settled.report
+
+-- why a run did not bring the script to its end
+abbrev pub RefusesReport : ScriptState → Report → ClusterError → Type 0
+RefusesReport script report OutOfOrder = ⊥
+RefusesReport script report Unreleased = ⊥
+RefusesReport script report (Fault stop) = ⊥
+RefusesReport script report Settle = ⊥
+RefusesReport script report PlanUnmet = MeetsPlan script report.marks.items × (report.queued ≡ 0) → ⊥
+RefusesReport script report Lost = MeetsPlan script report.marks.items × (report.queued ≡ 0) × (report.lost ≢ 0)
+RefusesReport script report UnderWay =
+    MeetsPlan script report.marks.items × (report.queued ≡ 0) × (report.lost ≡ 0) × (report.under_way ≢ 0)
+RefusesReport script report Memory = ⊥
+
+-- the books settle, and the report of their run is refused so
+abbrev pub IsReported : ScriptState → List BookState → List Grant → ClusterError → Type 0
+IsReported script books grants fault = (settled : Settled) × IsOutcome script books grants settled × RefusesReport script settled.report fault
+
+-- Why a script was not brought to its end, where no book has a fault. Memory may be wanting only once the books are those of the
+-- script's nodes.
+abbrev pub RefusesSound : ScriptState → List BookState → List Grant → ClusterError → Type 0
+RefusesSound script books grants OutOfOrder = ⊥
+RefusesSound script books grants Unreleased = ⊥
+RefusesSound script books grants (Fault stop) = ⊥
+RefusesSound script books grants Settle = AreOf script books → AreSound books grants → ⊥
+RefusesSound script books grants PlanUnmet = IsReported script books grants PlanUnmet
+RefusesSound script books grants Lost = IsReported script books grants Lost
+RefusesSound script books grants UnderWay = IsReported script books grants UnderWay
+RefusesSound script books grants Memory = AreOf script books
 
 -- ---- Only private contracts speak of these.
 
@@ -38,22 +95,6 @@ pub record IsDone (script : ScriptState) (settled : Settled) : Type 0 where
   pub requests : settled.report.requests ≡ locks_of script
   pub count : settled.report.sent ≡ 2 * (script.nodes - 1) * locks_of script
 
--- why a run did not bring the script to its end
-abbrev pub RefusesReport : ScriptState → Report → ClusterError → Type 0
-RefusesReport script report OutOfOrder = ⊥
-RefusesReport script report Unreleased = ⊥
-RefusesReport script report (Fault stop) = ⊥
-RefusesReport script report Settle = ⊥
-RefusesReport script report PlanUnmet = MeetsPlan script report.marks.items × (report.queued ≡ 0) → ⊥
-RefusesReport script report Lost = MeetsPlan script report.marks.items × (report.queued ≡ 0) × (report.lost ≢ 0)
-RefusesReport script report UnderWay =
-    MeetsPlan script report.marks.items × (report.queued ≡ 0) × (report.lost ≡ 0) × (report.under_way ≢ 0)
-RefusesReport script report Memory = ⊥
-
 -- a refusal that comes once the script was looked at
 abbrev pub IsOfThreads : ClusterError → Type 0
 IsOfThreads e = (e ≢ OutOfOrder) × (e ≢ Unreleased)
-
--- a refusal that comes once no book has a fault
-abbrev pub IsOfSettling : ClusterError → Type 0
-IsOfSettling e = IsOfThreads e × ((stop : Stop) → e ≢ Fault stop)

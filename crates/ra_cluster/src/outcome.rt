@@ -1,12 +1,8 @@
 //! What comes of a script that threads did.
-ghost use Rattle.std.specs.Prelude.{◌≡◌, ◌↔◌, ℕ, ◌-◌, ◌*◌, List, All, Some, map, length, IsTrue, IsErrOf, IfOk, MatchResult};
-ghost use Rattle.ra_world.specs.Traffic.{Move};
-ghost use Rattle.ra_world.specs.Run.{IsRun};
-ghost use Rattle.ra_world.specs.World.{Reports};
-ghost use Rattle.ra_world.specs.MainTheorem.{MainTheorem};
+ghost use Rattle.std.specs.Prelude.{◌≡◌, ◌≢◌, ◌⊎◌, ◌↔◌, ◌-◌, ◌*◌, All, Some, None, IsTrue, IsErrOf, IfOk, IfErr, MatchResult};
 ghost use Rattle.ra_cluster.specs.Plan.{MeetsPlan, IsQuietEnd, locks_of};
 ghost use Rattle.ra_cluster.specs.Outcome as spec;
-ghost use Rattle.ra_cluster.specs.Outcome.{IsDone, IsOfSettling, RefusesReport};
+ghost use Rattle.ra_cluster.specs.Outcome.{AreOf, IsDone, IsOutcome, RefusesReport, RefusesSound};
 
 use crate::plan::meets_plan;
 use crate::{Book, ClusterError, Grant, SettleError, Settled, Stop, is_cluster, settle};
@@ -21,25 +17,23 @@ use std::alloc::Global;
 ///
 /// # Errors
 ///
-/// The first that holds, but that `Memory` may come before any but the first:
+/// The first that holds, but that `Memory` may come before any but the first two:
 ///
 /// 1. `Fault`: a node was stopped, with the cause in the first such book.
-/// 2. `Settle`: the books are not those of the script's nodes with numbers that begin at 0, in order, or they do not settle.
-/// 3. `PlanUnmet`: the marks of a client are not those of its operations in order, or a client is queued.
-/// 4. `Lost`: a message was lost.
-/// 5. `UnderWay`: a message is under way.
-/// 6. `Memory`.
+/// 2. `Settle`: the books are not those of the script's nodes with numbers that begin at 0, in order.
+/// 3. `Settle`: they do not settle, or not with what the clients were granted.
+/// 4. `PlanUnmet`: the marks of a client are not those of its operations in order, or a client is queued.
+/// 5. `Lost`: a message was lost.
+/// 6. `UnderWay`: a message is under way.
+/// 7. `Memory`: there was none to settle the books.
 pub fn settle_script(
     alloc: Global,
     script: &Script,
     books: &[Book],
     grants: &[Grant],
 ) -> Result<Settled, ClusterError>
-    // The report is that of a run of the steps at the script's nodes, from numbers that begin at 0.
-    ensures run { IfOk result (λ settled. (moves : List Move)
-        × (map (λ move. move.step) moves ≡ settled.steps.items)
-        × IsRun script.now.nodes 0 moves × Reports script.now.nodes 0 moves settled.report) }
-    ensures main_theorem { IfOk result (λ settled. MainTheorem script.now.nodes settled.report) }
+    // The report is that of the one run into which these very books settle, with each grant in it, and once.
+    ensures outcome { IfOk result (IsOutcome script.now books.now grants.now) }
     ensures plan { IfOk result (λ settled. MeetsPlan script.now settled.report.marks.items) }
     ensures ended { IfOk result (λ settled. IsQuietEnd settled.report) }
     // Nobody waits, each lock of the script was requested, and two messages to or from each other node were sent for each.
@@ -48,6 +42,8 @@ pub fn settle_script(
     ensures count { IfOk result (λ settled. settled.report.sent
         ≡ 2 * (script.now.nodes - 1) * locks_of script.now) }
     ensures fault { (stop : Stop) → IsErrOf result (ClusterError.Fault stop) ↔ (spec.first_fault books.now ≡ Some stop) }
+    // Where no node was stopped, each refusal comes where its cause stands.
+    ensures refused { spec.first_fault books.now ≡ None → IfErr result (RefusesSound script.now books.now grants.now) }
     ensures in_order { IsErrOf result ClusterError.OutOfOrder → ⊥ }
     ensures released { IsErrOf result ClusterError.Unreleased → ⊥ }
 {
@@ -68,9 +64,10 @@ fn settle_sound(
     books: &[Book],
     grants: &[Grant],
 ) -> Result<Settled, ClusterError>
-    ensures { MatchResult result (IsDone script.now) IsOfSettling }
+    ensures { MatchResult result (λ settled. IsOutcome script.now books.now grants.now settled × IsDone script.now settled)
+        (RefusesSound script.now books.now grants.now) }
 {
-    if !is_cluster(books) || !are_of(script, books) {
+    if !are_of(script, books) {
         return Err(ClusterError::Settle);
     }
     let settled = match settle(alloc, books, grants) {
@@ -83,7 +80,8 @@ fn settle_sound(
 
 /// Returns what is answered where books do not settle.
 fn refusal_of(refused: SettleError) -> ClusterError
-    ensures { IsOfSettling result }
+    ensures { ((result ≡ ClusterError.Memory) × (refused ≡ SettleError.Memory))
+        ⊎ ((result ≡ ClusterError.Settle) × (refused ≢ SettleError.Memory)) }
 {
     match refused {
         SettleError::Memory => ClusterError::Memory,
@@ -106,12 +104,21 @@ fn first_fault(books: &[Book]) -> Option<Stop>
     None
 }
 
-/// Returns whether the books are as many as the nodes of the script, and their numbers begin at 0.
+/// Returns whether the books are those of the nodes of a script, in order, with numbers that begin at 0.
 fn are_of(script: &Script, books: &[Book]) -> bool
-    ensures { IsTrue result
-        ↔ ((length books.now ≡ script.now.nodes) × All (λ book. book.start ≡ 0) books.now) }
+    ensures { IsTrue result ↔ AreOf script.now books.now }
 {
-    books.len() == usize::from(script.nodes()) && books.iter().all(|book| book.start() == 0)
+    if !is_cluster(books) {
+        return false;
+    }
+    books.len() == usize::from(script.nodes()) && begin_at_0(books)
+}
+
+/// Returns whether the numbers of all books begin at 0.
+fn begin_at_0(books: &[Book]) -> bool
+    ensures { IsTrue result ↔ All (λ book. book.start ≡ 0) books.now }
+{
+    books.iter().all(|book| book.start() == 0)
 }
 
 /// Checks that a run brought the script to its end.

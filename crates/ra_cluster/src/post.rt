@@ -6,7 +6,7 @@ use crossbeam_channel::{Receiver, Sender, unbounded};
 use ra_frame::{Frame, encode};
 use ra_stamp::{Memory, NodeId};
 use std::alloc::{AllocError, AllocFailed, Global};
-use std::sync::{Mutex, Wait};
+use std::sync::{RwLock, Wait};
 use thiserror::Error;
 
 /// Why there is no post.
@@ -61,8 +61,8 @@ pub struct Inbox {
 /// post is closed. Threads share it.
 #[derive(Drop)]
 pub struct Post {
-    /// In the order of the nodes. There are none once the post is closed.
-    senders: Mutex<Option<Vec<Sender<Vec<u8>>>>>,
+    /// In the order of the nodes. There are none once the post is closed. Threads that send share it, and only a close excludes them.
+    senders: RwLock<Option<Vec<Sender<Vec<u8>>>>>,
 }
 
 impl Post {
@@ -88,12 +88,12 @@ impl Post {
         for _node in 0..nodes {
             open_inbox(alloc, &mut senders, &mut inboxes)?;
         }
-        let senders = Mutex::new(Some(senders));
+        let senders = RwLock::new(Some(senders));
         Ok((Post { senders }, inboxes))
     }
 
-    /// Sends the bytes of a frame to the inbox of the node that it is for. It may wait for other calls of the post, but for
-    /// nobody who reads an inbox.
+    /// Sends the bytes of a frame to the inbox of the node that it is for. It may wait for others who send to that node and for a
+    /// close, but for nobody who reads an inbox.
     ///
     /// # Errors
     ///
@@ -105,7 +105,7 @@ impl Post {
         requires { Fits frame.now }
     {
         let bytes = encode(alloc, frame);
-        let senders = self.senders.lock(rt);
+        let senders = self.senders.read(rt);
         let Some(senders) = senders.as_ref() else {
             return Err(SendError::Closed);
         };
@@ -125,7 +125,7 @@ impl Post {
     /// Closes the post: no frame is sent from now on, and each inbox is closed once it is empty. It may wait for other calls
     /// of the post, and does not allocate.
     pub fn close<R: Wait>(&self, rt: &R) {
-        *self.senders.lock(rt) = None;
+        *self.senders.write(rt) = None;
     }
 }
 

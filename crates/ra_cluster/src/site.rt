@@ -6,7 +6,7 @@ use crate::call::Call;
 use crate::stopping::stop_of;
 use crate::{Book, BookError, Gate, Grant, Inbox, NewError, Post, Posted, Stop};
 use ra_frame::Frame;
-use ra_stamp::{Mode, Name, NodeId};
+use ra_stamp::{Mark, Mode, Name, NodeId};
 use std::alloc::Global;
 use std::marker::Model;
 use std::sync::{Condvar, Mutex, Wait};
@@ -30,14 +30,15 @@ pub enum SiteError {
 /// call the book; the frames are sent after the lock is given back. No thread ever has the locks of two books. A frame that
 /// the post does not take is flagged as lost, and then each site is stopped, which ends all waiting of clients at them.
 ///
-/// Each such call costs what the book's call costs, the sending of the frames, and waking all clients that wait at the node,
-/// for whatever name; and for each frame that the post does not take, a look through all frames that the book has sent.
+/// Each such call costs what the book's call costs and the sending of the frames; where its event lets a client in, waking all
+/// clients that wait at the node, for whatever name; and for each frame that the post does not take, a look through the frames that the
+/// book has sent since.
 #[derive(Drop)]
 pub struct Site {
     node: NodeId,
     book: Mutex<Book>,
-    /// Tells those who wait of each change of the book.
-    changed: Condvar,
+    /// Tells those who wait that a client was let in, or that the node was stopped. Nothing else ends a wait.
+    turned: Condvar,
 }
 
 impl Model for Site {
@@ -71,7 +72,7 @@ impl Site {
         Ok(Site {
             node: me,
             book: Mutex::new(book),
-            changed: Condvar::new(),
+            turned: Condvar::new(),
         })
     }
 
@@ -162,7 +163,7 @@ impl Site {
     pub fn stop<R: Wait>(&self, rt: &R, stop: Stop) {
         let mut book = self.book.lock(rt);
         book.fail(stop);
-        self.changed.notify_all();
+        self.turned.notify_all();
     }
 
     /// Gives up the lock, and returns the book. It does not allocate.
@@ -172,7 +173,7 @@ impl Site {
         let Site {
             node: _,
             book,
-            changed: _,
+            turned: _,
         } = self;
         let book = book.into_inner();
         // Each reader tells that the book has a history.
@@ -224,8 +225,8 @@ impl Site {
             return None;
         }
         let answer = call.make(alloc, &mut book);
-        if answer.is_ok() {
-            self.changed.notify_all();
+        if lets_in(&answer) {
+            self.turned.notify_all();
         }
         Some(answer)
     }
@@ -252,7 +253,6 @@ impl Site {
         let mut book = self.book.lock(rt);
         // The book sent it, and nobody else flags it.
         let _ = book.mark_lost(frame);
-        self.changed.notify_all();
     }
 
     /// Returns the cause for which the node is stopped.
@@ -280,7 +280,7 @@ impl Site {
             if let Some(outcome) = self.outcome_in(&book, client, name, mode) {
                 return outcome;
             }
-            book = self.changed.wait(rt, book);
+            book = self.turned.wait(rt, book);
         }
         unreachable!()
     }
@@ -317,6 +317,19 @@ impl Site {
             None
         }
     }
+}
+
+/// Returns whether a book's event let a client in.
+fn lets_in(answer: &Result<Posted, BookError>) -> bool {
+    match answer {
+        Ok(posted) => posted.marks.as_slice().iter().any(is_entered),
+        Err(_) => false,
+    }
+}
+
+/// Returns whether a mark says that a client holds its name from now on.
+fn is_entered(mark: &Mark) -> bool {
+    matches!(mark, Mark::Entered(_))
 }
 
 /// Stops each site, in turn from node 1 up, with one lock at a time.

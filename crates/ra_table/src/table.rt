@@ -144,6 +144,16 @@ impl Table {
         Ok(())
     }
 
+    /// Returns whether the entry may wait, memory aside: its node neither waits nor holds on its name, and its number is above that of
+    /// each entry granted so far on it. It takes expected time linear in the number of entries that wait and hold on its name, and does
+    /// not allocate.
+    pub fn can_request(&self, entry: &Entry) -> bool
+        ensures allowed { IsTrue result ↔ MayRequest self.now entry.now }
+        ensures exclusive { IsConflictFree self.now.holding }
+    {
+        self.check_request(entry).is_ok()
+    }
+
     /// Returns whether the entry may be granted now, memory aside: it waits, no conflicting entry on its name
     /// holds, and none with an earlier stamp waits. It takes expected time linear in the number of entries that wait
     /// and hold on its name, and does not allocate.
@@ -152,6 +162,18 @@ impl Table {
         ensures exclusive { IsConflictFree self.now.holding }
     {
         self.check_enter(entry).is_ok()
+    }
+
+    /// Returns whether the entry holds, in expected time linear in the number of entries that hold on its name. It does not allocate.
+    pub fn holds(&self, entry: &Entry) -> bool
+        ensures held { IsTrue result ↔ Contains self.now.holding entry.now }
+        ensures exclusive { IsConflictFree self.now.holding }
+    {
+        let (_, holding) = self.lanes.on(&entry.name);
+        match place_of(holding, entry) {
+            Some(_) => true,
+            None => false,
+        }
     }
 
     /// Returns whether the entry's node waits or holds on its name.

@@ -20,9 +20,9 @@ use Rattle.ra_trace.specs.declared.verdict.Verdict.TheVariants.{Valid, Invalid}
 use Rattle.ra_trace.specs.declared.checker.Checker.{Checker}
 use Rattle.ra_trace.specs.TraceText.{IsLine, BeginsWith, line_text, trace_lines}
 use Rattle.ra_trace.specs.Verdict.{IsFront, IsFirst, IsWrong}
-use Rattle.ra_trace.specs.Reading.{IsWhole, AreRight, IsOpenLine, IsOpen, IsOver, HasRead, Judges, StopsWithin, Answers}
+use Rattle.ra_trace.specs.Reading.{IsWhole, AreRight, IsOpenLine, IsOpen, IsOver, HasBegun, HasRead, Judges, StopsBehind, Answers}
 use Rattle.ra_trace.specs.NextLine.{EndsSo, TakesBytes, FailsWithin, IsOverLine, HasNone, EndsText}
-use Rattle.ra_trace.specs.Checking.{due_of, StandsBehind, Takes, Refuses}
+use Rattle.ra_trace.specs.Checking.{due_of, StandsBehind, Takes, Refuses, Allows}
 use Rattle.ra_trace.specs.Along.{IsBehind, IsAlong, IsDone, Opens, Judged, Turns, SomeTaken}
 use Rattle.ra_trace.specs.Below.{LawsBelow}
 use Rattle.ra_trace.proofs.Lines.{begins_once}
@@ -85,11 +85,10 @@ none_behind limit left old now new front bytes number why behind more taken how 
   (is, wrong),
 )
 
--- want of memory behind a line
-no_memory_behind : (limit left : ℕ) (old now new : Option (List ℕ)) (front : List Line) (bytes : List ℕ) → IsBehind limit left old now front
-    → (IsWhole front → ⊥) → TakesBytes left now new bytes → IsOverLine bytes → StopsWithin limit old new
-no_memory_behind limit left old now new front bytes behind more taken over =
-    (front, bytes, has_read limit left old now new front bytes behind taken.0 taken.1, inl (over_behind front bytes more over))
+-- want of memory behind right lines
+stops_behind : (limit left : ℕ) (old now : Option (List ℕ)) (front : List Line) → IsBehind limit left old now front → HasBegun front
+    → StopsBehind limit old now
+stops_behind limit left old now front behind begun = (front, begun, behind.taken, omega (arith, behind.room))
 
 -- ---- The first line
 
@@ -120,11 +119,6 @@ pub other_first : (limit : ℕ) (old new : Option (List ℕ)) (bytes : List ℕ)
 other_first limit old new bytes line taken begins ended other =
     none_behind limit limit old old new [] bytes 1 cause.Line (nothing_read limit old) no_line_is_whole taken (inl (feed_is_over bytes new ended)) refl
     (inl (refl, λ l r b first. other (subst IsFirst (begins_once bytes l line r [] b begins).0 first)))
-
-pub no_memory_first : (limit : ℕ) (old new : Option (List ℕ)) (bytes : List ℕ) → TakesBytes limit old new bytes
-    → EndsSo Feed bytes new → StopsWithin limit old new
-no_memory_first limit old new bytes taken ended =
-    no_memory_behind limit limit old old new [] bytes (nothing_read limit old) no_line_is_whole taken (feed_is_over bytes new ended)
 
 -- ---- The lines that come next
 
@@ -165,15 +159,23 @@ along_first limit old new bytes line checker taken begins stands = record {
   stands = stands begins.0;
 }
 
+no_memory_first : (limit : ℕ) (old new : Option (List ℕ)) (bytes : List ℕ) (line : Line) → TakesBytes limit old new bytes
+    → BeginsWith bytes line [] → HasBegun (line ∷ []) → StopsBehind limit old new
+no_memory_first limit old new bytes line taken begins begun =
+    stops_behind limit (limit - length bytes) old new (line ∷ [])
+    (behind_one_more limit limit old old new [] line bytes (nothing_read limit old) taken begins (inr (inl begun))) begun
+
 -- what the first line comes to
 pub opens_by : (limit : ℕ) (old new : Option (List ℕ)) (bytes : List ℕ) (line : Line) (result : Result (Option Checker) TraceError)
     → TakesBytes limit old new bytes → BeginsWith bytes line [] → EndsSo Feed bytes new
     → IfOk result (λ opened. IfSome opened (λ checker. IsLine line → StandsBehind checker (line ∷ [])))
-    → IfOk result (λ opened. IsNone opened → IsFirst line → ⊥) → IfErr result (λ fault. fault ≡ Memory) → Opens limit old new bytes result
+    → IfOk result (λ opened. IsNone opened → IsFirst line → ⊥) → IfErr result (λ fault. (fault ≡ Memory) × (IsLine line → HasBegun (line ∷ [])))
+    → Opens limit old new bytes result
 opens_by limit old new bytes line (Ok (Some checker)) taken begins ended some none err = along_first limit old new bytes line checker taken begins some
 opens_by limit old new bytes line (Ok None) taken begins ended some none err = other_first limit old new bytes line taken begins ended (none refl)
 opens_by limit old new bytes line (Err fault) taken begins ended some none err =
-    subst (λ (why : TraceError). Answers limit old new (Err why)) (sym err) (no_memory_first limit old new bytes taken ended)
+    subst (λ (why : TraceError). Answers limit old new (Err why)) (sym err.0)
+    (no_memory_first limit old new bytes line taken begins (err.1 begins.0))
 
 along_by : (limit left : ℕ) (old now new : Option (List ℕ)) (checker after : Checker) (number : ℕ) (line : Line) (bytes : List ℕ)
     → (along : IsAlong limit left old now checker number) → TakesBytes left now new bytes → BeginsWith bytes line []
@@ -224,11 +226,13 @@ wrong_next laws limit left old now new checker number line bytes why along taken
     none_behind limit left old now new along.front bytes number why along.behind (not_whole laws limit left old now checker number along) taken
     (inl (feed_is_over bytes new ended)) along.number_is (refused.wrong along.front bytes [] along.stands begins)
 
-pub no_memory_next : LawsBelow → (limit left : ℕ) (old now new : Option (List ℕ)) (checker : Checker) (number : ℕ) (bytes : List ℕ)
-    → IsAlong limit left old now checker number → TakesBytes left now new bytes → EndsSo Feed bytes new → StopsWithin limit old new
-no_memory_next laws limit left old now new checker number bytes along taken ended =
-    no_memory_behind limit left old now new along.front bytes along.behind (not_whole laws limit left old now checker number along) taken
-    (feed_is_over bytes new ended)
+no_memory_next : (limit left : ℕ) (old now new : Option (List ℕ)) (checker : Checker) (number : ℕ) (line : Line) (bytes : List ℕ)
+    → IsAlong limit left old now checker number → TakesBytes left now new bytes → BeginsWith bytes line [] → Allows checker line
+    → StopsBehind limit old new
+no_memory_next limit left old now new checker number line bytes along taken begins allows =
+    let begun = allows.right along.front begins.0 along.stands in
+    stops_behind limit (left - length bytes) old new (along.front ++ line ∷ [])
+    (behind_one_more limit left old now new along.front line bytes along.behind taken begins (inr (inl begun))) begun
 
 -- ---- Behind the last line
 
@@ -272,7 +276,8 @@ turns_by laws limit left old now new checker after number line bytes (Ok Next.La
 turns_by laws limit left old now new checker after number line bytes (Ok (Next.Wrong why)) along taken begins ended is =
     wrong_next laws limit left old now new checker number line bytes why along taken begins ended is
 turns_by laws limit left old now new checker after number line bytes (Err fault) along taken begins ended is =
-    subst (λ (why : TraceError). Answers limit old new (Err why)) (sym is) (no_memory_next laws limit left old now new checker number bytes along taken ended)
+    subst (λ (why : TraceError). Answers limit old new (Err why)) (sym is.0)
+    (no_memory_next limit left old now new checker number line bytes along taken begins is.1)
 
 -- such a line took some bytes
 pub some_taken_by : (left : ℕ) (now new : Option (List ℕ)) (bytes : List ℕ) (result : Result Next TraceError) → TakesBytes left now new bytes
@@ -317,11 +322,6 @@ fails_at_end : (limit left : ℕ) (old now new : Option (List ℕ)) (checker : C
 fails_at_end limit left old now new checker number fault done failed =
     fails_behind limit left old now new done.front [] fault done.behind (λ whole. refl) failed
 
-no_memory_at_end : (limit left : ℕ) (old now new : Option (List ℕ)) (checker : Checker) (number : ℕ) → IsDone limit left old now checker number
-    → Consumes now new [] → StopsWithin limit old new
-no_memory_at_end limit left old now new checker number done taken =
-    (done.front, [], has_read limit left old now new done.front [] done.behind taken (omega arith), inr (nothing_is_open done.front))
-
 -- what comes behind the last line decides
 pub answers_at_end : (limit left : ℕ) (old now new : Option (List ℕ)) (checker : Checker) (number : ℕ) (result : Result Verdict TraceError)
     → IsDone limit left old now checker number → EndsText left now new checker number result → Answers limit old new result
@@ -335,4 +335,4 @@ answers_at_end limit left old now new checker number (Ok (Invalid line why)) don
     (wrong_behind_end limit left old now new checker number byte done some taken))
 answers_at_end limit left old now new checker number (Err Read) done failed = fails_at_end limit left old now new checker number Read done failed
 answers_at_end limit left old now new checker number (Err Limit) done failed = fails_at_end limit left old now new checker number Limit done failed
-answers_at_end limit left old now new checker number (Err Memory) done taken = no_memory_at_end limit left old now new checker number done taken
+answers_at_end limit left old now new checker number (Err Memory) done none = absurd none

@@ -1,5 +1,5 @@
 -- A line that a checker takes, and why one is wrong.
-use Rattle.std.proofs.Common.{◌≡◌, ◌≢◌, ℕ, ◌+◌, List, [], ◌∷◌, ◌++◌, drop, refl, sym, ap, ◌∙◌, subst}
+use Rattle.std.proofs.Common.{◌≡◌, ◌≢◌, ◌⊎◌, ℕ, ◌+◌, List, [], ◌∷◌, ◌++◌, drop, refl, sym, ap, ◌∙◌, subst, inl, inr}
 use Rattle.std.proofs.lemmas.List.{append-nil}
 use Rattle.std.proofs.lemmas.List.Elements.{All-nil, All-cons}
 use Rattle.std.proofs.lemmas.Grind.{flat_map-append}
@@ -17,11 +17,13 @@ use Rattle.ra_world.specs.Run.{IsRun, GoesOn}
 use Rattle.ra_world.specs.World.{WorldState, with_move, HasCause}
 use Rattle.ra_trace.specs.declared.line.Line.{Line}
 use Rattle.ra_trace.specs.declared.line.Line.TheVariants.{First, Stepped, Marked, Last}
+use Rattle.ra_trace.specs.declared.verdict.Cause.{Cause}
 use Rattle.ra_trace.specs.declared.verdict.Cause.TheVariants as cause
 use Rattle.ra_trace.specs.declared.checker.Checker.{Checker}
 use Rattle.ra_trace.specs.TraceText.{IsLine}
 use Rattle.ra_trace.specs.Verdict.{IsFront, IsOfClient, TakesMessage, marks_in_line, marks_in}
-use Rattle.ra_trace.specs.Checking.{due_of, IsOpening, StandsBehind, TakesOn, Refuses}
+use Rattle.ra_trace.specs.Checking.{due_of, IsOpening, StandsBehind, TakesOn, Refuses, Allows}
+use Rattle.ra_trace.specs.Reading.{HasBegun}
 use Rattle.ra_trace.specs.Below.{LawsBelow}
 use Rattle.ra_trace.proofs.Fronts.{front_and_step, front_and_mark}
 
@@ -169,7 +171,7 @@ table_refuses laws checker mark refused =
     }
 
 -- the lock table allows the mark, but another one is due, or none
-pub mark_is_not_due : LawsBelow → (checker : Checker) (mark : Mark) (table : LockTable) → TableStep checker.table mark table
+mark_is_not_due : LawsBelow → (checker : Checker) (mark : Mark) (table : LockTable) → TableStep checker.table mark table
     → ((others : List Mark) → due_of checker ≢ mark ∷ others) → Refuses checker (Marked mark) cause.Marks
 mark_is_not_due laws checker mark table step other =
     record {
@@ -183,6 +185,57 @@ mark_is_not_due laws checker mark table step other =
         rest,
         begins,
         ((table, laws.steps_on (marks_in lines) mark checker.table table stands.table step), other),
+      );
+    }
+
+pub wrong_mark : LawsBelow → (checker : Checker) (mark : Mark) (why : Cause) → ((others : List Mark) → due_of checker ≢ mark ∷ others)
+    → ((why ≡ cause.Marks) × AllowsMark checker.table mark) ⊎ ((why ≡ cause.Table) × (AllowsMark checker.table mark → ⊥))
+    → Refuses checker (Marked mark) why
+wrong_mark laws checker mark why other (inl (is, (table, step))) =
+    subst (Refuses checker (Marked mark)) (sym is) (mark_is_not_due laws checker mark table step other)
+wrong_mark laws checker mark why other (inr (is, refused)) = subst (Refuses checker (Marked mark)) (sym is) (table_refuses laws checker mark refused)
+
+-- ---- Lines that are right, and for which there is no memory
+
+pub first_may_come : LawsBelow → (nodes start : ℕ) → IsLine (First nodes start) → HasBegun (First nodes start ∷ [])
+first_may_come laws nodes start ranges = (
+  nodes,
+  start,
+  [],
+  [],
+  record {
+    count = ranges.0;
+    run = laws.none nodes start;
+    each = All-cons IsLine (First nodes start) [] ranges (All-nil IsLine);
+    lines_are = refl;
+  },
+)
+
+pub step_may_come : (checker : Checker) (step : Step) → due_of checker ≡ [] → GoesOn checker.world.count checker.world.start checker.world.moves step
+    → Allows checker (Stepped step)
+step_may_come checker step none (sends, marks, run) =
+    let w = checker.world in
+    let move : Move = record { step = step; sends = sends; marks = marks } in
+    record {
+      right = λ lines ranges stands. (
+        w.count,
+        w.start,
+        w.moves ++ move ∷ [],
+        marks,
+        front_and_step w.count w.start w.moves lines move (front_of checker lines [] none stands) run ranges,
+      );
+    }
+
+pub mark_may_come : (checker : Checker) (mark : Mark) (others : List Mark) → due_of checker ≡ mark ∷ others → Allows checker (Marked mark)
+mark_may_come checker mark others due =
+    let w = checker.world in
+    record {
+      right = λ lines ranges stands. (
+        w.count,
+        w.start,
+        w.moves,
+        others,
+        front_and_mark w.count w.start w.moves mark others lines (front_of checker lines (mark ∷ others) due stands) ranges,
       );
     }
 

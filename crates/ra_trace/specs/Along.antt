@@ -12,7 +12,7 @@ use Rattle.ra_trace.specs.declared.verdict.Cause.TheVariants as cause
 use Rattle.ra_trace.specs.declared.verdict.Verdict.TheVariants.{Invalid}
 use Rattle.ra_trace.specs.TraceText.{IsTrace, line_text, trace_lines}
 use Rattle.ra_trace.specs.Reading.{AreRight, Judges, Answers}
-use Rattle.ra_trace.specs.Checking.{StandsBehind, Takes, Refuses}
+use Rattle.ra_trace.specs.Checking.{StandsBehind, Takes, Refuses, Allows}
 
 -- these lines were taken, and the text may still have so many bytes
 pub record IsBehind (limit left : ℕ) (old now : Option (List ℕ)) (front : List Line) : Type 0 where
@@ -46,7 +46,7 @@ abbrev pub Judged : Checker → Line → Checker → Result Next TraceError → 
 Judged checker given after (Ok Right) = (given ≢ line.Last) × Takes checker given after
 Judged checker given after (Ok Last) = (given ≡ line.Last) × Takes checker given after
 Judged checker given after (Ok (Wrong why)) = Refuses checker given why
-Judged checker given after (Err fault) = fault ≡ Memory
+Judged checker given after (Err fault) = (fault ≡ Memory) × Allows checker given
 
 -- what comes of the line of this number: the checker stands behind it, or the trace is over, or the line is wrong, or a fault came
 abbrev pub Turns : ℕ → ℕ → Option (List ℕ) → Option (List ℕ) → Checker → ℕ → List ℕ → Result Next TraceError → Type 0

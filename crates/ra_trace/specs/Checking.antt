@@ -11,6 +11,7 @@ use Rattle.ra_trace.specs.declared.verdict.Cause.{Cause}
 use Rattle.ra_trace.specs.declared.checker.Checker.{Checker}
 use Rattle.ra_trace.specs.TraceText.{IsLine, BeginsWith}
 use Rattle.ra_trace.specs.Verdict.{IsFront, marks_in, IsWrong}
+use Rattle.ra_trace.specs.Reading.{HasBegun}
 
 -- the marks of the last step that have not come yet
 abbrev pub due_of : Checker → List Mark
@@ -43,8 +44,12 @@ Takes old Last new = (new ≡ old) × (due_of old ≡ [])
 pub record Refuses (checker : Checker) (line : Line) (why : Cause) : Type 0 where
   pub wrong : (lines : List Line) (text rest : List ℕ) → StandsBehind checker lines → BeginsWith text line rest → IsWrong lines text why
 
+-- the line is right behind any lines behind which the checker may stand, whether or not there is memory for it
+pub record Allows (checker : Checker) (line : Line) : Type 0 where
+  pub right : (lines : List Line) → IsLine line → StandsBehind checker lines → HasBegun (lines ++ line ∷ [])
+
 -- what a checker answers to a line: that it is right, or why it is wrong
 abbrev pub Tried : Checker → Line → Checker → Result (Option Cause) TraceError → Type 0
 Tried old line new (Ok None) = Takes old line new
 Tried old line new (Ok (Some why)) = Refuses old line why
-Tried old line new (Err fault) = fault ≡ Memory
+Tried old line new (Err fault) = (fault ≡ Memory) × Allows old line

@@ -63,4 +63,4 @@ EndsText left old new checker number (Ok (Invalid line why)) =
     (byte : ℕ) × (1 ≤ left) × Consumes old new (byte ∷ []) × (line ≡ number) × (why ≡ cause.Line)
 EndsText left old new checker number (Err Read) = FailsWithin left old new [] Read
 EndsText left old new checker number (Err Limit) = FailsWithin left old new [] Limit
-EndsText left old new checker number (Err Memory) = Consumes old new []
+EndsText left old new checker number (Err Memory) = ⊥

@@ -16,12 +16,13 @@ abbrev pub IsWhole : List Line → Type 0
 IsWhole front =
     (n start : ℕ) × (moves : List Move) × IsTrace n start moves (flat_map line_text front) × (front ≡ trace_lines n start moves)
 
+-- the lines are those of a front of a trace: the last one has not come
+abbrev pub HasBegun : List Line → Type 0
+HasBegun front = (n start : ℕ) × (moves : List Move) × (due : List Mark) × IsFront n start moves due front
+
 -- no line yet, or the lines of a front of a trace, or of a whole one
 abbrev pub AreRight : List Line → Type 0
-AreRight front =
-    (front ≡ [])
-    ⊎ ((n start : ℕ) × (moves : List Move) × (due : List Mark) × IsFront n start moves due front)
-    ⊎ IsWhole front
+AreRight front = (front ≡ []) ⊎ HasBegun front ⊎ IsWhole front
 
 -- bytes of a line that is not over: none of them is a line feed, and there are fewer than 128
 abbrev pub IsOpenLine : List ℕ → Type 0
@@ -65,14 +66,14 @@ PassesLimit limit old new =
     (front : List Line) × (rest : List ℕ) × (byte : ℕ) × HasRead (limit + 1) old new front (rest ++ byte ∷ [])
     × (length (flat_map line_text front ++ rest) ≡ limit) × IsOpen front rest
 
--- no verdict was reached before the line that comes next, which may be over
-abbrev pub StopsWithin : ℕ → Option (List ℕ) → Option (List ℕ) → Type 0
-StopsWithin limit old new =
-    (front : List Line) × (rest : List ℕ) × HasRead limit old new front rest × (IsOver front rest ⊎ IsOpen front rest)
+-- no verdict was reached: what was read are whole lines that are right, the first of a trace at least, and not the last
+abbrev pub StopsBehind : ℕ → Option (List ℕ) → Option (List ℕ) → Type 0
+StopsBehind limit old new =
+    (front : List Line) × HasBegun front × Consumes old new (flat_map line_text front) × (length (flat_map line_text front) ≤ limit)
 
 -- what each answer says
 abbrev pub Answers : ℕ → Option (List ℕ) → Option (List ℕ) → Result Verdict TraceError → Type 0
 Answers limit old new (Ok verdict) = Judges limit old new verdict
 Answers limit old new (Err Read) = ReadsOn limit old new
 Answers limit old new (Err Limit) = PassesLimit limit old new
-Answers limit old new (Err Memory) = StopsWithin limit old new
+Answers limit old new (Err Memory) = StopsBehind limit old new

@@ -1,5 +1,6 @@
-ghost use Rattle.std.specs.Prelude.{◌≡◌, ◌≢◌, ◌<◌, ◌+◌, List, ◌∷◌, [], false, drop, length, IfOk, IfErr, IfSome, IsNone, IsTrue};
+ghost use Rattle.std.specs.Prelude.{◌≡◌, ◌≢◌, ◌⊎◌, ◌<◌, ◌+◌, List, ◌∷◌, [], false, drop, length, IfOk, IfErr, IfSome, IsNone, IsTrue};
 ghost use Rattle.ra_stamp.specs.declared.entry.Mark.{Mark};
+ghost use Rattle.ra_table.specs.Laws.{AllowsMark};
 ghost use Rattle.ra_world.specs.Quiet.{requests_in};
 ghost use Rattle.ra_world.specs.Run.{marks_of};
 ghost use Rattle.ra_world.specs.Traffic.{sent_by};
@@ -8,7 +9,7 @@ ghost use Rattle.ra_trace.specs.Verdict.{IsFirst};
 
 use crate::laws::traces_rest_on_runs;
 use crate::line::Line;
-use crate::tables::step_table;
+use crate::tables::{allows, step_table};
 use crate::{Cause, TraceError, Verdict};
 use ra_stamp::{Mark, Marks, NodeId, equal_is_same};
 use ra_table::Table;
@@ -29,6 +30,7 @@ pub struct Checker {
 
 impl Checker {
     ghost use Rattle.ra_trace.specs.Checking.{due_of, IsOpening, StandsBehind, Tried};
+    ghost use Rattle.ra_trace.specs.Reading.{HasBegun};
 
     /// Makes the checker that stands behind this line, or answers `None` where it is no first line.
     ///
@@ -39,7 +41,7 @@ impl Checker {
         ensures some { IfOk result (λ opened.
             IfSome opened (λ checker. IsLine line.now → StandsBehind checker (line.now ∷ []))) }
         ensures none { IfOk result (λ opened. IsNone opened → IsFirst line.now → ⊥) }
-        ensures err { IfErr result (λ fault. fault ≡ TraceError.Memory) }
+        ensures err { IfErr result (λ fault. (fault ≡ TraceError.Memory) × (IsLine line.now → HasBegun (line.now ∷ []))) }
     {
         traces_rest_on_runs();
         let Line::First { nodes, start } = line else {
@@ -98,21 +100,15 @@ impl Checker {
         }
     }
 
-    /// Returns the verdict of a text of which nothing is left behind the last line.
-    ///
-    /// # Errors
-    ///
-    /// `Memory`.
-    pub fn totals(&self, alloc: Global) -> Result<Verdict, TraceError>
-        ensures ok { IfOk result (λ verdict. verdict
-            ≡ Verdict.Valid (requests_in (marks_of self.now.world.moves)) (length (sent_by self.now.world.moves))) }
-        ensures err { IfErr result (λ fault. fault ≡ TraceError.Memory) }
+    /// Returns the verdict of a text of which nothing is left behind the last line. It does not allocate.
+    pub fn totals(&self) -> Verdict
+        ensures { result
+            ≡ Verdict.Valid (requests_in (marks_of self.now.world.moves)) (length (sent_by self.now.world.moves)) }
     {
-        let report = self.world.report(alloc)?;
-        Ok(Verdict::Valid {
-            requests: report.requests,
-            messages: report.sent,
-        })
+        Verdict::Valid {
+            requests: u128::from(self.world.requests()),
+            messages: self.world.sent(),
+        }
     }
 
     /// Returns whether a mark of the last step has not come yet.
@@ -161,7 +157,7 @@ impl Checker {
         }
     }
 
-    /// Takes a mark's line. What the lock table says of it comes first.
+    /// Takes a mark's line. What the lock table says of it comes first, and the table grows only for a mark that is due.
     ///
     /// # Errors
     ///
@@ -170,15 +166,27 @@ impl Checker {
         ensures { Tried self.old (Line.Marked mark.now) self.new result }
     {
         traces_rest_on_runs();
+        if !self.is_due(mark) {
+            return Ok(Some(cause_of(&self.table, mark)));
+        }
         if !step_table(&mut self.table, mark)? {
             return Ok(Some(Cause::Table));
-        }
-        if !self.is_due(mark) {
-            return Ok(Some(Cause::Marks));
         }
         // The count fits, since there are no more than these.
         let _all = self.marks.len();
         self.come += 1;
         Ok(None)
+    }
+}
+
+/// Returns why a mark that is not due is wrong: for the lock table, or else since it is not due.
+fn cause_of(table: &Table, mark: &Mark) -> Cause
+    ensures { ((result ≡ Cause.Marks) × AllowsMark table.now mark.now)
+        ⊎ ((result ≡ Cause.Table) × (AllowsMark table.now mark.now → ⊥)) }
+{
+    if allows(table, mark) {
+        Cause::Marks
+    } else {
+        Cause::Table
     }
 }

@@ -6,7 +6,7 @@ ghost use Rattle.ra_world.specs.Traffic.{Move, sent_by};
 ghost use Rattle.ra_trace.specs.declared.verdict.Verdict.{Verdict};
 ghost use Rattle.ra_trace.specs.Along.{IsAlong, Judged, Opens, SomeTaken, Turns};
 ghost use Rattle.ra_trace.specs.NextLine.{EndsText};
-ghost use Rattle.ra_trace.specs.Reading.{Answers, Judges, ReadsOn, PassesLimit, StopsWithin};
+ghost use Rattle.ra_trace.specs.Reading.{Answers, Judges, ReadsOn, PassesLimit, StopsBehind};
 ghost use Rattle.ra_trace.specs.TraceText.{IsTrace};
 ghost use Rattle.ra_trace.specs.Verdict.{IsVerdict};
 
@@ -46,9 +46,8 @@ fn wrong_at(line: u64) -> Verdict
 ///
 /// # Errors
 ///
-/// `Read`, `Limit`, `Memory`.
+/// `Read`, `Limit`.
 fn ending<R: Read>(
-    alloc: Global,
     reader: &mut R,
     checker: &Checker,
     left: usize,
@@ -57,7 +56,7 @@ fn ending<R: Read>(
     ensures { EndsText left (R.remaining reader.old) (R.remaining reader.new) checker.now number result }
 {
     if is_at_end(reader, left)? {
-        checker.totals(alloc)
+        Ok(checker.totals())
     } else {
         Ok(wrong_at(number))
     }
@@ -153,7 +152,7 @@ fn verdict_behind<R: Read>(
         number += 1;
         left -= bytes.len();
         if let Next::Last = next {
-            return ending(alloc, reader, checker, left, number);
+            return ending(reader, checker, left, number);
         }
     }
 }
@@ -218,10 +217,10 @@ pub fn check_within<R: Read>(
         (n start : ℕ) (moves : List Move) → IsTrace n start moves input
         → verdict ≡ Verdict.Valid (requests_in (marks_of moves)) (length (sent_by moves)))) }
 
-    // No verdict was reached in what was read.
+    // No verdict was reached in what was read; and where memory was wanting, what was read are right lines and nothing else.
     ensures failed { IsErrOf result TraceError.Read → ReadsOn limit (R.remaining reader.old) (R.remaining reader.new) }
     ensures limit { IsErrOf result TraceError.Limit → PassesLimit limit (R.remaining reader.old) (R.remaining reader.new) }
-    ensures memory { IsErrOf result TraceError.Memory → StopsWithin limit (R.remaining reader.old) (R.remaining reader.new) }
+    ensures memory { IsErrOf result TraceError.Memory → StopsBehind limit (R.remaining reader.old) (R.remaining reader.new) }
     ensures at_most { (taken : List ℕ) × (length taken ≤ limit + 1)
         × Consumes (R.remaining reader.old) (R.remaining reader.new) taken }
 {
@@ -251,7 +250,7 @@ pub fn check<R: Read>(alloc: Global, reader: &mut R) -> Result<Verdict, TraceErr
 
     ensures failed { IsErrOf result TraceError.Read → ReadsOn 16777216 (R.remaining reader.old) (R.remaining reader.new) }
     ensures limit { IsErrOf result TraceError.Limit → PassesLimit 16777216 (R.remaining reader.old) (R.remaining reader.new) }
-    ensures memory { IsErrOf result TraceError.Memory → StopsWithin 16777216 (R.remaining reader.old) (R.remaining reader.new) }
+    ensures memory { IsErrOf result TraceError.Memory → StopsBehind 16777216 (R.remaining reader.old) (R.remaining reader.new) }
     ensures at_most { (taken : List ℕ) × (length taken ≤ 16777217)
         × Consumes (R.remaining reader.old) (R.remaining reader.new) taken }
 {

@@ -1,11 +1,23 @@
 //! The lock table under the marks of a trace.
-ghost use Rattle.std.specs.Prelude.{◌≡◌, false, IfOk, IfErr, IsTrue};
+ghost use Rattle.std.specs.Prelude.{◌≡◌, ◌↔◌, false, IfOk, IfErr, IsTrue};
 ghost use Rattle.ra_table.specs.Table.{TableStep};
 ghost use Rattle.ra_table.specs.Laws.{AllowsMark};
 
 use crate::TraceError;
 use ra_stamp::Mark;
 use ra_table::{EnterError, RequestError, Table, steps_exist_where_they_are_allowed};
+
+/// Returns whether a lock table allows a mark, memory aside. It does not allocate.
+pub fn allows(table: &Table, mark: &Mark) -> bool
+    ensures { IsTrue result ↔ AllowsMark table.now mark.now }
+{
+    steps_exist_where_they_are_allowed();
+    match mark {
+        Mark::Requested(entry) => table.can_request(entry),
+        Mark::Entered(entry) => table.can_enter(entry),
+        Mark::Left(entry) => table.holds(entry),
+    }
+}
 
 /// Makes the step of a mark in a lock table, and returns whether the table allows it.
 ///

@@ -41,8 +41,9 @@ impl Model for World {
 
 impl World {
     ghost use Rattle.ra_stamp.specs.NodeId.{IsNodeNumber};
-    ghost use Rattle.ra_world.specs.Traffic.{LeavesUnderWay};
-    ghost use Rattle.ra_world.specs.Run.{IsRun, GoesOn};
+    ghost use Rattle.ra_world.specs.Traffic.{LeavesUnderWay, sent_by};
+    ghost use Rattle.ra_world.specs.Quiet.{requests_in};
+    ghost use Rattle.ra_world.specs.Run.{IsRun, GoesOn, marks_of};
     ghost use Rattle.ra_world.specs.World.{with_move, HasCause, Reports};
     ghost use Rattle.ra_world.specs.MainTheorem.{MainTheorem};
     ghost use Rattle.ra_world.specs.Keeping.{Tries};
@@ -189,6 +190,24 @@ impl World {
         ensures count { IsNodeNumber self.now.count }
     {
         self.log.len()
+    }
+
+    /// Returns how many requests were made. It does not allocate.
+    pub fn requests(&self) -> u64
+        ensures value { result ≡ requests_in (marks_of self.now.moves) }
+        ensures run { IsRun self.now.count self.now.start self.now.moves }
+        ensures count { IsNodeNumber self.now.count }
+    {
+        self.log.requests()
+    }
+
+    /// Returns how many messages were sent. It does not allocate.
+    pub fn sent(&self) -> u128
+        ensures value { result ≡ length (sent_by self.now.moves) }
+        ensures run { IsRun self.now.count self.now.start self.now.moves }
+        ensures count { IsNodeNumber self.now.count }
+    {
+        self.log.sent()
     }
 
     /// Reports what came of the steps so far. The cost is linear in the number of marks and of nodes.

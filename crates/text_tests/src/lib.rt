@@ -6,6 +6,8 @@ mod checks;
 #[cfg(test)]
 mod fronts;
 #[cfg(test)]
+mod growth;
+#[cfg(test)]
 mod helpers;
 #[cfg(test)]
 mod performing;

@@ -9,7 +9,7 @@ use std::alloc::Global;
 use std::io;
 
 /// The lines of the run of which the trace is [`ONE_LOCK`].
-const ONE_LOCK_LINES: &str = "request 1 1 r X 1
+pub const ONE_LOCK_LINES: &str = "request 1 1 r X 1
 enter 1 1 r X 1
 leave 1 1 r X 1
 requests 1

@@ -6,6 +6,8 @@ mod acts;
 #[cfg(test)]
 mod drives;
 #[cfg(test)]
+mod growth;
+#[cfg(test)]
 mod helpers;
 #[cfg(test)]
 mod messages;

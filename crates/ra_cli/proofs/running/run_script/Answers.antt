@@ -5,7 +5,7 @@ use Rattle.ra_world.specs.Lines.{report_text}
 use Rattle.ra_script.specs.ScriptText.{script_of}
 use Rattle.ra_cli.specs.declared.error.RunScriptError.TheVariants.{Memory, Write}
 use Rattle.ra_cli.specs.ClusterRun.{IsClusterRun, RefusesRun, of_cluster}
-use Rattle.ra_cli.proofs.ClusterRuns.{of_known, runs, runs_cluster, refuses_cluster}
+use Rattle.ra_cli.proofs.ClusterRuns.{Brings, of_known, runs, runs_cluster, refuses_cluster}
 use Rattle.ra_cli.proofs.running.run_script.Goals as goal
 
 pub returns-in_err-settled-clause-refused : goal.returns-in_err-settled-clause-refused
@@ -22,8 +22,17 @@ returns-in_err-settled-clause-refused g c =
 pub returns-clause-ok : goal.returns-clause-ok
 returns-clause-ok g c =
     let settled = c.in_ok-settled.ensures in
+    let brings : Brings c.in_ok-script.script c.in_ok-settled.settled.report =
+    record {
+      run = (settled.run.0, settled.run.2, settled.run.3);
+      plan = settled.plan;
+      ended = settled.ended;
+      none_waits = settled.none_waits;
+      requests = settled.requests;
+      count = settled.count;
+    } in
     on_ok_weaker c.write_report.result (runs_cluster _ _ _ _ c.in_ok-script.script c.in_ok-settled.settled.report c.in_ok-script.ensures.ok
-    c.in_ok-script.ensures.read (settled.run.0, settled.run.2, settled.run.3) settled.plan settled.ended) c.write_report.ensures.ok
+    c.in_ok-script.ensures.read brings) c.write_report.ensures.ok
 
 pub returns-clause-refused : goal.returns-clause-refused
 returns-clause-refused g c =
@@ -32,11 +41,20 @@ returns-clause-refused g c =
     let script = c.in_ok-script.script in
     let report = c.in_ok-settled.settled.report in
     let settled = c.in_ok-settled.ensures in
+    let brings : Brings c.in_ok-script.script c.in_ok-settled.settled.report =
+    record {
+      run = (settled.run.0, settled.run.2, settled.run.3);
+      plan = settled.plan;
+      ended = settled.ended;
+      none_waits = settled.none_waits;
+      requests = settled.requests;
+      count = settled.count;
+    } in
     let known = of_known old (λ input. (script_of input ≡ Ok script) × Consumes old new input) in
     IfErr-weaker c.write_report.result _ _
     (λ why h. elim h [
       | inl memory ↦ rw memory.0 (known (λ input. RefusesRun input Memory) (λ input k. tt) c.in_ok-script.ensures.ok)
-      | inr write ↦ rw write.0 (known (λ input. RefusesRun input Write) (λ input k. (report_text report, runs input script report k.0 (settled.run.0, settled.run.2, settled.run.3) settled.plan settled.ended)) c.in_ok-script.ensures.ok)
+      | inr write ↦ rw write.0 (known (λ input. RefusesRun input Write) (λ input k. (report_text report, runs input script report k.0 brings)) c.in_ok-script.ensures.ok)
     ]) c.write_report.ensures.err
 
 pub returns-clause-unwritten : goal.returns-clause-unwritten
@@ -56,12 +74,21 @@ returns-clause-front g c is =
     let script = c.in_ok-script.script in
     let report = c.in_ok-settled.settled.report in
     let settled = c.in_ok-settled.ensures in
+    let brings : Brings c.in_ok-script.script c.in_ok-settled.settled.report =
+    record {
+      run = (settled.run.0, settled.run.2, settled.run.3);
+      plan = settled.plan;
+      ended = settled.ended;
+      none_waits = settled.none_waits;
+      requests = settled.requests;
+      count = settled.count;
+    } in
     elim (IfErr-at_err _ is c.write_report.ensures.err) [
       | inl memory ↦ absurd (let never : Write ≡ Memory = memory.0 in absurd cc)
       | inr write ↦
           let (same, front, back, parts, left, appends) = write in
           of_known old (λ input. (script_of input ≡ Ok script) × Consumes old new input)
           (λ input. (f : List ℕ) × (b : List ℕ) × IsClusterRun input (f ++ b) × (b ≢ []) × Appends before after f)
-          (λ input h. (front, back, subst (λ (xs : List ℕ). IsClusterRun input xs) parts (runs input script report h.0 (settled.run.0, settled.run.2, settled.run.3) settled.plan settled.ended), left, appends))
+          (λ input h. (front, back, subst (λ (xs : List ℕ). IsClusterRun input xs) parts (runs input script report h.0 brings), left, appends))
           c.in_ok-script.ensures.ok
     ]

@@ -1,6 +1,6 @@
-use Rattle.std.proofs.Common.{◌≢◌, Err, sym, ap, ◌∙◌}
+use Rattle.std.proofs.Common.{◌≢◌, Err, refl, sym, ap, ◌∙◌}
 use Rattle.ra_world.specs.declared.error.StepError.TheVariants.{NoNode, NotUnderWay, Node, Memory}
-use Rattle.ra_trace.proofs.Taking.{step_is_taken, step_comes_early, step_is_refused, step_is_not_under_way, no_node_is_of_client, node_is_of_client, not_under_way_takes}
+use Rattle.ra_trace.proofs.Taking.{step_is_taken, step_comes_early, step_is_refused, step_is_not_under_way, step_may_come, no_node_is_of_client, node_is_of_client, not_under_way_takes}
 use Rattle.ra_trace.proofs.checker.Checker.take_step.Goals as goal
 
 pub returns-then-has_due : goal.returns-then-has_due
@@ -40,3 +40,8 @@ returns-in-Err-Node c =
     step_is_refused c.args.self.now c.args.step.now (c.has_due.ensures.none c.if-has_due.false)
     (node_is_of_client w.count w.start w.moves c.args.step.now arm.field-0-0 because)
     (λ goes. not_memory (sym arm.field-0-is ∙ arm.ensures.allowed.1 goes))
+
+pub returns-in-Err-Memory : goal.returns-in-Err-Memory
+returns-in-Err-Memory c =
+    let arm = c.in-Err-Memory in
+    (refl, step_may_come c.args.self.now c.args.step.now (c.has_due.ensures.none c.if-has_due.false) (arm.ensures.allowed.0 arm.field-0-is))

@@ -1,0 +1,164 @@
+//! Each growth refused: `ra` prints `refused Memory` and nothing else, with status 2, and does what it should when it is run again.
+use crate::frames::{ANSWER, REPLY, REQUEST};
+use crate::helpers::words_of;
+use ra_cli::{AnswerError, answer, serve};
+use std::alloc::Global;
+use std::io;
+use std::io::Write;
+use std::process::Abort;
+use std::sync::Wait;
+use std::thread::Threads;
+use test_support::{Tried, again};
+
+/// Ends a test.
+fn end(rt: &(impl Abort), tried: Tried) {
+    assert!(rt;
+        tried != Tried::Wrong,
+        "a refused growth had another answer, or changed something"
+    );
+    assert!(rt;
+        tried != Tried::Again,
+        "a growth was refused, and the call made again"
+    );
+}
+
+/// How many bytes a [`Page`] has.
+const ROOM: usize = 4_096;
+
+/// Takes bytes without allocating, as many as it has room for.
+#[derive(Drop)]
+struct Page {
+    bytes: [u8; ROOM],
+    taken: usize,
+}
+
+impl Page {
+    fn new() -> Page {
+        Page {
+            bytes: [0; ROOM],
+            taken: 0,
+        }
+    }
+
+    /// Returns whether this text was taken, and nothing else.
+    fn has(&self, text: &str) -> bool {
+        match self.bytes.get(..self.taken) {
+            Some(bytes) => bytes == text.as_bytes(),
+            None => false,
+        }
+    }
+}
+
+impl Write for Page {
+    fn write(&mut self, buf: &[u8]) -> io::Result<usize> {
+        let (Some(byte), Some(place)) = (buf.first(), self.bytes.get_mut(self.taken)) else {
+            return Ok(0);
+        };
+        *place = *byte;
+        self.taken = self.taken.wrapping_add(1);
+        Ok(1)
+    }
+
+    fn flush(&mut self) -> io::Result<()> {
+        Ok(())
+    }
+}
+
+/// Answers a frame. Where that is refused, returns whether memory was wanting and nothing was written.
+fn try_answer(alloc: Global) -> Result<Tried, bool> {
+    let (mut reader, mut page) = (REQUEST.as_bytes(), Page::new());
+    match answer(alloc, 2, 3, &mut reader, &mut page) {
+        Ok(()) if page.has(REPLY) => Ok(Tried::AtOnce),
+        Ok(()) => Ok(Tried::Wrong),
+        Err(fault) => Err(fault == AnswerError::Memory && page.has("")),
+    }
+}
+
+#[test]
+fn growth_of_an_answer(rt: HostRuntime) {
+    end(&rt, again(try_answer(rt.alloc()), try_answer(rt.alloc())));
+}
+
+/// Runs `ra` on the words of a line and an input. Where it does not print this text with status 0, returns whether it says that
+/// memory was wanting.
+fn try_line<T: AllocGlobal + Threads + Wait + Sync>(
+    rt: &T,
+    line: &str,
+    input: &str,
+    output: &str,
+) -> Result<Tried, bool> {
+    let Some(words) = words_of(rt.alloc(), line) else {
+        return Err(true);
+    };
+    let (mut reader, mut page) = (input.as_bytes(), Page::new());
+    match serve(rt, rt.alloc(), words.as_slice(), &mut reader, &mut page) {
+        0 if page.has(output) => Ok(Tried::AtOnce),
+        2 => Err(page.has("refused Memory\n") || page.has("refused Fault\n")),
+        _ => Ok(Tried::Wrong),
+    }
+}
+
+/// A script of one client at the first of two nodes.
+const SCRIPT: &str = "nodes = 2\nclient = [{ node = 1, ops = [\"X r\", \"U r\"] }]\n";
+
+/// What comes of it.
+const LINES: &str = "request 1 1 r X 1
+enter 1 1 r X 1
+leave 1 1 r X 1
+requests 1
+messages 2
+under-way 0
+lost 0
+waiting 0
+queued 0
+";
+
+/// The trace of it.
+const TRACE: &str = "trace 1 2 0
+ask 1 1 r X
+request 1 1 r X 1
+deliver request 1 2 r X 1
+deliver reply 2 1 r 1
+enter 1 1 r X 1
+release 1 1 r
+leave 1 1 r X 1
+end
+";
+
+#[test]
+fn growth_of_the_command_answer(rt: HostRuntime) {
+    let first = try_line(&rt, ANSWER, REQUEST, REPLY);
+    end(&rt, again(first, try_line(&rt, ANSWER, REQUEST, REPLY)));
+}
+
+#[test]
+fn growth_of_the_command_sim(rt: HostRuntime) {
+    let first = try_line(&rt, "ra sim", SCRIPT, LINES);
+    end(&rt, again(first, try_line(&rt, "ra sim", SCRIPT, LINES)));
+}
+
+#[test]
+fn growth_of_the_command_sim_with_a_trace(rt: HostRuntime) {
+    let first = try_line(&rt, "ra sim --trace", SCRIPT, TRACE);
+    end(
+        &rt,
+        again(first, try_line(&rt, "ra sim --trace", SCRIPT, TRACE)),
+    );
+}
+
+#[test]
+fn growth_of_the_command_check(rt: HostRuntime) {
+    let verdict = "valid\nrequests 1\nmessages 2\n";
+    let first = try_line(&rt, "ra check", TRACE, verdict);
+    end(&rt, again(first, try_line(&rt, "ra check", TRACE, verdict)));
+}
+
+/// The one client that threads do: its marks have one order.
+#[test]
+fn growth_of_the_command_cluster(rt: HostRuntime) {
+    let first = try_line(&rt, "ra cluster", SCRIPT, LINES);
+    end(
+        &rt,
+        again(first, try_line(&rt, "ra cluster", SCRIPT, LINES)),
+    );
+}

@@ -1,0 +1,291 @@
+//! Each growth refused: the call answers want of memory and leaves all as it was, and does what it should when it is made again.
+use crate::books::{REPLIES, has};
+use crate::helpers::{r, ran, request, sites_of};
+use crate::plans::{TWO_WRITERS, script_of};
+use crate::settling::{Done, books_after};
+use Call::{Ask, Leave, Receive};
+use ra_cluster::{
+    Book, BookError, ClusterError, Gate, NewPostError, OpenGate, Post, SendError, SettleError,
+    Site, SiteError, Stop, is_cluster, settle,
+};
+use ra_frame::Frame;
+use ra_schedule::Script;
+use ra_stamp::{Mode, Name, NodeId};
+use std::alloc::Global;
+use std::process::Abort;
+use std::sync::Wait;
+use std::thread::Threads;
+use test_support::{Tried, again, both};
+
+/// Ends a test.
+fn end(rt: &(impl Abort), tried: Tried) {
+    assert!(rt;
+        tried != Tried::Wrong,
+        "a refused growth had another answer, or changed something"
+    );
+    assert!(rt;
+        tried != Tried::Again,
+        "a growth was refused, and the call made again"
+    );
+}
+
+/// A call of the book of node 1 of 2 about `r`.
+#[derive(Clone, Copy)]
+enum Call {
+    /// Client 1 asks for it.
+    Ask,
+    /// These bytes come.
+    Receive(&'static [u8]),
+    /// Client 1 leaves it.
+    Leave,
+}
+
+/// What was kept before a call: so many events and sent frames, and this clock.
+#[derive(Clone, Copy)]
+struct Kept(u64, u64, u64);
+
+/// Makes a call of a book. Where it is refused, returns whether memory was wanting.
+fn make(alloc: Global, book: &mut Book, name: Name, call: Call) -> Result<(), bool> {
+    let answer = match call {
+        Ask => book.ask(alloc, 1, name, Mode::Exclusive),
+        Receive(bytes) => book.receive(alloc, bytes),
+        Leave => book.leave(alloc, 1, name),
+    };
+    match answer {
+        Ok(_) => Ok(()),
+        Err(fault) => Err(fault == BookError::Memory),
+    }
+}
+
+/// Makes a call of a book, and again where memory was wanting.
+fn try_call(alloc: Global, book: &mut Book, name: Name, call: Call, kept: Kept) -> Tried {
+    match make(alloc, book, name, call) {
+        Ok(()) => Tried::AtOnce,
+        Err(true) if has(book, kept.0, kept.1, kept.2) && make(alloc, book, name, call).is_ok() => {
+            Tried::Again
+        }
+        Err(_) => Tried::Wrong,
+    }
+}
+
+/// Client 1 asks for `r`, enters and leaves.
+fn try_calls(alloc: Global, book: &mut Book, name: Name) -> Tried {
+    let asked = try_call(alloc, book, name, Ask, Kept(0, 0, 0));
+    let entered = try_call(alloc, book, name, Receive(&REPLIES), Kept(1, 1, 1));
+    let left = try_call(alloc, book, name, Leave, Kept(2, 1, 3));
+    if has(book, 3, 1, 4) {
+        both(both(asked, entered), left)
+    } else {
+        Tried::Wrong
+    }
+}
+
+/// Makes a book, which takes no memory, and all calls of it.
+fn try_book(alloc: Global) -> Option<Tried> {
+    let (me, name) = (NodeId::new(1)?, r()?);
+    match Book::new(alloc, me, 2, 0) {
+        Ok(mut book) => Some(try_calls(alloc, &mut book, name)),
+        Err(_) => None,
+    }
+}
+
+#[test]
+fn growth_of_a_book(rt: HostRuntime) {
+    end(&rt, try_book(rt.alloc()).unwrap_or(Tried::Wrong));
+}
+
+/// How often a client asks for `r` and leaves it where much happens, with two events each time.
+const MANY: u64 = 1_000;
+
+/// A client of a cluster of one node asks for `r` and leaves it, many times.
+fn try_many_calls(alloc: Global, book: &mut Book, name: Name) -> Tried {
+    let mut tried = Tried::AtOnce;
+    for _ in 0..MANY {
+        let (events, clock) = (book.events().len(), book.clock());
+        tried = both(
+            tried,
+            try_call(alloc, book, name, Ask, Kept(events, 0, clock)),
+        );
+        let (events, clock) = (book.events().len(), book.clock());
+        tried = both(
+            tried,
+            try_call(alloc, book, name, Leave, Kept(events, 0, clock)),
+        );
+    }
+    tried
+}
+
+/// Makes the book of one node alone, and many calls of it.
+fn try_large_book(alloc: Global) -> Option<Tried> {
+    let (me, name) = (NodeId::new(1)?, r()?);
+    match Book::new(alloc, me, 1, 0) {
+        Ok(mut book) => Some(try_many_calls(alloc, &mut book, name)),
+        Err(_) => None,
+    }
+}
+
+#[test]
+fn large_growth_of_a_book(rt: HostRuntime) {
+    end(&rt, try_large_book(rt.alloc()).unwrap_or(Tried::Wrong));
+}
+
+/// What is done to two books: the client of node 1 asks, enters and leaves.
+const ONE_LOCK: [Done; 4] = [
+    Done::Asks(1, Mode::Exclusive),
+    Done::Passes(1, 0),
+    Done::Passes(2, 0),
+    Done::Leaves(1),
+];
+
+/// Settles two books. Where that is refused, returns whether memory was wanting.
+fn try_settling(alloc: Global) -> Result<Tried, bool> {
+    let Some(name) = r() else {
+        return Err(false);
+    };
+    let Some(books) = books_after(alloc, name, &ONE_LOCK) else {
+        return Err(true);
+    };
+    if !is_cluster(&books) {
+        return Err(false);
+    }
+    match settle(alloc, &books, &[]) {
+        Ok(settled) if settled.report.requests == 1 && settled.report.sent == 2 => {
+            Ok(Tried::AtOnce)
+        }
+        Ok(_) => Ok(Tried::Wrong),
+        Err(fault) => Err(fault == SettleError::Memory),
+    }
+}
+
+#[test]
+fn growth_of_settling(rt: HostRuntime) {
+    end(
+        &rt,
+        again(try_settling(rt.alloc()), try_settling(rt.alloc())),
+    );
+}
+
+/// Sends a frame of node 1 to node 2, and again where it was refused.
+fn try_send<R: Wait>(rt: &R, alloc: Global, post: &Post) -> Tried {
+    let message = match r() {
+        Some(name) => request(name, 1, 2, Mode::Exclusive),
+        None => None,
+    };
+    let Some(message) = message else {
+        return Tried::Wrong;
+    };
+    let frame = Frame { clock: 1, message };
+    if !frame.fits() {
+        return Tried::Wrong;
+    }
+    match post.send(rt, alloc, &frame) {
+        Ok(()) => Tried::AtOnce,
+        Err(SendError::Refused) if post.send(rt, alloc, &frame).is_ok() => Tried::Again,
+        Err(_) => Tried::Wrong,
+    }
+}
+
+/// Makes a post and sends a frame by it. Where there is none, returns whether memory was wanting.
+fn try_post<R: Wait>(rt: &R, alloc: Global) -> Result<Tried, bool> {
+    match Post::new(alloc, 2) {
+        Ok((post, _inboxes)) => Ok(try_send(rt, alloc, &post)),
+        Err(fault) => Err(fault == NewPostError::Memory),
+    }
+}
+
+#[test]
+fn growth_of_a_post(rt: HostRuntime) {
+    let alloc = rt.alloc();
+    end(&rt, again(try_post(&rt, alloc), try_post(&rt, alloc)));
+}
+
+/// Returns what became of a call of a site: whether it was taken, or where it was not, whether memory was wanting.
+fn taken<T: Drop>(answer: Result<T, SiteError>) -> Result<(), bool> {
+    match answer {
+        Ok(_) => Ok(()),
+        Err(fault) => Err(fault == SiteError::Refused(BookError::Memory)),
+    }
+}
+
+/// Returns what became of a call that was made again where memory was wanting.
+fn made(first: Result<(), bool>, second: Result<(), bool>) -> Tried {
+    match (first, second) {
+        (Ok(()), _) => Tried::AtOnce,
+        (Err(true), Ok(())) => Tried::Again,
+        _ => Tried::Wrong,
+    }
+}
+
+/// A client locks `r` at the one site, and unlocks it.
+fn try_site<R: Wait>(rt: &R, alloc: Global, name: Name, post: &Post, sites: &[Site]) -> Tried {
+    let [site] = sites else {
+        return Tried::Wrong;
+    };
+    let mode = Mode::Exclusive;
+    let lock = || taken(site.lock(rt, alloc, 1, name, mode, post, sites, &OpenGate));
+    let first = lock();
+    let locked = made(first, if first.is_ok() { first } else { lock() });
+    let unlock = || taken(site.unlock(rt, alloc, 1, name, post, sites, &OpenGate));
+    let first = unlock();
+    both(
+        locked,
+        made(first, if first.is_ok() { first } else { unlock() }),
+    )
+}
+
+/// Makes a cluster of one site, at which a client locks `r` and unlocks it. Where there is none, memory was wanting.
+fn try_sites<R: Wait>(rt: &R, alloc: Global) -> Result<Tried, bool> {
+    let (Some(name), Some(sites)) = (r(), sites_of(alloc, 1, 0)) else {
+        return Err(true);
+    };
+    match Post::new(alloc, 1) {
+        Ok((post, _inboxes)) => Ok(try_site(rt, alloc, name, &post, &sites)),
+        Err(fault) => Err(fault == NewPostError::Memory),
+    }
+}
+
+#[test]
+fn growth_of_a_site(rt: HostRuntime) {
+    let alloc = rt.alloc();
+    end(&rt, again(try_sites(&rt, alloc), try_sites(&rt, alloc)));
+}
+
+/// Returns whether a cluster of threads may answer so where a growth was refused.
+fn is_of_memory(fault: ClusterError) -> bool {
+    matches!(
+        fault,
+        ClusterError::Memory
+            | ClusterError::Fault(Stop::Memory)
+            | ClusterError::Fault(Stop::Send)
+            | ClusterError::Fault(Stop::Spawn)
+    )
+}
+
+/// Has threads do a script of two writers. Where they do not, returns whether memory was wanting.
+fn try_threads<R: Threads + Wait + Abort + Sync>(
+    rt: &R,
+    alloc: Global,
+    script: &Script,
+) -> Result<Tried, bool> {
+    match ran(rt, alloc, script, &OpenGate) {
+        Ok(settled) if settled.report.requests == 2 && settled.report.sent == 4 => {
+            Ok(Tried::AtOnce)
+        }
+        Ok(_) => Ok(Tried::Wrong),
+        Err(fault) => Err(is_of_memory(fault)),
+    }
+}
+
+/// Makes a script, and has threads do it. Where there is none, memory was wanting.
+fn try_cluster<R: Threads + Wait + Abort + Sync>(rt: &R, alloc: Global) -> Result<Tried, bool> {
+    match script_of(alloc, 2, TWO_WRITERS) {
+        Some(script) => try_threads(rt, alloc, &script),
+        None => Err(true),
+    }
+}
+
+#[test]
+fn growth_of_a_cluster(rt: HostRuntime) {
+    let alloc = rt.alloc();
+    end(&rt, again(try_cluster(&rt, alloc), try_cluster(&rt, alloc)));
+}

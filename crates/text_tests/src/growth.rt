@@ -1,0 +1,157 @@
+//! Each growth refused: the call answers `Memory`, writes nothing, and does what it should when it is made again.
+use crate::helpers::{FailingWriter, ONE_LOCK, ONE_LOCK_SCRIPT, failing};
+use crate::performing::ONE_LOCK_LINES;
+use crate::traces::{one_lock, steps_of};
+use ra_schedule::Policy;
+use ra_script::{
+    ChoicesError, PerformError, ScriptError, perform, perform_trace, read_choices, read_script,
+};
+use ra_trace::{TraceError, Verdict, WriteTraceError, check, trace_text, write_trace};
+use std::alloc::Global;
+use std::process::Abort;
+use test_support::{Tried, again};
+
+/// Ends a test.
+fn end(rt: &(impl Abort), tried: Tried) {
+    assert!(rt;
+        tried != Tried::Wrong,
+        "a refused growth had another answer, or changed something"
+    );
+    assert!(rt;
+        tried != Tried::Again,
+        "a growth was refused, and the call made again"
+    );
+}
+
+/// Returns what became of a call that did as it should or did not.
+fn tried_if(good: bool) -> Tried {
+    if good { Tried::AtOnce } else { Tried::Wrong }
+}
+
+/// Checks a trace. Where that is refused, returns whether memory was wanting.
+fn try_check(alloc: Global) -> Result<Tried, bool> {
+    let mut reader = ONE_LOCK.as_bytes();
+    let valid = Verdict::Valid {
+        requests: 1,
+        messages: 2,
+    };
+    match check(alloc, &mut reader) {
+        Ok(verdict) => Ok(tried_if(verdict == valid)),
+        Err(fault) => Err(fault == TraceError::Memory),
+    }
+}
+
+#[test]
+fn growth_of_a_checker(rt: HostRuntime) {
+    end(&rt, again(try_check(rt.alloc()), try_check(rt.alloc())));
+}
+
+/// Reads a script of one client. Where that is refused, returns whether memory was wanting.
+fn try_script(alloc: Global) -> Result<Tried, bool> {
+    match read_script(alloc, ONE_LOCK_SCRIPT.as_bytes()) {
+        Ok(script) => Ok(tried_if(script.nodes() == 2 && script.clients() == 1)),
+        Err(fault) => Err(fault == ScriptError::Memory),
+    }
+}
+
+#[test]
+fn growth_of_a_script(rt: HostRuntime) {
+    end(&rt, again(try_script(rt.alloc()), try_script(rt.alloc())));
+}
+
+/// Reads choices. Where that is refused, returns whether memory was wanting.
+fn try_choices(alloc: Global) -> Result<Tried, bool> {
+    match read_choices(alloc, "c1 m0 m0 l0 c1") {
+        Ok(choices) => Ok(tried_if(choices.len() == 5)),
+        Err(fault) => Err(fault == ChoicesError::Memory),
+    }
+}
+
+#[test]
+fn growth_of_choices(rt: HostRuntime) {
+    end(&rt, again(try_choices(rt.alloc()), try_choices(rt.alloc())));
+}
+
+/// Returns a writer that takes this text and nothing else.
+fn taking(text: &str) -> FailingWriter<'_> {
+    failing(text, 1_000, None)
+}
+
+/// Returns whether nothing was written of this text.
+fn is_untouched(writer: &FailingWriter<'_>, text: &str) -> bool {
+    writer.left.len() == text.len() && !writer.differs
+}
+
+/// Returns whether the whole text was written, and nothing else.
+fn is_whole(writer: &FailingWriter<'_>) -> bool {
+    writer.left.is_empty() && !writer.differs
+}
+
+/// Writes the trace of a run. Where that is refused, returns whether memory was wanting and nothing was written.
+fn try_trace(alloc: Global) -> Result<Tried, bool> {
+    let Some(steps) = steps_of(alloc, &one_lock()) else {
+        return Err(true);
+    };
+    let mut writer = taking(ONE_LOCK);
+    match write_trace(alloc, 2, 0, &steps, &mut writer) {
+        Ok(()) => Ok(tried_if(is_whole(&writer))),
+        Err(fault) => Err(fault == WriteTraceError::Memory && is_untouched(&writer, ONE_LOCK)),
+    }
+}
+
+#[test]
+fn growth_of_a_trace_that_is_written(rt: HostRuntime) {
+    end(&rt, again(try_trace(rt.alloc()), try_trace(rt.alloc())));
+}
+
+/// Makes the text of the trace of a run. Where that is refused, returns whether memory was wanting.
+fn try_trace_text(alloc: Global) -> Result<Tried, bool> {
+    let Some(steps) = steps_of(alloc, &one_lock()) else {
+        return Err(true);
+    };
+    match trace_text(alloc, 2, 0, &steps) {
+        Ok(text) => Ok(tried_if(text.as_str() == ONE_LOCK)),
+        Err(fault) => Err(fault == WriteTraceError::Memory),
+    }
+}
+
+#[test]
+fn growth_of_the_text_of_a_trace(rt: HostRuntime) {
+    end(
+        &rt,
+        again(try_trace_text(rt.alloc()), try_trace_text(rt.alloc())),
+    );
+}
+
+/// Performs a script. Where that is refused, returns whether memory was wanting and nothing was written.
+fn try_performance(alloc: Global, traces: bool) -> Result<Tried, bool> {
+    let text = if traces { ONE_LOCK } else { ONE_LOCK_LINES };
+    let (mut reader, mut writer) = (ONE_LOCK_SCRIPT.as_bytes(), taking(text));
+    let performed = if traces {
+        perform_trace(alloc, &mut reader, &mut writer, &Policy::Oldest)
+    } else {
+        perform(alloc, &mut reader, &mut writer, &Policy::Oldest)
+    };
+    match performed {
+        Ok(finished) => Ok(tried_if(finished && is_whole(&writer))),
+        Err(fault) => Err(fault == PerformError::Memory && is_untouched(&writer, text)),
+    }
+}
+
+#[test]
+fn growth_of_a_performance(rt: HostRuntime) {
+    let alloc = rt.alloc();
+    end(
+        &rt,
+        again(try_performance(alloc, false), try_performance(alloc, false)),
+    );
+}
+
+#[test]
+fn growth_of_a_performance_that_is_traced(rt: HostRuntime) {
+    let alloc = rt.alloc();
+    end(
+        &rt,
+        again(try_performance(alloc, true), try_performance(alloc, true)),
+    );
+}

@@ -1,0 +1,380 @@
+//! Each growth refused: the call answers `Memory` and leaves all as it was, and is taken when it is made again.
+use crate::acts::node;
+use crate::helpers::r;
+use crate::plans::lock;
+use ra_schedule::{
+    AddClientError, AddOpError, DriveError, NewScriptError, Op, Policy, Script, drive, summarize,
+};
+use ra_stamp::{Entry, Mark, Memory, Mode, Name, NodeId, Stamp};
+use ra_world::{
+    NewError, Report, RunError, Step, StepError, Steps, World, mark_line, report_text, run,
+};
+use std::alloc::Global;
+use std::process::Abort;
+use test_support::{Tried, again, both};
+
+/// Ends a test.
+fn end(rt: &(impl Abort), tried: Tried) {
+    assert!(rt;
+        tried != Tried::Wrong,
+        "a refused growth had another answer, or changed something"
+    );
+    assert!(rt;
+        tried != Tried::Again,
+        "a growth was refused, and the call made again"
+    );
+}
+
+/// What happens in a world of two nodes.
+#[derive(Clone, Copy)]
+enum Act {
+    /// Client 1 of this node asks for `r`.
+    Ask(u16),
+    /// The message that was sent first of those under way is delivered.
+    Deliver,
+    /// Client 1 of this node leaves `r`.
+    Leave(u16),
+    /// The message that was sent first of those under way is lost.
+    Lose,
+}
+
+/// Node 1 enters first, then node 2, and then the REQUEST of node 1 is lost.
+const ACTS: [Act; 10] = [
+    Act::Ask(1),
+    Act::Ask(2),
+    Act::Deliver,
+    Act::Deliver,
+    Act::Deliver,
+    Act::Leave(1),
+    Act::Deliver,
+    Act::Leave(2),
+    Act::Ask(1),
+    Act::Lose,
+];
+
+/// Returns the step that an act is in a world.
+fn step_of(world: &World, act: Act) -> Option<Step> {
+    match act {
+        Act::Ask(number) => NodeId::new(number).map(|node| Step::Ask {
+            node,
+            client: 1,
+            name: r(),
+            mode: Mode::Exclusive,
+        }),
+        Act::Leave(number) => NodeId::new(number).map(|node| Step::Leave {
+            node,
+            client: 1,
+            name: r(),
+        }),
+        Act::Deliver => world.message_at(0).map(Step::Deliver),
+        Act::Lose => world.message_at(0).map(Step::Lose),
+    }
+}
+
+/// Makes a step, and again where memory was wanting.
+fn try_step(alloc: Global, world: &mut World, step: &Step) -> Tried {
+    let (steps, left, first) = (world.steps(), world.under_way(), world.message_at(0));
+    match world.step(alloc, step) {
+        Ok(_) => Tried::AtOnce,
+        Err(StepError::Memory)
+            if world.steps() == steps
+                && world.under_way() == left
+                && world.message_at(0) == first
+                && world.step(alloc, step).is_ok() => { Tried::Again }
+        Err(_) => Tried::Wrong,
+    }
+}
+
+/// Does an act.
+fn try_act(alloc: Global, world: &mut World, act: Act) -> Tried {
+    match step_of(world, act) {
+        Some(step) => try_step(alloc, world, &step),
+        None => Tried::Wrong,
+    }
+}
+
+/// Returns whether this is the report on all acts.
+fn is_report(report: &Report) -> bool {
+    report.marks.len() == 7
+        && report.sent == 5
+        && report.requests == 3
+        && report.lost == 1
+        && report.waiting == 1
+}
+
+/// Makes the report of a world in which all acts were done, and again where memory was wanting.
+fn try_report(alloc: Global, world: &World) -> Tried {
+    match world.report(alloc) {
+        Ok(report) if is_report(&report) => Tried::AtOnce,
+        Ok(_) => Tried::Wrong,
+        Err(_) => match world.report(alloc) {
+            Ok(report) if is_report(&report) => Tried::Again,
+            _ => Tried::Wrong,
+        },
+    }
+}
+
+/// Does all acts, and makes the report.
+fn try_acts(alloc: Global, world: &mut World) -> Tried {
+    let mut tried = Tried::AtOnce;
+    for place in 0..ACTS.len() {
+        tried = both(tried, try_act(alloc, world, ACTS[place]));
+    }
+    both(tried, try_report(alloc, world))
+}
+
+/// Makes a world and does all acts in it. Where there is none, returns whether memory was wanting.
+fn try_world(alloc: Global) -> Result<Tried, bool> {
+    match World::new(alloc, 2, 0) {
+        Ok(mut world) => Ok(try_acts(alloc, &mut world)),
+        Err(fault) => Err(fault == NewError::Memory),
+    }
+}
+
+#[test]
+fn growth_of_a_world(rt: HostRuntime) {
+    end(&rt, again(try_world(rt.alloc()), try_world(rt.alloc())));
+}
+
+/// Returns the name of two letters of this number.
+fn name_of(number: u16) -> Name {
+    let (high, low) = (number / 26 % 26, number % 26);
+    Name::new(&[b'a' + high as u8, b'a' + low as u8]).unwrap()
+}
+
+/// Has clients of node 1 ask for 600 names, one after the other, so that as many messages are under way.
+fn try_asks(alloc: Global, world: &mut World) -> Tried {
+    let mut tried = Tried::AtOnce;
+    for number in 0..600u16 {
+        let step = Step::Ask {
+            node: node(1),
+            client: 1,
+            name: name_of(number),
+            mode: Mode::Exclusive,
+        };
+        tried = both(tried, try_step(alloc, world, &step));
+    }
+    tried
+}
+
+/// Delivers the message in the middle, for which a world learns where each message stands. There may be no memory for that.
+fn try_middle(alloc: Global, world: &mut World) -> Tried {
+    match world.message_at(300) {
+        Some(message) => try_step(alloc, world, &Step::Deliver(message)),
+        None => Tried::Wrong,
+    }
+}
+
+/// Makes a world of two nodes with many messages under way. Where there is none, returns whether memory was wanting.
+fn try_large_world(alloc: Global) -> Result<Tried, bool> {
+    match World::new(alloc, 2, 0) {
+        Ok(mut world) => Ok(both(try_asks(alloc, &mut world), try_middle(alloc, &mut world))),
+        Err(fault) => Err(fault == NewError::Memory),
+    }
+}
+
+#[test]
+fn large_growth_of_a_world(rt: HostRuntime) {
+    let alloc = rt.alloc();
+    end(&rt, again(try_large_world(alloc), try_large_world(alloc)));
+}
+
+/// Adds a step to a list, and again where memory was wanting.
+fn try_push(steps: &mut Steps, step: Step) -> Tried {
+    let before = steps.len();
+    if steps.push(step).is_ok() {
+        Tried::AtOnce
+    } else if steps.len() == before && steps.push(step).is_ok() {
+        Tried::Again
+    } else {
+        Tried::Wrong
+    }
+}
+
+/// Returns the step by which client 1 of node 1 leaves `r`.
+fn leaving() -> Step {
+    Step::Leave {
+        node: node(1),
+        client: 1,
+        name: r(),
+    }
+}
+
+/// Returns the step by which client 1 of node 1 asks for `r`.
+fn asking() -> Step {
+    Step::Ask {
+        node: node(1),
+        client: 1,
+        name: r(),
+        mode: Mode::Exclusive,
+    }
+}
+
+/// Runs steps at one node. Where that is refused, returns whether memory was wanting.
+fn try_run(alloc: Global, steps: &Steps) -> Result<Tried, bool> {
+    match run(alloc, 1, 0, steps) {
+        Ok(report) if report.marks.len() == 3 && report.sent == 0 => Ok(Tried::AtOnce),
+        Ok(_) => Ok(Tried::Wrong),
+        Err(fault) => Err(fault == RunError::Memory),
+    }
+}
+
+#[test]
+fn growth_of_a_run(rt: HostRuntime) {
+    let alloc = rt.alloc();
+    let mut steps = Steps::new(alloc);
+    let pushed = both(
+        try_push(&mut steps, asking()),
+        try_push(&mut steps, leaving()),
+    );
+    end(
+        &rt,
+        both(
+            pushed,
+            again(try_run(alloc, &steps), try_run(alloc, &steps)),
+        ),
+    );
+}
+
+/// Returns whether there is this text. Where there is none, memory was wanting.
+fn try_text(found: Result<String, Memory>, text: &str) -> Result<Tried, bool> {
+    match found {
+        Ok(found) if found.as_str() == text => Ok(Tried::AtOnce),
+        Ok(_) => Ok(Tried::Wrong),
+        Err(_) => Err(true),
+    }
+}
+
+/// Makes the line of a mark, twice.
+fn try_mark(alloc: Global) -> Tried {
+    let mark = Mark::Entered(Entry {
+        name: r(),
+        stamp: Stamp {
+            seq: 3,
+            node: node(2),
+        },
+        client: 7,
+        mode: Mode::Shared,
+    });
+    let line = "enter 2 7 r S 3\n";
+    again(
+        try_text(mark_line(alloc, &mark), line),
+        try_text(mark_line(alloc, &mark), line),
+    )
+}
+
+#[test]
+fn growth_of_the_line_of_a_mark(rt: HostRuntime) {
+    end(&rt, try_mark(rt.alloc()));
+}
+
+/// The lines of the report of a world in which nothing has happened.
+const NOTHING: &str = "requests 0\nmessages 0\nunder-way 0\nlost 0\nwaiting 0\nqueued 0\n";
+
+/// Makes the lines of a report. Where there are none, memory was wanting.
+fn try_lines(alloc: Global) -> Result<Tried, bool> {
+    let Ok(world) = World::new(alloc, 2, 0) else {
+        return Err(true);
+    };
+    let Ok(report) = world.report(alloc) else {
+        return Err(true);
+    };
+    try_text(report_text(alloc, &report), NOTHING)
+}
+
+#[test]
+fn growth_of_the_lines_of_a_report(rt: HostRuntime) {
+    end(&rt, again(try_lines(rt.alloc()), try_lines(rt.alloc())));
+}
+
+/// Adds a client at a node, and again where memory was wanting.
+fn try_client(alloc: Global, script: &mut Script, number: u16) -> Tried {
+    let before = script.clients();
+    match script.add_client(alloc, number) {
+        Ok(()) => Tried::AtOnce,
+        Err(AddClientError::Memory)
+            if script.clients() == before && script.add_client(alloc, number).is_ok() => {
+            Tried::Again
+        }
+        Err(_) => Tried::Wrong,
+    }
+}
+
+/// Adds an operation of the last client, and again where memory was wanting.
+fn try_op(script: &mut Script, op: Op) -> Tried {
+    match script.add_op(op) {
+        Ok(()) => Tried::AtOnce,
+        Err(AddOpError::Memory) if script.add_op(op).is_ok() => Tried::Again,
+        Err(_) => Tried::Wrong,
+    }
+}
+
+/// Adds a client at a node that locks `r` and unlocks it.
+fn try_locker(alloc: Global, script: &mut Script, number: u16) -> Tried {
+    let added = try_client(alloc, script, number);
+    let locked = both(added, try_op(script, lock(r())));
+    both(locked, try_op(script, Op::Unlock(r())))
+}
+
+/// Drives a cluster through a script with its steps recorded. Where that is refused, returns whether memory was wanting.
+fn try_drive(alloc: Global, script: &Script, policy: &Policy) -> Result<Tried, bool> {
+    match drive(alloc, script, policy, 1_000) {
+        Ok(made) if made.finished && made.report.sent == 4 => Ok(Tried::AtOnce),
+        Ok(_) => Ok(Tried::Wrong),
+        Err(fault) => Err(fault == DriveError::Memory),
+    }
+}
+
+/// The same with no step recorded.
+fn try_summary(alloc: Global, script: &Script, policy: &Policy) -> Result<Tried, bool> {
+    match summarize(alloc, script, policy, 1_000) {
+        Ok(made) if made.finished && made.report.sent == 4 => Ok(Tried::AtOnce),
+        Ok(_) => Ok(Tried::Wrong),
+        Err(fault) => Err(fault == DriveError::Memory),
+    }
+}
+
+/// Drives a cluster through a script by a policy.
+fn try_policy(alloc: Global, script: &Script, policy: &Policy) -> Tried {
+    both(
+        again(
+            try_drive(alloc, script, policy),
+            try_drive(alloc, script, policy),
+        ),
+        again(
+            try_summary(alloc, script, policy),
+            try_summary(alloc, script, policy),
+        ),
+    )
+}
+
+/// Makes a script of two clients at two nodes, and drives a cluster through it. Where there is none, returns whether memory was
+/// wanting.
+fn try_script(alloc: Global, policy: &Policy) -> Result<Tried, bool> {
+    match Script::new(alloc, 2) {
+        Ok(mut script) => {
+            let first = try_locker(alloc, &mut script, 1);
+            let made = both(first, try_locker(alloc, &mut script, 2));
+            Ok(both(made, try_policy(alloc, &script, policy)))
+        }
+        Err(fault) => Err(fault == NewScriptError::Memory),
+    }
+}
+
+#[test]
+fn growth_of_a_script_driven_in_order(rt: HostRuntime) {
+    let (alloc, policy) = (rt.alloc(), Policy::Oldest);
+    end(
+        &rt,
+        again(try_script(alloc, &policy), try_script(alloc, &policy)),
+    );
+}
+
+#[test]
+fn growth_of_a_script_driven_by_chance(rt: HostRuntime) {
+    let (alloc, policy) = (rt.alloc(), Policy::Seeded(1));
+    end(
+        &rt,
+        again(try_script(alloc, &policy), try_script(alloc, &policy)),
+    );
+}
