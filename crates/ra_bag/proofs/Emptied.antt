@@ -5,7 +5,7 @@ use Rattle.std.specs.Option.{is_some}
 use Rattle.std.specs.List.{filter, remove}
 use Rattle.ra_stamp.proofs.Places.{split_at}
 use Rattle.ra_stamp.specs.declared.message.Message.{Message}
-use Rattle.ra_bag.specs.Bag.{TakesFirst, TakesOne, messages_in, HasEmpty}
+use Rattle.ra_bag.specs.Bag.{TakesFirst, TakesOne, messages_in, HasEmpty, FewEmpty}
 use Rattle.std.proofs.lemmas.List.{length-append, set_split, length-take-le, length-drop, get_or_append_left, get_or-append-add, get_or-take, get_or_default, take_more, append-nil, drop_all, length-map}
 use Rattle.std.proofs.lemmas.List.Elements.{filter_map-append}
 use Rattle.std.proofs.lemmas.Bool.Decides.{leb_tells}
@@ -210,6 +210,9 @@ put_behind slots ms = in_both slots (map Some ms) ∙ ap (λ (l : List Message).
 pub count_behind : (slots : List (Option Message)) (ms : List Message) (empty : ℕ) → HasEmpty slots empty → HasEmpty (slots ++ map Some ms) empty
 count_behind slots ms empty count =
     omega (arith, count, ap length (put_behind slots ms), length-append (messages_in slots) ms, length-append slots (map Some ms), length-map ms Some)
+
+pub few_behind : (slots : List (Option Message)) (ms : List Message) (empty : ℕ) → FewEmpty slots empty → FewEmpty (slots ++ map Some ms) empty
+few_behind slots ms empty few = omega (arith, few, ap length (put_behind slots ms), length-append (messages_in slots) ms)
 
 pub first_is_one : (old : List Message) (m : Message) (new : List Message) → TakesFirst old m new → TakesOne old m new
 first_is_one old m new takes =

@@ -1,5 +1,5 @@
 -- The bag: the messages under way, in the order in which they were sent. Equal messages may stand in it.
-use Rattle.std.specs.Prelude.{◌≡◌, ◌≢◌, ◌<◌, ◌+◌, ℕ, List, ◌∷◌, ◌++◌, Option, Some, All, length, slice_index_or}
+use Rattle.std.specs.Prelude.{◌≡◌, ◌≢◌, ◌<◌, ◌≤◌, ◌+◌, ℕ, List, ◌∷◌, ◌++◌, Option, Some, All, length, slice_index_or}
 use Rattle.std.specs.List.{filter_map, remove}
 use Rattle.ra_stamp.specs.declared.message.Message.{Message}
 
@@ -28,3 +28,7 @@ messages_in slots = filter_map (λ slot. slot) slots
 -- so many of the slots are empty
 abbrev pub HasEmpty : List (Option Message) → ℕ → Type 0
 HasEmpty slots empty = length (messages_in slots) + empty ≡ length slots
+
+-- no more of the slots are empty than have a message
+abbrev pub FewEmpty : List (Option Message) → ℕ → Type 0
+FewEmpty slots empty = empty ≤ length (messages_in slots)

@@ -1,6 +1,6 @@
 ghost use Rattle.std.specs.Prelude.{◌≡◌, ◌≢◌, ◌+◌, ◌≤◌, ◌↔◌, [], ◌++◌, take, drop, suc, length, slice_get, Contains, IsNone, IsSome, IsOk, IfOk, IfSome, OnOk, OnErr, IsTrue, ℕ};
 ghost use Rattle.std.specs.VecDeque.{deque_len, deque_capacity};
-ghost use Rattle.ra_bag.specs.Bag.{TakesFirst, TakesOne, StandsIn, messages_in, HasEmpty};
+ghost use Rattle.ra_bag.specs.Bag.{TakesFirst, TakesOne, StandsIn, messages_in, HasEmpty, FewEmpty};
 
 use crate::places::Places;
 use crate::slots::{
@@ -18,7 +18,7 @@ use std::marker::Model;
 pub struct Bag {
     /// The messages, with an empty slot for each one that was taken from between others since the slots were closed up.
     slots: VecDeque<Option<Message>>,
-    /// How many slots are empty.
+    /// How many slots are empty: no more than have a message.
     empty: u64,
     /// In which slots the messages stand, for finding them.
     places: Places,
@@ -29,14 +29,14 @@ impl Model for Bag {
     ghost use Rattle.std.specs.VecDeque.{deque_len, deque_capacity};
     ghost use Rattle.ra_stamp.specs.declared.message.Message.{Message};
     ghost use Rattle.ra_stamp.specs.Sequence.{Listed};
-    ghost use Rattle.ra_bag.specs.Bag.{messages_in, HasEmpty};
+    ghost use Rattle.ra_bag.specs.Bag.{messages_in, HasEmpty, FewEmpty};
 
     ghost Value = { Listed Message };
 
     ghost view = { λ b.
         record { items = messages_in b.slots.items; spare = deque_capacity b.slots - deque_len b.slots } };
 
-    ghost invariant = { λ b. HasEmpty b.slots.items b.empty };
+    ghost invariant = { λ b. HasEmpty b.slots.items b.empty × FewEmpty b.slots.items b.empty };
 }
 
 impl Bag {
@@ -202,6 +202,7 @@ fn remove(
     requires count { HasEmpty slots.old.items empty.old }
     requires there { StandsIn slots.old.items message.now slot }
     ensures count { HasEmpty slots.new.items empty.new }
+    ensures few { FewEmpty slots.new.items empty.new }
     ensures items { messages_in slots.new.items
         ≡ messages_in (take slot slots.old.items) ++ messages_in (drop (suc slot) slots.old.items) }
     ensures len { deque_len slots.new ≤ deque_len slots.old }

@@ -1,8 +1,8 @@
 use Rattle.std.proofs.Common.{rules, ◌≡◌, ◌++◌, List, Option, Some, map, sym, ap, ◌∙◌, subst}
 use Rattle.ra_stamp.specs.declared.message.Message.{Message}
 use Rattle.ra_stamp.specs.Sequence.{Listed}
-use Rattle.ra_bag.specs.Bag.{messages_in, HasEmpty}
-use Rattle.ra_bag.proofs.Emptied.{put_behind, count_behind}
+use Rattle.ra_bag.specs.Bag.{messages_in, HasEmpty, FewEmpty}
+use Rattle.ra_bag.proofs.Emptied.{put_behind, count_behind, few_behind}
 use Rattle.ra_bag.proofs.bag.Bag.put_all.Goals as goal
 
 pub invariant_of-self-2 : goal.invariant_of-self-2
@@ -10,7 +10,8 @@ invariant_of-self-2 c =
     let w = c.self.inside in
     let ms = c.args.messages.now.items in
     let slots : c.append.new.slots.items ≡ w.slots.items ++ map Some ms = search rules in
-    subst (λ (l : List (Option Message)). HasEmpty l w.empty) (sym slots) (count_behind w.slots.items ms w.empty c.self.invariant)
+    subst (λ (l : List (Option Message)). HasEmpty l w.empty × FewEmpty l w.empty) (sym slots)
+    (count_behind w.slots.items ms w.empty c.self.invariant.0, few_behind w.slots.items ms w.empty c.self.invariant.1)
 
 pub returns-clause-ok : goal.returns-clause-ok
 returns-clause-ok c =
