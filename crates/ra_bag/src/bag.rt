@@ -102,9 +102,10 @@ impl Bag {
         ensures same { self.new ≡ self.old }
         ensures found { IsSome result ↔ Contains self.old.items message.now }
     {
-        let near = self.places.look_up(&self.slots, message);
-        if has(&self.slots, near, message) {
-            return Some(near as u64);
+        if let Some(known) = self.places.look_up(&self.slots, message) {
+            if has(&self.slots, known, message) {
+                return Some(known as u64);
+            }
         }
         let slot = slot_of(&self.slots, message)?;
         Some(slot as u64)

@@ -33,15 +33,22 @@ impl Places {
         !self.numbers.is_empty()
     }
 
-    /// Returns the slot of a message, as far as that is known, or 0. Where there are many slots they are learned first.
-    pub fn look_up(&mut self, slots: &VecDeque<Option<Message>>, message: &Message) -> usize {
+    /// Returns the slot of a message, as far as that is known. Where there are many slots they are learned first.
+    pub fn look_up(
+        &mut self,
+        slots: &VecDeque<Option<Message>>,
+        message: &Message,
+    ) -> Option<usize> {
         if slots.len() > FEW && !self.are_known() {
             self.learn(slots);
         }
-        match self.numbers.get(message) {
-            Some(number) => number.wrapping_sub(self.first) as usize,
-            None => 0,
-        }
+        self.tell(message)
+    }
+
+    /// Returns the slot of a message, as far as that is known.
+    fn tell(&self, message: &Message) -> Option<usize> {
+        let number = self.numbers.get(message)?;
+        Some(number.wrapping_sub(self.first) as usize)
     }
 
     /// Learns the slot of each message.
