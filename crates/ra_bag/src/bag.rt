@@ -73,12 +73,22 @@ impl Bag {
         at(&self.slots, place as usize)
     }
 
-    /// Returns whether a message that is equal to this one is under way, in time linear in the number of
-    /// messages. It does not allocate.
+    /// Returns whether a message that is equal to this one is under way. It does not allocate. The cost is constant on average where
+    /// one is and `find` had to look among many since the slots were closed up last; else it is linear in the number of messages.
     pub fn contains(&self, message: &Message) -> bool
         ensures { IsTrue result ↔ Contains self.now.items message.now }
     {
-        contains(&self.slots, message)
+        self.is_where_known(message) || contains(&self.slots, message)
+    }
+
+    /// Returns whether a message that is equal to this one stands in the slot that is known for it, if one is.
+    fn is_where_known(&self, message: &Message) -> bool
+        ensures { IsTrue result → Contains self.now.items message.now }
+    {
+        match self.places.tell(message) {
+            Some(known) => has(&self.slots, known, message),
+            None => false,
+        }
     }
 
     /// Returns in which slot a message stands that is equal to this one, for `take_from`, or `None` where there is none.

@@ -45,8 +45,11 @@ impl Places {
         self.tell(message)
     }
 
-    /// Returns the slot of a message, as far as that is known.
-    fn tell(&self, message: &Message) -> Option<usize> {
+    /// Returns the slot of a message, as far as that is known. It does not allocate.
+    pub fn tell(&self, message: &Message) -> Option<usize> {
+        if !self.are_known() {
+            return None;
+        }
         let number = self.numbers.get(message)?;
         Some(number.wrapping_sub(self.first) as usize)
     }
