@@ -87,7 +87,7 @@ fn try_line<T: AllocGlobal + Threads + Wait + Sync>(
     input: &str,
     output: &str,
 ) -> Result<Tried, bool> {
-    let Some(words) = words_of(rt.alloc(), line) else {
+    let Some(words) = words_of(rt.alloc(), line, None) else {
         return Err(true);
     };
     let (mut reader, mut page) = (input.as_bytes(), Page::new());

@@ -118,6 +118,16 @@ fn push_words(alloc: Global, words: &mut Vec<String>, line: &str, last: Option<&
     }
 }
 
+/// Returns the words of a line, and a last one where there is one, or `None` where there is no memory for them.
+pub fn words_of(alloc: Global, line: &str, last: Option<&str>) -> Option<Vec<String>> {
+    let mut words = Vec::new(alloc);
+    if push_words(alloc, &mut words, line, last) {
+        Some(words)
+    } else {
+        None
+    }
+}
+
 /// Adds a piece so many times, and returns whether there was memory for it.
 fn push_times(text: &mut String, piece: &str, times: u64) -> bool {
     for _ in 0..times {
@@ -152,12 +162,9 @@ pub fn status_alone<T: AllocGlobal + Threads + Wait + Sync, R: Read, W: Write>(
     reader: &mut R,
     writer: &mut W,
 ) -> u8 {
-    let alloc = rt.alloc();
-    let mut words = Vec::new(alloc);
-    if push_words(alloc, &mut words, line, last) {
-        serve(rt, alloc, words.as_slice(), reader, writer)
-    } else {
-        u8::MAX
+    match words_of(rt.alloc(), line, last) {
+        Some(words) => serve(rt, rt.alloc(), words.as_slice(), reader, writer),
+        None => u8::MAX,
     }
 }
 

@@ -1,4 +1,4 @@
-//! The book of a node.
+//! What the tests of books share: what a book does or shows, one after the other.
 use crate::helpers;
 use crate::helpers::{assert_prints, r};
 use Call::{Ask, Leave, Receive};
@@ -25,16 +25,6 @@ pub const REPLIES: [u8; 23] = [
     1, 2, 2, 1, 0, 0, 0, 0, 0, 0, 0, 0, 1, 0, 0, 0, 0, 0, 0, 0, 2, 1, b'r',
 ];
 
-/// The same REQUEST at clock 2^62-1.
-const ASKS_LATE: [u8; 23] = [
-    1, 1, 1, 2, 1, 0, 0, 0, 0, 0, 0, 0, 1, 0x3f, 0xff, 0xff, 0xff, 0xff, 0xff, 0xff, 0xff, 1, b'r',
-];
-
-/// The same REQUEST at clock 2^62.
-const ASKS_LAST: [u8; 23] = [
-    1, 1, 1, 2, 1, 0, 0, 0, 0, 0, 0, 0, 1, 0x40, 0, 0, 0, 0, 0, 0, 0, 1, b'r',
-];
-
 /// A call of a book, in which all that is asked for or left is `r`.
 #[derive(Clone, Copy)]
 pub enum Call<'a> {
@@ -45,6 +35,12 @@ pub enum Call<'a> {
     /// These bytes come.
     Receive(&'a [u8]),
 }
+
+/// Client 1 asks for `r`, exclusively.
+pub const ASK: Call<'static> = Ask(1, Mode::Exclusive);
+
+/// It leaves it.
+pub const LEAVE: Call<'static> = Leave(1);
 
 /// A message.
 #[derive(Clone, Copy)]
@@ -120,7 +116,12 @@ fn message(name: Name, wire: Wire) -> Option<Message> {
 }
 
 /// Makes a call of a book.
-fn make(alloc: Global, book: &mut Book, name: Name, call: Call<'_>) -> Result<Posted, BookError> {
+pub fn make(
+    alloc: Global,
+    book: &mut Book,
+    name: Name,
+    call: Call<'_>,
+) -> Result<Posted, BookError> {
     match call {
         Ask(client, mode) => book.ask(alloc, client, name, mode),
         Leave(client) => book.leave(alloc, client, name),
@@ -335,7 +336,7 @@ fn book_does(alloc: Global, me: u16, nodes: u16, start: u64, steps: &[Step<'_>])
 }
 
 /// Ends the test where it does not.
-fn assert_book_does<R: Abort + AllocGlobal>(
+pub fn assert_book_does<R: Abort + AllocGlobal>(
     rt: &R,
     me: u16,
     nodes: u16,
@@ -347,285 +348,4 @@ fn assert_book_does<R: Abort + AllocGlobal>(
         "{} steps",
         steps.len()
     );
-}
-
-/// Returns whether there is no book of this node of so many, for this reason.
-fn is_no_book(alloc: Global, me: u16, nodes: u16, fault: NewError) -> bool {
-    match NodeId::new(me) {
-        Some(me) => match Book::new(alloc, me, nodes, 0) {
-            Ok(_) => false,
-            Err(found) => found == fault,
-        },
-        None => false,
-    }
-}
-
-#[test]
-fn bad_counts_and_nodes_make_no_book(rt: HostRuntime) {
-    let alloc = rt.alloc();
-    assert!(rt; is_no_book(alloc, 1, 0, NewError::BadCount));
-    assert!(rt; is_no_book(alloc, 1, 17, NewError::BadCount));
-    assert!(rt; is_no_book(alloc, 3, 2, NewError::BadNode));
-}
-
-#[test]
-fn a_new_book_is_empty(rt: HostRuntime) {
-    assert_book_does(&rt, 2, 3, 7, &[IsNew, IsFree]);
-}
-
-/// Client 1 asks for `r`, exclusively.
-pub const ASK: Call<'static> = Ask(1, Mode::Exclusive);
-
-/// It leaves it.
-pub const LEAVE: Call<'static> = Leave(1);
-
-#[test]
-fn frames_carry_the_clock_of_their_event(rt: HostRuntime) {
-    assert_book_does(
-        &rt,
-        1,
-        2,
-        0,
-        &[Posts(ASK, Some(&ASKS), Some(Turn::Requested))],
-    );
-    assert_book_does(
-        &rt,
-        2,
-        2,
-        0,
-        &[
-            Posts(Receive(&ASKS), Some(&REPLIES), None),
-            // A frame that comes twice is taken twice: no book knows what was sent.
-            Takes(Receive(&ASKS)),
-            WasSent(1, 3, Replies, false),
-            Has(2, 2, 3),
-        ],
-    );
-}
-
-#[test]
-fn a_client_enters_and_leaves(rt: HostRuntime) {
-    assert_book_does(
-        &rt,
-        1,
-        2,
-        0,
-        &[
-            Takes(ASK),
-            IsFree,
-            Posts(Receive(&REPLIES), None, Some(Turn::Entered)),
-            IsHeld,
-            Posts(LEAVE, None, Some(Turn::Left)),
-            IsFree,
-            Has(3, 1, 4),
-        ],
-    );
-}
-
-#[test]
-fn a_book_keeps_what_happened(rt: HostRuntime) {
-    assert_book_does(
-        &rt,
-        1,
-        2,
-        0,
-        &[
-            Takes(ASK),
-            Takes(Receive(&REPLIES)),
-            Takes(LEAVE),
-            Asked(0, 1),
-            Got(1, 3, 2, Replies),
-            Gave(2, 4),
-            WasSent(0, 1, Asks, false),
-            Has(3, 1, 4),
-        ],
-    );
-    assert_book_does(
-        &rt,
-        2,
-        2,
-        0,
-        &[
-            Takes(Receive(&ASKS)),
-            Got(0, 2, 1, Asks),
-            WasSent(0, 2, Replies, false),
-            Has(1, 1, 2),
-        ],
-    );
-}
-
-#[test]
-fn a_frame_is_flagged_once(rt: HostRuntime) {
-    assert_book_does(
-        &rt,
-        1,
-        2,
-        0,
-        &[
-            Takes(ASK),
-            RefusesToLose(9, MarkLostError::NotSent),
-            WasSent(0, 1, Asks, false),
-            Loses(1),
-            RefusesToLose(1, MarkLostError::AlreadyLost),
-            RefusesToLose(9, MarkLostError::NotSent),
-            WasSent(0, 1, Asks, true),
-            Has(1, 1, 1),
-        ],
-    );
-}
-
-#[test]
-fn a_book_keeps_its_first_fault(rt: HostRuntime) {
-    assert_book_does(
-        &rt,
-        1,
-        2,
-        0,
-        &[
-            Takes(ASK),
-            Fails(Stop::Gate),
-            Fails(Stop::Send),
-            HasFault(Stop::Gate),
-            Refuses(ASK, BookError::Failed),
-            Refuses(LEAVE, BookError::Failed),
-            Refuses(Receive(&REPLIES), BookError::Failed),
-            // Before it looks at the bytes.
-            Refuses(Receive(&[]), BookError::Failed),
-            Has(1, 1, 1),
-            Loses(1),
-        ],
-    );
-}
-
-#[test]
-fn the_last_clock_is_reached_and_not_passed(rt: HostRuntime) {
-    let last = 1 << 62;
-    assert_book_does(
-        &rt,
-        2,
-        3,
-        0,
-        &[
-            Refuses(Receive(&ASKS_LAST), BookError::ClockFull),
-            Has(0, 0, 0),
-            Takes(Receive(&ASKS_LATE)),
-            WasSent(0, last, Replies, false),
-            Has(1, 1, last),
-            // A book at the last clock takes nothing more, and what the node refuses comes first.
-            Refuses(ASK, BookError::ClockFull),
-            Refuses(Receive(&ASKS), BookError::ClockFull),
-            Refuses(LEAVE, BookError::NotHeld),
-            Has(1, 1, last),
-        ],
-    );
-}
-
-#[test]
-fn refused_bytes_leave_the_book(rt: HostRuntime) {
-    assert_book_does(
-        &rt,
-        2,
-        3,
-        0,
-        &[
-            RefusesByte(0, 3, BookError::Frame(FrameError::Version)),
-            RefusesByte(2, 2, BookError::Frame(FrameError::SameNode)),
-            RefusesByte(12, 0, BookError::Frame(FrameError::Seq)),
-            RefusesByte(13, 0x40, BookError::Frame(FrameError::Clock)),
-            RefusesByte(3, 3, BookError::WrongNode),
-            RefusesByte(2, 5, BookError::Stranger),
-            Refuses(Receive(&[]), BookError::Frame(FrameError::Short)),
-            Refuses(Receive(&ASKS[..22]), BookError::Frame(FrameError::Short)),
-            Has(0, 0, 0),
-        ],
-    );
-}
-
-#[test]
-fn what_the_node_refuses_leaves_the_book(rt: HostRuntime) {
-    assert_book_does(
-        &rt,
-        1,
-        2,
-        0,
-        &[
-            Refuses(LEAVE, BookError::NotHeld),
-            Takes(ASK),
-            Refuses(ASK, BookError::Busy),
-            Has(1, 1, 1),
-            // Another client of the node queues, which is an event.
-            Posts(Ask(2, Mode::Shared), None, None),
-            Has(2, 1, 2),
-        ],
-    );
-}
-
-#[test]
-fn an_ask_past_the_last_number_leaves_the_book(rt: HostRuntime) {
-    assert_book_does(
-        &rt,
-        1,
-        2,
-        u64::MAX,
-        &[Refuses(ASK, BookError::Exhausted), Has(0, 0, 0)],
-    );
-}
-
-/// Where an allocation is refused, whichever it is, the book is as before, and takes the call when it is made again.
-#[test]
-fn a_call_that_found_no_memory_can_be_made_again(rt: HostRuntime) {
-    let steps = [
-        TakesAgain(ASK, 0, 0, 0),
-        TakesAgain(Receive(&REPLIES), 1, 1, 1),
-        TakesAgain(LEAVE, 2, 1, 3),
-        Has(3, 1, 4),
-        WasSent(0, 1, Asks, false),
-    ];
-    assert_book_does(&rt, 1, 2, 0, &steps);
-}
-
-/// Why a book refuses an event, and the word of it.
-const BOOK_ERRORS: &[(BookError, &str)] = &[
-    (BookError::Failed, "Failed"),
-    (BookError::Frame(FrameError::Trailing), "Trailing"),
-    (BookError::Busy, "Busy"),
-    (BookError::Exhausted, "Exhausted"),
-    (BookError::NotHeld, "NotHeld"),
-    (BookError::WrongNode, "WrongNode"),
-    (BookError::Stranger, "Stranger"),
-    (BookError::ClockFull, "ClockFull"),
-    (BookError::Memory, "Memory"),
-];
-
-#[test]
-fn refusals_of_events_are_printed_as_their_words(rt: HostRuntime) {
-    assert_prints(&rt, BOOK_ERRORS);
-}
-
-/// For what a book is stopped, and the word of it.
-const FAULTS: &[(Stop, &str)] = &[
-    (Stop::Memory, "Memory"),
-    (Stop::Send, "Send"),
-    (Stop::Clock, "Clock"),
-    (Stop::Exhausted, "Exhausted"),
-    (Stop::Frame, "Frame"),
-    (Stop::Refused, "Refused"),
-    (Stop::Gate, "Gate"),
-    (Stop::Spawn, "Spawn"),
-];
-
-#[test]
-fn faults_are_printed_as_their_words(rt: HostRuntime) {
-    assert_prints(&rt, FAULTS);
-}
-
-/// Why a book flags no frame, and the word of it.
-const FLAG_ERRORS: &[(MarkLostError, &str)] = &[
-    (MarkLostError::NotSent, "NotSent"),
-    (MarkLostError::AlreadyLost, "AlreadyLost"),
-];
-
-#[test]
-fn refusals_of_flags_are_printed_as_their_words(rt: HostRuntime) {
-    assert_prints(&rt, FLAG_ERRORS);
 }

@@ -1,9 +1,11 @@
 //! Each growth refused: the call answers want of memory and leaves all as it was, and does what it should when it is made again.
-use crate::books::{REPLIES, has};
+use crate::books::Call::Receive;
+use crate::books::Step::Takes;
+use crate::books::{ASK, Call, LEAVE, REPLIES, has, make};
 use crate::helpers::{r, ran, request, sites_of};
+use crate::histories::Done::{At, Passes};
+use crate::histories::{Done, ONE, TWO, books_after};
 use crate::plans::{TWO_WRITERS, script_of};
-use crate::settling::{Done, books_after};
-use Call::{Ask, Leave, Receive};
 use ra_cluster::{
     Book, BookError, ClusterError, Gate, NewPostError, OpenGate, Post, SendError, SettleError,
     Site, SiteError, Stop, is_cluster, settle,
@@ -29,39 +31,24 @@ fn end(rt: &(impl Abort), tried: Tried) {
     );
 }
 
-/// A call of the book of node 1 of 2 about `r`.
-#[derive(Clone, Copy)]
-enum Call {
-    /// Client 1 asks for it.
-    Ask,
-    /// These bytes come.
-    Receive(&'static [u8]),
-    /// Client 1 leaves it.
-    Leave,
-}
-
 /// What was kept before a call: so many events and sent frames, and this clock.
 #[derive(Clone, Copy)]
 struct Kept(u64, u64, u64);
 
 /// Makes a call of a book. Where it is refused, returns whether memory was wanting.
-fn make(alloc: Global, book: &mut Book, name: Name, call: Call) -> Result<(), bool> {
-    let answer = match call {
-        Ask => book.ask(alloc, 1, name, Mode::Exclusive),
-        Receive(bytes) => book.receive(alloc, bytes),
-        Leave => book.leave(alloc, 1, name),
-    };
-    match answer {
+fn made_once(alloc: Global, book: &mut Book, name: Name, call: Call<'_>) -> Result<(), bool> {
+    match make(alloc, book, name, call) {
         Ok(_) => Ok(()),
         Err(fault) => Err(fault == BookError::Memory),
     }
 }
 
 /// Makes a call of a book, and again where memory was wanting.
-fn try_call(alloc: Global, book: &mut Book, name: Name, call: Call, kept: Kept) -> Tried {
-    match make(alloc, book, name, call) {
+fn try_call(alloc: Global, book: &mut Book, name: Name, call: Call<'_>, kept: Kept) -> Tried {
+    match made_once(alloc, book, name, call) {
         Ok(()) => Tried::AtOnce,
-        Err(true) if has(book, kept.0, kept.1, kept.2) && make(alloc, book, name, call).is_ok() => {
+        Err(true)
+            if has(book, kept.0, kept.1, kept.2) && made_once(alloc, book, name, call).is_ok() => {
             Tried::Again
         }
         Err(_) => Tried::Wrong,
@@ -70,9 +57,9 @@ fn try_call(alloc: Global, book: &mut Book, name: Name, call: Call, kept: Kept) 
 
 /// Client 1 asks for `r`, enters and leaves.
 fn try_calls(alloc: Global, book: &mut Book, name: Name) -> Tried {
-    let asked = try_call(alloc, book, name, Ask, Kept(0, 0, 0));
+    let asked = try_call(alloc, book, name, ASK, Kept(0, 0, 0));
     let entered = try_call(alloc, book, name, Receive(&REPLIES), Kept(1, 1, 1));
-    let left = try_call(alloc, book, name, Leave, Kept(2, 1, 3));
+    let left = try_call(alloc, book, name, LEAVE, Kept(2, 1, 3));
     if has(book, 3, 1, 4) {
         both(both(asked, entered), left)
     } else {
@@ -104,12 +91,12 @@ fn try_many_calls(alloc: Global, book: &mut Book, name: Name) -> Tried {
         let (events, clock) = (book.events().len(), book.clock());
         tried = both(
             tried,
-            try_call(alloc, book, name, Ask, Kept(events, 0, clock)),
+            try_call(alloc, book, name, ASK, Kept(events, 0, clock)),
         );
         let (events, clock) = (book.events().len(), book.clock());
         tried = both(
             tried,
-            try_call(alloc, book, name, Leave, Kept(events, 0, clock)),
+            try_call(alloc, book, name, LEAVE, Kept(events, 0, clock)),
         );
     }
     tried
@@ -130,19 +117,16 @@ fn large_growth_of_a_book(rt: HostRuntime) {
 }
 
 /// What is done to two books: the client of node 1 asks, enters and leaves.
-const ONE_LOCK: [Done; 4] = [
-    Done::Asks(1, Mode::Exclusive),
-    Done::Passes(1, 0),
-    Done::Passes(2, 0),
-    Done::Leaves(1),
+const ONE_LOCK: &[Done] = &[
+    At(1, Takes(ASK)),
+    Passes(1, 0),
+    Passes(2, 0),
+    At(1, Takes(LEAVE)),
 ];
 
 /// Settles two books. Where that is refused, returns whether memory was wanting.
 fn try_settling(alloc: Global) -> Result<Tried, bool> {
-    let Some(name) = r() else {
-        return Err(false);
-    };
-    let Some(books) = books_after(alloc, name, &ONE_LOCK) else {
+    let Some(books) = books_after(alloc, &[ONE, TWO], ONE_LOCK) else {
         return Err(true);
     };
     if !is_cluster(&books) {

@@ -17,6 +17,8 @@ mod helpers;
 #[cfg(test)]
 mod histories;
 #[cfg(test)]
+mod keeping;
+#[cfg(test)]
 mod outcomes;
 #[cfg(test)]
 mod plans;

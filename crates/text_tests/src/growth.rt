@@ -1,7 +1,7 @@
 //! Each growth refused: the call answers `Memory`, writes nothing, and does what it should when it is made again.
 use crate::helpers::{FailingWriter, ONE_LOCK, ONE_LOCK_SCRIPT, failing};
 use crate::performing::ONE_LOCK_LINES;
-use crate::traces::{one_lock, steps_of};
+use crate::traces::one_lock;
 use ra_schedule::Policy;
 use ra_script::{
     ChoicesError, PerformError, ScriptError, perform, perform_trace, read_choices, read_script,
@@ -89,7 +89,7 @@ fn is_whole(writer: &FailingWriter<'_>) -> bool {
 
 /// Writes the trace of a run. Where that is refused, returns whether memory was wanting and nothing was written.
 fn try_trace(alloc: Global) -> Result<Tried, bool> {
-    let Some(steps) = steps_of(alloc, &one_lock()) else {
+    let Some(steps) = one_lock(alloc) else {
         return Err(true);
     };
     let mut writer = taking(ONE_LOCK);
@@ -106,7 +106,7 @@ fn growth_of_a_trace_that_is_written(rt: HostRuntime) {
 
 /// Makes the text of the trace of a run. Where that is refused, returns whether memory was wanting.
 fn try_trace_text(alloc: Global) -> Result<Tried, bool> {
-    let Some(steps) = steps_of(alloc, &one_lock()) else {
+    let Some(steps) = one_lock(alloc) else {
         return Err(true);
     };
     match trace_text(alloc, 2, 0, &steps) {

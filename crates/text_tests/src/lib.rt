@@ -10,6 +10,8 @@ mod growth;
 #[cfg(test)]
 mod helpers;
 #[cfg(test)]
+mod lines;
+#[cfg(test)]
 mod performing;
 #[cfg(test)]
 mod readers;

@@ -1,13 +1,12 @@
 use crate::helpers::{
-    FailingWriter, Judged, ONE_LOCK, ONE_LOCK_LENGTH, Part, TWO_LOCKS, all_kinds, assert_judged,
-    assert_rows, failing, is_judged, printed, r, text_of,
+    FailingWriter, Judged, ONE_LOCK, ONE_LOCK_LENGTH, TWO_LOCKS, all_kinds, assert_judged,
+    assert_rows, failing, printed, r,
 };
 use Act::{Ask, AskForAllKinds, Deliver, Leave, Lose};
 use Judged::{Invalid, Valid};
-use Part::{Text, Times};
 use Wire::{Replies, Requests};
 use ra_stamp::{Message, Mode, Name, NodeId};
-use ra_trace::{Cause, Verdict, WriteTraceError, write_trace};
+use ra_trace::{Cause, WriteTraceError, write_trace};
 use ra_world::{NodeRefusal, RunError, Step, StepError, Steps};
 use std::alloc::Global;
 use std::io;
@@ -135,6 +134,16 @@ fn adds_all(steps: &mut Steps, acts: &[Act]) -> bool {
         }
     }
     true
+}
+
+/// Returns the steps of the one client that locks and unlocks.
+pub fn one_lock(alloc: Global) -> Option<Steps> {
+    let mut steps = Steps::new(alloc);
+    if adds_all(&mut steps, ONE_LOCKS) {
+        Some(steps)
+    } else {
+        None
+    }
 }
 
 /// Writes the trace of what happens, and returns the fault, or `None` where there is none.
@@ -337,15 +346,6 @@ fn faults_are_printed_as_their_words(rt: HostRuntime) {
     assert_rows(&rt, printed(rt.alloc(), FAULTS), FAULTS.len());
 }
 
-/// Returns whether no line that may stand there begins this text.
-fn is_wrong_at(alloc: Global, text: &[u8], line: u64) -> bool {
-    let wanted = Verdict::Invalid {
-        line,
-        cause: Cause::Line,
-    };
-    is_judged(alloc, text, wanted)
-}
-
 #[test]
 fn the_first_line_and_the_last_are_read(rt: HostRuntime) {
     const ROWS: &[Judged] = &[
@@ -440,159 +440,4 @@ end
 #[test]
 fn each_mark_is_read(rt: HostRuntime) {
     assert_judged(&rt, &[Valid(GREATEST, 1, 30)]);
-}
-
-/// The line feed is missing, or comes too early.
-const TORN: &[&[u8]] = &[b"", b"end", b"\n", b"\nend\n", b"ask 1 1 r\n X\n"];
-
-/// What is no word, or the wrong one.
-const WORDS: &[&[u8]] = &[
-    b"End\n",
-    b"en\n",
-    b"ends\n",
-    b"end \n",
-    b" end\n",
-    b"end\r\n",
-    b"end\0\n",
-    b"\xffend\n",
-    b"trace 2 2 0\n",
-    b"trace 01 2 0\n",
-    b"trace\t1 2 0\n",
-    b"trace 2 0\n",
-    b"asks 1 1 r X\n",
-    b"deliver 1 2 r X 1\n",
-    b"deliver answer 1 2 r X 1\n",
-    b"drop reply 2 1 r 1\n",
-    b"reply 2 1 r 1\n",
-];
-
-/// Fields are missing, left over, or not one space apart.
-const FIELDS: &[&[u8]] = &[
-    b"ask 1 1 r\n",
-    b"ask 1 1 r X 1\n",
-    b"ask 1 1 r X \n",
-    b"ask  1 1 r X\n",
-    b"ask 1  1 r X\n",
-    b"ask 1\t1 r X\n",
-    b"ask 1 1 r X\r\n",
-    b"ask 1 1  X\n",
-    b"release 1 1 r X\n",
-    b"deliver request 1 2 r 1\n",
-    b"deliver reply 2 1 r X 1\n",
-    b"enter 1 1 r X\n",
-    b"enter 1 1 r X 1 1\n",
-    b"trace 1 2\n",
-    b"trace 1 2 0 0\n",
-];
-
-/// Numbers out of their ranges, or not as they are written.
-const NUMBERS: &[&[u8]] = &[
-    b"ask 0 1 r X\n",
-    b"ask 17 1 r X\n",
-    b"ask 01 1 r X\n",
-    b"ask +1 1 r X\n",
-    b"ask -1 1 r X\n",
-    b"ask 1 4294967296 r X\n",
-    b"ask 1 00 r X\n",
-    b"ask 1 1x r X\n",
-    b"ask 1 18446744073709551617 r X\n",
-    b"trace 1 0 0\n",
-    b"trace 1 17 0\n",
-    b"trace 1 2 18446744073709551616\n",
-    b"trace 1 2 36893488147419103232\n",
-    b"deliver reply 2 0 r 1\n",
-    b"deliver reply 2 17 r 1\n",
-    b"deliver reply 2 1 r 0\n",
-    b"deliver reply 2 1 r 18446744073709551616\n",
-    b"enter 1 1 r X 0\n",
-    b"enter 1 1 r X 18446744073709551616\n",
-    b"trace 1 2 00\n",
-    b"deliver request 0 1 r X 1\n",
-    b"deliver request 17 1 r X 1\n",
-    b"deliver reply 2 1 r 01\n",
-];
-
-/// No names, and no modes.
-const NAMES: &[&[u8]] = &[
-    b"ask 1 1 r/s X\n",
-    b"ask 1 1 r\0 X\n",
-    b"ask 1 1 \xc3\xa9 X\n",
-    b"ask 1 1 abcdefghijklmnopqrstuvwxyz0123456 X\n",
-    b"ask 1 1 r x\n",
-    b"ask 1 1 r IX\n",
-    b"ask 1 1 r XS\n",
-];
-
-/// Returns whether no line begins this text, neither as the first one nor behind the first one.
-fn is_no_line(alloc: Global, text: &[u8]) -> bool {
-    match text_of(alloc, &[Text("trace 1 16 0\n"), Times(text, 1)]) {
-        Some(behind) => is_wrong_at(alloc, text, 1) && is_wrong_at(alloc, &behind, 2),
-        None => false,
-    }
-}
-
-/// Returns how many of these texts begin with no line, up to the first that does.
-fn no_lines(alloc: Global, texts: &[&[u8]]) -> usize {
-    for place in 0..texts.len() {
-        if !is_no_line(alloc, texts[place]) {
-            return place;
-        }
-    }
-    texts.len()
-}
-
-/// Asserts that none of the texts begins with a line.
-fn assert_no_lines(rt: &(impl Abort + AllocGlobal), texts: &[&[u8]]) {
-    assert_rows(rt, no_lines(rt.alloc(), texts), texts.len());
-}
-
-#[test]
-fn texts_without_their_line_feed_are_not_read(rt: HostRuntime) {
-    assert_no_lines(&rt, TORN);
-}
-
-#[test]
-fn lines_begin_with_their_words(rt: HostRuntime) {
-    assert_no_lines(&rt, WORDS);
-}
-
-#[test]
-fn fields_are_one_space_apart(rt: HostRuntime) {
-    assert_no_lines(&rt, FIELDS);
-}
-
-#[test]
-fn numbers_are_in_their_ranges_and_have_one_spelling(rt: HostRuntime) {
-    assert_no_lines(&rt, NUMBERS);
-}
-
-#[test]
-fn names_and_modes_are_as_they_are_written(rt: HostRuntime) {
-    assert_no_lines(&rt, NAMES);
-}
-
-/// Returns whether these words and 100,000 times this byte are no line.
-fn long_line_is_none(alloc: Global, words: &'static [u8], byte: &'static [u8]) -> bool {
-    match text_of(alloc, &[Times(words, 1), Times(byte, 100_000), Text("\n")]) {
-        Some(line) => is_no_line(alloc, &line),
-        None => false,
-    }
-}
-
-/// Returns behind how many of these words 100,000 times this byte are no line, up to the first where they are one.
-fn no_long_lines(alloc: Global, words: &[&'static [u8]], byte: &'static [u8]) -> usize {
-    for place in 0..words.len() {
-        if !long_line_is_none(alloc, words[place], byte) {
-            return place;
-        }
-    }
-    words.len()
-}
-
-#[test]
-fn a_long_line_is_refused(rt: HostRuntime) {
-    const WORDS: &[&[u8]] = &[b"", b"ask ", b"trace 1 2 ", b"ask 1 1 "];
-    assert_rows(&rt, no_long_lines(rt.alloc(), WORDS, b"1"), WORDS.len());
-    assert_rows(&rt, no_long_lines(rt.alloc(), WORDS, b" "), WORDS.len());
-    assert_rows(&rt, no_long_lines(rt.alloc(), WORDS, b"a"), WORDS.len());
 }

@@ -1,7 +1,6 @@
 //! Each growth refused: the call answers `Memory` and leaves all as it was, and is taken when it is made again.
 use crate::acts::node;
 use crate::helpers::r;
-use crate::plans::lock;
 use ra_schedule::{
     AddClientError, AddOpError, DriveError, NewScriptError, Op, Policy, Script, drive, summarize,
 };
@@ -312,7 +311,7 @@ fn try_op(script: &mut Script, op: Op) -> Tried {
 /// Adds a client at a node that locks `r` and unlocks it.
 fn try_locker(alloc: Global, script: &mut Script, number: u16) -> Tried {
     let added = try_client(alloc, script, number);
-    let locked = both(added, try_op(script, lock(r())));
+    let locked = both(added, try_op(script, Op::Lock(r(), Mode::Exclusive)));
     both(locked, try_op(script, Op::Unlock(r())))
 }
 
