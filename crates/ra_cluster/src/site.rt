@@ -12,13 +12,16 @@ use std::marker::Model;
 use std::sync::{Condvar, Mutex, Wait};
 use thiserror::Error;
 
-/// Why a call of a site did not do what it is for.
+/// Why a call of a site did not do what it is for. Both print the word of what they wrap, and some words are in both: after
+/// `Refused(Memory)` nothing has happened and the call can be made again, after `Stopped(Memory)` the cluster is at its end. So they are
+/// told apart by the variant, and not by what they print.
 #[derive(Clone, Copy, Debug, PartialEq, Eq, Error)]
 pub enum SiteError {
-    /// The book of the node refused it, and is as before.
+    /// The book of the node refused it, and is as before. Where the cause is `Failed` the node was stopped before; after any other one
+    /// it goes on.
     #[error(transparent)]
     Refused(BookError),
-    /// The node is stopped, for this cause.
+    /// The node is stopped, for this cause, and takes no call any more.
     #[error("{0}")]
     Stopped(Stop),
 }
@@ -78,7 +81,8 @@ impl Site {
 
     /// Asks for a name for a client, and waits until the client holds it, which is looked for before a fault. Nothing bounds
     /// the wait, and clients that hold names while they ask for others may wait for each other for ever, unless all take
-    /// their names in one order.
+    /// their names in one order. A client that queues behind another of its node gets its number when its turn comes; where the last
+    /// one, 2^64-1, was used by then, its turn never comes, and it waits until somebody stops the node.
     ///
     /// # Errors
     ///
