@@ -1,6 +1,6 @@
 //! What `ra cluster` does, as a plain program: nothing is proved, no history is kept and nothing is settled. It has the same
-//! design: a thread for each node and for each client, each node under a lock, a condition on which its clients wait, and a
-//! channel for each node, by which messages come. It reads a script as `bench/cluster` writes it, and prints how many requests
+//! design: a thread for each node and for each client, each node under a lock, a condition on which its clients wait and which is told
+//! where one was let in, and a channel for each node, by which messages come. It reads a script as `bench/cluster` writes it, and prints how many requests
 //! were made and messages sent.
 use std::collections::{HashMap, VecDeque};
 use std::io::{self, Read};
@@ -55,13 +55,15 @@ struct Node {
     me: usize,
     nodes: usize,
     resources: HashMap<Name, Resource>,
+    /// Whether a client was let in since this was last asked.
+    lets_in: bool,
     requests: u64,
     sent: u64,
 }
 
 impl Node {
     fn new(me: usize, nodes: usize) -> Node {
-        Node { me, nodes, resources: HashMap::new(), requests: 0, sent: 0 }
+        Node { me, nodes, resources: HashMap::new(), lets_in: false, requests: 0, sent: 0 }
     }
 
     fn ask(&mut self, client: usize, name: &Name, mode: Mode) -> Vec<Send> {
@@ -81,6 +83,7 @@ impl Node {
         resource.highest += 1;
         let seq = resource.highest;
         let awaited = self.nodes - 1;
+        self.lets_in |= awaited == 0;
         resource.phase = if awaited == 0 {
             Phase::Inside { client, mode, seq }
         } else {
@@ -131,6 +134,7 @@ impl Node {
             Message::Reply { name } => {
                 let resource = self.resources.get_mut(&name).expect("the name was met");
                 if let Phase::Waiting { client, mode, seq, awaited } = resource.phase {
+                    self.lets_in |= awaited == 1;
                     resource.phase = if awaited == 1 {
                         Phase::Inside { client, mode, seq }
                     } else {
@@ -153,22 +157,29 @@ impl Node {
 
 struct Site {
     node: Mutex<Node>,
-    changed: Condvar,
+    entered: Condvar,
 }
 
 impl Site {
-    fn lock(&self, client: usize, name: &Name, mode: Mode, post: &[Sender<Message>]) {
-        let sends = self.node.lock().unwrap().ask(client, name, mode);
-        self.changed.notify_all();
+    /// Steps the node, wakes its clients where one was let in, and sends what there is to send.
+    fn step<S: IntoIterator<Item = Send>>(&self, post: &[Sender<Message>], step: impl FnOnce(&mut Node) -> S) {
+        let mut node = self.node.lock().unwrap();
+        let sends = step(&mut node);
+        if mem::take(&mut node.lets_in) {
+            self.entered.notify_all();
+        }
+        drop(node);
         send_all(sends, post);
+    }
+
+    fn lock(&self, client: usize, name: &Name, mode: Mode, post: &[Sender<Message>]) {
+        self.step(post, |node| node.ask(client, name, mode));
         let node = self.node.lock().unwrap();
-        drop(self.changed.wait_while(node, |node| !node.is_inside(client, name)).unwrap());
+        drop(self.entered.wait_while(node, |node| !node.is_inside(client, name)).unwrap());
     }
 
     fn unlock(&self, name: &Name, post: &[Sender<Message>]) {
-        let sends = self.node.lock().unwrap().leave(name);
-        self.changed.notify_all();
-        send_all(sends, post);
+        self.step(post, |node| node.leave(name));
     }
 
     fn pump(&self, inbox: Receiver<Message>, post: &[Sender<Message>]) {
@@ -176,9 +187,7 @@ impl Site {
             if matches!(message, Message::Stop) {
                 return;
             }
-            let send = self.node.lock().unwrap().receive(message);
-            self.changed.notify_all();
-            send_all(send, post);
+            self.step(post, |node| node.receive(message));
         }
     }
 }
@@ -231,7 +240,7 @@ fn main() {
     io::stdin().read_to_string(&mut text).expect("a script");
     let (nodes, clients) = read_script(&text);
     let sites: Vec<Site> = (0..nodes)
-        .map(|me| Site { node: Mutex::new(Node::new(me, nodes)), changed: Condvar::new() })
+        .map(|me| Site { node: Mutex::new(Node::new(me, nodes)), entered: Condvar::new() })
         .collect();
     let (post, inboxes): (Vec<_>, Vec<_>) = (0..nodes).map(|_| mpsc::channel()).unzip();
     let (sites, post) = (&sites, &post);
