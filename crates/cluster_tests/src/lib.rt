@@ -19,6 +19,8 @@ mod histories;
 #[cfg(test)]
 mod keeping;
 #[cfg(test)]
+mod last_number;
+#[cfg(test)]
 mod outcomes;
 #[cfg(test)]
 mod plans;
