@@ -195,7 +195,7 @@ fn taken<T: Drop>(answer: Result<T, SiteError>) -> Result<(), bool> {
 fn made(first: Result<(), bool>, second: Result<(), bool>) -> Tried {
     match (first, second) {
         (Ok(()), _) => Tried::AtOnce,
-        (Err(true), Ok(())) => Tried::Again,
+        (Err(memory), Ok(())) if memory => Tried::Again,
         _ => Tried::Wrong,
     }
 }

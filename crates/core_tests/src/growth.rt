@@ -11,8 +11,14 @@ use test_support::{Tried, again, both};
 
 /// Ends a test.
 fn end(rt: &(impl Abort), tried: Tried) {
-    assert!(rt; tried != Wrong, "a refused growth had another answer, or changed something");
-    assert!(rt; tried != Again, "a growth was refused, and the call made again");
+    assert!(rt;
+        tried != Wrong,
+        "a refused growth had another answer, or changed something"
+    );
+    assert!(rt;
+        tried != Again,
+        "a growth was refused, and the call made again"
+    );
 }
 
 /// A call of the automaton of node 1 of 2.
@@ -62,10 +68,21 @@ fn looks_so(automaton: &Automaton, look: Look) -> bool {
 fn take(alloc: Global, automaton: &mut Automaton, is_reply: bool, seq: u64) -> Result<(), bool> {
     let (from, to, name) = (node(2), node(1), automaton.name());
     let message = if is_reply {
-        Message::Reply { from, to, name, seq }
+        Message::Reply {
+            from,
+            to,
+            name,
+            seq,
+        }
     } else {
         let mode = Mode::Exclusive;
-        Message::Request { from, to, name, mode, seq }
+        Message::Request {
+            from,
+            to,
+            name,
+            mode,
+            seq,
+        }
     };
     match automaton.receive(alloc, &message) {
         Ok(_) => Ok(()),
@@ -99,7 +116,9 @@ fn try_call(alloc: Global, automaton: &mut Automaton, call: Call) -> Tried {
     let before = look(automaton);
     match make(alloc, automaton, call) {
         Ok(()) => AtOnce,
-        Err(true) if looks_so(automaton, before) && make(alloc, automaton, call).is_ok() => Again,
+        Err(memory)
+            if memory && looks_so(automaton, before) && make(alloc, automaton, call).is_ok() =>
+            Again,
         Err(_) => Wrong,
     }
 }
@@ -143,12 +162,15 @@ fn try_frame(alloc: Global, name: Name) -> Result<Tried, bool> {
 
 #[test]
 fn growth_of_an_automaton(rt: HostRuntime) {
-    let (alloc, name) = (rt.alloc(), r().unwrap());
-    end(&rt, again(try_automaton(alloc, name), try_automaton(alloc, name)));
+    let (alloc, name) = (rt.alloc(), r().expect(&rt, "r is a name"));
+    end(
+        &rt,
+        again(try_automaton(alloc, name), try_automaton(alloc, name)),
+    );
 }
 
 #[test]
 fn growth_of_a_frame(rt: HostRuntime) {
-    let (alloc, name) = (rt.alloc(), r().unwrap());
+    let (alloc, name) = (rt.alloc(), r().expect(&rt, "r is a name"));
     end(&rt, again(try_frame(alloc, name), try_frame(alloc, name)));
 }

@@ -95,7 +95,8 @@ fn try_call(alloc: Global, node: &mut Node, call: Call) -> Tried {
     let before = look(node);
     match make(alloc, node, call) {
         Ok(()) => Tried::AtOnce,
-        Err(true) if looks_so(node, before) && make(alloc, node, call).is_ok() => Tried::Again,
+        Err(memory) if memory && looks_so(node, before) && make(alloc, node, call).is_ok() =>
+            Tried::Again,
         Err(_) => Tried::Wrong,
     }
 }
@@ -122,12 +123,12 @@ fn growth_of_a_node(rt: HostRuntime) {
     end(&rt, try_node(rt.alloc()));
 }
 
-/// Puts a message into a list, and again where memory was wanting.
-fn try_push(list: &mut Messages, message: Message) -> Tried {
+/// Puts the request with this number into a list, and again where memory was wanting.
+fn try_push(list: &mut Messages, seq: u64) -> Tried {
     let before = list.len();
-    if list.push(message).is_ok() {
+    if list.push(request(1, 2, seq)).is_ok() {
         Tried::AtOnce
-    } else if list.len() == before && list.push(message).is_ok() {
+    } else if list.len() == before && list.push(request(1, 2, seq)).is_ok() {
         Tried::Again
     } else {
         Tried::Wrong
@@ -164,7 +165,7 @@ fn try_pushes(list: &mut Messages) -> Tried {
     let mut seq = 0u64;
     for _ in 0..100 {
         seq = seq.wrapping_add(1);
-        tried = both(tried, try_push(list, request(1, 2, seq)));
+        tried = both(tried, try_push(list, seq));
     }
     tried
 }

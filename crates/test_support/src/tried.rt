@@ -29,7 +29,7 @@ pub fn both(first: Tried, second: Tried) -> Tried {
 pub fn again(first: Result<Tried, bool>, second: Result<Tried, bool>) -> Tried {
     match (first, second) {
         (Ok(tried), _) => tried,
-        (Err(true), Ok(tried)) => both(Tried::Again, tried),
+        (Err(memory), Ok(tried)) if memory => both(Tried::Again, tried),
         _ => Tried::Wrong,
     }
 }
