@@ -82,7 +82,7 @@ fn growth_of_a_book(rt: HostRuntime) {
 }
 
 /// How often a client asks for `r` and leaves it where much happens, with two events each time.
-const MANY: u64 = 1_000;
+const MANY: u64 = 5_000;
 
 /// A client of a cluster of one node asks for `r` and leaves it, many times.
 fn try_many_calls(alloc: Global, book: &mut Book, name: Name) -> Tried {
@@ -139,6 +139,51 @@ fn try_settling(alloc: Global) -> Result<Tried, bool> {
         Ok(_) => Ok(Tried::Wrong),
         Err(fault) => Err(fault == SettleError::Memory),
     }
+}
+
+/// How often a client asks for `r` and leaves it in the book that is settled, with two events each time.
+const VERY_MANY: u64 = 50_000;
+
+/// Makes the book of one node alone in which very much happened, or `None` where memory was wanting.
+fn large_book(alloc: Global) -> Option<Book> {
+    let (me, name) = (NodeId::new(1)?, r()?);
+    let mut book = Book::new(alloc, me, 1, 0).ok()?;
+    for _ in 0..VERY_MANY {
+        book.ask(alloc, 1, name, Mode::Exclusive).ok()?;
+        book.leave(alloc, 1, name).ok()?;
+    }
+    Some(book)
+}
+
+/// Makes books of one node alone, or `None` where memory was wanting.
+fn large_books(alloc: Global) -> Option<Vec<Book>> {
+    let mut books = Vec::new(alloc);
+    books.push(large_book(alloc)?).ok()?;
+    Some(books)
+}
+
+/// Settles books in which very much happened. Where that is refused, returns whether memory was wanting.
+fn try_large_settling(alloc: Global) -> Result<Tried, bool> {
+    let Some(books) = large_books(alloc) else {
+        return Err(true);
+    };
+    if !is_cluster(&books) {
+        return Err(false);
+    }
+    match settle(alloc, &books, &[]) {
+        Ok(settled) if settled.report.requests == u128::from(VERY_MANY) => Ok(Tried::AtOnce),
+        Ok(_) => Ok(Tried::Wrong),
+        Err(fault) => Err(fault == SettleError::Memory),
+    }
+}
+
+#[test]
+fn large_growth_of_settling(rt: HostRuntime) {
+    let alloc = rt.alloc();
+    end(
+        &rt,
+        again(try_large_settling(alloc), try_large_settling(alloc)),
+    );
 }
 
 #[test]

@@ -135,16 +135,16 @@ fn growth_of_a_world(rt: HostRuntime) {
     end(&rt, again(try_world(rt.alloc()), try_world(rt.alloc())));
 }
 
-/// Returns the name of two letters of this number.
+/// Returns the name of three digits of this number.
 fn name_of(number: u16) -> Name {
-    let (high, low) = (number / 26 % 26, number % 26);
-    Name::new(&[b'a' + high as u8, b'a' + low as u8]).unwrap()
+    let (high, middle, low) = (number / 100 % 10, number / 10 % 10, number % 10);
+    Name::new(&[b'0' + high as u8, b'0' + middle as u8, b'0' + low as u8]).unwrap()
 }
 
-/// Has clients of node 1 ask for 600 names, one after the other, so that as many messages are under way.
+/// Has client 1 of node 1 ask for a thousand names, one after the other, so that as many messages are under way.
 fn try_asks(alloc: Global, world: &mut World) -> Tried {
     let mut tried = Tried::AtOnce;
-    for number in 0..600u16 {
+    for number in 0..1_000u16 {
         let step = Step::Ask {
             node: node(1),
             client: 1,
@@ -158,7 +158,7 @@ fn try_asks(alloc: Global, world: &mut World) -> Tried {
 
 /// Delivers the message in the middle, for which a world learns where each message stands. There may be no memory for that.
 fn try_middle(alloc: Global, world: &mut World) -> Tried {
-    match world.message_at(300) {
+    match world.message_at(500) {
         Some(message) => try_step(alloc, world, &Step::Deliver(message)),
         None => Tried::Wrong,
     }
@@ -179,11 +179,11 @@ fn large_growth_of_a_world(rt: HostRuntime) {
 }
 
 /// Adds a step to a list, and again where memory was wanting.
-fn try_push(steps: &mut Steps, step: Step) -> Tried {
+fn try_push(steps: &mut Steps, step: &Step) -> Tried {
     let before = steps.len();
-    if steps.push(step).is_ok() {
+    if steps.push(*step).is_ok() {
         Tried::AtOnce
-    } else if steps.len() == before && steps.push(step).is_ok() {
+    } else if steps.len() == before && steps.push(*step).is_ok() {
         Tried::Again
     } else {
         Tried::Wrong
@@ -223,8 +223,8 @@ fn growth_of_a_run(rt: HostRuntime) {
     let alloc = rt.alloc();
     let mut steps = Steps::new(alloc);
     let pushed = both(
-        try_push(&mut steps, asking()),
-        try_push(&mut steps, leaving()),
+        try_push(&mut steps, &asking()),
+        try_push(&mut steps, &leaving()),
     );
     end(
         &rt,
@@ -300,10 +300,10 @@ fn try_client(alloc: Global, script: &mut Script, number: u16) -> Tried {
 }
 
 /// Adds an operation of the last client, and again where memory was wanting.
-fn try_op(script: &mut Script, op: Op) -> Tried {
-    match script.add_op(op) {
+fn try_op(script: &mut Script, op: &Op) -> Tried {
+    match script.add_op(*op) {
         Ok(()) => Tried::AtOnce,
-        Err(AddOpError::Memory) if script.add_op(op).is_ok() => Tried::Again,
+        Err(AddOpError::Memory) if script.add_op(*op).is_ok() => Tried::Again,
         Err(_) => Tried::Wrong,
     }
 }
@@ -311,8 +311,8 @@ fn try_op(script: &mut Script, op: Op) -> Tried {
 /// Adds a client at a node that locks `r` and unlocks it.
 fn try_locker(alloc: Global, script: &mut Script, number: u16) -> Tried {
     let added = try_client(alloc, script, number);
-    let locked = both(added, try_op(script, Op::Lock(r(), Mode::Exclusive)));
-    both(locked, try_op(script, Op::Unlock(r())))
+    let locked = both(added, try_op(script, &Op::Lock(r(), Mode::Exclusive)));
+    both(locked, try_op(script, &Op::Unlock(r())))
 }
 
 /// Drives a cluster through a script with its steps recorded. Where that is refused, returns whether memory was wanting.
