@@ -4,6 +4,8 @@ mod Running
 mod Adding
 mod Hearing
 mod Losing
+mod Ascending
+mod Seeking
 mod KeyOrders
 mod Parts
 mod KeySets

@@ -1,5 +1,6 @@
 -- How a book keeps its history: with the node to which the events lead. No public contract speaks of it.
-use Rattle.std.specs.Prelude.{◌≡◌, ◌≢◌, ◌↔◌, ◌⊎◌, ◌≤◌, ◌<◌, ◌^◌, ℕ, true, false, List, [], ◌∷◌, ◌++◌, length, map, All, Some, None, IsSome, Result, IsErrOf, IsOk, IsOkUnless, IfOk, IfErr, OnOk, OnErr}
+use Rattle.std.specs.Prelude.{◌≡◌, ◌≢◌, ◌↔◌, ◌⊎◌, ◌≤◌, ◌<◌, ◌^◌, ℕ, true, false, List, [], ◌∷◌, ◌++◌, length, map, slice_index_or, All, Some, None, IsSome, Result, IsErrOf, IsOk, IsOkUnless, IfOk, IfErr, OnOk, OnErr}
+use Rattle.std.specs.List.Sorted.{IsNonDecreasingBy}
 use Rattle.ra_stamp.specs.NodeId.{IsNodeNumber}
 use Rattle.ra_stamp.specs.declared.entry.Entry.{Entry}
 use Rattle.ra_stamp.specs.declared.entry.Mark.{Mark}
@@ -152,6 +153,16 @@ pub record IsHeard (me nodes clock : ℕ) (bytes : List ℕ) (answer : Result (F
 
 -- ---- A loss
 
+-- no frame has a greater clock than one that stands behind it
+abbrev pub Ascends : List Sent → Type 0
+Ascends sent = IsNonDecreasingBy (λ s. s.frame.clock) sent
+
+-- at this place stands the first of them that is equal to this one
+pub record StandsFirst (sent : List Sent) (frame : Frame) (place : ℕ) : Type 0 where
+  pub within : place < length sent
+  pub is : (d : Sent) → (slice_index_or sent place d).frame ≡ frame
+  pub first : (k : ℕ) (d : Sent) → k < place → (slice_index_or sent k d).frame ≢ frame
+
 -- what comes of flagging the first of the sent frames that is equal to this one
 pub record IsFlagged (old : List Sent) (frame : Frame) (new : List Sent) (answer : Result (Unit {0}) MarkLostError) : Type 0 where
   pub ok : OnOk answer (Loses old frame new)
@@ -164,7 +175,7 @@ pub record IsFlagged (old : List Sent) (frame : Frame) (new : List Sent) (answer
 -- ---- The law
 
 -- A book that keeps a history goes on keeping it at each event of its node, which sends few frames, all of which fit where
--- the frame that came does.
+-- the frame that came does. Its frames ascend by clock.
 pub record KeptHistoriesGoOn : Type 0 where
   pub opened : (me n start : ℕ) → IsNodeNumber n → (1 ≤ me) × (me ≤ n) → Keeps (opening_book me n start) (opening_node me n start)
   pub event : (book : BookState) (old new : NodeState) (kind : BookKind) (sends : List Message) (marks : List Mark)
@@ -181,3 +192,4 @@ pub record KeptHistoriesGoOn : Type 0 where
   pub node : (book : BookState) (node : NodeState) → Keeps book node
       → (node.me ≡ book.me) × (node.nodes ≡ book.nodes) × IsConsistentNode node
   pub determined : (book : BookState) (a b : NodeState) → Keeps book a → LeadsTo book b → b ≡ a
+  pub ascends : (book : BookState) (node : NodeState) → Keeps book node → Ascends book.sent

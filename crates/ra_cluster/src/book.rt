@@ -200,7 +200,7 @@ impl Book {
     }
 
     /// Flags the sent frame that is equal to this one as lost; were there equal ones, the first. It does not allocate. The
-    /// cost is linear in the number of the sent frames.
+    /// cost is logarithmic in the number of the sent frames, and linear in the number of nodes.
     ///
     /// # Errors
     ///

@@ -1,5 +1,5 @@
 //! What a book keeps at each event.
-ghost use Rattle.std.specs.Prelude.{◌≡◌, ◌≢◌, ◌+◌, ◌<◌, ◌≤◌, ◌^◌, ◌↔◌, ◌∷◌, ◌++◌, [], ℕ, List, All, length, slice_index_or, vec_len, vec_capacity, IfOk, IfSome, IsNone, IsTrue, MatchOption, MatchResult};
+ghost use Rattle.std.specs.Prelude.{◌≡◌, ◌+◌, ◌<◌, ◌≤◌, ◌^◌, ◌∷◌, ◌++◌, [], List, length, vec_len, vec_capacity, IfOk, MatchOption, MatchResult};
 ghost use Rattle.ra_stamp.specs.declared.entry.Mark.{Mark};
 ghost use Rattle.ra_stamp.specs.declared.message.Message.{Message};
 ghost use Rattle.ra_frame.specs.declared.frame.Frame.{Frame};
@@ -7,12 +7,12 @@ ghost use Rattle.ra_node.specs.Node.{NodeState};
 ghost use Rattle.ra_node.specs.Events.{NodeEvent};
 ghost use Rattle.ra_node.specs.Carried.{sends_at_most};
 ghost use Rattle.ra_cluster.specs.declared.event.BookKind.{BookKind};
-ghost use Rattle.ra_cluster.specs.declared.sent.Sent.{Sent};
 ghost use Rattle.ra_cluster.specs.History as spec;
 ghost use Rattle.ra_cluster.specs.History.{node_event, frames_at};
 ghost use Rattle.ra_cluster.specs.Book.{as_sent};
-ghost use Rattle.ra_cluster.specs.Keeping.{KeptHistoriesGoOn, Happens, Stays, IsFlagged};
+ghost use Rattle.ra_cluster.specs.Keeping.{KeptHistoriesGoOn, Happens, Stays, IsFlagged, Ascends};
 
+use crate::sought::place_of;
 use crate::{
     BookError, BookEvent, BookKind, Events, Frames, MarkLostError, Posted, Sent,
     histories_are_determined, histories_go_on,
@@ -168,6 +168,7 @@ fn put_sent(sent: &mut Vec<Sent>, frames: &[Frame])
 /// 1. `NotSent`: it is not among them.
 /// 2. `AlreadyLost`: it was flagged before.
 pub fn flag_lost(sent: &mut [Sent], frame: &Frame) -> Result<(), MarkLostError>
+    requires { Ascends sent.old }
     ensures { IsFlagged sent.old frame.now sent.new result }
 {
     let Some(place) = place_of(sent, frame) else {
@@ -180,26 +181,8 @@ pub fn flag_lost(sent: &mut [Sent], frame: &Frame) -> Result<(), MarkLostError>
     Ok(())
 }
 
-/// Returns where the first sent frame that is equal to this one stands, or `None`.
-fn place_of(sent: &[Sent], frame: &Frame) -> Option<usize>
-    ensures absent { IsNone result ↔ All (λ s. s.frame ≢ frame.now) sent.now }
-    ensures found { IfSome result (λ place. (place < length sent.now)
-        × ((d : Sent) → (slice_index_or sent.now place d).frame ≡ frame.now)) }
-    ensures first { IfSome result (λ place. (k : ℕ) (d : Sent) → k < place
-        → (slice_index_or sent.now k d).frame ≢ frame.now) }
-{
-    sent.iter().position(|other| is_of(other, frame))
-}
-
-/// Returns whether it is this frame that was sent.
-fn is_of(sent: &Sent, frame: &Frame) -> bool
-    ensures { IsTrue result ↔ (sent.now.frame ≡ frame.now) }
-{
-    sent.frame == *frame
-}
-
 /// A book that keeps a history goes on keeping it at each event of its node, which sends few frames, all of which fit where
-/// the frame that came does.
+/// the frame that came does. Its frames ascend by clock.
 pub fn kept_histories_go_on()
     ensures { KeptHistoriesGoOn }
 {

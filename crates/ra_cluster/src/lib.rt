@@ -39,6 +39,7 @@ mod settled;
 mod settled_runs;
 mod settling;
 mod site;
+mod sought;
 mod stop;
 mod stopping;
 mod threads;

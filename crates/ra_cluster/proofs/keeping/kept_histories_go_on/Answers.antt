@@ -1,3 +1,4 @@
+use Rattle.ra_cluster.proofs.Ascending.{history_ascends}
 use Rattle.ra_cluster.proofs.Kept as kept
 use Rattle.ra_cluster.proofs.keeping.kept_histories_go_on.Goals as goal
 
@@ -14,4 +15,5 @@ returns c =
       fit = kept.fit node from events.sends events.numbered;
       node = kept.node_is node from;
       determined = kept.determined c.histories_are_determined.ensures.node;
+      ascends = λ book node keeps. history_ascends book.me book.nodes book.start book.events book.sent node keeps.leads;
     }

@@ -1,8 +1,12 @@
-use Rattle.std.proofs.Common.{refl}
-use Rattle.ra_cluster.specs.Keeping.{book_of}
+use Rattle.std.proofs.Common.{refl, sym, subst}
+use Rattle.ra_cluster.specs.Keeping.{Ascends, book_of}
 use Rattle.ra_cluster.proofs.Kept.{history_of}
 use Rattle.ra_cluster.proofs.Losing.{flags_book, flags_now, marked_ok, marked_err}
 use Rattle.ra_cluster.proofs.book.Book.mark_lost.Goals as goal
+
+pub flag_lost-requires : goal.flag_lost-requires
+flag_lost-requires c =
+    subst Ascends (sym c.as_mut_slice.ensures.value) (c.kept_histories_go_on.ensures.ascends (book_of c.self.inside) c.self.inside.node c.self.invariant)
 
 pub invariant_of-self : goal.invariant_of-self
 invariant_of-self c =

@@ -1,0 +1,40 @@
+//! Frames that are sought among those that a node sent, which ascend by clock.
+ghost use Rattle.std.specs.Prelude.{◌≡◌, ◌≢◌, ◌<◌, ◌↔◌, ℕ, All, slice_index_or, IsTrue, MatchOption};
+ghost use Rattle.ra_cluster.specs.declared.sent.Sent.{Sent};
+ghost use Rattle.ra_cluster.specs.Keeping.{Ascends, StandsFirst};
+
+use crate::Sent;
+use ra_frame::Frame;
+
+/// Returns where the first sent frame that is equal to this one stands, or `None`. The cost is logarithmic in the number of the
+/// sent frames, and linear in how many of them have its clock, which are those of one event.
+pub fn place_of(sent: &[Sent], frame: &Frame) -> Option<usize>
+    requires { Ascends sent.now }
+    ensures { MatchOption result (All (λ s. s.frame ≢ frame.now) sent.now) (StandsFirst sent.now frame.now) }
+{
+    for place in first_at(sent, frame.clock)..sent.len() {
+        let other = &sent[place];
+        if is_of(other, frame) {
+            return Some(place);
+        }
+        if frame.clock < other.frame.clock {
+            return None;
+        }
+    }
+    None
+}
+
+/// Returns before which place all clocks are less than this one.
+fn first_at(sent: &[Sent], clock: u64) -> usize
+    requires { Ascends sent.now }
+    ensures { (k : ℕ) (d : Sent) → k < result → (slice_index_or sent.now k d).frame.clock < clock }
+{
+    sent.partition_point(|other| other.frame.clock < clock)
+}
+
+/// Returns whether it is this frame that was sent.
+fn is_of(sent: &Sent, frame: &Frame) -> bool
+    ensures { IsTrue result ↔ (sent.now.frame ≡ frame.now) }
+{
+    sent.frame == *frame
+}
