@@ -1,8 +1,9 @@
 -- What a book keeps.
-use Rattle.std.proofs.Common.{◌≡◌, ℕ, ◌≤◌, ◌^◌, Option, List, [], ◌∷◌, ◌++◌, length, map, All, refl, sym, ◌∙◌, subst, arith}
+use Rattle.std.proofs.Common.{◌≡◌, ℕ, ◌*◌, ◌≤◌, ◌^◌, Option, List, [], ◌∷◌, ◌++◌, length, map, All, refl, sym, ◌∙◌, subst, arith}
 use Rattle.std.proofs.lemmas.List.Elements.{All-map}
 use Rattle.ra_stamp.specs.declared.entry.Mark.{Mark}
 use Rattle.ra_stamp.specs.declared.message.Message.{Message}
+use Rattle.ra_stamp.specs.declared.message.Message.TheVariants.{Request, Reply}
 use Rattle.ra_stamp.specs.Message.{seq_of}
 use Rattle.ra_stamp.specs.NodeId.{IsNodeNumber}
 use Rattle.ra_frame.specs.declared.frame.Frame.{Frame}
@@ -18,7 +19,7 @@ use Rattle.ra_cluster.specs.declared.sent.Sent.{Sent}
 use Rattle.ra_cluster.specs.declared.stop.Stop.{Stop}
 use Rattle.ra_cluster.specs.History.{IsHistory, node_event, happening_of, clock_after, clock_of, frames_at}
 use Rattle.ra_cluster.specs.Book.{BookState, opening_book, LeadsTo, HasHistory, HasClock, as_sent, next_clock, with_event}
-use Rattle.ra_cluster.specs.Keeping.{Keeps}
+use Rattle.ra_cluster.specs.Keeping.{Keeps, answers_to, sends_by}
 
 -- a book that is kept has a history
 pub history_of : (now book : BookState) (node : NodeState) → Keeps book node → book ≡ now → HasHistory now
@@ -89,10 +90,17 @@ module _
             → (length sends ≤ sends_at_most old.nodes event) × (length marks ≤ marks_at_most event))
             → (book : BookState) (old new : NodeState) (kind : BookKind) (sends : List Message) (marks : List Mark)
             → Keeps book old → NodeEvent old (node_event kind) sends marks new
-            → length sends ≤ sends_at_most book.nodes (node_event kind)
-        few room book old new kind sends marks keeps happens =
-            subst (λ (n : ℕ). length sends ≤ sends_at_most n (node_event kind)) (who book old keeps).1
-            (room old new (node_event kind) sends marks (consistent book old keeps) happens).0
+            → length sends ≤ sends_by book.nodes kind
+        few room book old new (Asked client name mode) sends marks keeps happens =
+            subst (λ (n : ℕ). length sends ≤ n) (who book old keeps).1 (room old new (Ask client name mode) sends marks (consistent book old keeps) happens).0
+        few room book old new (Gave client name) sends marks keeps happens =
+            subst (λ (n : ℕ). length sends ≤ 2 * n) (who book old keeps).1 (room old new (Leave client name) sends marks (consistent book old keeps) happens).0
+        few room book old new (Got frame) sends marks keeps happens = by_message frame.message happens
+          where
+            -- a REPLY is answered by nothing
+            by_message : (message : Message) → NodeEvent old (Receive message) sends marks new → length sends ≤ answers_to message
+            by_message (Request from to name mode seq) happens = (room old new (Receive (Request from to name mode seq)) sends marks (consistent book old keeps) happens).0
+            by_message (Reply from to name seq) happens = subst (λ (ms : List Message). length ms ≤ 0) (sym happens.turn.step.0) (omega arith)
 
         -- the frame that comes has a number
         numbered_by : (kind : BookKind) (message : Message) → ((frame : Frame) → kind ≡ Got frame → Fits frame) → node_event kind ≡ Receive message → 1 ≤ seq_of message

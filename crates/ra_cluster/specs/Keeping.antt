@@ -1,10 +1,11 @@
 -- How a book keeps its history: with the node to which the events lead. No public contract speaks of it.
-use Rattle.std.specs.Prelude.{◌≡◌, ◌≢◌, ◌↔◌, ◌⊎◌, ◌≤◌, ◌<◌, ◌^◌, ℕ, true, false, List, [], ◌∷◌, ◌++◌, length, map, slice_index_or, All, Some, None, IsSome, Result, IsErrOf, IsOk, IsOkUnless, IfOk, IfErr, OnOk, OnErr}
+use Rattle.std.specs.Prelude.{◌≡◌, ◌≢◌, ◌↔◌, ◌⊎◌, ◌*◌, ◌≤◌, ◌<◌, ◌^◌, ℕ, true, false, List, [], ◌∷◌, ◌++◌, length, map, slice_index_or, All, Some, None, IsSome, Result, IsErrOf, IsOk, IsOkUnless, IfOk, IfErr, OnOk, OnErr}
 use Rattle.std.specs.List.Sorted.{IsNonDecreasingBy}
 use Rattle.ra_stamp.specs.NodeId.{IsNodeNumber}
 use Rattle.ra_stamp.specs.declared.entry.Entry.{Entry}
 use Rattle.ra_stamp.specs.declared.entry.Mark.{Mark}
 use Rattle.ra_stamp.specs.declared.message.Message.{Message}
+use Rattle.ra_stamp.specs.declared.message.Message.TheVariants.{Request, Reply}
 use Rattle.ra_stamp.specs.declared.mode.Mode.{Mode}
 use Rattle.ra_stamp.specs.Message.{from_of, to_of}
 use Rattle.ra_frame.specs.declared.error.FrameError.{FrameError}
@@ -18,7 +19,6 @@ use Rattle.ra_node.specs.Resource.{Holds, IsBusy}
 use Rattle.ra_node.specs.Turns.{MayAsk}
 use Rattle.ra_node.specs.Node.{NodeState, opening_node, resource_at, IsConsistentNode}
 use Rattle.ra_node.specs.Events.{NodeEvent, IsForThisNode}
-use Rattle.ra_node.specs.Carried.{sends_at_most}
 use Rattle.ra_cluster.specs.declared.book.Book.TheInside.{Inside}
 use Rattle.ra_cluster.specs.declared.error.BookError.{BookError}
 use Rattle.ra_cluster.specs.declared.error.BookError.TheVariants as error
@@ -66,6 +66,17 @@ pub record ComesNext (book : BookState) (clock : ℕ) (kind : BookKind) : Type 0
   pub clock_is : clock ≡ next_clock book kind
   pub has_clock : HasClock book kind
   pub for_this_book : IsForThisBook book kind
+
+-- how many messages a node sends at most where a message comes: none where it is a REPLY
+abbrev pub answers_to : Message → ℕ
+answers_to (Request from to name mode seq) = 1
+answers_to (Reply from to name seq) = 0
+
+-- how many a node of so many sends at most where this happens
+abbrev pub sends_by : ℕ → BookKind → ℕ
+sends_by nodes (Asked client name mode) = nodes
+sends_by nodes (Gave client name) = 2 * nodes
+sends_by nodes (Got frame) = answers_to frame.message
 
 -- the event happened at the node, and stands behind the events so far, and its frames behind those so far
 pub record Happens (old new : NodeState) (events events' : List BookEvent) (sent sent' : List Sent) (event : BookEvent)
@@ -185,7 +196,7 @@ pub record KeptHistoriesGoOn : Type 0 where
       → Keeps book node → map (λ s. s.frame) sent ≡ map (λ s. s.frame) book.sent → Keeps (record book { sent = sent }) node
   pub few : (book : BookState) (old new : NodeState) (kind : BookKind) (sends : List Message) (marks : List Mark)
       → Keeps book old → NodeEvent old (node_event kind) sends marks new
-      → length sends ≤ sends_at_most book.nodes (node_event kind)
+      → length sends ≤ sends_by book.nodes kind
   pub fit : (book : BookState) (old new : NodeState) (kind : BookKind) (sends : List Message) (marks : List Mark)
       → Keeps book old → IsForThisNode old (node_event kind) → NodeEvent old (node_event kind) sends marks new → HasClock book kind
       → ((frame : Frame) → kind ≡ Got frame → Fits frame) → All Fits (frames_at (next_clock book kind) sends)

@@ -5,12 +5,12 @@ ghost use Rattle.ra_stamp.specs.declared.message.Message.{Message};
 ghost use Rattle.ra_frame.specs.declared.frame.Frame.{Frame};
 ghost use Rattle.ra_node.specs.Node.{NodeState};
 ghost use Rattle.ra_node.specs.Events.{NodeEvent};
-ghost use Rattle.ra_node.specs.Carried.{sends_at_most};
 ghost use Rattle.ra_cluster.specs.declared.event.BookKind.{BookKind};
-ghost use Rattle.ra_cluster.specs.History as spec;
+ghost use Rattle.ra_cluster.specs.History as history;
 ghost use Rattle.ra_cluster.specs.History.{node_event, frames_at};
 ghost use Rattle.ra_cluster.specs.Book.{as_sent};
-ghost use Rattle.ra_cluster.specs.Keeping.{KeptHistoriesGoOn, Happens, Stays, IsFlagged, Ascends};
+ghost use Rattle.ra_cluster.specs.Keeping as spec;
+ghost use Rattle.ra_cluster.specs.Keeping.{KeptHistoriesGoOn, Happens, Stays, IsFlagged, Ascends, sends_by};
 
 use crate::sought::place_of;
 use crate::{
@@ -28,8 +28,8 @@ use std::alloc::Global;
 ///
 /// `ClockFull`: it would pass 2^62.
 pub fn clock_after(clock: u64, kind: &BookKind) -> Result<u64, BookError>
-    ensures { MatchResult result (λ next. (next ≡ spec.clock_after clock kind.now) × (next ≤ 2 ^ 62))
-        (λ e. (e ≡ BookError.ClockFull) × (2 ^ 62 < spec.clock_after clock kind.now)) }
+    ensures { MatchResult result (λ next. (next ≡ history.clock_after clock kind.now) × (next ≤ 2 ^ 62))
+        (λ e. (e ≡ BookError.ClockFull) × (2 ^ 62 < history.clock_after clock kind.now)) }
 {
     let latest = match kind {
         BookKind::Got(frame) => clock.max(frame.clock),
@@ -57,7 +57,7 @@ pub fn add(
 ) -> Result<Posted, BookError>
     requires few { (new : NodeState) (sends : List Message) (marks : List Mark)
         → NodeEvent node.old (node_event event.kind) sends marks new
-        → length sends ≤ sends_at_most nodes (node_event event.kind) }
+        → length sends ≤ sends_by nodes event.kind }
     ensures { MatchResult result
         (Happens node.old node.new events.old.items events.new.items sent.old.items sent.new.items event)
         (Stays node.old node.new events.old.items events.new.items sent.old.items sent.new.items) }
@@ -71,12 +71,23 @@ pub fn add(
 
 /// Returns how many messages an event sends at most, at one of so many nodes.
 fn most_sends(nodes: u16, kind: &BookKind) -> u64
-    ensures { result ≡ sends_at_most nodes (node_event kind.now) }
+    ensures { result ≡ sends_by nodes kind.now }
 {
     match kind {
         BookKind::Asked { .. } => u64::from(nodes),
         BookKind::Gave { .. } => 2 * u64::from(nodes),
-        BookKind::Got(_) => 1,
+        BookKind::Got(frame) => answers_to(&frame.message),
+    }
+}
+
+/// Returns how many messages a node sends at most where this one comes.
+fn answers_to(message: &Message) -> u64
+    ensures { result ≡ spec.answers_to message.now }
+{
+    match message {
+        Message::Request { .. } => 1,
+        // What a REPLY does is to let a client enter.
+        Message::Reply { .. } => 0,
     }
 }
 
