@@ -1,6 +1,7 @@
 -- How the events of books are put in order, of which so many of each book are taken. No public contract speaks of it.
-use Rattle.std.specs.Prelude.{◌≡◌, ◌⊎◌, ℕ, ◌<◌, ◌≤◌, List, Option, Some, None, if◌then◌else◌, nat_le, slice_get, slice_index}
+use Rattle.std.specs.Prelude.{◌≡◌, ◌⊎◌, ℕ, ◌<◌, ◌≤◌, List, Option, Some, None, if◌then◌else◌, nat_le, option_map, slice_get, slice_index}
 use Rattle.ra_cluster.specs.declared.event.BookEvent.{BookEvent}
+use Rattle.ra_cluster.specs.declared.ordering.Head.{Head}
 use Rattle.ra_cluster.specs.declared.ordering.Turn.{Turn}
 use Rattle.ra_cluster.specs.Book.{BookState}
 
@@ -22,7 +23,16 @@ IsEarliest books taken count (Some turn) =
     (turn.place < count) × IsNext books taken turn.place turn.event
     × ((place : ℕ) (event : BookEvent) → place < count → IsNext books taken place event → IsNotAfter turn place event)
 
+-- where an event stands, and its clock
+abbrev pub head_of : Turn → Head
+head_of turn = record { place = turn.place; clock = turn.event.clock }
+
+-- the head of the earliest one
+abbrev pub IsHeadOfEarliest : List BookState → List ℕ → ℕ → Option Head → Type 0
+IsHeadOfEarliest books taken count head =
+    (turn : Option Turn) × IsEarliest books taken count turn × (head ≡ option_map head_of turn)
+
 -- the first one, unless there is none or the other one has a lesser clock
-abbrev pub earlier_of : Option Turn → Turn → Turn
-earlier_of None other = other
-earlier_of (Some turn) other = if nat_le turn.event.clock other.event.clock then turn else other
+abbrev pub lesser_of : Option Head → Head → Head
+lesser_of None other = other
+lesser_of (Some head) other = if nat_le head.clock other.clock then head else other

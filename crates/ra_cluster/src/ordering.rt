@@ -1,8 +1,9 @@
 //! The events of all books in one list, by clock and then by node.
-ghost use Rattle.std.specs.Prelude.{◌≡◌, ◌+◌, ◌<◌, ◌^◌, ℕ, List, length, replicate, slice_get, slice_index, IfOk, IfSome, IsNone, IsSome};
+ghost use Rattle.std.specs.Prelude.{◌≡◌, ◌+◌, ◌<◌, ◌^◌, ℕ, List, length, option_map, replicate, slice_get, slice_index, IfOk, IfSome, IsNone, IsSome};
+ghost use Rattle.ra_cluster.specs.declared.event.BookEvent.{BookEvent};
 ghost use Rattle.ra_cluster.specs.Book.{HasHistory};
 ghost use Rattle.ra_cluster.specs.Settled.{IsCluster, IsSettledOrder, Placed, steps_of, step_at};
-ghost use Rattle.ra_cluster.specs.Ordering.{IsEarliest};
+ghost use Rattle.ra_cluster.specs.Ordering.{IsNext, IsEarliest, IsHeadOfEarliest};
 ghost use Rattle.ra_cluster.specs.Ordering as spec;
 
 use crate::{Book, BookEvent, BookKind};
@@ -17,8 +18,15 @@ struct Turn {
     event: BookEvent,
 }
 
-/// Returns the steps that the events of all books are, by clock and then by node. Each turn looks at the next event of each
-/// book.
+/// Where the next event of a book stands, and its clock.
+#[derive(Clone, Copy)]
+struct Head {
+    place: usize,
+    clock: u64,
+}
+
+/// Returns the steps that the events of all books are, by clock and then by node. Each turn reads the clock of the next event of
+/// each book, and takes one event.
 pub fn steps_in_order(alloc: Global, books: &[Book]) -> Result<Steps, Memory>
     requires { IsCluster books.now }
     ensures { IfOk result (λ steps. (placed : List Placed) × IsSettledOrder books.now placed
@@ -45,34 +53,69 @@ fn none_taken(alloc: Global, count: usize) -> Result<Vec<u64>, Memory>
 }
 
 /// Returns the next event of all books, where so many of each are taken already: the one with the least clock, and of those the
-/// one at the least node. Returns `None` where all are taken.
+/// one at the least node. Returns `None` where all are taken. Of the other events it reads the clock alone.
 fn earliest(books: &[Book], taken: &[u64]) -> Option<Turn>
     requires { length taken.now ≡ length books.now }
     ensures earliest { IsEarliest books.now taken.now (length books.now) result }
     ensures fits { IfSome result (λ turn. slice_index taken.now turn.place + 1 < 2 ^ 64) }
 {
+    match first_head(books, taken) {
+        Some(head) => turn_at(books, taken, head.place),
+        None => None,
+    }
+}
+
+/// Returns the next event of the book at a place, or `None` where all of it are taken.
+fn turn_at(books: &[Book], taken: &[u64], place: usize) -> Option<Turn>
+    requires within { place < length books.now }
+    requires long { length taken.now ≡ length books.now }
+    ensures some { IfSome result (λ turn. (turn.place ≡ place) × IsNext books.now taken.now place turn.event
+        × (slice_index taken.now place + 1 < 2 ^ 64)) }
+    ensures none { IsNone result → (event : BookEvent) → IsNext books.now taken.now place event → ⊥ }
+{
+    match next_of(&books[place], taken[place]) {
+        Some(event) => Some(Turn { place, event }),
+        None => None,
+    }
+}
+
+/// Returns where the next event of all books stands, and its clock, or `None` where all are taken.
+fn first_head(books: &[Book], taken: &[u64]) -> Option<Head>
+    requires { length taken.now ≡ length books.now }
+    ensures { IsHeadOfEarliest books.now taken.now (length books.now) result }
+{
     let mut first = None;
     for (place, book) in books.iter().enumerate() {
-        if let Some(event) = next_of(book, taken[place]) {
-            first = Some(earlier_of(first, Turn { place, event }));
+        if let Some(clock) = next_clock(book, taken[place]) {
+            first = Some(lesser_of(first, Head { place, clock }));
         }
     }
     first
 }
 
 /// Returns the first one, unless there is none or the other one has a lesser clock.
-fn earlier_of(first: Option<Turn>, other: Turn) -> Turn
-    ensures { result ≡ spec.earlier_of first other }
+fn lesser_of(first: Option<Head>, other: Head) -> Head
+    ensures { result ≡ spec.lesser_of first other }
 {
     match first {
-        Some(turn) => {
-            if turn.event.clock <= other.event.clock {
-                turn
+        Some(head) => {
+            if head.clock <= other.clock {
+                head
             } else {
                 other
             }
         }
         None => other,
+    }
+}
+
+/// Returns the clock of the event of a book after as many as are taken, or `None` where all are.
+fn next_clock(book: &Book, taken: u64) -> Option<u64>
+    ensures { result ≡ option_map (λ e. e.clock) (slice_get book.now.events taken) }
+{
+    match book.events().as_slice().get(taken as usize) {
+        Some(event) => Some(event.clock),
+        None => None,
     }
 }
 
