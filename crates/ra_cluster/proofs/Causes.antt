@@ -78,13 +78,13 @@ module _ (books : List BookState) (grants : List Grant) where
   cause (Ok s) whole e is = absurd (cc)
   cause (Err x) whole e is = let same : x ≡ e = cc in subst (Refuses books grants) same whole
 
-  pub found_unsent : (r : Result Settled SettleError) → Whole r → HasUnsent books → IsErrOf r NotSent ⊎ IsErrOf r Memory
+  pub found_unsent : (r : Result Settled SettleError) → Whole r → HasUnsent books → IsErrOf r NotSent
   found_unsent (Ok s) whole unsent = absurd (whole.fit.0 unsent)
-  found_unsent (Err NotSent) whole unsent = inl refl
+  found_unsent (Err NotSent) whole unsent = refl
   found_unsent (Err Twice) whole unsent = absurd (whole.1 unsent)
   found_unsent (Err GrantMissing) whole unsent = absurd (whole.0.0 unsent)
   found_unsent (Err GrantTwice) whole unsent = absurd (whole.0.0 unsent)
-  found_unsent (Err Memory) whole unsent = inr refl
+  found_unsent (Err Memory) whole unsent = absurd (whole unsent)
 
   pub found_twice : (r : Result Settled SettleError) → Whole r → HasTwice books → (HasUnsent books → ⊥) → IsErrOf r Twice ⊎ IsErrOf r Memory
   found_twice (Ok s) whole twice sent = absurd (whole.fit.1 twice)

@@ -1,4 +1,4 @@
--- Keys are in a total order, in which different keys differ. Different requests, messages and frames have different keys.
+-- Keys are in a total order, in which different keys differ. Different requests and messages have different keys.
 use Rattle.std.proofs.Common.{◌≡◌, ℕ, List, Ordering, refl, sym, ap}
 use Rattle.std.specs.Ordering.{nat_cmp, ordering_then}
 use Rattle.std.specs.Cmp.{IsTotalOrder, nat_cmp_total, on_total, then_total}
@@ -9,11 +9,9 @@ use Rattle.ra_stamp.specs.declared.mode.Mode.TheVariants.{Shared, Exclusive}
 use Rattle.ra_stamp.specs.declared.entry.Entry.{Entry}
 use Rattle.ra_stamp.specs.declared.message.Message.{Message}
 use Rattle.ra_stamp.specs.declared.message.Message.TheVariants.{Request, Reply}
-use Rattle.ra_frame.specs.declared.frame.Frame.{Frame}
 use Rattle.ra_cluster.specs.declared.keys.EntryKey.{EntryKey}
 use Rattle.ra_cluster.specs.declared.keys.MessageKey.{MessageKey}
-use Rattle.ra_cluster.specs.declared.keys.FrameKey.{FrameKey}
-use Rattle.ra_cluster.specs.Keys.{mode_number, entry_key, message_key, frame_key}
+use Rattle.ra_cluster.specs.Keys.{mode_number, entry_key, message_key}
 
 -- a pair of orders, one after the other
 abbrev then : {A B : Type 0} → (A → A → Ordering) → (B → B → Ordering) → A × B → A × B → Ordering
@@ -66,7 +64,7 @@ one_entry a b e =
       mode = mode i;
     }
 
--- ---- Messages and frames
+-- ---- Messages
 
 abbrev pub message_cmp : MessageKey → MessageKey → Ordering
 message_cmp a b =
@@ -87,17 +85,6 @@ message_exact a b h =
     ap (λ (p : Five). record { seq = p.0; from = p.1.0; to = p.1.1.0; mode = p.1.1.1.0; name = p.1.1.1.1 })
     (exact_five (a.seq, (a.from, (a.to, (a.mode, a.name)))) (b.seq, (b.from, (b.to, (b.mode, b.name)))) h)
 
-abbrev pub frame_cmp : FrameKey → FrameKey → Ordering
-frame_cmp a b = ordering_then (nat_cmp a.clock b.clock) (message_cmp a.message b.message)
-
-pub frame_total : IsTotalOrder frame_cmp
-frame_total = then_total (on_total (λ k. k.clock) nat_cmp_total) (on_total (λ k. k.message) message_total)
-
-pub frame_exact : CmpEqualImpliesEq frame_cmp
-frame_exact a b h =
-    ap (λ (p : ℕ × MessageKey). record { clock = p.0; message = p.1 })
-    (exact_pairs nat_cmp message_cmp exact_unsigned message_exact (a.clock, a.message) (b.clock, b.message) h)
-
 no_reply : (mode : Mode) → mode_number mode ≡ 0 → ⊥
 no_reply Shared e = cc
 no_reply Exclusive e = cc
@@ -111,8 +98,3 @@ one_message (Request from to name mode seq) (Reply from' to' name' seq') e =
 one_message (Reply from to name seq) (Request from' to' name' mode' seq') e =
     absurd (no_reply mode' (sym (ap (λ (k : MessageKey). k.mode) e)))
 one_message (Reply from to name seq) (Reply from' to' name' seq') e = λ i. Reply (e i).from (e i).to (e i).name (e i).seq
-
-pub one_frame : (a b : Frame) → frame_key a ≡ frame_key b → a ≡ b
-one_frame a b e =
-    let message = one_message a.message b.message (ap (λ (k : FrameKey). k.message) e) in
-    λ i. record { clock = (e i).clock; message = message i }

@@ -1,63 +1,23 @@
--- The frames that were sent and kept, and those that came.
-use Rattle.std.proofs.Common.{◌≡◌, ℕ, ◌+◌, ◌<◌, true, false, cond, not, List, [], ◌∷◌, ◌++◌, map, length, get_or, take, drop, BTreeSet, refl, sym, ap, ◌∙◌, subst, append_assoc}
-use Rattle.std.specs.Prelude.{All, Contains}
+-- The frames that came.
+use Rattle.std.proofs.Common.{◌≡◌, ℕ, ◌+◌, ◌<◌, true, false, List, [], ◌∷◌, ◌++◌, map, length, get_or, take, drop, BTreeSet, refl, sym, ap, ◌∙◌, subst, append_assoc}
+use Rattle.std.specs.Prelude.{All}
 use Rattle.std.specs.BTreeSet as sorted
-use Rattle.std.specs.List.{Any, filter}
-use Rattle.std.proofs.lemmas.List.{map-append, append-nil, take_more}
-use Rattle.std.proofs.lemmas.List.Elements.{All-append, All-cons, All-nil, filter_more}
-use Rattle.std.proofs.lemmas.Bool.{false≢true}
-use Rattle.std.proofs.lemmas.Map.Views.{btree_set_contains_iff}
+use Rattle.std.specs.List.{Any}
+use Rattle.std.proofs.lemmas.List.{map-append, append-nil}
+use Rattle.std.proofs.lemmas.List.Elements.{All-append, All-cons, All-nil}
 use Rattle.std.proofs.lemmas.List.Concat.{flat_map-append}
 use Rattle.ra_stamp.specs.declared.message.Message.{Message}
 use Rattle.ra_frame.specs.declared.frame.Frame.{Frame}
 use Rattle.ra_cluster.specs.declared.event.BookKind.{BookKind}
 use Rattle.ra_cluster.specs.declared.event.BookKind.TheVariants.{Asked, Gave, Got}
 use Rattle.ra_cluster.specs.declared.event.BookEvent.{BookEvent}
-use Rattle.ra_cluster.specs.declared.keys.FrameKey.{FrameKey}
 use Rattle.ra_cluster.specs.declared.keys.MessageKey.{MessageKey}
-use Rattle.ra_cluster.specs.declared.sent.Sent.{Sent}
-use Rattle.ra_cluster.specs.Keys.{HasKeys, HasEach, frame_key, message_key, kept_among, all_kept, messages_among}
+use Rattle.ra_cluster.specs.Keys.{HasEach, message_key, messages_among}
 use Rattle.ra_cluster.specs.Book.{BookState}
 use Rattle.ra_cluster.specs.Settled.{frames_in, received_among, all_received, Repeats}
-use Rattle.ra_cluster.proofs.KeyOrders.{frame_cmp, frame_total, frame_exact, message_cmp, message_total, message_exact, one_message}
-use Rattle.ra_cluster.proofs.KeySets.{keys_more, one_more, again, repeats_more}
+use Rattle.ra_cluster.proofs.KeyOrders.{message_cmp, message_total, message_exact, one_message}
+use Rattle.ra_cluster.proofs.KeySets.{one_more, again, repeats_more}
 use Rattle.ra_cluster.proofs.Parts.{split, more, any_left, any_right, any_first}
-
--- ---- The frames that a book sent and that were not lost
-
-abbrev frame_keys : List Frame → List FrameKey
-frame_keys frames = map (λ f. frame_key f) frames
-
-module _ (list : List FrameKey) (sent : List Sent) (i : ℕ) (s : Sent) (within : i < length sent) (at : get_or sent i s ≡ s) where
-  kept_now : kept_among (take (i + 1) sent) ≡ kept_among (take i sent) ++ map (λ s. s.frame) (cond (not s.lost) (s ∷ []) [])
-  kept_now =
-      ap (λ (ss : List Sent). map (λ s. s.frame) ss) (filter_more (λ s. not s.lost) sent i s within ∙ ap (λ (x : Sent). filter (λ s. not s.lost) (take i sent) ++ cond (not x.lost) (x ∷ []) []) at)
-      ∙ map-append (λ s. s.frame) (filter (λ s. not s.lost) (take i sent)) (cond (not s.lost) (s ∷ []) [])
-
-  pub frame_lost : (set : BTreeSet FrameKey) → s.lost ≡ true → HasKeys set (list ++ frame_keys (kept_among (take i sent))) → HasKeys set (list ++ frame_keys (kept_among (take (i + 1) sent)))
-  frame_lost set is has =
-      subst (λ (fs : List Frame). HasKeys set (list ++ frame_keys fs))
-      (sym (kept_now ∙ ap (λ b. kept_among (take i sent) ++ map (λ s. s.frame) (cond (not b) (s ∷ []) [])) is ∙ append-nil (kept_among (take i sent)))) has
-
-  pub frame_kept : (old new : BTreeSet FrameKey) → s.lost ≡ false → HasKeys old (list ++ frame_keys (kept_among (take i sent))) → sorted.Updates frame_cmp old new (frame_key s.frame) true
-      → HasKeys new (list ++ frame_keys (kept_among (take (i + 1) sent)))
-  frame_kept old new is has updated =
-      let lists : list ++ frame_keys (kept_among (take (i + 1) sent)) ≡ (list ++ frame_keys (kept_among (take i sent))) ++ frame_key s.frame ∷ [] =
-      ap (λ (fs : List Frame). list ++ frame_keys fs) (kept_now ∙ ap (λ b. kept_among (take i sent) ++ map (λ s. s.frame) (cond (not b) (s ∷ []) [])) is)
-      ∙ ap (λ (ks : List FrameKey). list ++ ks) (map-append (λ f. frame_key f) (kept_among (take i sent)) (s.frame ∷ []))
-      ∙ sym (append_assoc list (frame_keys (kept_among (take i sent))) (frame_key s.frame ∷ []))
-      in
-      subst (HasKeys new) (sym lists) (keys_more frame_total frame_exact old new (frame_key s.frame) (list ++ frame_keys (kept_among (take i sent))) has updated)
-
-pub book_kept : (set : BTreeSet FrameKey) (books : List BookState) (i : ℕ) (b : BookState) → i < length books → b ≡ get_or books i b
-    → HasKeys set (frame_keys (all_kept (take i books)) ++ frame_keys (kept_among b.sent)) → HasKeys set (frame_keys (all_kept (take (i + 1) books)))
-book_kept set books i b within at has =
-    subst (HasKeys set)
-    (sym (ap frame_keys
-    (ap all_kept (take_more books i b within ∙ ap (λ (x : BookState). take i books ++ x ∷ []) (sym at))
-    ∙ flat_map-append (λ b. kept_among b.sent) (take i books) (b ∷ [])
-    ∙ ap (λ (fs : List Frame). all_kept (take i books) ++ fs) (append-nil (kept_among b.sent)))
-    ∙ map-append (λ f. frame_key f) (all_kept (take i books)) (kept_among b.sent))) has
 
 -- ---- The frames that came
 
@@ -106,14 +66,6 @@ pub some_at : (P : Frame → Type 0) (books : List BookState) (i : ℕ) (b : Boo
 some_at P books i b within at is =
     subst (Any P) (sym (all_received_split books i b within at))
     (any_right P (all_received (take i books)) (received_among b.events ++ all_received (drop (i + 1) books)) (any_left P (received_among b.events) (all_received (drop (i + 1) books)) is))
-
--- ---- In the set
-
-pub in_set : (set : BTreeSet FrameKey) (key : FrameKey) (frame : Frame) → key ≡ frame_key frame → sorted.contains frame_cmp set key ≡ true → Contains set.keys (frame_key frame)
-in_set set key frame same is = subst (λ (k : FrameKey). Contains set.keys k) same ((btree_set_contains_iff frame_total frame_exact set key).0 is)
-
-pub not_in_set : (set : BTreeSet FrameKey) (key : FrameKey) (frame : Frame) → key ≡ frame_key frame → sorted.contains frame_cmp set key ≡ false → Contains set.keys (frame_key frame) → ⊥
-not_in_set set key frame same is_not is = false≢true (sym is_not ∙ (btree_set_contains_iff frame_total frame_exact set key).1 (subst (λ (k : FrameKey). Contains set.keys k) (sym same) is))
 
 -- ---- Messages
 

@@ -117,4 +117,4 @@ module _ (grant : GrantsAreInTheBooks) (books : List BookState) (cluster : IsClu
     grants_refused fit Twice why = absurd why
     grants_refused fit GrantMissing why = (fit, some_missing why)
     grants_refused fit GrantTwice why = (fit, why.0, all_granted why.1)
-    grants_refused fit Memory why = why
+    grants_refused fit Memory why = fit.0

@@ -9,22 +9,28 @@ use Rattle.std.proofs.lemmas.Map.Views.{tells_apart}
 use Rattle.ra_stamp.specs.Message.{from_of}
 use Rattle.ra_frame.specs.declared.frame.Frame.{Frame}
 use Rattle.ra_cluster.specs.declared.sent.Sent.{Sent}
-use Rattle.ra_cluster.specs.Keys.{frame_key}
+use Rattle.ra_cluster.specs.Keys.{message_key}
 use Rattle.ra_cluster.specs.Book.{BookState}
 use Rattle.ra_cluster.specs.Settled.{WasSent, HasUnsent, all_received}
-use Rattle.ra_cluster.proofs.KeyOrders.{frame_cmp, frame_total, frame_exact, one_frame}
+use Rattle.ra_cluster.proofs.KeyOrders.{message_cmp, message_total, message_exact, one_message}
 use Rattle.ra_cluster.proofs.Parts.{first, later, first_or_later, any_first, any_right}
 
 abbrev OrNot : Type 0 → Type 0
 OrNot P = P ⊎ (P → ⊥)
 
 same_or_not : (a b : Frame) → OrNot (a ≡ b)
-same_or_not a b = by_test (eq_by_cmp frame_cmp (frame_key a) (frame_key b)) refl
+same_or_not a b = by_clock (cases_eq a.clock b.clock)
   where
-    by_test : (t : Bool) → eq_by_cmp frame_cmp (frame_key a) (frame_key b) ≡ t → OrNot (a ≡ b)
-    by_test true e = inl (one_frame a b (tells_apart frame_exact (frame_key a) (frame_key b) e))
-    by_test false e =
-        inr (λ same. false≢true (sym e ∙ ap (λ (x : Frame). eq_by_cmp frame_cmp (frame_key a) (frame_key x)) (sym same) ∙ ap is_eq (tied_itself frame_total (frame_key a))))
+    by_test : a.clock ≡ b.clock → (t : Bool) → eq_by_cmp message_cmp (message_key a.message) (message_key b.message) ≡ t → OrNot (a ≡ b)
+    by_test clock true e =
+        let message = one_message a.message b.message (tells_apart message_exact (message_key a.message) (message_key b.message) e) in
+        inl (λ i. record { clock = clock i; message = message i })
+    by_test clock false e =
+        inr (λ same. false≢true (sym e ∙ ap (λ (x : Frame). eq_by_cmp message_cmp (message_key a.message) (message_key x.message)) (sym same) ∙ ap is_eq (tied_itself message_total (message_key a.message))))
+
+    by_clock : OrNot (a.clock ≡ b.clock) → OrNot (a ≡ b)
+    by_clock (inl clock) = by_test clock (eq_by_cmp message_cmp (message_key a.message) (message_key b.message)) refl
+    by_clock (inr apart) = inr (λ same. apart (ap (λ (f : Frame). f.clock) same))
 
 -- the frame is in this element, and it is kept
 kept_here : (s : Sent) (f : Frame) → OrNot (s ≡ record { frame = f; lost = false })

@@ -1,80 +1,44 @@
--- Which frames were sent and not lost, by the set of them.
-use Rattle.std.proofs.Common.{◌≡◌, ◌≢◌, Bool, true, false, cond, not, List, [], ◌∷◌, map, BTreeSet, refl, sym, ap, ◌∙◌, subst, inl, inr, arith}
-use Rattle.std.specs.Prelude.{All, AllPairs, Contains}
-use Rattle.std.specs.List.{Any, filter}
-use Rattle.std.proofs.lemmas.Bool.{false≢true}
-use Rattle.std.proofs.lemmas.List.Elements.{All-contains}
+-- Which frames were sent and not lost, by the book of the sender.
+use Rattle.std.proofs.Common.{◌≡◌, ◌≢◌, ℕ, ◌+◌, ◌<◌, ◌≤◌, false, Some, List, length, get_or, sym, ap, ◌∙◌, subst, arith}
+use Rattle.std.specs.Prelude.{◌↔◌, AllPairs, All, Contains, slice_get}
+use Rattle.std.proofs.lemmas.Option.{slice_get_within, get_or_from_slice_get}
 use Rattle.ra_stamp.specs.Message.{from_of}
 use Rattle.ra_frame.specs.declared.frame.Frame.{Frame}
-use Rattle.ra_cluster.specs.declared.keys.FrameKey.{FrameKey}
 use Rattle.ra_cluster.specs.declared.sent.Sent.{Sent}
-use Rattle.ra_cluster.specs.Keys.{HasKeys, frame_key, kept_among, all_kept}
-use Rattle.ra_cluster.specs.Book.{BookState, HasHistory}
-use Rattle.ra_cluster.specs.Settled.{WasSent, HasUnsent, Repeats, all_received}
-use Rattle.ra_cluster.proofs.KeyOrders.{frame_total, frame_exact, one_frame}
-use Rattle.ra_cluster.proofs.KeySets.{of_keys, to_keys}
-use Rattle.ra_cluster.proofs.Parts.{first, later, first_or_later, in_one, in_all}
+use Rattle.ra_cluster.specs.Book.{BookState}
+use Rattle.ra_cluster.specs.Settled.{IsCluster, WasSent, HasUnsent, Repeats, all_received}
+use Rattle.ra_cluster.proofs.Merging.{number_at}
 
 abbrev as_kept : Frame → Sent
 as_kept f = record { frame = f; lost = false }
 
--- a frame is among those that are kept where it is among those that were sent, and is not flagged
-kept_is_sent : (sent : List Sent) (f : Frame) → Contains (kept_among sent) f → Contains sent (as_kept f)
-kept_is_sent [] f is = absurd (omega (arith, is.1))
-kept_is_sent (s ∷ sent) f is = by_flag s.lost refl is (kept_is_sent sent f)
-  where
-    by_flag : (b : Bool) → s.lost ≡ b → Contains (map (λ (s : Sent). s.frame) (cond (not b) (s ∷ filter (λ s. not s.lost) sent) (filter (λ s. not s.lost) sent))) f
-        → (Contains (kept_among sent) f → Contains sent (as_kept f)) → Contains (s ∷ sent) (as_kept f)
-    by_flag true e is rest = later s sent (as_kept f) (rest is)
-    by_flag false e is rest =
-        elim (first_or_later s.frame (kept_among sent) f is) [
-          | inl same ↦ let one : s ≡ as_kept f = λ i. record { frame = same i; lost = e i } in subst (λ (x : Sent). Contains (s ∷ sent) x) one (first s sent)
-          | inr behind ↦ later s sent (as_kept f) (rest behind)
-        ]
+-- the book of the sender stands one before its number
+module _ (books : List BookState) (cluster : IsCluster books) (frame : Frame) (sender : ℕ) (from : sender + 1 ≡ from_of frame.message) where
+  place_is : (k : ℕ) (b : BookState) → k < length books → get_or books k b ≡ b → b.me ≡ from_of frame.message → k ≡ sender
+  place_is k b low at me =
+      let number : b.me ≡ k + 1 = sym (ap (λ (x : BookState). x.me) at) ∙ number_at books cluster k b low in
+      omega (arith, number, me, from)
 
-sent_is_kept : (sent : List Sent) (f : Frame) → Contains sent (as_kept f) → Contains (kept_among sent) f
-sent_is_kept [] f is = absurd (omega (arith, is.1))
-sent_is_kept (s ∷ sent) f is = by_flag s.lost refl (sent_is_kept sent f)
-  where
-    by_flag : (b : Bool) → s.lost ≡ b → (Contains sent (as_kept f) → Contains (kept_among sent) f)
-        → Contains (map (λ (s : Sent). s.frame) (cond (not b) (s ∷ filter (λ s. not s.lost) sent) (filter (λ s. not s.lost) sent))) f
-    by_flag true e rest =
-        elim (first_or_later s sent (as_kept f) is) [
-          | inl same ↦ absurd (false≢true (sym (ap (λ (x : Sent). x.lost) same) ∙ e))
-          | inr behind ↦ rest behind
-        ]
-    by_flag false e rest =
-        elim (first_or_later s sent (as_kept f) is) [
-          | inl same ↦ subst (λ (x : Frame). Contains (s.frame ∷ kept_among sent) x) (ap (λ (x : Sent). x.frame) same) (first s.frame (kept_among sent))
-          | inr behind ↦ later s.frame (kept_among sent) f (rest behind)
-        ]
+  pub by_its_book : (book : BookState) → slice_get books sender ≡ Some book → Contains book.sent (as_kept frame) ↔ WasSent books frame
+  by_its_book book at =
+      let within = slice_get_within books sender book at in
+      let here : get_or books sender book ≡ book = get_or_from_slice_get books sender book book at in
+      let me : book.me ≡ from_of frame.message = sym (ap (λ (x : BookState). x.me) here) ∙ number_at books cluster sender book within ∙ from in (
+        λ has. (sender, book, within, here, (me, has)),
+        λ is.
+            let same = place_is is.0 is.1 is.2 is.3 is.4.0 in
+            let one : is.1 ≡ book = sym is.3 ∙ ap (λ k. get_or books k is.1) same ∙ get_or_from_slice_get books sender book is.1 at in
+            subst (λ (b : BookState). Contains b.sent (as_kept frame)) one is.4.1,
+      )
 
-abbrev Kept : BTreeSet FrameKey → List BookState → Type 0
-Kept set books = HasKeys set (map (λ f. frame_key f) (all_kept books))
+  pub no_book : length books ≤ sender → WasSent books frame → ⊥
+  no_book past is =
+      let same = place_is is.0 is.1 is.2 is.3 is.4.0 in
+      omega (arith, past, same, is.2)
 
--- what was sent and kept is in the set
-sent_in_set : (set : BTreeSet FrameKey) (books : List BookState) (f : Frame) → Kept set books → WasSent books f → Contains set.keys (frame_key f)
-sent_in_set set books f has (k, b, low, at, is) =
-    (has (frame_key f)).1 (to_keys frame_total frame_exact (λ f. frame_key f) one_frame (all_kept books) f
-    (in_all (λ b. kept_among b.sent) books f (k, b, low, at, sent_is_kept b.sent f is.1)))
-
--- and what is in the set was sent by its sender
-set_was_sent : (set : BTreeSet FrameKey) (books : List BookState) (f : Frame) → ((b : BookState) → HasHistory b → All (λ s. from_of s.frame.message ≡ b.me) b.sent) → All HasHistory books
-    → Kept set books → Contains set.keys (frame_key f) → WasSent books f
-set_was_sent set books f own histories has is =
-    let found = in_one (λ b. kept_among b.sent) books f (of_keys frame_total frame_exact (λ f. frame_key f) one_frame (all_kept books) f ((has (frame_key f)).0 is)) in
-    let b = found.1 in
-    let sent = kept_is_sent b.sent f found.4 in
-    let history : HasHistory b = subst HasHistory found.3 (histories found.0 b found.2) in
-    (found.0, b, found.2, found.3, (sym (All-contains (λ s. from_of s.frame.message ≡ b.me) b.sent (as_kept f) (own b history) sent), sent))
-
-pub unsent : (set : BTreeSet FrameKey) (books : List BookState) → Kept set books → Any (λ f. Contains set.keys (frame_key f) → ⊥) (all_received books) → HasUnsent books
-unsent set books has (k, f, low, at, none) = (k, f, low, at, λ is. none (sent_in_set set books f has is))
-
-pub all_sent : (set : BTreeSet FrameKey) (books : List BookState) → ((b : BookState) → HasHistory b → All (λ s. from_of s.frame.message ≡ b.me) b.sent) → All HasHistory books
-    → Kept set books → All (λ f. Contains set.keys (frame_key f)) (all_received books) → HasUnsent books → ⊥
-all_sent set books own histories has all (k, f, low, at, none) =
-    none (set_was_sent set books f own histories has (subst (λ (x : Frame). Contains set.keys (frame_key x)) at (all k f low)))
+-- where all were sent, none came that was not
+pub all_sent : (books : List BookState) → All (λ f. WasSent books f) (all_received books) → HasUnsent books → ⊥
+all_sent books all (k, f, low, at, none) = none (subst (WasSent books) at (all k f low))
 
 -- a list in which all are different does not repeat
 pub no_repeats : {X : Type 0} (xs : List X) → AllPairs (λ a b. a ≢ b) xs → Repeats xs → ⊥

@@ -1,8 +1,7 @@
 -- Requests and messages as keys, by which they are looked up: their fields, the mode as a number. No public contract speaks
 -- of it.
-use Rattle.std.specs.Prelude.{◌↔◌, ◌≢◌, ℕ, not, List, [], ◌∷◌, map, AllPairs, Contains}
+use Rattle.std.specs.Prelude.{◌↔◌, ◌≢◌, ℕ, List, [], ◌∷◌, map, AllPairs, Contains}
 use Rattle.std.specs.BTreeSet.{BTreeSet}
-use Rattle.std.specs.List.{filter, flat_map}
 use Rattle.ra_stamp.specs.declared.mode.Mode.{Mode}
 use Rattle.ra_stamp.specs.declared.mode.Mode.TheVariants.{Shared, Exclusive}
 use Rattle.ra_stamp.specs.declared.entry.Entry.{Entry}
@@ -10,13 +9,9 @@ use Rattle.ra_stamp.specs.declared.entry.Mark.{Mark}
 use Rattle.ra_stamp.specs.declared.entry.Mark.TheVariants.{Requested, Entered, Left}
 use Rattle.ra_stamp.specs.declared.message.Message.{Message}
 use Rattle.ra_stamp.specs.declared.message.Message.TheVariants.{Request, Reply}
-use Rattle.ra_frame.specs.declared.frame.Frame.{Frame}
 use Rattle.ra_cluster.specs.declared.keys.EntryKey.{EntryKey}
-use Rattle.ra_cluster.specs.declared.keys.FrameKey.{FrameKey}
 use Rattle.ra_cluster.specs.declared.keys.MessageKey.{MessageKey}
-use Rattle.ra_cluster.specs.declared.sent.Sent.{Sent}
 use Rattle.ra_cluster.specs.declared.event.BookEvent.{BookEvent}
-use Rattle.ra_cluster.specs.Book.{BookState}
 use Rattle.ra_cluster.specs.Settled.{received_among}
 
 abbrev pub mode_number : Mode → ℕ
@@ -37,9 +32,6 @@ abbrev pub message_key : Message → MessageKey
 message_key (Request from to name mode seq) = record { seq = seq; from = from; to = to; mode = mode_number mode; name = name }
 message_key (Reply from to name seq) = record { seq = seq; from = from; to = to; mode = 0; name = name }
 
-abbrev pub frame_key : Frame → FrameKey
-frame_key frame = record { clock = frame.clock; message = message_key frame.message }
-
 -- the set has the keys of the list, and no others
 abbrev pub HasKeys : {K : Type 0} → BTreeSet K → List K → Type 0
 HasKeys {K} set list = (key : K) → Contains set.keys key ↔ Contains list key
@@ -50,13 +42,6 @@ entered_in [] = []
 entered_in (Requested entry ∷ marks) = entered_in marks
 entered_in (Entered entry ∷ marks) = entry ∷ entered_in marks
 entered_in (Left entry ∷ marks) = entered_in marks
-
--- the frames that are not flagged lost
-abbrev pub kept_among : List Sent → List Frame
-kept_among sent = map (λ s. s.frame) (filter (λ s. not s.lost) sent)
-
-abbrev pub all_kept : List BookState → List Frame
-all_kept books = flat_map (λ b. kept_among b.sent) books
 
 -- the messages that came by events, in order
 abbrev pub messages_among : List BookEvent → List Message

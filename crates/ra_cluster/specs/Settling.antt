@@ -45,7 +45,7 @@ RefusesReceived books NotSent = HasUnsent books
 RefusesReceived books Twice = HasTwice books × (HasUnsent books → ⊥)
 RefusesReceived books GrantMissing = ⊥
 RefusesReceived books GrantTwice = ⊥
-RefusesReceived books Memory = Unit {0}
+RefusesReceived books Memory = HasUnsent books → ⊥
 
 -- why grants are refused, by the marks of a run
 abbrev pub RefusesGrants : List Grant → List Mark → SettleError → Type 0
@@ -88,4 +88,4 @@ Refuses books grants NotSent = HasUnsent books
 Refuses books grants Twice = HasTwice books × (HasUnsent books → ⊥)
 Refuses books grants GrantMissing = BooksFit books × Any (λ g. IsGranted books g.entry → ⊥) grants
 Refuses books grants GrantTwice = BooksFit books × Repeats grants × All (λ g. IsGranted books g.entry) grants
-Refuses books grants Memory = Unit {0}
+Refuses books grants Memory = HasUnsent books → ⊥

@@ -1,4 +1,4 @@
-ghost use Rattle.std.specs.Prelude.{◌≡◌, ◌≢◌, ℕ, ◌<◌, ◌≤◌, ◌⊎◌, ◌↔◌, ◌^◌, All, length, slice_get, unwrap_or, IsErrOf, IsOk, IsOkUnless, IsSome, IfOk, OnErr, OnOk, IsTrue, MatchResult, true, false};
+ghost use Rattle.std.specs.Prelude.{◌≡◌, ◌≢◌, ℕ, ◌<◌, ◌≤◌, ◌⊎◌, ◌↔◌, ◌^◌, All, Contains, length, slice_get, unwrap_or, IsErrOf, IsOk, IsOkUnless, IsSome, IfOk, OnErr, OnOk, IsTrue, MatchResult, true, false};
 ghost use Rattle.ra_stamp.specs.declared.entry.Entry.{Entry};
 ghost use Rattle.ra_frame.specs.declared.error.FrameError.{FrameError};
 ghost use Rattle.ra_node.specs.Resource.{Holds};
@@ -6,6 +6,7 @@ ghost use Rattle.ra_node.specs.Node.{resource_at};
 
 use crate::heard::hear;
 use crate::keeping::{add, clock_after, flag_lost, kept_histories_go_on};
+use crate::sought::is_kept;
 use crate::{BookError, BookEvent, BookKind, Events, MarkLostError, NewError, Posted, Sent, Stop};
 use ra_frame::Frame;
 use ra_node::Node;
@@ -221,6 +222,14 @@ impl Book {
     {
         kept_histories_go_on();
         flag_lost(self.sent.as_mut_slice(), frame)
+    }
+
+    /// Returns whether the node sent this frame and it is not flagged lost. The cost is that of `mark_lost`.
+    pub(crate) fn has_kept(&self, frame: &Frame) -> bool
+        ensures { IsTrue result ↔ Contains self.now.sent (record { frame = frame.now; lost = false }) }
+    {
+        kept_histories_go_on();
+        is_kept(self.sent.as_slice(), frame)
     }
 
     /// Gives the book a fault, if it has none. From then on `ask`, `leave` and `receive` answer `Failed`. It does not

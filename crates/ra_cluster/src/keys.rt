@@ -1,8 +1,7 @@
-//! Requests, messages and frames as keys, by which sets order them and look them up.
+//! Requests and messages as keys, by which sets order them and look them up.
 ghost use Rattle.std.specs.Prelude.{◌≡◌};
 ghost use Rattle.ra_cluster.specs.Keys as spec;
 
-use ra_frame::Frame;
 use ra_stamp::{Entry, Message, Mode, Name, NodeId};
 
 /// All of a request.
@@ -23,13 +22,6 @@ pub struct MessageKey {
     to: NodeId,
     mode: u8,
     name: Name,
-}
-
-/// All of a frame.
-#[derive(Clone, Copy, Debug, PartialEq, Eq, PartialOrd, Ord)]
-pub struct FrameKey {
-    clock: u64,
-    message: MessageKey,
 }
 
 /// Returns the key of a request.
@@ -59,16 +51,6 @@ pub fn message_key(message: &Message) -> MessageKey
         to: message.to(),
         mode,
         name: message.name(),
-    }
-}
-
-/// Returns the key of a frame.
-pub fn frame_key(frame: &Frame) -> FrameKey
-    ensures { result ≡ spec.frame_key frame.now }
-{
-    FrameKey {
-        clock: frame.clock,
-        message: message_key(&frame.message),
     }
 }
 

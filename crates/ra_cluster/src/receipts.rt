@@ -1,23 +1,21 @@
 //! That what came was sent, and came once.
-ghost use Rattle.std.specs.Prelude.{◌≡◌, ◌≢◌, ◌++◌, ℕ, List, All, AllPairs, Contains, map, IfOk, OnOk, MatchBool, MatchResult};
+ghost use Rattle.std.specs.Prelude.{◌≢◌, ◌↔◌, ◌++◌, List, All, AllPairs, map, IfOk, IsTrue, MatchBool, MatchResult};
 ghost use Rattle.std.specs.List.{Any};
 ghost use Rattle.ra_stamp.specs.declared.message.Message.{Message};
-ghost use Rattle.ra_cluster.specs.declared.keys.FrameKey.{FrameKey};
-ghost use Rattle.ra_cluster.specs.Book.{HasHistory};
-ghost use Rattle.ra_cluster.specs.Keys.{HasKeys, HasEach, kept_among, all_kept, messages_among};
-ghost use Rattle.ra_cluster.specs.Keys as spec;
-ghost use Rattle.ra_cluster.specs.Settled.{BooksFit, HasTwice, Repeats, received_among, all_received};
+ghost use Rattle.ra_cluster.specs.Keys.{HasEach, messages_among};
+ghost use Rattle.ra_cluster.specs.Settled.{IsCluster, BooksFit, HasTwice, HasUnsent, Repeats, WasSent, received_among, all_received};
 ghost use Rattle.ra_cluster.specs.Settling.{RefusesReceived};
 
-use crate::keys::{FrameKey, MessageKey, frame_key, message_key};
-use crate::settled_runs::frames_of_books_are_from_their_nodes;
+use crate::keys::{MessageKey, message_key};
 use crate::{Book, BookEvent, BookKind, SettleError};
+use ra_frame::Frame;
 use ra_stamp::Memory;
 use std::alloc::Global;
 use std::collections::BTreeSet;
 
-/// Checks that each frame that came was sent and not lost, and that no message came twice. With the frames in sets, the cost of
-/// each is logarithmic.
+/// Checks that each frame that came was sent and not lost, and that no message came twice. The frames that a book sent ascend by
+/// clock, so that the cost of each that came is logarithmic, and linear in the number of nodes; and with the messages in a set, the
+/// cost of each is logarithmic.
 ///
 /// # Errors
 ///
@@ -25,13 +23,12 @@ use std::collections::BTreeSet;
 ///
 /// 1. `NotSent`: a frame came that is not among the frames that its sender sent and that were not lost.
 /// 2. `Twice`: a message came twice.
-/// 3. `Memory`, which may come before any of them.
+/// 3. `Memory`, which may come before `Twice`.
 pub fn check_received(alloc: Global, books: &[Book]) -> Result<(), SettleError>
+    requires { IsCluster books.now }
     ensures { MatchResult result (λ _. BooksFit books.now) (RefusesReceived books.now) }
 {
-    frames_of_books_are_from_their_nodes();
-    let kept = kept_frames(alloc, books)?;
-    if !are_kept(&kept, books) {
+    if !were_sent(books) {
         return Err(SettleError::NotSent);
     }
     if !came_once(alloc, books)? {
@@ -40,61 +37,46 @@ pub fn check_received(alloc: Global, books: &[Book]) -> Result<(), SettleError>
     Ok(())
 }
 
-/// Returns the frames that the books sent and that were not lost.
-fn kept_frames(alloc: Global, books: &[Book]) -> Result<BTreeSet<FrameKey>, Memory>
-    ensures kept { IfOk result (λ kept. HasKeys kept (map (λ f. spec.frame_key f) (all_kept books.now))) }
-    ensures histories { OnOk result (All HasHistory books.now) }
-{
-    let mut kept = BTreeSet::new(alloc);
-    for book in books {
-        put_kept(&mut kept, book)?;
-    }
-    Ok(kept)
-}
-
-/// Puts the frames that a book sent and that were not lost into the set.
-fn put_kept(kept: &mut BTreeSet<FrameKey>, book: &Book) -> Result<(), Memory>
-    ensures ok { (list : List FrameKey) → HasKeys kept.old list
-        → OnOk result (HasKeys kept.new (list ++ map (λ f. spec.frame_key f) (kept_among book.now.sent))) }
-    ensures history { HasHistory book.now }
-{
-    for place in 0..book.sent_len() {
-        let Some(sent) = book.sent(place) else {
-            return Ok(());
-        };
-        if !sent.lost {
-            kept.insert(frame_key(&sent.frame))?;
-        }
-    }
-    Ok(())
-}
-
-/// Returns whether each frame that came is in the set.
-fn are_kept(kept: &BTreeSet<FrameKey>, books: &[Book]) -> bool
-    ensures { MatchBool result (All (λ f. Contains kept.now.keys (spec.frame_key f)) (all_received books.now))
-        (Any (λ f. Contains kept.now.keys (spec.frame_key f) → ⊥) (all_received books.now)) }
+/// Returns whether each frame that came was sent and not lost. It does not allocate.
+fn were_sent(books: &[Book]) -> bool
+    requires { IsCluster books.now }
+    ensures { MatchBool result (All (λ f. WasSent books.now f) (all_received books.now)) (HasUnsent books.now) }
 {
     for book in books {
-        if !are_among(kept, book.events().as_slice()) {
+        if !are_sent(books, book.events().as_slice()) {
             return false;
         }
     }
     true
 }
 
-/// Returns whether each frame that came by these events is in the set.
-fn are_among(kept: &BTreeSet<FrameKey>, events: &[BookEvent]) -> bool
-    ensures { MatchBool result (All (λ f. Contains kept.now.keys (spec.frame_key f)) (received_among events.now))
-        (Any (λ f. Contains kept.now.keys (spec.frame_key f) → ⊥) (received_among events.now)) }
+/// Returns whether each frame that came by these events was sent and not lost.
+fn are_sent(books: &[Book], events: &[BookEvent]) -> bool
+    requires { IsCluster books.now }
+    ensures { MatchBool result (All (λ f. WasSent books.now f) (received_among events.now))
+        (Any (λ f. WasSent books.now f → ⊥) (received_among events.now)) }
 {
     for event in events {
         if let BookKind::Got(frame) = &event.kind {
-            if !kept.contains(&frame_key(frame)) {
+            if !was_sent(books, frame) {
                 return false;
             }
         }
     }
     true
+}
+
+/// Returns whether the book of its sender has the frame, not flagged lost.
+fn was_sent(books: &[Book], frame: &Frame) -> bool
+    requires { IsCluster books.now }
+    ensures { IsTrue result ↔ WasSent books.now frame.now }
+{
+    // Nodes are counted from 1.
+    let sender = usize::from(frame.message.from().get());
+    match books.get(sender - 1) {
+        Some(book) => book.has_kept(frame),
+        None => false,
+    }
 }
 
 /// Returns whether no message came twice.

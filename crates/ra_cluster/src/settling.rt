@@ -62,7 +62,7 @@ fn is_member(book: &Book, place: usize, count: usize, start: u64) -> bool
 /// 2. `Twice`: a message came twice.
 /// 3. `GrantMissing`: the entry of a grant has no Entered mark in its node's book.
 /// 4. `GrantTwice`: two grants are equal.
-/// 5. `Memory`, which may come before any of them.
+/// 5. `Memory`, which may come before any of them but `NotSent`.
 pub fn settle(alloc: Global, books: &[Book], grants: &[Grant]) -> Result<Settled, SettleError>
     requires { IsCluster books.now }
     // The steps are a settled run, and the report is that of the run.
@@ -82,8 +82,10 @@ pub fn settle(alloc: Global, books: &[Book], grants: &[Grant]) -> Result<Settled
         × Any (λ grant. IsGranted books.now grant.entry → ⊥) grants.now }
     ensures grant_twice { IsErrOf result SettleError.GrantTwice → BooksFit books.now × Repeats grants.now
         × All (λ grant. IsGranted books.now grant.entry) grants.now }
-    // And where its cause stands it comes, but that want of memory may come before it.
-    ensures found_unsent { HasUnsent books.now → IsErrOf result SettleError.NotSent ⊎ IsErrOf result SettleError.Memory }
+    // Want of memory comes only where each frame that came was sent: to find that out takes no memory.
+    ensures memory { IsErrOf result SettleError.Memory → HasUnsent books.now → ⊥ }
+    // And where the cause of a refusal stands it comes, but that want of memory may come before it.
+    ensures found_unsent { HasUnsent books.now → IsErrOf result SettleError.NotSent }
     ensures found_twice { HasTwice books.now → (HasUnsent books.now → ⊥)
         → IsErrOf result SettleError.Twice ⊎ IsErrOf result SettleError.Memory }
     ensures found_missing { BooksFit books.now → Any (λ grant. IsGranted books.now grant.entry → ⊥) grants.now

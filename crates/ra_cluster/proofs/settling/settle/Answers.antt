@@ -1,4 +1,4 @@
-use Rattle.ra_cluster.specs.declared.error.SettleError.TheVariants.{NotSent, Twice, GrantMissing, GrantTwice}
+use Rattle.ra_cluster.specs.declared.error.SettleError.TheVariants.{NotSent, Twice, GrantMissing, GrantTwice, Memory}
 use Rattle.ra_cluster.proofs.Causes as settling
 use Rattle.ra_cluster.proofs.settling.settle.Goals as goal
 
@@ -51,6 +51,11 @@ pub returns-in_err-check_received-clause-grant_twice : goal.returns-in_err-check
 returns-in_err-check_received-clause-grant_twice c =
     settling.cause c.args.books.now c.args.grants.now c.from_residual.result
     (settling.by_received c.args.books.now c.args.grants.now c.in_err-check_received.field-0.0 c.in_err-check_received.ensures c.from_residual.result c.from_residual.ensures.1) GrantTwice
+
+pub returns-in_err-check_received-clause-memory : goal.returns-in_err-check_received-clause-memory
+returns-in_err-check_received-clause-memory c =
+    settling.cause c.args.books.now c.args.grants.now c.from_residual.result
+    (settling.by_received c.args.books.now c.args.grants.now c.in_err-check_received.field-0.0 c.in_err-check_received.ensures c.from_residual.result c.from_residual.ensures.1) Memory
 
 pub returns-in_err-check_received-clause-found_unsent : goal.returns-in_err-check_received-clause-found_unsent
 returns-in_err-check_received-clause-found_unsent c =
@@ -106,6 +111,9 @@ returns-clause-missing c = settling.cause c.args.books.now c.args.grants.now c.s
 
 pub returns-clause-grant_twice : goal.returns-clause-grant_twice
 returns-clause-grant_twice c = settling.cause c.args.books.now c.args.grants.now c.settle_with.result c.settle_with.ensures GrantTwice
+
+pub returns-clause-memory : goal.returns-clause-memory
+returns-clause-memory c = settling.cause c.args.books.now c.args.grants.now c.settle_with.result c.settle_with.ensures Memory
 
 pub returns-clause-found_unsent : goal.returns-clause-found_unsent
 returns-clause-found_unsent c = settling.found_unsent c.args.books.now c.args.grants.now c.settle_with.result c.settle_with.ensures

@@ -10,7 +10,7 @@ settle_books-requires c = record { cluster = c.requires.cluster; fit = c.require
 pub returns-in_err-settled : goal.returns-in_err-settled
 returns-in_err-settled c =
     let why = Refuses c.args.books.now c.args.grants.now in
-    refused _ why c.in_err-settled.field-0.0 (subst why (sym c.in_err-settled.ensures) tt) c.from_residual.result c.from_residual.ensures.1
+    refused _ why c.in_err-settled.field-0.0 (subst why (sym c.in_err-settled.ensures) c.requires.fit.0) c.from_residual.result c.from_residual.ensures.1
 
 pub returns-in_err-check_grants : goal.returns-in_err-check_grants
 returns-in_err-check_grants c =
