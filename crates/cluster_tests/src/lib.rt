@@ -21,6 +21,8 @@ mod keeping;
 #[cfg(test)]
 mod last_number;
 #[cfg(test)]
+mod orders;
+#[cfg(test)]
 mod outcomes;
 #[cfg(test)]
 mod plans;
@@ -32,6 +34,8 @@ mod settling;
 mod sites;
 #[cfg(test)]
 mod steps;
+#[cfg(test)]
+mod stops;
 #[cfg(test)]
 mod threads;
 #[cfg(test)]

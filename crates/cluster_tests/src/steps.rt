@@ -218,7 +218,8 @@ fn taken_from<R: Wait>(
     }
 }
 
-fn has_left<R: Wait>(
+/// Returns whether so many frames are left in the inbox at a place, that of the node with this number. The post is closed before.
+pub fn has_left<R: Wait>(
     rt: &R,
     alloc: Global,
     all: &Cluster,
