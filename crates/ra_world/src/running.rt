@@ -18,7 +18,8 @@ use std::alloc::Global;
 ///
 /// 1. `BadCount`: the number of nodes is not 1 to 16.
 /// 2. `Refused`: a step is refused; its place is the first such one, counted from 1, with the cause.
-/// 3. `Memory`, which may come before a later step is refused.
+/// 3. `Memory`, for the world before its first step, for a step as `World::step` says, which is at 2^64-1 steps too, or for the
+///    report. It may come before a later step is refused, and tells nothing of the steps behind.
 pub fn run(alloc: Global, nodes: u16, start: u64, steps: &Steps) -> Result<Report, RunError>
     ensures ok { IfOk result (λ report. (moves : List Move)
         × (map (λ move. move.step) moves ≡ steps.now.items)

@@ -89,7 +89,7 @@ impl World {
     /// 1. `NoNode`: an ask or a leave is at a node above the number of nodes.
     /// 2. `NotUnderWay`: a message that is to be delivered or lost is not under way.
     /// 3. `Node`: the node refuses an ask (`Busy`, `Exhausted`) or a leave (`NotHeld`).
-    /// 4. `Memory`: there is no room for what the step makes.
+    /// 4. `Memory`: there is no room for what the step makes, or 2^64-1 steps were made, since no more are counted.
     pub fn step(&mut self, alloc: Global, step: &Step) -> Result<Outcome, StepError>
         ensures ok { IfOk result (λ outcome.
             self.new ≡ with_move self.old step.now outcome.sends.items outcome.marks.items) }
