@@ -43,3 +43,4 @@ mod Written
 mod Elsewhere
 pub mod FittingRuns
 mod Pieces
+mod Adding

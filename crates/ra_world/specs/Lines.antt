@@ -1,6 +1,6 @@
 -- The printed lines of a report. A line is words with one space between two, and a line feed at its end. Numbers are decimal,
 -- with no zero in front.
-use Rattle.std.specs.Prelude.{ℕ, List, ◌++◌, codes, decimal, flat_map}
+use Rattle.std.specs.Prelude.{◌≡◌, ◌≢◌, ℕ, List, [], ◌++◌, codes, decimal, flat_map}
 use Rattle.ra_stamp.specs.declared.mode.Mode.{Mode}
 use Rattle.ra_stamp.specs.declared.mode.Mode.TheVariants.{Shared, Exclusive}
 use Rattle.ra_stamp.specs.declared.entry.Entry.{Entry}
@@ -42,3 +42,11 @@ total_lines report =
 -- a line for each mark, in order, and then those of the six totals
 abbrev pub report_text : Report → List ℕ
 report_text report = flat_map mark_line report.marks.items ++ total_lines report
+
+-- a front of the text was put behind what was there, and not all of it
+pub record AddsFront (old new text : List ℕ) : Type 0 where
+  pub front : List ℕ
+  pub back : List ℕ
+  pub text_is : text ≡ front ++ back
+  pub left : back ≢ []
+  pub new_is : new ≡ old ++ front

@@ -1,4 +1,4 @@
-ghost use Rattle.std.specs.Prelude.{◌≡◌, ◌++◌, string_bytes, IfOk, OnOk};
+ghost use Rattle.std.specs.Prelude.{◌≡◌, ◌++◌, codes, string_bytes, IfOk, OnOk, OnErr};
 ghost use Rattle.ra_world.specs.Lines as spec;
 
 use crate::Report;
@@ -28,9 +28,10 @@ pub fn letter_of(mode: Mode) -> &'static str
 ///
 /// # Errors
 ///
-/// `Memory`: there is none for it. A front of it may have been added.
+/// `Memory`: there is none for it. A front of it may have been added, but not all of it.
 pub fn push_field(text: &mut String, field: &str) -> Result<(), Memory>
-    ensures { OnOk result (string_bytes text.new ≡ string_bytes text.old ++ spec.field field.now) }
+    ensures ok { OnOk result (string_bytes text.new ≡ string_bytes text.old ++ spec.field field.now) }
+    ensures err { OnErr result (spec.AddsFront (string_bytes text.old) (string_bytes text.new) (spec.field field.now)) }
 {
     text.push_str(" ")?;
     text.push_str(field)?;
@@ -41,41 +42,54 @@ pub fn push_field(text: &mut String, field: &str) -> Result<(), Memory>
 ///
 /// # Errors
 ///
-/// `Memory`: there is none for it. A front of it may have been added.
+/// `Memory`: there is none for it. A front of it may have been added, but not all of it.
 pub fn push_number<I: Integer>(text: &mut String, number: I) -> Result<(), Memory>
-    ensures { OnOk result (string_bytes text.new ≡ string_bytes text.old ++ spec.field (I.text number)) }
+    ensures ok { OnOk result (string_bytes text.new ≡ string_bytes text.old ++ spec.field (I.text number)) }
+    ensures err { OnErr result (spec.AddsFront (string_bytes text.old) (string_bytes text.new) (spec.field (I.text number))) }
 {
     push_field(text, Buffer::new().format(number))
 }
 
 /// Adds the fields of an entry.
 fn push_entry(text: &mut String, entry: &Entry) -> Result<(), Memory>
-    ensures { OnOk result (string_bytes text.new ≡ string_bytes text.old ++ spec.entry_fields entry.now) }
+    ensures ok { OnOk result (string_bytes text.new ≡ string_bytes text.old ++ spec.entry_fields entry.now) }
+    ensures err { OnErr result (spec.AddsFront (string_bytes text.old) (string_bytes text.new) (spec.entry_fields entry.now)) }
 {
     push_number(text, entry.stamp.node.get())?;
     push_number(text, entry.client)?;
     push_field(text, text_of(&entry.name))?;
     push_field(text, letter_of(entry.mode))?;
-    push_number(text, entry.stamp.seq)
+    push_number(text, entry.stamp.seq)?;
+    Ok(())
+}
+
+/// Adds a line of a word and the fields of an entry.
+fn push_entry_line(text: &mut String, word: &str, entry: &Entry) -> Result<(), Memory>
+    ensures ok { OnOk result (string_bytes text.new
+        ≡ string_bytes text.old ++ (word.now ++ spec.entry_fields entry.now ++ codes "\n")) }
+    ensures err { OnErr result (spec.AddsFront (string_bytes text.old) (string_bytes text.new)
+        (word.now ++ spec.entry_fields entry.now ++ codes "\n")) }
+{
+    text.push_str(word)?;
+    push_entry(text, entry)?;
+    text.push_str("\n")?;
+    Ok(())
 }
 
 /// Adds the line of a mark, its line feed at the end, in time linear in it.
 ///
 /// # Errors
 ///
-/// `Memory`: there is none for it. A front of it may have been added.
+/// `Memory`: there is none for it. A front of it may have been added, but not all of it.
 pub fn push_mark_line(text: &mut String, mark: &Mark) -> Result<(), Memory>
-    ensures { OnOk result (string_bytes text.new ≡ string_bytes text.old ++ spec.mark_line mark.now) }
+    ensures ok { OnOk result (string_bytes text.new ≡ string_bytes text.old ++ spec.mark_line mark.now) }
+    ensures err { OnErr result (spec.AddsFront (string_bytes text.old) (string_bytes text.new) (spec.mark_line mark.now)) }
 {
-    let (word, entry) = match mark {
-        Mark::Requested(entry) => ("request", entry),
-        Mark::Entered(entry) => ("enter", entry),
-        Mark::Left(entry) => ("leave", entry),
-    };
-    text.push_str(word)?;
-    push_entry(text, entry)?;
-    text.push_str("\n")?;
-    Ok(())
+    match mark {
+        Mark::Requested(entry) => push_entry_line(text, "request", entry),
+        Mark::Entered(entry) => push_entry_line(text, "enter", entry),
+        Mark::Left(entry) => push_entry_line(text, "leave", entry),
+    }
 }
 
 /// Adds the line of a total.
