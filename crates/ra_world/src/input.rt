@@ -1,8 +1,9 @@
-ghost use Rattle.std.specs.Prelude.{◌≡◌, ◌<◌, ◌≤◌, List, ℕ, length, IfOk, IfErr, OnErr, IsErrOf, take};
-ghost use Rattle.std.specs.Io.KnownBytes.{Consumes, IsAtEnd, Keeps};
+ghost use Rattle.std.specs.Prelude.{◌≡◌, ◌<◌, ◌≤◌, ◌↔◌, List, ℕ, true, false, length, IfOk, IsErrOf};
+ghost use Rattle.std.specs.Io.KnownBytes.{Consumes};
 ghost use Rattle.ra_world.specs.Input.{Reads};
 
 use crate::ReadFault;
+use crate::source::Source;
 use std::alloc::Global;
 use std::io::Read;
 
@@ -11,23 +12,6 @@ const FIRST_ROOM: usize = 4096;
 
 /// The most bytes that a reader is asked for at once.
 const PIECE: usize = 512;
-
-/// Reads the next bytes into a buffer, which is not empty, and returns how many came, or 0 at the end. It does not allocate.
-///
-/// # Errors
-///
-/// `Read`: the reader failed. It is not tried again.
-fn next_bytes<R: Read>(reader: &mut R, buffer: &mut [u8]) -> Result<usize, ReadFault>
-    requires { 0 < length buffer.old }
-    ensures some { IfOk result (λ count. (count ≤ length buffer.old)
-        × Consumes (R.remaining reader.old) (R.remaining reader.new) (take count buffer.new)) }
-    ensures same { length buffer.new ≡ length buffer.old }
-    ensures none { IfOk result (λ count. count ≡ 0 → IsAtEnd (R.remaining reader.new)) }
-    ensures err { IfErr result (λ fault. fault ≡ ReadFault.Read) }
-    ensures untaken { OnErr result (Keeps (R.remaining reader.old) (R.remaining reader.new)) }
-{
-    reader.read(buffer).or(Err(ReadFault::Read))
-}
 
 /// Reads to the end, and at most `limit` bytes, in pieces of 512 bytes or fewer and no more than it returns. It first makes room
 /// for 4,096 bytes or fewer, and more as they come, however large the limit: the cost is linear in what is read.
@@ -48,6 +32,31 @@ pub fn read_up_to<R: Read>(
     ensures failed { IsErrOf result ReadFault.Read → (taken : List ℕ) × (length taken < limit)
         × Consumes (R.remaining reader.old) (R.remaining reader.new) taken }
 {
+    let mut source = Source::new(reader);
+    read_from(alloc, &mut source, limit)
+}
+
+/// Reads so from a source whose reader did not fail yet.
+///
+/// # Errors
+///
+/// `Read`: the reader failed. `Memory`: there is none for the bytes.
+fn read_from<R: Read>(
+    alloc: Global,
+    source: &mut Source<'_, R>,
+    limit: usize,
+) -> Result<Vec<u8>, ReadFault>
+    requires { source.old.failed ≡ false }
+    ensures same_reference { source.new.reader.ghost_name ≡ source.old.reader.ghost_name }
+    ensures bytes { IfOk result (λ bytes.
+        Reads (R.remaining source.old.reader.now) (R.remaining source.new.reader.now) limit bytes.items) }
+    ensures at_most { (taken : List ℕ) × (length taken ≤ limit)
+        × Consumes (R.remaining source.old.reader.now) (R.remaining source.new.reader.now) taken }
+    ensures failed { IsErrOf result ReadFault.Read → (taken : List ℕ) × (length taken < limit)
+        × Consumes (R.remaining source.old.reader.now) (R.remaining source.new.reader.now) taken }
+    // Who answers that it failed has seen it fail.
+    ensures fault { IsErrOf result ReadFault.Read ↔ (source.new.failed ≡ true) }
+{
     let mut bytes = Vec::with_capacity(alloc, limit.min(FIRST_ROOM))?;
     let mut piece = [0; PIECE];
     // Each turn but the last brings a byte or more.
@@ -56,7 +65,7 @@ pub fn read_up_to<R: Read>(
         if left == 0 {
             break;
         }
-        let count = next_bytes(reader, &mut piece[..left.min(PIECE)])?;
+        let count = source.read(&mut piece[..left.min(PIECE)])?;
         if count == 0 {
             break;
         }

@@ -14,7 +14,9 @@ mod numbering;
 mod output;
 mod report;
 mod running;
+mod source;
 mod step;
+mod target;
 mod world;
 
 pub use error::{NewError, NodeRefusal, ReadFault, RunError, StepError, WriteFault};

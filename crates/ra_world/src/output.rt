@@ -1,7 +1,8 @@
-ghost use Rattle.std.specs.Prelude.{◌≡◌, ◌≢◌, List, ℕ, [], ◌++◌, OnOk, OnErr};
+ghost use Rattle.std.specs.Prelude.{◌≡◌, ◌≢◌, ◌↔◌, List, ℕ, [], ◌++◌, true, false, IsErr, OnOk, OnErr};
 ghost use Rattle.std.specs.Io.KnownBytes.{Appends};
 
 use crate::WriteFault;
+use crate::target::Target;
 use std::io::Write;
 
 /// Writes all of the bytes. It does not allocate.
@@ -16,12 +17,29 @@ pub fn write_out<W: Write>(writer: &mut W, bytes: &[u8]) -> Result<(), WriteFaul
         × (bytes.now ≡ front ++ back) × (back ≢ [])
         × Appends (W.contents writer.old) (W.contents writer.new) front) }
 {
+    let mut target = Target::new(writer);
+    write_to(&mut target, bytes)
+}
+
+/// Writes all of the bytes to a target whose writer took all so far.
+///
+/// # Errors
+///
+/// `WriteFault`: a write failed, or took nothing.
+fn write_to<W: Write>(target: &mut Target<'_, W>, bytes: &[u8]) -> Result<(), WriteFault>
+    requires { target.old.failed ≡ false }
+    ensures same_reference { target.new.writer.ghost_name ≡ target.old.writer.ghost_name }
+    ensures ok { OnOk result (Appends (W.contents target.old.writer.now) (W.contents target.new.writer.now) bytes.now) }
+    ensures err { OnErr result ((front : List ℕ) × (back : List ℕ)
+        × (bytes.now ≡ front ++ back) × (back ≢ [])
+        × Appends (W.contents target.old.writer.now) (W.contents target.new.writer.now) front) }
+    // Who answers that it failed has seen it fail.
+    ensures fault { IsErr result ↔ (target.new.failed ≡ true) }
+{
     let mut rest = bytes;
     while !rest.is_empty() {
-        match writer.write(rest) {
-            Ok(count) if count > 0 => rest = &rest[count..],
-            _ => return Err(WriteFault),
-        }
+        let count = target.write(rest)?;
+        rest = &rest[count..];
     }
     Ok(())
 }
