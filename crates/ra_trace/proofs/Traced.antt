@@ -101,6 +101,20 @@ stops_by fronts goes_on n start place steps step world text why fault traced ins
           )
     ]
 
+-- a run that goes on with the next of these steps is one up to it
+pub goes_there : ((n start : ℕ) (moves : List Move) (step : Step) → IsNodeNumber n → IsRun n start moves
+    → WorldRun n start (map (λ (move : Move). move.step) moves ++ step ∷ []) ↔ GoesOn n start moves step)
+    → (n start place : ℕ) (steps : List Step) (step : Step) (world : WorldState) (text : List ℕ)
+    → HasTraced n start (take place steps) world text → place < length steps → step ≡ get_or steps place step
+    → GoesOn world.count world.start world.moves step → WorldRun n start (take (place + 1) steps)
+goes_there goes_on n start place steps step world text traced inside is goes =
+    let here : GoesOn n start world.moves step =
+    subst (λ (s : ℕ). GoesOn n s world.moves step) traced.start_is (subst (λ (k : ℕ). GoesOn k world.start world.moves step) traced.count goes) in
+    let more : take (place + 1) steps ≡ map (λ (move : Move). move.step) world.moves ++ step ∷ [] =
+    take_more steps place step inside
+    ∙ (ap (λ (s : Step). take place steps ++ s ∷ []) (sym is) ∙ ap (λ (front : List Step). front ++ step ∷ []) (sym traced.made)) in
+    subst (WorldRun n start) (sym more) ((goes_on n start world.moves step traced.number traced.run).1 here)
+
 -- each part of a list
 All-parts : {A : Type 0} (P : A → Type 0) (xs ys : List A) → All P (xs ++ ys) → All P xs × All P ys
 All-parts P [] ys all = (All-nil P, all)

@@ -2,7 +2,7 @@ ghost use Rattle.std.specs.Prelude.{◌≡◌, ◌≢◌, ◌↔◌, ◌⊎◌, 
 ghost use Rattle.std.specs.Io.KnownBytes.{Appends};
 ghost use Rattle.ra_stamp.specs.NodeId.{IsNodeNumber};
 ghost use Rattle.ra_world.specs.Traffic.{Move};
-ghost use Rattle.ra_world.specs.Run.{WorldRun};
+ghost use Rattle.ra_world.specs.Run.{GoesOn, WorldRun};
 ghost use Rattle.ra_world.specs.Refused.{IsRefusedAt};
 ghost use Rattle.ra_world.specs.Lines.{field, mark_line};
 ghost use Rattle.ra_trace.specs.declared.line.Line.{Line};
@@ -194,9 +194,12 @@ fn trace_step(
     step: &Step,
 ) -> Result<(), WriteTraceError>
     requires { place < 2 ^ 63 }
-    ensures { (n start : ℕ) (steps : List Step) → place < length steps → step.now ≡ slice_index_or steps place step.now
+    ensures traced { (n start : ℕ) (steps : List Step) → place < length steps → step.now ≡ slice_index_or steps place step.now
         → HasTraced n start (take place steps) world.old (string_bytes text.old)
         → Traces n start (take (place + 1) steps) steps world.new (string_bytes text.new) result }
+    // Where the step is refused, that is the answer, and not want of memory.
+    ensures memory { IsErrOf result WriteTraceError.Memory
+        → GoesOn world.old.count world.old.start world.old.moves step.now }
 {
     fronts_of_runs_are_runs();
     match world.step(alloc, step) {
@@ -219,9 +222,14 @@ fn trace_steps(
     world: &mut World,
     steps: &Steps,
 ) -> Result<(), WriteTraceError>
-    ensures { (n start : ℕ) → HasTraced n start [] world.old (string_bytes text.old)
+    ensures traced { (n start : ℕ) → HasTraced n start [] world.old (string_bytes text.old)
         → Traces n start steps.now.items steps.now.items world.new (string_bytes text.new) result }
+    // Memory ran out at one of the steps, up to which they are a run.
+    ensures memory { (n start : ℕ) → HasTraced n start [] world.old (string_bytes text.old)
+        → IsErrOf result WriteTraceError.Memory
+        → (place : ℕ) × (place < length steps.now.items) × WorldRun n start (take (place + 1) steps.now.items) }
 {
+    fronts_of_runs_are_runs();
     for (place, step) in steps.as_slice().iter().enumerate() {
         trace_step(alloc, text, world, place, step)?;
     }
@@ -256,7 +264,7 @@ fn trace_run(
 ///
 /// # Errors
 ///
-/// The first that holds, but that `Memory` may come before a later step is refused:
+/// The first that holds, but that `Memory` may come before a step is refused, where the steps before it stand:
 ///
 /// 1. `Run`: the number of nodes is not 1 to 16, or a step is refused, the first such one, with its place, counted from 1, and
 ///    the cause. It is never want of memory.
@@ -276,6 +284,8 @@ pub fn trace_text(
         → IsErrOf result (WriteTraceError.Run (RunError.Refused place cause))
         → IsNodeNumber nodes × IsRefusedAt nodes start steps.now.items place cause }
     ensures never { ¬ IsErrOf result (WriteTraceError.Run RunError.Memory) }
+    // Memory may run out at each step and before the first, but a wrong number of nodes comes before.
+    ensures memory { IsErrOf result WriteTraceError.Memory → IsNodeNumber nodes }
     ensures allowed { IsNodeNumber nodes → WorldRun nodes start steps.now.items
         → IsOkUnless result WriteTraceError.Memory }
     ensures early { IfErr result (λ fault. fault ≢ WriteTraceError.Write) }
@@ -293,7 +303,7 @@ pub fn trace_text(
 ///
 /// # Errors
 ///
-/// The first that holds, but that `Memory` may come before a later step is refused:
+/// The first that holds, but that `Memory` may come before a step is refused, where the steps before it stand:
 ///
 /// 1. `Run`: the number of nodes is not 1 to 16, or a step is refused, the first such one, with its place, counted from 1, and
 ///    the cause. It is never want of memory.
@@ -319,6 +329,8 @@ pub fn write_trace<W: Write>(
         → IsNodeNumber nodes × IsRefusedAt nodes start steps.now.items place cause }
     // Want of memory in the run is want of memory here.
     ensures never { ¬ IsErrOf result (WriteTraceError.Run RunError.Memory) }
+    // Memory may run out at each step and before the first, but a wrong number of nodes comes before.
+    ensures memory { IsErrOf result WriteTraceError.Memory → IsNodeNumber nodes }
     ensures allowed { IsNodeNumber nodes → WorldRun nodes start steps.now.items
         → IfErr result (λ fault. (fault ≡ WriteTraceError.Memory) ⊎ (fault ≡ WriteTraceError.Write)) }
 

@@ -12,7 +12,7 @@ returns-in_err-trace_steps c empty opened =
     let p = err_from_is_err_and c.from_residual-in_err-trace_steps.result c.from_residual-in_err-trace_steps.ensures.1 in
     let first : string_bytes c.push_first_line.new.text ≡ line_text (First n start) =
     c.in_ok-push_first_line.ensures ∙ ap (λ (front : List ℕ). front ++ line_text (First n start)) empty in
-    rw (p.1, p.2) (c.in_err-trace_steps.ensures n start (traced_none n start c.args.world.now (string_bytes c.push_first_line.new.text) opened first))
+    rw (p.1, p.2) (c.in_err-trace_steps.ensures.traced n start (traced_none n start c.args.world.now (string_bytes c.push_first_line.new.text) opened first))
 
 pub returns : goal.returns
 returns c empty opened =
@@ -23,7 +23,7 @@ returns c empty opened =
     let text = string_bytes c.trace_steps.new.text in
     let first : string_bytes c.push_first_line.new.text ≡ line_text (First n start) =
     c.in_ok-push_first_line.ensures ∙ ap (λ (front : List ℕ). front ++ line_text (First n start)) empty in
-    let traced = c.in_ok-trace_steps.ensures n start (traced_none n start c.args.world.now (string_bytes c.push_first_line.new.text) opened first) in
+    let traced = c.in_ok-trace_steps.ensures.traced n start (traced_none n start c.args.world.now (string_bytes c.push_first_line.new.text) opened first) in
     let longer : string_bytes c.push_str.new.self ≡ text ++ codes "end\n" = search rules in
     let trace = traced_all n start c.args.steps.now.items world text traced (omega arith) (law.marks n start world.moves traced.number traced.run)
     (law.taken n start world.moves traced.number traced.run) in

@@ -1,16 +1,27 @@
-use Rattle.std.proofs.Common.{string_bytes, refl}
+use Rattle.std.proofs.Common.{string_bytes, refl, inl, inr}
+use Rattle.ra_world.proofs.Refusing.{memory_or_not}
 use Rattle.ra_trace.proofs.Traced.{traced_more, stops_by}
 use Rattle.ra_trace.proofs.writing.trace_step.Goals as goal
 
-pub returns-in_ok-push_move-in-Ok : goal.returns-in_ok-push_move-in-Ok
-returns-in_ok-push_move-in-Ok c n start steps inside is traced =
+pub returns-in_ok-push_move-in-Ok-clause-traced : goal.returns-in_ok-push_move-in-Ok-clause-traced
+returns-in_ok-push_move-in-Ok-clause-traced c n start steps inside is traced =
     traced_more n start c.args.place steps c.args.step.now c.args.world.now c.step.new.self c.in-Ok.outcome.sends.items c.in-Ok.outcome.marks.items
     (string_bytes c.args.text.now) (string_bytes c.push_move.new.text) traced inside is c.in-Ok.ensures.ok c.in-Ok.ensures.run
     c.in_ok-push_move-in-Ok.ensures.text c.in_ok-push_move-in-Ok.ensures.fit
 
-pub returns-in-Err : goal.returns-in-Err
-returns-in-Err c n start steps inside is traced =
+pub returns-in-Err-clause-traced : goal.returns-in-Err-clause-traced
+returns-in-Err-clause-traced c n start steps inside is traced =
     let law = c.fronts_of_runs_are_runs.ensures in
     stops_by law.steps law.step n start c.args.place steps c.args.step.now c.args.world.now (string_bytes c.args.text.now) c.in-Err.cause c.refused_at.result
     traced inside is (λ other. (c.in-Err.ensures.refused c.in-Err.cause other).0 refl) c.in-Err.ensures.allowed.1 c.refused_at.ensures.memory
     c.refused_at.ensures.refused
+
+pub returns-in_err-push_move-in-Ok-clause-memory : goal.returns-in_err-push_move-in-Ok-clause-memory
+returns-in_err-push_move-in-Ok-clause-memory c is = c.in-Ok.ensures.allowed.0 tt
+
+pub returns-in-Err-clause-memory : goal.returns-in-Err-clause-memory
+returns-in-Err-clause-memory c is =
+    elim (memory_or_not c.in-Err.cause) [
+      | inl memory ↦ c.in-Err.ensures.allowed.0 memory
+      | inr other ↦ let refused = c.refused_at.ensures.refused other in absurd cc
+    ]
