@@ -14,7 +14,7 @@ use Rattle.ra_trace.specs.declared.verdict.Cause.TheVariants as cause
 use Rattle.ra_trace.specs.declared.verdict.Verdict.{Verdict}
 use Rattle.ra_trace.specs.declared.verdict.Verdict.TheVariants.{Valid, Invalid}
 use Rattle.ra_trace.specs.TraceText.{IsTrace, BeginsWith, line_text, trace_lines}
-use Rattle.ra_trace.specs.Verdict.{HasNoLine, IsWrong, IsVerdict}
+use Rattle.ra_trace.specs.Verdict.{HasNoLine, IsWrong, IsVerdict, IsTraceOfTableRun}
 use Rattle.ra_trace.specs.Reading.{IsWhole, IsOver, Judges, Answers}
 use Rattle.ra_trace.specs.NextLine.{IsOverLine}
 use Rattle.ra_trace.specs.Below.{LawsBelow}
@@ -127,6 +127,15 @@ pub valid_input : (limit : ℕ) (old new : Option (List ℕ)) (verdict : Verdict
 valid_input limit None new verdict j = tt
 valid_input limit (Some input) new verdict j = λ requests messages is.
     let all = all_read limit input new requests messages (subst (Judges limit (Some input) new) is j) in (all.at_most, all.taken)
+
+pub table_of_input : LawsBelow → (limit : ℕ) (old new : Option (List ℕ)) (verdict : Verdict) → Judges limit old new verdict
+    → IfSome old (λ input. (requests messages : ℕ) → verdict ≡ Valid requests messages → IsTraceOfTableRun input)
+table_of_input laws limit None new verdict j = tt
+table_of_input laws limit (Some input) new verdict j = λ requests messages is.
+    let found = subst (IsVerdict input) is (verdict_of_bytes laws limit input new verdict j) in
+    let trace = found.3 in
+    let table = laws.has_table found.0 found.1 found.2 trace.count trace.run in
+    (found.0, found.1, found.2, trace, table.0, table.1)
 
 -- what was read has the verdict too
 pub alone : (limit : ℕ) (old new : Option (List ℕ)) (verdict : Verdict) → Judges limit old new verdict

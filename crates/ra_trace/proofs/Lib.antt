@@ -15,3 +15,4 @@ pub mod Lengths
 pub mod Ends
 pub mod Along
 pub mod Inputs
+pub mod Shown

@@ -1,5 +1,5 @@
 -- What is read of the next line. No public contract speaks of it.
-use Rattle.std.specs.Prelude.{◌≡◌, ◌≢◌, ◌⊎◌, ℕ, ◌≤◌, List, [], ◌∷◌, ◌++◌, All, Option, Some, None, Result, Ok, Err, length}
+use Rattle.std.specs.Prelude.{◌≡◌, ◌≢◌, ◌⊎◌, ℕ, ◌≤◌, Bool, true, false, List, [], ◌∷◌, ◌++◌, All, Option, Some, None, Result, Ok, Err, length, take}
 use Rattle.std.specs.Io.KnownBytes.{Consumes, IsAtEnd}
 use Rattle.ra_world.specs.Quiet.{requests_in}
 use Rattle.ra_world.specs.Run.{marks_of}
@@ -37,6 +37,29 @@ FailsWithin left old new bytes Memory = ⊥
 abbrev pub ReadsLine : ℕ → Option (List ℕ) → Option (List ℕ) → List ℕ → Result LineEnd TraceError → Type 0
 ReadsLine left old new bytes (Ok end) = TakesBytes left old new bytes × EndsSo end bytes new
 ReadsLine left old new bytes (Err fault) = FailsWithin left old new bytes fault
+
+-- these bytes end with the one line feed among them, or there is none
+abbrev pub EndsPart : List ℕ → Bool → Type 0
+EndsPart part true = (before : List ℕ) × All (λ byte. byte ≢ 10) before × (part ≡ before ++ 10 ∷ [])
+EndsPart part false = All (λ byte. byte ≢ 10) part
+
+-- so many of these bytes belong to one line, and no more than may be
+abbrev pub IsPart : ℕ → List ℕ → ℕ → Bool → Type 0
+IsPart most shown count is_over = (count ≤ length shown) × (count ≤ most) × EndsPart (take count shown) is_over
+
+-- so many bytes were taken, and stand behind those from before
+abbrev pub TakesPart : ℕ → Option (List ℕ) → Option (List ℕ) → List ℕ → List ℕ → Result (ℕ × Bool) TraceError → Type 0
+TakesPart most old new before bytes (Ok taken) =
+    (part : List ℕ) × (bytes ≡ before ++ part) × (length part ≡ taken.0) × (taken.0 ≤ most) × Consumes old new part × EndsPart part taken.1
+TakesPart most old new before bytes (Err Read) = (bytes ≡ before) × Consumes old new []
+TakesPart most old new before bytes (Err Limit) = ⊥
+TakesPart most old new before bytes (Err Memory) = ⊥
+
+-- these bytes of a line were taken so far: it goes on, or that is all of it
+abbrev pub GoesOn : ℕ → Option (List ℕ) → Option (List ℕ) → List ℕ → Result (Option LineEnd) TraceError → Type 0
+GoesOn left old new bytes (Ok None) = TakesBytes left old new bytes × IsOpenLine bytes
+GoesOn left old new bytes (Ok (Some end)) = ReadsLine left old new bytes (Ok end)
+GoesOn left old new bytes (Err fault) = ReadsLine left old new bytes (Err fault)
 
 -- one byte with which a line is over
 abbrev pub IsOverLine : List ℕ → Type 0

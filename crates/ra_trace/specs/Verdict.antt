@@ -106,3 +106,9 @@ IsVerdict text (Valid requests messages) =
 IsVerdict text (Invalid line why) =
     (front : List Line) × (rest : List ℕ) × (text ≡ flat_map line_text front ++ rest)
     × (line ≡ length front + 1) × IsWrong front rest why
+
+-- the text is the trace of a run whose marks are a run of the lock table
+abbrev pub IsTraceOfTableRun : List ℕ → Type 0
+IsTraceOfTableRun text =
+    (n start : ℕ) × (moves : List Move) × IsTrace n start moves text
+    × (table : LockTable) × TableRun (marks_of moves) table

@@ -8,15 +8,16 @@ ghost use Rattle.ra_trace.specs.Along.{IsAlong, Judged, Opens, SomeTaken, Turns}
 ghost use Rattle.ra_trace.specs.NextLine.{EndsText};
 ghost use Rattle.ra_trace.specs.Reading.{Answers, Judges, ReadsOn, PassesLimit, StopsBehind};
 ghost use Rattle.ra_trace.specs.TraceText.{IsTrace};
-ghost use Rattle.ra_trace.specs.Verdict.{IsVerdict};
+ghost use Rattle.ra_trace.specs.Verdict.{IsTraceOfTableRun, IsVerdict};
 
 use crate::checker::Checker;
 use crate::laws::{each_text_has_one_verdict, traces_rest_on_runs};
 use crate::line::Line;
 use crate::reading::{LineBytes, is_at_end, next_line};
+use crate::source::{ByBytes, FromBuffer, LineSource};
 use crate::{Cause, TraceError, Verdict};
 use std::alloc::Global;
-use std::io::Read;
+use std::io::{BufRead, Read};
 
 /// The most bytes that a text may have.
 const MAX_TEXT: u64 = 16_777_216;
@@ -67,7 +68,7 @@ fn ending<R: Read>(
 /// # Errors
 ///
 /// `Read`, `Limit`, `Memory`.
-fn take_first<R: Read>(
+fn take_first<R: Read, S: LineSource<R>>(
     alloc: Global,
     reader: &mut R,
     bytes: &mut LineBytes,
@@ -76,7 +77,7 @@ fn take_first<R: Read>(
     ensures opened { Opens limit (R.remaining reader.old) (R.remaining reader.new) bytes.new.items result }
     ensures within { IfOk result (λ opened. length bytes.new.items ≤ limit) }
 {
-    match next_line(reader, bytes, limit)? {
+    match next_line::<R, S>(reader, bytes, limit)? {
         Some(line) => Checker::behind_first(alloc, &line),
         None => Ok(None),
     }
@@ -102,7 +103,7 @@ fn judge(alloc: Global, checker: &mut Checker, line: &Line) -> Result<Next, Trac
 /// # Errors
 ///
 /// `Read`, `Limit`, `Memory`.
-fn take_next<R: Read>(
+fn take_next<R: Read, S: LineSource<R>>(
     alloc: Global,
     reader: &mut R,
     bytes: &mut LineBytes,
@@ -115,7 +116,7 @@ fn take_next<R: Read>(
     ensures some { IfOk result (λ next. SomeTaken left bytes.new.items next) }
 {
     traces_rest_on_runs();
-    match next_line(reader, bytes, left)? {
+    match next_line::<R, S>(reader, bytes, left)? {
         Some(line) => judge(alloc, checker, &line),
         None => Ok(Next::Wrong(Cause::Line)),
     }
@@ -126,7 +127,7 @@ fn take_next<R: Read>(
 /// # Errors
 ///
 /// `Read`, `Limit`, `Memory`.
-fn verdict_behind<R: Read>(
+fn verdict_behind<R: Read, S: LineSource<R>>(
     alloc: Global,
     reader: &mut R,
     bytes: &mut LineBytes,
@@ -142,7 +143,7 @@ fn verdict_behind<R: Read>(
     let mut left = limit - bytes.len();
     let mut number = 2;
     loop {
-        let next = take_next(alloc, reader, bytes, checker, left)?;
+        let next = take_next::<R, S>(alloc, reader, bytes, checker, left)?;
         if let Next::Wrong(cause) = next {
             return Ok(Verdict::Invalid {
                 line: number,
@@ -162,20 +163,69 @@ fn verdict_behind<R: Read>(
 /// # Errors
 ///
 /// `Read`, `Limit`, `Memory`.
-fn verdict_of<R: Read>(alloc: Global, reader: &mut R, limit: usize) -> Result<Verdict, TraceError>
+fn verdict_of<R: Read, S: LineSource<R>>(
+    alloc: Global,
+    reader: &mut R,
+    limit: usize,
+) -> Result<Verdict, TraceError>
     requires { limit ≤ 16777216 }
     ensures { Answers limit (R.remaining reader.old) (R.remaining reader.new) result }
 {
     let mut bytes = LineBytes::new();
-    match take_first(alloc, reader, &mut bytes, limit)? {
+    match take_first::<R, S>(alloc, reader, &mut bytes, limit)? {
         Some(mut checker) => {
-            let verdict = verdict_behind(alloc, reader, &mut bytes, &mut checker, limit);
+            let verdict = verdict_behind::<R, S>(alloc, reader, &mut bytes, &mut checker, limit);
             // By a call, since to drop each of its parts here is long to prove.
             drop(checker);
             verdict
         }
         None => Ok(wrong_at(1)),
     }
+}
+
+/// Checks a text as `check_within` does, whose bytes come out of the reader in this way.
+///
+/// # Errors
+///
+/// Those of `check_within`.
+fn check_by<R: Read, S: LineSource<R>>(
+    alloc: Global,
+    reader: &mut R,
+    limit: u64,
+) -> Result<Verdict, TraceError>
+    requires { limit ≤ 16777216 }
+    // The verdict is that of the whole input, also where it is longer than what was read.
+    ensures ok { IfOk result (λ verdict. IfSome (R.remaining reader.old) (λ input. IsVerdict input verdict)) }
+    // Where the text is valid, it was read to its end, and is not longer than the limit.
+    ensures valid { IfOk result (λ verdict. IfSome (R.remaining reader.old) (λ input. (requests messages : ℕ)
+        → verdict ≡ Verdict.Valid requests messages
+        → (length input ≤ limit) × Consumes (R.remaining reader.old) (R.remaining reader.new) input)) }
+    // The marks of a valid text are a run of the lock table: no two conflicting entries on one name hold at once, and they are
+    // granted in the order of their stamps.
+    ensures table { IfOk result (λ verdict. IfSome (R.remaining reader.old) (λ input. (requests messages : ℕ)
+        → verdict ≡ Verdict.Valid requests messages → IsTraceOfTableRun input)) }
+    // How far it was read, and what was read shows the verdict.
+    ensures judged { IfOk result (Judges limit (R.remaining reader.old) (R.remaining reader.new)) }
+    // What was read has this verdict alone, too.
+    ensures alone { IfOk result (λ verdict. (taken : List ℕ) × IsVerdict taken verdict × (length taken ≤ limit)
+        × Consumes (R.remaining reader.old) (R.remaining reader.new) taken) }
+    // The text has no other verdict. So it is valid exactly where it is the trace of a run, with the counts of this run.
+    ensures exact { IfOk result (λ verdict. IfSome (R.remaining reader.old) (λ input. (other : Verdict)
+        → IsVerdict input other ↔ (verdict ≡ other))) }
+    ensures trace { IfOk result (λ verdict. IfSome (R.remaining reader.old) (λ input.
+        (n start : ℕ) (moves : List Move) → IsTrace n start moves input
+        → verdict ≡ Verdict.Valid (requests_in (marks_of moves)) (length (sent_by moves)))) }
+
+    // No verdict was reached in what was read; and where memory was wanting, what was read are right lines and nothing else.
+    ensures failed { IsErrOf result TraceError.Read → ReadsOn limit (R.remaining reader.old) (R.remaining reader.new) }
+    ensures limit { IsErrOf result TraceError.Limit → PassesLimit limit (R.remaining reader.old) (R.remaining reader.new) }
+    ensures memory { IsErrOf result TraceError.Memory → StopsBehind limit (R.remaining reader.old) (R.remaining reader.new) }
+    ensures at_most { (taken : List ℕ) × (length taken ≤ limit + 1)
+        × Consumes (R.remaining reader.old) (R.remaining reader.new) taken }
+{
+    each_text_has_one_verdict();
+    traces_rest_on_runs();
+    verdict_of::<R, S>(alloc, reader, limit as usize)
 }
 
 /// Checks the text of a trace: says that it is the trace of a run, or which line is the first wrong one and why. It goes line by
@@ -205,6 +255,10 @@ pub fn check_within<R: Read>(
     ensures valid { IfOk result (λ verdict. IfSome (R.remaining reader.old) (λ input. (requests messages : ℕ)
         → verdict ≡ Verdict.Valid requests messages
         → (length input ≤ limit) × Consumes (R.remaining reader.old) (R.remaining reader.new) input)) }
+    // The marks of a valid text are a run of the lock table: no two conflicting entries on one name hold at once, and they are
+    // granted in the order of their stamps.
+    ensures table { IfOk result (λ verdict. IfSome (R.remaining reader.old) (λ input. (requests messages : ℕ)
+        → verdict ≡ Verdict.Valid requests messages → IsTraceOfTableRun input)) }
     // How far it was read, and what was read shows the verdict.
     ensures judged { IfOk result (Judges limit (R.remaining reader.old) (R.remaining reader.new)) }
     // What was read has this verdict alone, too.
@@ -224,9 +278,7 @@ pub fn check_within<R: Read>(
     ensures at_most { (taken : List ℕ) × (length taken ≤ limit + 1)
         × Consumes (R.remaining reader.old) (R.remaining reader.new) taken }
 {
-    each_text_has_one_verdict();
-    traces_rest_on_runs();
-    verdict_of(alloc, reader, limit as usize)
+    check_by::<R, ByBytes>(alloc, reader, limit)
 }
 
 /// Checks the text of a trace of at most 16,777,216 bytes, as `check_within` does.
@@ -239,6 +291,8 @@ pub fn check<R: Read>(alloc: Global, reader: &mut R) -> Result<Verdict, TraceErr
     ensures valid { IfOk result (λ verdict. IfSome (R.remaining reader.old) (λ input. (requests messages : ℕ)
         → verdict ≡ Verdict.Valid requests messages
         → (length input ≤ 16777216) × Consumes (R.remaining reader.old) (R.remaining reader.new) input)) }
+    ensures table { IfOk result (λ verdict. IfSome (R.remaining reader.old) (λ input. (requests messages : ℕ)
+        → verdict ≡ Verdict.Valid requests messages → IsTraceOfTableRun input)) }
     ensures judged { IfOk result (Judges 16777216 (R.remaining reader.old) (R.remaining reader.new)) }
     ensures alone { IfOk result (λ verdict. (taken : List ℕ) × IsVerdict taken verdict × (length taken ≤ 16777216)
         × Consumes (R.remaining reader.old) (R.remaining reader.new) taken) }
@@ -255,4 +309,36 @@ pub fn check<R: Read>(alloc: Global, reader: &mut R) -> Result<Verdict, TraceErr
         × Consumes (R.remaining reader.old) (R.remaining reader.new) taken }
 {
     check_within(alloc, reader, MAX_TEXT)
+}
+
+/// Checks the text of a trace as `check` does, and takes from the buffer of the reader exactly what `check` reads: what stands in
+/// the buffer is looked through up to a line feed, and no byte behind it is taken. It is the faster of the two. Where the text ends
+/// before its last line, the reader is asked once more by a read of one byte, after it showed nothing.
+///
+/// # Errors
+///
+/// Those of `check_within`.
+pub fn check_buffered<B: BufRead>(alloc: Global, reader: &mut B) -> Result<Verdict, TraceError>
+    ensures ok { IfOk result (λ verdict. IfSome (B.remaining reader.old) (λ input. IsVerdict input verdict)) }
+    ensures valid { IfOk result (λ verdict. IfSome (B.remaining reader.old) (λ input. (requests messages : ℕ)
+        → verdict ≡ Verdict.Valid requests messages
+        → (length input ≤ 16777216) × Consumes (B.remaining reader.old) (B.remaining reader.new) input)) }
+    ensures table { IfOk result (λ verdict. IfSome (B.remaining reader.old) (λ input. (requests messages : ℕ)
+        → verdict ≡ Verdict.Valid requests messages → IsTraceOfTableRun input)) }
+    ensures judged { IfOk result (Judges 16777216 (B.remaining reader.old) (B.remaining reader.new)) }
+    ensures alone { IfOk result (λ verdict. (taken : List ℕ) × IsVerdict taken verdict × (length taken ≤ 16777216)
+        × Consumes (B.remaining reader.old) (B.remaining reader.new) taken) }
+    ensures exact { IfOk result (λ verdict. IfSome (B.remaining reader.old) (λ input. (other : Verdict)
+        → IsVerdict input other ↔ (verdict ≡ other))) }
+    ensures trace { IfOk result (λ verdict. IfSome (B.remaining reader.old) (λ input.
+        (n start : ℕ) (moves : List Move) → IsTrace n start moves input
+        → verdict ≡ Verdict.Valid (requests_in (marks_of moves)) (length (sent_by moves)))) }
+
+    ensures failed { IsErrOf result TraceError.Read → ReadsOn 16777216 (B.remaining reader.old) (B.remaining reader.new) }
+    ensures limit { IsErrOf result TraceError.Limit → PassesLimit 16777216 (B.remaining reader.old) (B.remaining reader.new) }
+    ensures memory { IsErrOf result TraceError.Memory → StopsBehind 16777216 (B.remaining reader.old) (B.remaining reader.new) }
+    ensures at_most { (taken : List ℕ) × (length taken ≤ 16777217)
+        × Consumes (B.remaining reader.old) (B.remaining reader.new) taken }
+{
+    check_by::<B, FromBuffer>(alloc, reader, MAX_TEXT)
 }

@@ -1,6 +1,7 @@
 //! Traces: a run of the cluster written down line by line, and a checker that says of any text whether it is one.
 #![tactic(auto)]
 
+mod buffered;
 mod checker;
 mod checking;
 mod error;
@@ -10,11 +11,12 @@ mod laws;
 mod line;
 mod ranges;
 mod reading;
+mod source;
 mod tables;
 mod verdict;
 mod writing;
 
-pub use checking::{check, check_within};
+pub use checking::{check, check_buffered, check_within};
 pub use error::{TraceError, WriteTraceError};
 pub use laws::{each_text_has_one_verdict, texts_tell_their_steps, traces_tell_their_runs};
 pub use verdict::{Cause, Verdict};

@@ -1,4 +1,4 @@
-//! The next line of a trace, read byte by byte.
+//! The next line of a trace, and its bytes, each read by itself.
 ghost use Rattle.std.specs.Prelude.{◌≡◌, ℕ, ◌≤◌, ◌∷◌, [], true, false, IfOk, IfErr, IfSome, IsNone, OnErr};
 ghost use Rattle.std.specs.Io.KnownBytes.{Consumes, IsAtEnd};
 ghost use Rattle.ra_trace.specs.declared.error.TraceError.{TraceError};
@@ -7,6 +7,7 @@ ghost use Rattle.ra_trace.specs.NextLine.{FailsWithin, ReadsLine, ReadsNext};
 use crate::TraceError;
 use crate::forms::line_of;
 use crate::line::Line;
+use crate::source::LineSource;
 use arrayvec::ArrayVec;
 use std::io::Read;
 
@@ -32,7 +33,7 @@ pub enum LineEnd {
 /// # Errors
 ///
 /// `Read`: the reader failed. It is not tried again.
-fn next_byte<R: Read>(reader: &mut R) -> Result<Option<u8>, TraceError>
+pub fn next_byte<R: Read>(reader: &mut R) -> Result<Option<u8>, TraceError>
     ensures some { IfOk result (λ came. IfSome came (λ byte. Consumes (R.remaining reader.old) (R.remaining reader.new) (byte ∷ []))) }
     ensures none { IfOk result (λ came. IsNone came
         → Consumes (R.remaining reader.old) (R.remaining reader.new) [] × IsAtEnd (R.remaining reader.new)) }
@@ -53,7 +54,7 @@ fn next_byte<R: Read>(reader: &mut R) -> Result<Option<u8>, TraceError>
 /// # Errors
 ///
 /// `Read`: the reader failed. `Limit`: there is a byte behind those that are left.
-fn read_line<R: Read>(
+pub fn read_line<R: Read>(
     reader: &mut R,
     bytes: &mut LineBytes,
     left: usize,
@@ -83,14 +84,14 @@ fn read_line<R: Read>(
 /// # Errors
 ///
 /// `Read`: the reader failed. `Limit`: there is a byte behind those that are left.
-pub fn next_line<R: Read>(
+pub fn next_line<R: Read, S: LineSource<R>>(
     reader: &mut R,
     bytes: &mut LineBytes,
     left: usize,
 ) -> Result<Option<Line>, TraceError>
     ensures { ReadsNext left (R.remaining reader.old) (R.remaining reader.new) bytes.new.items result }
 {
-    match read_line(reader, bytes, left)? {
+    match S::next_bytes(reader, bytes, left)? {
         LineEnd::Feed => Ok(line_of(&bytes[..bytes.len() - 1])),
         LineEnd::Length | LineEnd::Input => Ok(None),
     }

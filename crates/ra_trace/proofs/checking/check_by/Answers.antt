@@ -1,7 +1,7 @@
 use Rattle.std.proofs.lemmas.Result.{IfOk-weaker}
 use Rattle.ra_trace.specs.Reading.{Judges}
-use Rattle.ra_trace.proofs.Inputs.{judged, verdict_of_input, valid_input, alone, only_verdict, trace_of_input}
-use Rattle.ra_trace.proofs.checking.check_within.Goals as goal
+use Rattle.ra_trace.proofs.Inputs.{judged, verdict_of_input, valid_input, table_of_input, alone, only_verdict, trace_of_input}
+use Rattle.ra_trace.proofs.checking.check_by.Goals as goal
 
 pub returns-clause-ok : goal.returns-clause-ok
 returns-clause-ok g c =
@@ -16,6 +16,14 @@ returns-clause-valid g c =
     let old = g.R.Read.remaining c.args.reader.now in
     let new = g.R.Read.remaining c.verdict_of.new.reader in
     IfOk-weaker c.verdict_of.result (Judges c.args.limit old new) _ (λ verdict j. valid_input c.args.limit old new verdict j)
+    (judged c.args.limit old new c.verdict_of.result c.verdict_of.ensures)
+
+pub returns-clause-table : goal.returns-clause-table
+returns-clause-table g c =
+    let old = g.R.Read.remaining c.args.reader.now in
+    let new = g.R.Read.remaining c.verdict_of.new.reader in
+    IfOk-weaker c.verdict_of.result (Judges c.args.limit old new) _
+    (λ verdict j. table_of_input c.traces_rest_on_runs.ensures c.args.limit old new verdict j)
     (judged c.args.limit old new c.verdict_of.result c.verdict_of.ensures)
 
 pub returns-clause-alone : goal.returns-clause-alone

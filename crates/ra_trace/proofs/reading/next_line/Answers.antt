@@ -7,18 +7,18 @@ use Rattle.ra_trace.proofs.reading.next_line.Goals as goal
 
 pub returns-in-Feed : goal.returns-in-Feed
 returns-in-Feed g c =
-    let bytes = c.read_line.new.bytes.items in
-    let new = g.R.Read.remaining c.read_line.new.reader in
+    let bytes = c.next_bytes.new.bytes.items in
+    let new = g.R.Read.remaining c.next_bytes.new.reader in
     reads_at_feed c.args.left (g.R.Read.remaining c.args.reader.now) new bytes (take (c.len.result - 1) c.deref.result.now) c.line_of.result
-    c.in_ok-read_line.ensures.0 (subst (λ (end : LineEnd). EndsSo end bytes new) c.in-Feed.is c.in_ok-read_line.ensures.1) (cc) c.line_of.ensures
+    c.in_ok-next_bytes.ensures.0 (subst (λ (end : LineEnd). EndsSo end bytes new) c.in-Feed.is c.in_ok-next_bytes.ensures.1) (cc) c.line_of.ensures
 
 pub returns-in-Length : goal.returns-in-Length
 returns-in-Length g c =
-    let bytes = c.read_line.new.bytes.items in
-    let new = g.R.Read.remaining c.read_line.new.reader in
-    let ends = λ (end : LineEnd) (is : c.in_ok-read_line.field-0 ≡ end). subst (λ (e : LineEnd). EndsSo e bytes new) is c.in_ok-read_line.ensures.1 in
+    let bytes = c.next_bytes.new.bytes.items in
+    let new = g.R.Read.remaining c.next_bytes.new.reader in
+    let ends = λ (end : LineEnd) (is : c.in_ok-next_bytes.field-0 ≡ end). subst (λ (e : LineEnd). EndsSo e bytes new) is c.in_ok-next_bytes.ensures.1 in
     let none : HasNone bytes new = elim c.in-Length.is [
       | inl long ↦ none_at_length bytes new (ends Length long)
       | inr over ↦ none_at_input bytes new (ends Input over)
     ] in
-    (c.in_ok-read_line.ensures.0, none)
+    (c.in_ok-next_bytes.ensures.0, none)
