@@ -7,6 +7,7 @@ mod highest;
 mod lanes;
 mod laws;
 mod lists;
+mod past;
 mod table;
 
 pub use error::{EnterError, LeaveError, RequestError};

@@ -9,24 +9,27 @@ use crate::error::{EnterError, LeaveError, RequestError};
 use crate::highest::{raise, reaches_number_of};
 use crate::lanes::Lanes;
 use crate::lists::{has_earlier, has_excluding, has_node_of, place_of};
+use crate::past::Past;
 use indexmap::IndexMap;
 use ra_stamp::{Entry, Memory, Name};
 use std::alloc::Global;
+use std::fmt;
 use std::marker::Model;
 
 /// The lock table: which entries wait, which hold, and which were granted so far. No two conflicting entries on
-/// one name hold. An entry that was granted is kept for ever, so the table grows with each grant. So is a name that
-/// was asked for, also once nobody waits or holds on it any more.
+/// one name hold. A name that was asked for is kept for ever, also once nobody waits or holds on it any more. So the
+/// table grows with the names, and not with the grants.
 ///
 /// The entries that wait and hold are kept by their names, so that a call looks at those on its entry's name alone.
-/// Beside the grants the table keeps the highest number granted so far on each name. Of the grants a request is
-/// compared with that number alone, as looking at each would take ever longer. A name is found by a fixed hash:
-/// among names that someone picked so that they collide, a look-up is linear in their number.
-#[derive(Debug, Drop)]
+/// Of the grants the table keeps the highest number on each name, with which a request is compared. Which they were
+/// only clauses and proofs see. A name is found by a fixed hash: among names that someone picked so that they collide, a
+/// look-up is linear in their number.
+#[derive(Drop)]
 pub struct Table {
     /// The entries that wait and hold.
     lanes: Lanes,
-    granted: Vec<Entry>,
+    /// The entries granted so far, for proofs alone.
+    granted: Past<Entry>,
     /// The highest number granted so far on each name.
     highest: IndexMap<Name, u64>,
 }
@@ -43,6 +46,15 @@ impl Model for Table {
     ghost invariant = { λ t. IsKept t.lanes.holding t.granted.items t.highest.entries };
 }
 
+impl fmt::Debug for Table {
+    fn fmt<W: fmt::Write>(&self, f: &mut fmt::Formatter<W>) -> fmt::Result {
+        f.debug_struct("Table")
+            .field("lanes", &self.lanes)
+            .field("highest", &self.highest)
+            .finish()
+    }
+}
+
 impl Table {
     /// Makes the table in which nothing waits or holds, and nothing was granted. What it keeps grows by
     /// `alloc`.
@@ -55,7 +67,7 @@ impl Table {
     {
         Ok(Table {
             lanes: Lanes::new(alloc),
-            granted: Vec::new(alloc),
+            granted: Past::new(),
             highest: IndexMap::new(alloc),
         })
     }
@@ -88,7 +100,7 @@ impl Table {
     }
 
     /// Grants an entry that waits, so that it holds, in expected time linear in the number of entries that wait and
-    /// hold on its name. Now and then it moves all that was granted into more memory, which is constant on average.
+    /// hold on its name. Now and then it moves the highest numbers into more memory, which is constant on average.
     ///
     /// # Errors
     ///
@@ -114,11 +126,10 @@ impl Table {
         ensures exclusive { IsConflictFree self.new.holding }
     {
         let place = self.check_enter(entry)?;
-        self.granted.reserve(1)?;
         self.highest.reserve(1)?;
         // This is the last that can be refused.
         self.lanes.grant(place, entry)?;
-        self.granted.push_reserved(*entry);
+        self.granted = self.granted.and(entry);
         raise(&mut self.highest, entry);
         Ok(())
     }

@@ -15,7 +15,7 @@ use Rattle.ra_table.proofs.table.Table.enter.Goals as goal
 pub returns-clause-ok : goal.returns-clause-ok
 returns-clause-ok c =
     let e = c.args.entry.now in
-    let granted-is : c.push_reserved.new.self.items ≡ c.args.self.now.granted ++ e ∷ [] = c.push_reserved.ensures.items ∙ ap (λ (xs : List Entry). xs ++ e ∷ []) (c.reserve.ensures.items ∙ ap (λ (t : LockTable). t.granted) c.self.view_is) in (
+    let granted-is : c.and-self-inside.result.items ≡ c.args.self.now.granted ++ e ∷ [] = c.and-self-inside.ensures ∙ ap (λ (t : LockTable). t.granted ++ e ∷ []) c.self.view_is in (
       c.in_ok-place.ensures.allowed.0 refl,
       subst (λ (es : List Entry). Loses es e c.grant.new.self.waiting) (ap (λ (t : LockTable). t.waiting) c.self.view_is) c.in_ok-grant.ensures.waiting,
       subst (λ (es : List Entry). Gains es e c.grant.new.self.holding) (ap (λ (t : LockTable). t.holding) c.self.view_is) c.in_ok-grant.ensures.holding,
@@ -28,11 +28,10 @@ returns-clause-exclusive c = stays_conflict_free c.args.self.now _ (Entered c.ar
 pub invariant_of-self-2 : goal.invariant_of-self-2
 invariant_of-self-2 c =
     let e = c.args.entry.now in
-    let granted-is : c.push_reserved.new.self.items ≡ c.self.inside.granted.items ++ e ∷ [] = c.push_reserved.ensures.items ∙ ap (λ (xs : List Entry). xs ++ e ∷ []) c.reserve.ensures.items in
-    let are : AreHighest c.reserve-2.new.self.entries c.self.inside.granted.items = subst (λ (ns : List (List ℕ × ℕ)). AreHighest ns c.self.inside.granted.items) (sym c.reserve-2.ensures.entries) c.self.invariant.are_highest in
+    let are : AreHighest c.reserve.new.self.entries c.self.inside.granted.items = subst (λ (ns : List (List ℕ × ℕ)). AreHighest ns c.self.inside.granted.items) (sym c.reserve.ensures.entries) c.self.invariant.are_highest in
     record {
       conflict_free = returns-clause-exclusive c;
-      are_highest = subst (AreHighest c.raise.new.highest.entries) (sym granted-is) (c.raise.ensures c.self.inside.granted.items are);
+      are_highest = subst (AreHighest c.raise.new.highest.entries) (sym c.and-self-inside.ensures) (c.raise.ensures c.self.inside.granted.items are);
     }
 
 made : (c : goal.After-raise) → EnterTells (Ok tt) c.args.self.now c.args.entry.now
@@ -79,75 +78,46 @@ returns-in_err-place-clause-allowed c = (refused c).allowed
 pub returns-in_err-place-clause-exclusive : goal.returns-in_err-place-clause-exclusive
 returns-in_err-place-clause-exclusive c = c.in_err-place.ensures.exclusive
 
--- ---- It may be granted, and there is no memory for one more grant
+-- ---- It may be granted, and there is no memory for its name's highest number
 
 pub invariant_of-self : goal.invariant_of-self
-invariant_of-self c = kept_as _ _ _ _ _ _ refl c.reserve.ensures.items refl c.self.invariant
+invariant_of-self c = kept_as _ _ _ _ _ _ refl refl c.reserve.ensures.entries c.self.invariant
 
 pub returns-in_err-reserve-clause-exclusive : goal.returns-in_err-reserve-clause-exclusive
 returns-in_err-reserve-clause-exclusive c = c.self.invariant.conflict_free
 
 pub returns-in_err-reserve-clause-err : goal.returns-in_err-reserve-clause-err
 returns-in_err-reserve-clause-err c =
-    on_err c.from_residual-in_err-reserve.result _ (same_table c.self.inside.lanes c.self.inside.lanes c.self.inside.granted.items c.reserve.new.self.items c.args.self.now refl c.reserve.ensures.items c.self.view_is)
+    on_err c.from_residual-in_err-reserve.result _ (same_table c.self.inside.lanes c.self.inside.lanes c.self.inside.granted.items c.self.inside.granted.items c.args.self.now refl refl c.self.view_is)
 
-no_grant : (c : goal.After-from_residual-in_err-reserve) → EnterTells c.from_residual-in_err-reserve.result c.args.self.now c.args.entry.now
-no_grant c =
+no_number : (c : goal.After-from_residual-in_err-reserve) → EnterTells c.from_residual-in_err-reserve.result c.args.self.now c.args.entry.now
+no_number c =
     let memory : IfErr c.from_residual-in_err-reserve.result (λ fault. fault ≡ Memory) = search rules in
     enter_made c.from_residual-in_err-reserve.result c.args.self.now c.args.entry.now (c.in_ok-place.ensures.allowed.0 refl) memory
 
 pub returns-in_err-reserve-clause-not_waiting : goal.returns-in_err-reserve-clause-not_waiting
-returns-in_err-reserve-clause-not_waiting c = (no_grant c).not_waiting
+returns-in_err-reserve-clause-not_waiting c = (no_number c).not_waiting
 
 pub returns-in_err-reserve-clause-held : goal.returns-in_err-reserve-clause-held
-returns-in_err-reserve-clause-held c = (no_grant c).held
+returns-in_err-reserve-clause-held c = (no_number c).held
 
 pub returns-in_err-reserve-clause-earlier : goal.returns-in_err-reserve-clause-earlier
-returns-in_err-reserve-clause-earlier c = (no_grant c).earlier
+returns-in_err-reserve-clause-earlier c = (no_number c).earlier
 
 pub returns-in_err-reserve-clause-allowed : goal.returns-in_err-reserve-clause-allowed
-returns-in_err-reserve-clause-allowed c = (no_grant c).allowed
-
--- ---- none for its name's highest number
-
-pub invariant_of-self-in_err-reserve-2 : goal.invariant_of-self-in_err-reserve-2
-invariant_of-self-in_err-reserve-2 c = kept_as _ _ _ _ _ _ refl c.reserve.ensures.items c.reserve-2.ensures.entries c.self.invariant
-
-pub returns-in_err-reserve-2-clause-exclusive : goal.returns-in_err-reserve-2-clause-exclusive
-returns-in_err-reserve-2-clause-exclusive c = c.self.invariant.conflict_free
-
-pub returns-in_err-reserve-2-clause-err : goal.returns-in_err-reserve-2-clause-err
-returns-in_err-reserve-2-clause-err c =
-    on_err c.from_residual-in_err-reserve-2.result _ (same_table c.self.inside.lanes c.self.inside.lanes c.self.inside.granted.items c.reserve.new.self.items c.args.self.now refl c.reserve.ensures.items c.self.view_is)
-
-no_number : (c : goal.After-from_residual-in_err-reserve-2) → EnterTells c.from_residual-in_err-reserve-2.result c.args.self.now c.args.entry.now
-no_number c =
-    let memory : IfErr c.from_residual-in_err-reserve-2.result (λ fault. fault ≡ Memory) = search rules in
-    enter_made c.from_residual-in_err-reserve-2.result c.args.self.now c.args.entry.now (c.in_ok-place.ensures.allowed.0 refl) memory
-
-pub returns-in_err-reserve-2-clause-not_waiting : goal.returns-in_err-reserve-2-clause-not_waiting
-returns-in_err-reserve-2-clause-not_waiting c = (no_number c).not_waiting
-
-pub returns-in_err-reserve-2-clause-held : goal.returns-in_err-reserve-2-clause-held
-returns-in_err-reserve-2-clause-held c = (no_number c).held
-
-pub returns-in_err-reserve-2-clause-earlier : goal.returns-in_err-reserve-2-clause-earlier
-returns-in_err-reserve-2-clause-earlier c = (no_number c).earlier
-
-pub returns-in_err-reserve-2-clause-allowed : goal.returns-in_err-reserve-2-clause-allowed
-returns-in_err-reserve-2-clause-allowed c = (no_number c).allowed
+returns-in_err-reserve-clause-allowed c = (no_number c).allowed
 
 -- ---- none for it to hold
 
 pub invariant_of-self-in_err-grant : goal.invariant_of-self-in_err-grant
-invariant_of-self-in_err-grant c = kept_as _ _ _ _ _ _ (ap (λ (l : Standing). l.holding) c.in_err-grant.ensures.err) c.reserve.ensures.items c.reserve-2.ensures.entries c.self.invariant
+invariant_of-self-in_err-grant c = kept_as _ _ _ _ _ _ (ap (λ (l : Standing). l.holding) c.in_err-grant.ensures.err) refl c.reserve.ensures.entries c.self.invariant
 
 pub returns-in_err-grant-clause-exclusive : goal.returns-in_err-grant-clause-exclusive
 returns-in_err-grant-clause-exclusive c = (invariant_of-self-in_err-grant c).conflict_free
 
 pub returns-in_err-grant-clause-err : goal.returns-in_err-grant-clause-err
 returns-in_err-grant-clause-err c =
-    on_err c.from_residual-in_err-grant.result _ (same_table c.self.inside.lanes c.grant.new.self c.self.inside.granted.items c.reserve.new.self.items c.args.self.now c.in_err-grant.ensures.err c.reserve.ensures.items c.self.view_is)
+    on_err c.from_residual-in_err-grant.result _ (same_table c.self.inside.lanes c.grant.new.self c.self.inside.granted.items c.self.inside.granted.items c.args.self.now c.in_err-grant.ensures.err refl c.self.view_is)
 
 no_hold : (c : goal.After-from_residual-in_err-grant) → EnterTells c.from_residual-in_err-grant.result c.args.self.now c.args.entry.now
 no_hold c =
