@@ -300,6 +300,25 @@ impl Automaton {
         }
     }
 
+    /// Returns whether a message is a REQUEST whose REPLY is not deferred: received as a message for the node about this resource,
+    /// it is answered at once. It does not allocate. The cost is constant.
+    pub fn replies_at_once(&self, message: &Message) -> bool
+        ensures { IsTrue result ↔ IsRepliedAtOnce self.now message.now }
+    {
+        match *message {
+            Message::Request {
+                from,
+                mode,
+                seq,
+                ..
+            } => match self.answer(from, mode, seq) {
+                Answer::Reply => true,
+                Answer::Defer => false,
+            },
+            Message::Reply { .. } => false,
+        }
+    }
+
     /// Returns whether the node is inside.
     fn is_inside(&self) -> bool
         ensures { IsTrue result ↔ IsInside self.now.phase }

@@ -1,9 +1,11 @@
 -- What the messages and marks of an event are about.
-use Rattle.std.proofs.Common.{◌≡◌, ◌≢◌, ℕ, ◌*◌, ◌≤◌, List, All, length, sym, ap, ◌∙◌, subst}
+use Rattle.std.proofs.Common.{◌≡◌, ◌≢◌, ℕ, ◌*◌, ◌≤◌, Bool, true, false, List, All, length, sym, ap, ◌∙◌, subst, arith}
+use Rattle.std.proofs.lemmas.Bool.{false≢true}
 use Rattle.std.specs.Prelude.{unwrap_or}
 use Rattle.std.specs.FinMap as finmap
 use Rattle.ra_stamp.specs.declared.mode.Mode.{Mode}
 use Rattle.ra_stamp.specs.declared.message.Message.{Message}
+use Rattle.ra_stamp.specs.declared.message.Message.TheVariants.{Request, Reply}
 use Rattle.ra_stamp.specs.declared.entry.Mark.{Mark}
 use Rattle.ra_stamp.specs.Message.{name_of, seq_of}
 use Rattle.ra_automaton.specs.State.{State, IsForNode, IsAddressed}
@@ -11,7 +13,8 @@ use Rattle.ra_node.specs.Resource.{Resource, unmet, use_of, IsConsistentResource
 use Rattle.ra_node.specs.Node.{NodeState, resource_at, with_resource, IsConsistentNode}
 use Rattle.ra_node.specs.Events.{AskEvent, LeaveEvent, ReceiveEvent, Event, name_of_event, NodeEvent}
 use Rattle.ra_node.specs.Events.Event.{Ask, Leave, Receive}
-use Rattle.ra_node.specs.Carried.{IsSend, IsMark, MarksLead}
+use Rattle.ra_node.specs.Turns.{EntersBy}
+use Rattle.ra_node.specs.Carried.{IsSend, IsMark, MarksLead, replies_at_most, entries_at_most}
 use Rattle.ra_node.proofs.Leading.{ask_leads, leave_leads, receive_leads}
 use Rattle.ra_node.proofs.Room.{ask_room, leave_turn_room, receive_room}
 use Rattle.ra_node.proofs.Lookups.{resource_changed, entry_stays}
@@ -97,6 +100,18 @@ leave_event_room old client name sends marks new h event =
 pub receive_event_room : (old : NodeState) (message : Message) (sends : List Message) (marks : List Mark) (new : NodeState) → ReceiveEvent old message sends marks new
     → (length sends ≤ 1) × (length marks ≤ 1)
 receive_event_room old message sends marks new event = receive_room (resource_at old (name_of message)) message sends marks event.resource event.turn
+
+-- a REQUEST lets nobody enter, and to a REPLY nothing is sent
+pub receive_event_room_of : (old new : NodeState) (message : Message) (sends : List Message) (marks : List Mark) → ReceiveEvent old message sends marks new
+    → (length sends ≤ replies_at_most message) × (length marks ≤ entries_at_most message)
+receive_event_room_of old new (Request from to name mode seq) sends marks event =
+    ((receive_event_room old (Request from to name mode seq) sends marks new event).0, no_marks event.turn.entered event.resource marks event.turn.step.0 event.turn.enters)
+  where
+    no_marks : (entered : Bool) (r : Resource) (marks : List Mark) → entered ≡ false → EntersBy entered r marks → length marks ≤ 0
+    no_marks false r marks is enters = subst (λ (ms : List Mark). length ms ≤ 0) (sym enters) (omega arith)
+    no_marks true r marks is enters = absurd (false≢true (sym is))
+receive_event_room_of old new (Reply from to name seq) sends marks event =
+    (subst (λ (ms : List Message). length ms ≤ 0) (sym event.turn.step.0) (omega arith), (receive_event_room old (Reply from to name seq) sends marks new event).1)
 
 -- ---- One request of a node on a name
 

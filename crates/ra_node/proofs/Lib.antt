@@ -18,4 +18,5 @@ mod Totals
 mod Refusals
 pub mod Determined
 pub mod Possible
+pub mod Bringing
 pub mod Chains

@@ -233,7 +233,7 @@ possible_reply s other number =
       ]
     ]
 
-possible_receive : (s : State) (message : Message) → (sends : List Message) × (entered : Bool) × (new : State) × ReceiveStep s message sends entered new
+pub possible_receive : (s : State) (message : Message) → (sends : List Message) × (entered : Bool) × (new : State) × ReceiveStep s message sends entered new
 possible_receive s (Request from to name mode seq) =
     elim (own_decided s.phase s.me from seq mode) [
       | inl first ↦ ([], false, _, (refl, inl (record { own_first = first; sends_are = refl; new_is = refl })))

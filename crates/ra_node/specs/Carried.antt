@@ -4,6 +4,7 @@ use Rattle.ra_stamp.specs.declared.entry.Entry.{Entry}
 use Rattle.ra_stamp.specs.declared.entry.Mark.{Mark}
 use Rattle.ra_stamp.specs.declared.entry.Mark.TheVariants.{Requested, Entered, Left}
 use Rattle.ra_stamp.specs.declared.message.Message.{Message}
+use Rattle.ra_stamp.specs.declared.message.Message.TheVariants.{Request, Reply}
 use Rattle.ra_stamp.specs.Message.{from_of, to_of, name_of}
 use Rattle.ra_automaton.specs.State.{IsOtherNode}
 use Rattle.ra_node.specs.Resource.{Use}
@@ -40,6 +41,15 @@ abbrev pub marks_at_most : Event → ℕ
 marks_at_most (Ask client name mode) = 2
 marks_at_most (Leave client name) = 3
 marks_at_most (Receive message) = 1
+
+-- how many REPLYs a message has a node send at most, and how many requests it lets enter: it is answered, or it answers
+abbrev pub replies_at_most : Message → ℕ
+replies_at_most (Request from to name mode seq) = 1
+replies_at_most (Reply from to name seq) = 0
+
+abbrev pub entries_at_most : Message → ℕ
+entries_at_most (Request from to name mode seq) = 0
+entries_at_most (Reply from to name seq) = 1
 
 -- the marks lead from one use of a resource to another: a node has at most one request on a name at a time, which waits
 -- once it is made, is granted once it enters, and is gone once it leaves

@@ -6,4 +6,5 @@ pub mod HandedOver
 pub mod Node
 pub mod Events
 pub mod Carried
+pub mod Memory
 pub mod View

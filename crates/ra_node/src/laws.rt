@@ -11,7 +11,7 @@ ghost use Rattle.ra_node.specs.Resource.{Holds, use_of};
 ghost use Rattle.ra_node.specs.Turns.{MayAsk};
 ghost use Rattle.ra_node.specs.Node.{NodeState, opening_node, resource_at, IsConsistentNode};
 ghost use Rattle.ra_node.specs.Events.{Event, Happening, name_of_event, NodeEvent, NodeEvents, AllowsEvent, IsForThisNode, AreForThisNode};
-ghost use Rattle.ra_node.specs.Carried.{IsSend, IsMark, MarksLead, sends_at_most, marks_at_most};
+ghost use Rattle.ra_node.specs.Carried.{IsSend, IsMark, MarksLead, sends_at_most, marks_at_most, replies_at_most, entries_at_most};
 
 use ra_automaton::steps_keep_a_state_consistent;
 
@@ -61,6 +61,10 @@ pub fn events_keep_a_node_consistent()
     ensures room_by_event { (old new : NodeState) (event : Event) (sends : List Message) (marks : List Mark)
         → IsConsistentNode old → NodeEvent old event sends marks new
         → (length sends ≤ sends_at_most old.nodes event) × (length marks ≤ marks_at_most event) }
+    ensures room_by_message { (old new : NodeState) (message : Message) (sends : List Message)
+        (marks : List Mark)
+        → NodeEvent old (Event.Receive message) sends marks new
+        → (length sends ≤ replies_at_most message) × (length marks ≤ entries_at_most message) }
     ensures one_request { (old new : NodeState) (event : Event) (sends : List Message) (marks : List Mark)
         → NodeEvent old event sends marks new
         → MarksLead (use_of (resource_at old (name_of_event event))) marks

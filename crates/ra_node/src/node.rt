@@ -1,4 +1,4 @@
-ghost use Rattle.std.specs.Prelude.{◌≡◌, ◌≢◌, ◌<◌, ◌≤◌, ◌⊎◌, ◌↔◌, None, IsErrOf, IsOk, IsOkUnless, IfOk, OnErr, MatchResult, IsNone, IfSome};
+ghost use Rattle.std.specs.Prelude.{◌≡◌, ◌≢◌, ◌<◌, ◌≤◌, ◌⊎◌, ◌↔◌, None, IsErrOf, IsOk, IsOkUnless, IfOk, OnErr, MatchResult, IsNone, IfSome, IsTrue};
 ghost use Rattle.indexmap.specs.IndexMap.{spare};
 ghost use Rattle.ra_stamp.specs.NodeId.{IsNodeNumber};
 ghost use Rattle.ra_node.specs.Resource.{unmet};
@@ -95,6 +95,7 @@ impl Node {
     ghost use Rattle.ra_node.specs.Turns.{MayAsk};
     ghost use Rattle.ra_node.specs.Node.{opening_node, resource_at, waiting_count, queued_count, IsConsistentNode};
     ghost use Rattle.ra_node.specs.Events.{AskEvent, LeaveEvent, ReceiveEvent};
+    ghost use Rattle.ra_node.specs.Memory.{BringsNothing};
 
     /// Makes node `me` of `nodes`, which has met nothing yet. The highest number of each resource begins at `start`, 0 to
     /// 2^64-1, which is to be the same at all nodes. It does not allocate until the first name comes.
@@ -220,7 +221,8 @@ impl Node {
     ///
     /// 1. `WrongNode`: the message is for another node.
     /// 2. `Stranger`: its sender is this node or above the number of nodes.
-    /// 3. `Memory`: nothing has changed, and the call can be made again.
+    /// 3. `Memory`: nothing has changed, and the call can be made again. It comes only for a message by which something is sent or
+    ///    marked, or that is the first about its name.
     #[inline(always)]
     pub fn receive(&mut self, alloc: Global, message: &Message) -> Result<Outcome, ReceiveError>
         ensures ok { IfOk result (λ outcome.
@@ -234,6 +236,9 @@ impl Node {
         ensures allowed { IsOkUnless result ReceiveError.Memory
             ↔ IsForNode self.old.me self.old.nodes message.now }
         ensures err { OnErr result (self.new ≡ self.old) }
+        // Only the name of a message can need room where it brings nothing, and only the first message about it.
+        ensures memory_only_to_bring { IsErrOf result ReceiveError.Memory → BringsNothing self.old message.now
+            → map.get self.old.resources (name_of message.now) ≡ None }
     {
         if message.to() != self.me {
             return Err(ReceiveError::WrongNode);
@@ -253,6 +258,21 @@ impl Node {
                 outcome
             }
             None => self.receive_first(alloc, message),
+        }
+    }
+
+    /// Returns whether nothing is sent and nothing is marked by a message that comes for this node from another one, as by a
+    /// REQUEST whose REPLY is deferred, and by a REPLY that is not the last one awaited. It does not allocate. The cost is constant.
+    pub fn brings_nothing(&self, message: &Message) -> bool
+        ensures value { IsTrue result ↔ BringsNothing self.now message.now }
+        ensures consistent { IsConsistentNode self.now }
+    {
+        match self.slot_of(&message.name()) {
+            Some(slot) => slot.brings_nothing(message),
+            None => match message {
+                Message::Request { .. } => false,
+                Message::Reply { .. } => true,
+            },
         }
     }
 

@@ -1,4 +1,4 @@
-ghost use Rattle.std.specs.Prelude.{◌≡◌, ◌≢◌, ◌<◌, ◌≤◌, ◌⊎◌, ◌↔◌, ◌∷◌, [], length, take, IsTrue, IsErrOf, IsOk, IfOk, MatchResult, AllPairs, IsNone, IfSome};
+ghost use Rattle.std.specs.Prelude.{◌≡◌, ◌≢◌, ◌<◌, ◌≤◌, ◌⊎◌, ◌↔◌, ◌∷◌, [], length, take, IsTrue, IsErrOf, IsOk, IfOk, MatchResult, AllPairs, IsNone, IfSome, OnErr};
 ghost use Rattle.ra_stamp.specs.declared.entry.Entry.{Entry};
 ghost use Rattle.ra_node.specs.Resource.{entry_of};
 
@@ -37,11 +37,12 @@ impl Slot {
     ghost use Rattle.ra_stamp.specs.Message.{name_of};
     ghost use Rattle.ra_stamp.specs.NodeId.{IsNodeNumber};
     ghost use Rattle.ra_automaton.specs.State.{IsAddressed, IsConsistent, IsInside};
-    ghost use Rattle.ra_automaton.specs.Steps.{greatest_number};
+    ghost use Rattle.ra_automaton.specs.Steps.{greatest_number, LetsEnter};
     ghost use Rattle.ra_node.specs.Resource.{unmet, holder_of, Holds, IsBusy, waiting_at, ClientFits, clients_of};
     ghost use Rattle.ra_node.specs.Turns.{MayAsk, AskTurn, AsksAtOnce, QueuesUp, LeaveTurn, LeavesToNobody, LeavesToNext, ReceiveTurn, next_entry};
     ghost use Rattle.ra_node.specs.Faults.{IsLeaveRefusal};
     ghost use Rattle.ra_node.specs.HandedOver.{IsHandedOver};
+    ghost use Rattle.ra_node.specs.Memory.{BringsNothingTo};
 
     /// Makes the slot of a resource that no client and no message was about yet, in time linear in the number of nodes.
     ///
@@ -318,28 +319,26 @@ impl Slot {
     ///
     /// # Errors
     ///
-    /// `Memory`: the resource is as before.
+    /// `Memory`, for a message that brings something: the resource is as before.
+    #[tactic(auto, using(crate::proofs::Bringing::entry_is_brought, crate::proofs::Bringing::reply_is_brought))]
     pub fn receive(&mut self, alloc: Global, message: &Message) -> Result<Outcome, ReceiveError>
         requires name { name_of message.now ≡ self.old.state.name }
         requires addressed { IsAddressed self.old.state message.now }
         requires client { ClientFits self.old.state.phase self.old.client }
-        ensures { MatchResult result
+        ensures received { MatchResult result
             (λ outcome. ReceiveTurn self.old message.now outcome.sends.items outcome.marks.items self.new
             × IsConsistent self.new.state)
             (λ fault. (fault ≡ ReceiveError.Memory) × (self.new ≡ self.old)) }
+        ensures brings { OnErr result (BringsNothingTo self.old message.now → ⊥) }
     {
-        // Most messages let nobody enter, and then there is no mark to make room for.
-        let room = if self.automaton.lets_enter(message) {
-            1
-        } else {
-            0
-        };
-        let Ok(mut marks) = marks_for(alloc, room) else {
+        let Ok(mut marks) = self.marks_by(alloc, message) else {
             return Err(ReceiveError::Memory);
         };
-        let Ok(reaction) = self.automaton.receive(alloc, message) else {
-            // Only memory can be wanting where the message is for this node and from another one.
-            return Err(ReceiveError::Memory);
+        let reaction = match self.automaton.receive(alloc, message) {
+            Ok(reaction) => reaction,
+            Err(ReceiveError::Memory) => return Err(ReceiveError::Memory),
+            // The message is for this node and from another one.
+            Err(ReceiveError::WrongNode | ReceiveError::Stranger) => unreachable!(),
         };
         if reaction.entered {
             if let Some(entry) = self.holder() {
@@ -350,6 +349,30 @@ impl Slot {
             sends: reaction.sends,
             marks,
         })
+    }
+
+    /// Makes an empty list with room for the mark of a message. Most messages let nobody enter, and have none.
+    ///
+    /// # Errors
+    ///
+    /// `Memory`, for a message that lets the node enter.
+    fn marks_by(&self, alloc: Global, message: &Message) -> Result<Marks, Memory>
+        ensures empty { IfOk result (λ marks. marks.items ≡ []) }
+        ensures room { IfOk result (λ marks. LetsEnter self.now.state message.now → 1 ≤ marks.spare) }
+        ensures err { OnErr result (LetsEnter self.now.state message.now) }
+    {
+        let mut marks = Marks::new(alloc);
+        if self.automaton.lets_enter(message) {
+            marks.reserve(1)?;
+        }
+        Ok(marks)
+    }
+
+    /// Returns whether nothing is sent and nothing is marked by a message that comes for this node about this resource.
+    pub fn brings_nothing(&self, message: &Message) -> bool
+        ensures { IsTrue result ↔ BringsNothingTo self.now message.now }
+    {
+        !self.automaton.replies_at_once(message) && !self.automaton.lets_enter(message)
     }
 
     /// Returns the request that a client makes next here.

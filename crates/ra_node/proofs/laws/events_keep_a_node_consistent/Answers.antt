@@ -1,4 +1,5 @@
 use Rattle.ra_node.proofs.NodeLemmas.{opening_is_consistent}
+use Rattle.ra_node.proofs.EventLemmas.{receive_event_room_of}
 use Rattle.ra_node.proofs.EventsKept.{event_kept, event_sends, event_numbers, event_answers, event_marks, event_room, event_room_of_all, event_leads}
 use Rattle.ra_node.proofs.laws.events_keep_a_node_consistent.Goals as goal
 
@@ -14,6 +15,7 @@ returns c =
       answers = event_answers;
       room = event_room_of_all;
       room_by_event = event_room;
+      room_by_message = receive_event_room_of;
       marks = λ old new event sends marks h for happens. event_marks old new event sends marks h (kept old new event sends marks h for happens) happens;
       one_request = event_leads;
     }

@@ -1,4 +1,4 @@
-use Rattle.std.proofs.Common.{rules, List, ℕ, ◌≡◌, ◌≢◌, ◌⊎◌, ◌<◌, Err, IfOk, OnErr, refl, ◌/◌, ◌^◌, length, None, sym, ap, ◌∙◌, subst, arith}
+use Rattle.std.proofs.Common.{rules, List, ℕ, ◌≡◌, ◌≢◌, ◌⊎◌, ◌<◌, Err, IfOk, OnErr, refl, ◌/◌, ◌^◌, length, Some, None, sym, ap, ◌∙◌, subst, arith}
 use Rattle.std.specs.Str.{bytes_eq}
 use Rattle.std.specs.Map.{lookup}
 use Rattle.indexmap.specs.IndexMap.{IndexMap}
@@ -12,7 +12,8 @@ use Rattle.ra_automaton.proofs.Refusals.{ReceiveTells, wrong_node_tells, strange
 use Rattle.ra_node.specs.Events.{ReceiveEvent}
 use Rattle.ra_node.proofs.After.{received_at, kept_as, same_view, seen_from}
 use Rattle.ra_node.proofs.EventLemmas.{addressed}
-use Rattle.ra_node.proofs.NodeLemmas.{slot_is_consistent, absent_in}
+use Rattle.ra_node.proofs.NodeLemmas.{slot_is_consistent, absent_in, found, missing}
+use Rattle.ra_node.proofs.Bringing.{of_node, refused_to_bring}
 use Rattle.ra_node.proofs.Totals.{part, through, one_at_most, few_wait, queue_stays}
 use Rattle.ra_node.proofs.node.Node.receive.Goals as goal
 
@@ -58,10 +59,10 @@ invariant_of-self c =
     let slots = c.get_mut.follows.lender new in
     let old = c.in-Some.slot.now in
     let moves = λ (f : Resource → ℕ). through f n.slots slots c.name.result old new c.in-Some.ensures.value (c.get_mut.follows.holds new) in
-    let queue = queue_stays c.receive-outcome.result _ old new c.args.message.now c.receive-outcome.ensures in
+    let queue = queue_stays c.receive-outcome.result _ old new c.args.message.now c.receive-outcome.ensures.received in
     let kept = c.self.invariant in
     record {
-      consistent = (received_at n.me n.nodes n.start n.slots slots c.args.self.now c.self.view_is c.self.invariant.consistent c.in-Some.slot.now new c.receive-outcome.result _ c.args.message.now c.name.result c.name.ensures c.receive-outcome.ensures c.in-Some.ensures.value (c.get_mut.follows.holds new)).consistent;
+      consistent = (received_at n.me n.nodes n.start n.slots slots c.args.self.now c.self.view_is c.self.invariant.consistent c.in-Some.slot.now new c.receive-outcome.result _ c.args.message.now c.name.result c.name.ensures c.receive-outcome.ensures.received c.in-Some.ensures.value (c.get_mut.follows.holds new)).consistent;
       waiting = omega (arith, kept.waiting, moves waiting_at, part waiting_at n.slots.entries c.name.result old c.in-Some.ensures.value, c.waiting.ensures, c.waiting-in-Some.ensures);
       queued = omega (arith, kept.queued, moves (λ r. length r.queue), ap (λ (queue : List Queued). length queue) queue);
       counted = omega (arith, kept.counted, moves (λ r. length r.queue / 2 ^ 64), ap (λ (queue : List Queued). length queue / 2 ^ 64) queue);
@@ -71,13 +72,13 @@ pub returns-in-Some-clause-ok : goal.returns-in-Some-clause-ok
 returns-in-Some-clause-ok c =
     let n = c.self.inside in
     let new = c.receive-outcome.new.self in
-    (received_at n.me n.nodes n.start n.slots (c.get_mut.follows.lender new) c.args.self.now c.self.view_is c.self.invariant.consistent c.in-Some.slot.now new c.receive-outcome.result _ c.args.message.now c.name.result c.name.ensures c.receive-outcome.ensures c.in-Some.ensures.value (c.get_mut.follows.holds new)).ok
+    (received_at n.me n.nodes n.start n.slots (c.get_mut.follows.lender new) c.args.self.now c.self.view_is c.self.invariant.consistent c.in-Some.slot.now new c.receive-outcome.result _ c.args.message.now c.name.result c.name.ensures c.receive-outcome.ensures.received c.in-Some.ensures.value (c.get_mut.follows.holds new)).ok
 
 pub returns-in-Some-clause-err : goal.returns-in-Some-clause-err
 returns-in-Some-clause-err c =
     let n = c.self.inside in
     let new = c.receive-outcome.new.self in
-    (received_at n.me n.nodes n.start n.slots (c.get_mut.follows.lender new) c.args.self.now c.self.view_is c.self.invariant.consistent c.in-Some.slot.now new c.receive-outcome.result _ c.args.message.now c.name.result c.name.ensures c.receive-outcome.ensures c.in-Some.ensures.value (c.get_mut.follows.holds new)).err
+    (received_at n.me n.nodes n.start n.slots (c.get_mut.follows.lender new) c.args.self.now c.self.view_is c.self.invariant.consistent c.in-Some.slot.now new c.receive-outcome.result _ c.args.message.now c.name.result c.name.ensures c.receive-outcome.ensures.received c.in-Some.ensures.value (c.get_mut.follows.holds new)).err
 
 pub returns-in-Some-clause-consistent : goal.returns-in-Some-clause-consistent
 returns-in-Some-clause-consistent c = (invariant_of-self c).consistent
@@ -118,7 +119,7 @@ returns-then-eq-clause-allowed c = (stranger c).allowed
 -- ---- The message is taken
 
 tells : (c : goal.After-self-in-Some-2-1) → ReceiveTells c.receive-outcome.result c.args.self.now.me c.args.self.now.nodes c.args.message.now
-tells c = received_tells c.args.self.now.me c.args.self.now.nodes c.args.message.now c.receive-outcome.result _ _ (search rules) c.receive-outcome.ensures
+tells c = received_tells c.args.self.now.me c.args.self.now.nodes c.args.message.now c.receive-outcome.result _ _ (search rules) c.receive-outcome.ensures.received
 
 pub returns-in-Some-clause-wrong_node : goal.returns-in-Some-clause-wrong_node
 returns-in-Some-clause-wrong_node c = (tells c).wrong_node
@@ -161,3 +162,19 @@ returns-in-None-clause-err c = (first_seen c).1
 
 pub returns-in-None-clause-consistent : goal.returns-in-None-clause-consistent
 returns-in-None-clause-consistent c = c.receive_first.ensures.consistent
+
+-- ---- Memory
+
+pub returns-in-Some-clause-memory_only_to_bring : goal.returns-in-Some-clause-memory_only_to_bring
+returns-in-Some-clause-memory_only_to_bring c =
+    let n = c.self.inside in
+    let name = name_of c.args.message.now in
+    let here = found n.me n.nodes n.start n.slots.entries c.args.self.now c.self.view_is name c.in-Some.slot.now
+    (subst (λ (q : List ℕ). Some c.in-Some.slot.now ≡ lookup (bytes_eq q) n.slots.entries) c.name.ensures c.in-Some.ensures.value) in
+    λ is brings. absurd (refused_to_bring c.receive-outcome.result _ is c.receive-outcome.ensures.brings (of_node c.args.self.now c.args.message.now c.in-Some.slot.now here brings))
+
+pub returns-in-None-clause-memory_only_to_bring : goal.returns-in-None-clause-memory_only_to_bring
+returns-in-None-clause-memory_only_to_bring c =
+    let n = c.self.inside in
+    λ is brings. (missing n.me n.nodes n.start n.slots.entries c.args.self.now c.self.view_is (name_of c.args.message.now)
+    (subst (λ (q : List ℕ). None ≡ lookup (bytes_eq q) n.slots.entries) c.name.ensures c.in-None.ensures.value)).1

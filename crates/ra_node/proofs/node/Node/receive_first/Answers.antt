@@ -28,7 +28,7 @@ invariant_of-self-in-Err c =
 pub returns-in-Err-clause-received : goal.returns-in-Err-clause-received
 returns-in-Err-clause-received c =
     let n = c.self.inside in
-    (c.in-Err.ensures.0, same_view n.me n.nodes n.start n.slots.entries c.first_slot-first.new.slots.entries c.args.self.now c.first_slot-first.ensures.same c.self.view_is)
+    (c.in-Err.ensures.received.0, same_view n.me n.nodes n.start n.slots.entries c.first_slot-first.new.slots.entries c.args.self.now c.first_slot-first.ensures.same c.self.view_is)
 
 pub returns-in-Err-clause-consistent : goal.returns-in-Err-clause-consistent
 returns-in-Err-clause-consistent c = (invariant_of-self-in-Err c).consistent
@@ -43,7 +43,7 @@ invariant_of-self-2 c =
     let name = c.name-name.result in
     let none = ap (λ (q : List ℕ). finmap.get now.resources q) c.name-name.ensures ∙ c.requires.first in
     let fresh = c.in-Ok.ensures.made.0 in
-    let ended = c.in-Ok-receive.ensures in
+    let ended = c.in-Ok-receive.ensures.received in
     let more = λ (f : Resource → ℕ). come f n.me n.nodes n.start n.slots.entries slots slots' now name c.receive.new.self c.self.view_is same none c.put.ensures in
     let was = c.self.invariant in
     let idle : c.receive.new.self.state.phase ≡ Idle = idle_stays c.in-Ok.slot.state c.args.message.now _ _ c.receive.new.self.state ended.0.step (ap (λ (r : Resource). r.state.phase) fresh) in
@@ -58,7 +58,7 @@ invariant_of-self-2 c =
 pub returns-clause-received : goal.returns-clause-received
 returns-clause-received c =
     let n = c.self.inside in
-    let ended = c.in-Ok-receive.ensures in
+    let ended = c.in-Ok-receive.ensures.received in
     let none = ap (λ (q : List ℕ). finmap.get c.args.self.now.resources q) c.name-name.ensures ∙ c.requires.first in
     (first_received n.me n.nodes n.start n.slots.entries c.first_slot-first.new.slots.entries c.args.self.now c.self.view_is c.self.invariant.consistent c.first_slot-first.ensures.same c.name-name.result none c.in-Ok.slot c.receive.new.self c.in-Ok.ensures.made.0
     c.put.new.slots.entries c.put.ensures c.args.message.now _ _ c.name-name.ensures ended.0 ended.1).1
