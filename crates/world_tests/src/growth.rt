@@ -136,19 +136,22 @@ fn growth_of_a_world(rt: HostRuntime) {
 }
 
 /// Returns the name of three digits of this number.
-fn name_of(number: u16) -> Name {
+fn name_of(number: u16) -> Option<Name> {
     let (high, middle, low) = (number / 100 % 10, number / 10 % 10, number % 10);
-    Name::new(&[b'0' + high as u8, b'0' + middle as u8, b'0' + low as u8]).unwrap()
+    Name::new(&[b'0' + high as u8, b'0' + middle as u8, b'0' + low as u8]).ok()
 }
 
 /// Has client 1 of node 1 ask for a thousand names, one after the other, so that as many messages are under way.
 fn try_asks(alloc: Global, world: &mut World) -> Tried {
     let mut tried = Tried::AtOnce;
     for number in 0..1_000u16 {
+        let Some(name) = name_of(number) else {
+            return Tried::Wrong;
+        };
         let step = Step::Ask {
             node: node(1),
             client: 1,
-            name: name_of(number),
+            name,
             mode: Mode::Exclusive,
         };
         tried = both(tried, try_step(alloc, world, &step));
