@@ -47,10 +47,10 @@ fn made_once(alloc: Global, book: &mut Book, name: Name, call: Call<'_>) -> Resu
 fn try_call(alloc: Global, book: &mut Book, name: Name, call: Call<'_>, kept: Kept) -> Tried {
     match made_once(alloc, book, name, call) {
         Ok(()) => Tried::AtOnce,
-        Err(true)
-            if has(book, kept.0, kept.1, kept.2) && made_once(alloc, book, name, call).is_ok() => {
-            Tried::Again
-        }
+        Err(is_memory)
+            if is_memory
+                && has(book, kept.0, kept.1, kept.2)
+                && made_once(alloc, book, name, call).is_ok() => { Tried::Again }
         Err(_) => Tried::Wrong,
     }
 }

@@ -21,13 +21,13 @@ fn locks<R: Wait>(
     rt: &R,
     alloc: Global,
     client: u32,
-    name: Name,
+    name: &Name,
     site: &Site,
     all: &Cluster,
     gate: &Counting,
 ) -> Result<Grant, SiteError> {
     let mode = Mode::Exclusive;
-    site.lock(rt, alloc, client, name, mode, &all.post, &all.sites, gate)
+    site.lock(rt, alloc, client, *name, mode, &all.post, &all.sites, gate)
 }
 
 /// Returns whether a client gives the name back.
@@ -35,12 +35,12 @@ fn unlocks<R: Wait>(
     rt: &R,
     alloc: Global,
     client: u32,
-    name: Name,
+    name: &Name,
     site: &Site,
     all: &Cluster,
     gate: &Counting,
 ) -> bool {
-    site.unlock(rt, alloc, client, name, &all.post, &all.sites, gate)
+    site.unlock(rt, alloc, client, *name, &all.post, &all.sites, gate)
         .is_ok()
 }
 
@@ -48,7 +48,7 @@ fn unlocks<R: Wait>(
 fn is_refused<R: Wait>(
     rt: &R,
     alloc: Global,
-    name: Name,
+    name: &Name,
     site: &Site,
     all: &Cluster,
     gate: &Counting,
@@ -75,7 +75,7 @@ fn stays_at_0(number: &AtomicU64) -> bool {
 fn waits_until_a_stop<R: Threads + Wait + Abort + Sync>(
     rt: &R,
     alloc: Global,
-    name: Name,
+    name: &Name,
     site: &Site,
     all: &Cluster,
     there: &Mutex<Answer>,
@@ -127,7 +127,7 @@ fn is_ended_by_a_stop<R: Threads + Wait + Abort + Sync>(rt: &R, alloc: Global) -
     let name = r()?;
     let all = make_cluster(alloc, 1, START, u64::MAX)?;
     let answer = Mutex::new(None);
-    let waited = waits_until_a_stop(rt, alloc, name, all.sites.first()?, &all, &answer);
+    let waited = waits_until_a_stop(rt, alloc, &name, all.sites.first()?, &all, &answer);
     let is_stopped = answer.into_inner() == Some(Err(SiteError::Stopped(Stop::Refused)));
     let books = books_of(alloc, all.sites)?;
     Some(waited && is_stopped && has_one_queued(alloc, &books))

@@ -35,13 +35,13 @@ impl Gate for Keeps {
 fn locks<R: Wait, G: Gate>(
     rt: &R,
     alloc: Global,
-    name: Name,
+    name: &Name,
     site: &Site,
     all: &Cluster,
     gate: &G,
 ) -> Result<(), SiteError> {
     let mode = Mode::Exclusive;
-    site.lock(rt, alloc, 1, name, mode, &all.post, &all.sites, gate)?;
+    site.lock(rt, alloc, 1, *name, mode, &all.post, &all.sites, gate)?;
     Ok(())
 }
 
@@ -49,11 +49,11 @@ fn locks<R: Wait, G: Gate>(
 fn refusal<R: Wait>(
     rt: &R,
     alloc: Global,
-    name: Name,
+    name: &Name,
     site: &Site,
     all: &Cluster,
 ) -> Option<SiteError> {
-    site.unlock(rt, alloc, 2, name, &all.post, &all.sites, &OpenGate)
+    site.unlock(rt, alloc, 2, *name, &all.post, &all.sites, &OpenGate)
         .err()
 }
 
@@ -61,7 +61,7 @@ fn refusal<R: Wait>(
 fn comes_to_be_stopped<R: Wait>(
     rt: &R,
     alloc: Global,
-    name: Name,
+    name: &Name,
     site: &Site,
     all: &Cluster,
 ) -> bool {
@@ -78,7 +78,7 @@ fn comes_to_be_stopped<R: Wait>(
 fn stops_at_node_2<R: Wait>(
     rt: &R,
     alloc: Global,
-    name: Name,
+    name: &Name,
     one: &Site,
     three: &Site,
     all: &Cluster,
@@ -95,7 +95,7 @@ fn stops_at_node_2<R: Wait>(
 fn stops_in_turn<R: Threads + Wait + Abort + Sync>(
     rt: &R,
     alloc: Global,
-    name: Name,
+    name: &Name,
     all: &Cluster,
 ) -> bool {
     let [one, two, three] = all.sites.as_slice() else {
@@ -139,7 +139,7 @@ fn are_stopped_in_turn<R: Threads + Wait + Abort + Sync>(rt: &R, alloc: Global) 
         return None;
     }
     drop(all.inboxes.remove(1));
-    let in_turn = stops_in_turn(rt, alloc, name, &all);
+    let in_turn = stops_in_turn(rt, alloc, &name, &all);
     let books = books_of(alloc, all.sites)?;
     Some(in_turn && has_lost_one(&books))
 }
