@@ -123,6 +123,12 @@ module _
         let rest = stays hs e.0 new e.2 in
         (rest.0 ∙ one.0, rest.1 ∙ one.1)
 
+    pub counts : (start : ℕ) (nodes : List NodeState) (left : List Message) (moves : List Move) (place : ℕ)
+        → Keeps start nodes left moves → place < length nodes → (nodes_of nodes (place + 1)).nodes ≡ length nodes
+    counts start nodes left moves place keeps within =
+        let i = place + 1 in
+        (stays (happened_at i moves) (opening_node i (length nodes) start) (nodes_of nodes i) (keeps.ends i (omega arith) (omega (arith, within)))).1
+
     pub is_taken : (between : (n start : ℕ) (moves : List Move) (message : Message)
         → IsNodeNumber n → IsRun n start moves → IsUnderWay moves message
         → ((1 ≤ to_of message) × (to_of message ≤ n)) × IsOtherNode (to_of message) n (from_of message))

@@ -31,6 +31,7 @@ mod DifferentRuns
 mod Walks
 mod Counts
 mod KeptRuns
+mod Bringing
 mod Queues
 mod Causes
 mod Reporting

@@ -1,5 +1,5 @@
 -- What comes of a step that is tried, said exactly.
-use Rattle.std.proofs.Common.{◌≡◌, ◌≢◌, ◌↔◌, ℕ, List, Result, Ok, Err, sym, ap, ◌∙◌, subst, inl, inr}
+use Rattle.std.proofs.Common.{◌≡◌, ◌≢◌, ◌↔◌, ◌⊎◌, ℕ, List, Result, Ok, Err, sym, ap, ◌∙◌, subst, inl, inr}
 use Rattle.std.specs.Prelude.{IsErrOf, IsOkUnless}
 use Rattle.ra_stamp.specs.declared.message.Message.{Message}
 use Rattle.ra_stamp.specs.NodeId.{IsNodeNumber}
@@ -11,7 +11,7 @@ use Rattle.ra_world.specs.declared.error.StepError.{StepError}
 use Rattle.ra_world.specs.declared.error.StepError.TheVariants.{Memory}
 use Rattle.ra_world.specs.Traffic.{Move}
 use Rattle.ra_world.specs.Run.{IsRun, GoesOn}
-use Rattle.ra_world.specs.World.{WorldState, HasCause}
+use Rattle.ra_world.specs.World.{WorldState, HasCause, MayNeedMemory, IsFull}
 use Rattle.ra_world.specs.Keeping.{Keeps, Tries}
 use Rattle.ra_world.proofs.Trying.{shown}
 
@@ -28,6 +28,13 @@ module _
     (w new : WorldState) (step : Step) (was : IsNodeNumber w.count × IsRun w.count w.start w.moves)
     (run : IsRun new.count new.start new.moves)
   where
+    -- want of memory is no cause
+    no_cause : (s : Step) → HasCause w.count w.start w.moves s Memory → ⊥
+    no_cause (Ask node client name mode) why = why
+    no_cause (Leave node client name) why = why
+    no_cause (Deliver message) why = why
+    no_cause (Lose message) why = why
+
     made : (outcome : Outcome) → Tries w step (Ok outcome) new → GoesOn w.count w.start w.moves step
     made outcome tried = (outcome.sends.items, outcome.marks.items, subst (λ (v : WorldState). IsRun v.count v.start v.moves) tried run)
 
@@ -41,11 +48,11 @@ module _
     refused (Err e) tried cause known = (
       λ is. elim tried.1 [
         | inl why ↦ subst (λ (x : StepError). HasCause w.count w.start w.moves step x) (same is) why
-        | inr memory ↦ absurd (known (sym (same is) ∙ memory.0))
+        | inr short ↦ absurd (known (sym (same is) ∙ short.is_memory))
       ],
       λ why. elim tried.1 [
         | inl why' ↦ ap Err (one w.count w.start w.moves step e cause why' why)
-        | inr memory ↦ absurd (no_step w.count w.start w.moves step cause was.0 was.1 why memory.1)
+        | inr short ↦ absurd (no_step w.count w.start w.moves step cause was.0 was.1 why short.goes_on)
       ],
     )
       where
@@ -56,20 +63,26 @@ module _
     allowed (Ok outcome) tried = (λ _. made outcome tried, λ _. tt)
     allowed (Err e) tried = (
       λ is. elim tried.1 [
-        | inl why ↦ absurd (no_cause (subst (λ (x : StepError). HasCause w.count w.start w.moves step x) is why))
-        | inr memory ↦ memory.1
+        | inl why ↦ absurd (no_cause step (subst (λ (x : StepError). HasCause w.count w.start w.moves step x) is why))
+        | inr short ↦ short.goes_on
       ],
       λ on. elim tried.1 [
         | inl why ↦ absurd (no_step w.count w.start w.moves step e was.0 was.1 why on)
-        | inr memory ↦ memory.0
+        | inr short ↦ short.is_memory
       ],
     )
-      where
-        never : (s : Step) → HasCause w.count w.start w.moves s Memory → ⊥
-        never (Ask node client name mode) why = why
-        never (Leave node client name) why = why
-        never (Deliver message) why = why
-        never (Lose message) why = why
 
-        no_cause : HasCause w.count w.start w.moves step Memory → ⊥
-        no_cause why = never step why
+    -- where memory is short, the step is one that can want it
+    pub wanted : (r : Result Outcome StepError) → Tries w step r new → IsErrOf r Memory → MayNeedMemory w.count w.start w.moves step ⊎ IsFull w.moves
+    wanted (Ok outcome) tried is = absurd (not_ok is)
+      where
+        not_ok : IsErrOf {T = Outcome} (Ok outcome) Memory → ⊥
+        not_ok is = cc
+    wanted (Err e) tried is =
+        elim tried.1 [
+          | inl why ↦ absurd (no_cause step (subst (λ (x : StepError). HasCause w.count w.start w.moves step x) (same is) why))
+          | inr short ↦ short.needs
+        ]
+      where
+        same : IsErrOf {T = Outcome} (Err e) Memory → e ≡ Memory
+        same is = cc

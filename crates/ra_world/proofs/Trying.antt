@@ -1,5 +1,5 @@
 -- What is said of a step that is tried, from what a world keeps.
-use Rattle.std.proofs.Common.{eq-eqb, ◌≡◌, ◌⊎◌, ◌↔◌, ℕ, ◌+◌, ◌*◌, ◌<◌, ◌≤◌, List, ◌++◌, ◌∷◌, [], length, set, get_or, Result, Ok, Err, refl, sym, ap, ◌∙◌, subst, inl, inr, arith}
+use Rattle.std.proofs.Common.{eq-eqb, ◌≡◌, ◌⊎◌, ◌↔◌, ℕ, ◌+◌, ◌<◌, ◌≤◌, List, ◌++◌, ◌∷◌, [], length, set, get_or, Result, Ok, Err, refl, sym, ap, ◌∙◌, subst, inl, inr, arith}
 use Rattle.std.specs.Prelude.{IsErrAnd, ◌==◌, if◌then◌else◌}
 use Rattle.std.specs.List.{remove}
 use Rattle.std.proofs.lemmas.List.{set-get_or, length-set, get_or_default}
@@ -17,7 +17,8 @@ use Rattle.ra_node.specs.declared.error.LeaveError.{LeaveError}
 use Rattle.ra_node.specs.declared.error.LeaveError.TheVariants as leave
 use Rattle.ra_node.specs.Resource.{IsBusy, Holds}
 use Rattle.ra_node.specs.Turns.{MayAsk}
-use Rattle.ra_node.specs.Events.{Event, NodeEvent}
+use Rattle.ra_node.specs.Events.{Event, NodeEvent, ReceiveEvent}
+use Rattle.ra_node.specs.Carried.{sends_at_most, marks_at_most}
 use Rattle.ra_node.specs.Node.{NodeState, opening_node, resource_at, IsConsistentNode}
 use Rattle.ra_world.specs.declared.step.Step.{Step}
 use Rattle.ra_world.specs.declared.step.Step.TheVariants.{Ask, Leave}
@@ -25,8 +26,8 @@ use Rattle.ra_world.specs.declared.error.StepError.{StepError}
 use Rattle.ra_world.specs.declared.error.StepError.TheVariants.{Memory}
 use Rattle.ra_world.specs.Traffic.{Move, TakesEach, taken_in}
 use Rattle.ra_world.specs.Run.{IsRun, IsFit, GoesOn, EndsWith, events_at}
-use Rattle.ra_world.specs.World.{WorldState, HasCause, AtNode}
-use Rattle.ra_world.specs.Keeping.{nodes_of, Keeps, Tries}
+use Rattle.ra_world.specs.World.{WorldState, HasCause, MayNeedMemory, IsFull, AtNode}
+use Rattle.ra_world.specs.Keeping.{nodes_of, Keeps, IsShort, Tries}
 use Rattle.ra_world.specs.Log.{LogState, HasRoom}
 use Rattle.ra_world.specs.Refused.{refusal_of_ask, refusal_of_leave}
 
@@ -42,16 +43,23 @@ at_err (Err e) P Q h f = f e h
 -- a refusal with its cause, at which nothing changed
 pub with_cause : (start : ℕ) (nodes : List NodeState) (moves : List Move) (w : WorldState) (step : Step) (cause : StepError)
     → shown start nodes moves ≡ w → HasCause (length nodes) start moves step cause
-    → HasCause w.count w.start w.moves step cause ⊎ ((cause ≡ Memory) × GoesOn w.count w.start w.moves step)
+    → HasCause w.count w.start w.moves step cause ⊎ IsShort w step cause
 with_cause start nodes moves w step cause is why = inl (subst (λ (v : WorldState). HasCause v.count v.start v.moves step cause) is why)
 
 -- want of memory for a step that could be made, at which nothing changed
 pub short : (start : ℕ) (nodes : List NodeState) (moves : List Move) (w now : WorldState) (step : Step) (r : Result Outcome StepError)
     → shown start nodes moves ≡ w → now ≡ shown start nodes moves → GoesOn (length nodes) start moves step
-    → IsErrAnd r (λ e. e ≡ Memory) → Tries w step r now
-short start nodes moves w now step r is same on fails =
+    → MayNeedMemory (length nodes) start moves step ⊎ IsFull moves → IsErrAnd r (λ e. e ≡ Memory) → Tries w step r now
+short start nodes moves w now step r is same on needs fails =
     at_err r (λ e. e ≡ Memory) (λ q. Tries w step q now) fails
-    (λ e memory. (same ∙ is, inr (memory, subst (λ (v : WorldState). GoesOn v.count v.start v.moves step) is on)))
+    (λ e memory. (
+      same ∙ is,
+      inr (record {
+        is_memory = memory;
+        goes_on = subst (λ (v : WorldState). GoesOn v.count v.start v.moves step) is on;
+        needs = subst (λ (v : WorldState). MayNeedMemory v.count v.start v.moves step ⊎ IsFull v.moves) is needs;
+      }),
+    ))
 
 -- the nodes with one of them put where it is
 pub same_nodes : (start : ℕ) (nodes : List NodeState) (moves moves' : List Move) (place : ℕ) (old new : NodeState)
@@ -190,15 +198,24 @@ memory_of_leave (Err e) a h is = h ∙ ap refusal_of_leave is
 -- what an event sends and marks at most, at the node that was read before too
 pub few_carried :
     ((old new : NodeState) (event : Event) (sends : List Message) (marks : List Mark)
-    → IsConsistentNode old → NodeEvent old event sends marks new → (length sends ≤ 2 * old.nodes) × (length marks ≤ 3))
+    → IsConsistentNode old → NodeEvent old event sends marks new → (length sends ≤ sends_at_most old.nodes event) × (length marks ≤ marks_at_most event))
     → (nodes : List NodeState) (place : ℕ) (first old new : NodeState) (event : Event) (sends : List Message) (marks : List Mark)
+    → (nodes_of nodes (place + 1)).nodes ≡ length nodes
     → place < length nodes → first ≡ get_or nodes place first → old ≡ get_or nodes place old → IsConsistentNode first
-    → NodeEvent old event sends marks new → (length sends ≤ 32) × (length marks ≤ 3)
-few_carried law nodes place first old new event sends marks within at_first at consistent happened =
+    → NodeEvent old event sends marks new → (length sends ≤ sends_at_most (length nodes) event) × (length marks ≤ marks_at_most event)
+few_carried law nodes place first old new event sends marks many within at_first at consistent happened =
     let same = subst IsConsistentNode (sym (reads_same nodes place first old within at_first at)) consistent in
-    let few = law old new event sends marks same happened in
-    (omega (arith, few.0, same.count.1), few.1)
+    let count : old.nodes ≡ length nodes = ap (λ (s : NodeState). s.nodes) (sym (node_here nodes place (place + 1) old refl within at)) ∙ many in
+    subst (λ (n : ℕ). (length sends ≤ sends_at_most n event) × (length marks ≤ marks_at_most event)) count (law old new event sends marks same happened)
 
 -- room for the most is room for fewer
-pub room_for : (log : LogState) (marks : ℕ) → HasRoom log 3 → marks ≤ 3 → HasRoom log marks
-room_for log marks has few = record { for_step = has.for_step; for_marks = omega (arith, few, has.for_marks) }
+pub room_for : (log : LogState) (marks most : ℕ) → HasRoom log most → marks ≤ most → HasRoom log marks
+room_for log marks most has few = record { for_step = has.for_step; for_marks = omega (arith, few, has.for_marks) }
+
+-- there is room for what comes of a message at the node that was read before
+pub room_here : (spare : ℕ) (log : LogState) (message : Message) (nodes : List NodeState) (place : ℕ) (first old new : NodeState) (sends : List Message) (marks : List Mark)
+    → ((sends : List Message) (marks : List Mark) (new : NodeState) → ReceiveEvent first message sends marks new → (length sends ≤ spare) × HasRoom log (length marks))
+    → place < length nodes → first ≡ get_or nodes place first → old ≡ get_or nodes place old → ReceiveEvent old message sends marks new
+    → (length sends ≤ spare) × HasRoom log (length marks)
+room_here spare log message nodes place first old new sends marks room within at_first at happened =
+    room sends marks new (subst (λ (s : NodeState). ReceiveEvent s message sends marks new) (reads_same nodes place first old within at_first at) happened)

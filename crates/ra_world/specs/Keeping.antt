@@ -5,7 +5,7 @@ use Rattle.ra_stamp.specs.NodeId.{IsNodeNumber}
 use Rattle.ra_node.specs.Node.{NodeState, opening_node}
 use Rattle.ra_world.specs.Traffic.{Move, LeavesUnderWay}
 use Rattle.ra_world.specs.Run.{IsRun, EndsWith, GoesOn}
-use Rattle.ra_world.specs.World.{WorldState, with_move, HasCause}
+use Rattle.ra_world.specs.World.{WorldState, with_move, HasCause, MayNeedMemory, IsFull}
 use Rattle.ra_node.specs.declared.outcome.Outcome.{Outcome}
 use Rattle.ra_world.specs.declared.step.Step.{Step}
 use Rattle.ra_world.specs.declared.error.StepError.{StepError}
@@ -29,10 +29,15 @@ world_of w = record { count = length w.nodes.items; start = w.start; moves = w.l
 abbrev pub IsKept : Inside → Type 0
 IsKept w = Keeps w.start w.nodes.items w.under_way.items w.log.moves
 
--- what comes of a step that is tried: it is made, or it has a cause and nothing changes, or it could be made but for want
--- of memory, and nothing changes
+-- a step could be made but for want of memory, and it is one that can want it, or no further step is counted
+pub record IsShort (w : WorldState) (step : Step) (cause : StepError) : Type 0 where
+  pub is_memory : cause ≡ Memory
+  pub goes_on : GoesOn w.count w.start w.moves step
+  pub needs : MayNeedMemory w.count w.start w.moves step ⊎ IsFull w.moves
+
+-- what comes of a step that is tried: it is made, or it has a cause and nothing changes, or memory is short for it, and nothing
+-- changes
 abbrev pub Tries : WorldState → Step → Result Outcome StepError → WorldState → Type 0
 Tries old step (Ok outcome) new = new ≡ with_move old step outcome.sends.items outcome.marks.items
 Tries old step (Err cause) new =
-    (new ≡ old) × (HasCause old.count old.start old.moves step cause ⊎ ((cause ≡ Memory)
-    × GoesOn old.count old.start old.moves step))
+    (new ≡ old) × (HasCause old.count old.start old.moves step cause ⊎ IsShort old step cause)

@@ -4,9 +4,11 @@ use Rattle.ra_stamp.specs.NodeId.{IsNodeNumber}
 use Rattle.ra_stamp.specs.declared.entry.Entry.{Entry}
 use Rattle.ra_stamp.specs.declared.entry.Mark.{Mark}
 use Rattle.ra_stamp.specs.declared.message.Message.{Message}
+use Rattle.ra_stamp.specs.Message.{to_of}
 use Rattle.ra_automaton.specs.Steps.{greatest_number}
 use Rattle.ra_node.specs.Resource.{Holds, IsBusy}
 use Rattle.ra_node.specs.Node.{NodeState, resource_at}
+use Rattle.ra_node.specs.Memory.{BringsNothing}
 use Rattle.ra_world.specs.declared.step.Step.{Step}
 use Rattle.ra_world.specs.declared.step.Step.TheVariants.{Ask, Leave, Deliver, Lose}
 use Rattle.ra_world.specs.declared.error.NodeRefusal.TheVariants.{Busy, Exhausted, NotHeld}
@@ -70,6 +72,18 @@ HasCause n start moves (Lose message) NoNode = ⊥
 HasCause n start moves (Lose message) (Node why) = ⊥
 HasCause n start moves (Lose message) NotUnderWay = IsUnderWay moves message → ⊥
 HasCause n start moves (Lose message) Memory = ⊥
+
+-- so many steps were made that no further one is counted: 2^64-1
+abbrev pub IsFull : List Move → Type 0
+IsFull moves = 18446744073709551615 ≤ length moves
+
+-- which steps can want memory: a client that asks may queue, one that leaves is marked, a message that is delivered may bring
+-- something, and one that is lost brings nothing
+abbrev pub MayNeedMemory : ℕ → ℕ → List Move → Step → Type 0
+MayNeedMemory n start moves (Ask node client name mode) = Unit {0}
+MayNeedMemory n start moves (Leave node client name) = Unit {0}
+MayNeedMemory n start moves (Deliver message) = AtNode n start moves (to_of message) (λ s. BringsNothing s message → ⊥)
+MayNeedMemory n start moves (Lose message) = ⊥
 
 -- the report of a run
 pub record Reports (n start : ℕ) (moves : List Move) (report : Report) : Type 0 where

@@ -1,19 +1,23 @@
 //! What a world keeps of its run at each step.
-ghost use Rattle.std.specs.Prelude.{◌≡◌, ◌+◌, ◌≤◌, ◌<◌, ◌↔◌, ◌∷◌, ◌++◌, [], ℕ, List, Contains, length, map, slice_set, slice_index_or, sum_by, IfOk, OnOk};
+ghost use Rattle.std.specs.Prelude.{◌≡◌, ◌+◌, ◌≤◌, ◌<◌, ◌↔◌, ◌⊎◌, ◌∷◌, ◌++◌, [], ℕ, List, Contains, length, map, slice_set, slice_index_or, sum_by, None, IfOk, OnOk, OnErr};
 ghost use Rattle.std.specs.List.{range_with_len, remove};
+ghost use Rattle.std.specs.FinMap as finmap;
 ghost use Rattle.ra_stamp.specs.declared.message.Message.{Message};
-ghost use Rattle.ra_stamp.specs.Message.{to_of};
+ghost use Rattle.ra_stamp.specs.declared.entry.Mark.{Mark};
+ghost use Rattle.ra_stamp.specs.Message.{to_of, name_of};
 ghost use Rattle.ra_stamp.specs.NodeId.{IsNodeNumber};
 ghost use Rattle.ra_bag.specs.Bag.{TakesFirst};
 ghost use Rattle.ra_automaton.specs.State.{IsForNode};
 ghost use Rattle.ra_node.specs.Node.{NodeState, opening_node, queued_count};
-ghost use Rattle.ra_node.specs.Events.{Event, NodeEvent};
+ghost use Rattle.ra_node.specs.Events.{Event, NodeEvent, ReceiveEvent};
+ghost use Rattle.ra_node.specs.Carried.{replies_at_most, entries_at_most};
+ghost use Rattle.ra_node.specs.Memory.{BringsNothing};
 ghost use Rattle.ra_world.specs.declared.step.Step.{Step};
 ghost use Rattle.ra_world.specs.declared.error.StepError.{StepError};
 ghost use Rattle.ra_world.specs.declared.report.Report.{Report};
 ghost use Rattle.ra_world.specs.Traffic.{Move, TakesEach, IsUnderWay, taken_in};
 ghost use Rattle.ra_world.specs.Run.{IsRun, IsFit, GoesOn, events_at};
-ghost use Rattle.ra_world.specs.World.{HasCause, Reports};
+ghost use Rattle.ra_world.specs.World.{HasCause, Reports, IsFull};
 ghost use Rattle.ra_world.specs.MainTheorem.{MainTheorem};
 ghost use Rattle.ra_world.specs.Log.{HasRoom};
 ghost use Rattle.ra_world.specs.Keeping.{nodes_of, Keeps};
@@ -21,32 +25,86 @@ ghost use Rattle.ra_world.specs.Keeping.{nodes_of, Keeps};
 use crate::log::Log;
 use crate::{
     Report, Step, StepError, marks_of_runs_are_table_runs, messages_of_runs_are_different,
-    messages_under_way_are_between_nodes,
+    messages_under_way_are_between_nodes, no_delivered_reply_is_a_stray,
     quiet_runs_sent_two_messages_for_each_request_and_other_node, runs_go_on_by_events,
     runs_go_on_where_steps_are_allowed, waiting_requests_are_blocked_in_quiet_runs,
 };
 use ra_bag::Bag;
-use ra_node::{Outcome, events_are_determined, events_leave_other_names};
+use ra_node::{
+    Node, Outcome, events_are_determined, events_keep_a_node_consistent, events_leave_other_names,
+};
 use ra_stamp::{Marks, Memory, Message, Messages};
 use ra_table::{conflicting_entries_never_hold_at_once, grants_come_in_stamp_order};
 use std::alloc::Global;
 
-/// No step sends more messages: at most two for each of 16 nodes.
-pub const MAX_SENDS: u64 = 32;
-
-/// No step makes more marks: Left, Requested and Entered.
-pub const MAX_MARKS: u64 = 3;
-
 /// Makes room for a step with at most this many messages and marks.
+///
+/// # Errors
+///
+/// `Memory`. Where it is for no message and no mark, it is answered only where 2^64-1 steps were made.
 pub fn make_room(under_way: &mut Bag, log: &mut Log, sends: u64, marks: u64) -> Result<(), Memory>
     ensures messages { under_way.new.items ≡ under_way.old.items }
     ensures moves { log.new.moves ≡ log.old.moves }
     ensures bag_room { OnOk result (sends ≤ under_way.new.spare) }
     ensures log_room { OnOk result (HasRoom log.new marks) }
+    ensures err { OnErr result ((1 ≤ sends) ⊎ (1 ≤ marks) ⊎ IsFull log.old.moves) }
 {
-    under_way.reserve(sends)?;
+    if sends > 0 {
+        under_way.reserve(sends)?;
+    }
     log.reserve(marks)?;
     Ok(())
+}
+
+/// Makes room for what comes of a message at the node that it is for: one message by a REQUEST, and one mark by a REPLY. Only where
+/// there is no such room the node is asked whether the message brings anything, which costs one more look at its resource.
+///
+/// # Errors
+///
+/// `Memory`, where the message brings something or 2^64-1 steps were made.
+pub fn make_room_for(
+    under_way: &mut Bag,
+    log: &mut Log,
+    receiver: &Node,
+    message: &Message,
+) -> Result<(), Memory>
+    ensures messages { under_way.new.items ≡ under_way.old.items }
+    ensures moves { log.new.moves ≡ log.old.moves }
+    ensures room { OnOk result ((sends : List Message) (marks : List Mark) (new : NodeState)
+        → ReceiveEvent receiver.now message.now sends marks new
+        → (length sends ≤ under_way.new.spare) × HasRoom log.new (length marks)) }
+    ensures err { OnErr result ((BringsNothing receiver.now message.now → ⊥) ⊎ IsFull log.old.moves) }
+{
+    events_keep_a_node_consistent();
+    events_are_determined();
+    if let Ok(()) = make_room(under_way, log, most_replies(message), most_entries(message)) {
+        return Ok(());
+    }
+    if !receiver.brings_nothing(message) {
+        return Err(Memory);
+    }
+    make_room(under_way, log, 0, 0)?;
+    Ok(())
+}
+
+/// Returns how many REPLYs a message has its node send at most.
+fn most_replies(message: &Message) -> u64
+    ensures { result ≡ replies_at_most message.now }
+{
+    match message {
+        Message::Request { .. } => 1,
+        Message::Reply { .. } => 0,
+    }
+}
+
+/// Returns how many requests a message lets enter at most.
+fn most_entries(message: &Message) -> u64
+    ensures { result ≡ entries_at_most message.now }
+{
+    match message {
+        Message::Request { .. } => 0,
+        Message::Reply { .. } => 1,
+    }
 }
 
 /// Puts what a step sent under way and logs the step, where there is room for it.
@@ -108,6 +166,13 @@ pub fn kept_runs_go_on()
         (message : Message)
         → Keeps start nodes left moves → Contains left message → (to_of message ≤ length nodes)
         × IsForNode (nodes_of nodes (to_of message)).me (nodes_of nodes (to_of message)).nodes message }
+    // A message under way that brings nothing is about a name that its node has met.
+    ensures met { (start : ℕ) (nodes : List NodeState) (left : List Message) (moves : List Move) (message : Message)
+        → Keeps start nodes left moves → Contains left message
+        → BringsNothing (nodes_of nodes (to_of message)) message
+        → finmap.get (nodes_of nodes (to_of message)).resources (name_of message) ≡ None → ⊥ }
+    ensures counts { (start : ℕ) (nodes : List NodeState) (left : List Message) (moves : List Move) (place : ℕ)
+        → Keeps start nodes left moves → place < length nodes → (nodes_of nodes (place + 1)).nodes ≡ length nodes }
     // All messages under way are different, so the one at a place is the first of its kind.
     ensures taken_at { (start : ℕ) (nodes : List NodeState) (left : List Message) (moves : List Move)
         (message : Message) (place : ℕ)
@@ -120,6 +185,8 @@ pub fn kept_runs_go_on()
         → sum_by (λ i. f (nodes_of nodes i)) (range_with_len 1 (length nodes)) ≡ sum_by f nodes }
 {
     runs_go_on_by_events();
+    runs_go_on_where_steps_are_allowed();
+    no_delivered_reply_is_a_stray();
     messages_under_way_are_between_nodes();
     messages_of_runs_are_different();
     events_leave_other_names();

@@ -1,5 +1,5 @@
 //! What came of the steps of a world so far.
-ghost use Rattle.std.specs.Prelude.{◌≡◌, ◌+◌, ◌≤◌, [], ◌∷◌, ◌++◌, length, OnOk};
+ghost use Rattle.std.specs.Prelude.{◌≡◌, ◌+◌, ◌≤◌, ◌⊎◌, [], ◌∷◌, ◌++◌, length, OnOk, OnErr};
 ghost use Rattle.ra_stamp.specs.declared.entry.Mark.{Mark};
 ghost use Rattle.ra_world.specs.Traffic.{lost_in};
 ghost use Rattle.ra_world.specs.Quiet.{requests_in};
@@ -60,6 +60,7 @@ impl Log {
     ghost use Rattle.ra_world.specs.Log.{HasRoom};
     ghost use Rattle.ra_world.specs.Traffic.{sent_by, lost_by};
     ghost use Rattle.ra_world.specs.Run.{marks_of};
+    ghost use Rattle.ra_world.specs.World.{IsFull};
 
     /// Makes the log of no step.
     pub fn new(alloc: Global) -> Log
@@ -115,15 +116,18 @@ impl Log {
     ///
     /// # Errors
     ///
-    /// `Memory`, also where there were 2^64-1 steps: the steps are as before.
+    /// `Memory`, also where there were 2^64-1 steps: the steps are as before. For no mark it is answered only there.
     pub fn reserve(&mut self, marks: u64) -> Result<(), Memory>
         ensures same { self.new.moves ≡ self.old.moves }
         ensures ok { OnOk result (HasRoom self.new marks) }
+        ensures err { OnErr result ((1 ≤ marks) ⊎ IsFull self.old.moves) }
     {
         if self.steps == u64::MAX {
             return Err(Memory);
         }
-        self.marks.reserve(marks)?;
+        if marks > 0 {
+            self.marks.reserve(marks)?;
+        }
         Ok(())
     }
 

@@ -2,14 +2,14 @@ ghost use Rattle.std.specs.Prelude.{◌≡◌, ◌≢◌, ℕ, ◌<◌, ◌≤�
 ghost use Rattle.ra_stamp.specs.declared.message.Message.{Message};
 
 use crate::keeping::{
-    MAX_MARKS, MAX_SENDS, copy_of, keep, kept_runs_go_on, make_room, nothing,
+    copy_of, keep, kept_runs_go_on, make_room, make_room_for, nothing,
     reports_meet_the_main_theorem, steps_have_one_cause,
 };
 use crate::log::Log;
 use crate::numbering::{is_held_by, opening_nodes, place_of, queued_at, waiting_at};
 use crate::{NewError, NodeRefusal, Report, Step, StepError, runs_go_on_where_steps_are_allowed};
 use ra_bag::Bag;
-use ra_node::{Node, Outcome, events_keep_a_node_consistent};
+use ra_node::{Node, Outcome, ReceiveError, events_keep_a_node_consistent};
 use ra_stamp::{Memory, Message, Mode, Name, NodeId};
 use std::alloc::Global;
 use std::marker::Model;
@@ -44,7 +44,7 @@ impl World {
     ghost use Rattle.ra_world.specs.Traffic.{LeavesUnderWay, sent_by};
     ghost use Rattle.ra_world.specs.Quiet.{requests_in};
     ghost use Rattle.ra_world.specs.Run.{IsRun, GoesOn, marks_of};
-    ghost use Rattle.ra_world.specs.World.{with_move, HasCause, Reports};
+    ghost use Rattle.ra_world.specs.World.{with_move, HasCause, MayNeedMemory, IsFull, Reports};
     ghost use Rattle.ra_world.specs.MainTheorem.{MainTheorem};
     ghost use Rattle.ra_world.specs.Keeping.{Tries};
 
@@ -89,7 +89,8 @@ impl World {
     /// 1. `NoNode`: an ask or a leave is at a node above the number of nodes.
     /// 2. `NotUnderWay`: a message that is to be delivered or lost is not under way.
     /// 3. `Node`: the node refuses an ask (`Busy`, `Exhausted`) or a leave (`NotHeld`).
-    /// 4. `Memory`: there is no room for what the step makes, or 2^64-1 steps were made, since no more are counted.
+    /// 4. `Memory`: there is no room for what the step makes, or 2^64-1 steps were made, since no more are counted. A message by
+    ///    which nothing is sent or marked is never refused for want of room, nor is a loss.
     pub fn step(&mut self, alloc: Global, step: &Step) -> Result<Outcome, StepError>
         ensures ok { IfOk result (λ outcome.
             self.new ≡ with_move self.old step.now outcome.sends.items outcome.marks.items) }
@@ -101,6 +102,8 @@ impl World {
         ensures allowed { IsOkUnless result StepError.Memory
             ↔ GoesOn self.old.count self.old.start self.old.moves step.now }
         ensures err { OnErr result (self.new ≡ self.old) }
+        ensures memory { IsErrOf result StepError.Memory
+            → MayNeedMemory self.old.count self.old.start self.old.moves step.now ⊎ IsFull self.old.moves }
     {
         self.step_near(alloc, step, 0)
     }
@@ -124,6 +127,8 @@ impl World {
         ensures allowed { IsOkUnless result StepError.Memory
             ↔ GoesOn self.old.count self.old.start self.old.moves step.now }
         ensures err { OnErr result (self.new ≡ self.old) }
+        ensures memory { IsErrOf result StepError.Memory
+            → MayNeedMemory self.old.count self.old.start self.old.moves step.now ⊎ IsFull self.old.moves }
     {
         steps_have_one_cause();
         // What holds before the step is that the steps so far are a run.
@@ -258,7 +263,9 @@ impl World {
         };
         let asked = &self.nodes[place];
         asked.may_ask(client, &name)?;
-        make_room(&mut self.under_way, &mut self.log, MAX_SENDS, MAX_MARKS)?;
+        // A request is sent to each node, and it may enter at once.
+        let sends = self.nodes.len() as u64;
+        make_room(&mut self.under_way, &mut self.log, sends, 2)?;
         let asked = &mut self.nodes[place];
         let outcome = asked.ask(alloc, client, name, mode)?;
         let step = Step::Ask {
@@ -293,7 +300,9 @@ impl World {
         if !is_held_by(left, client, &name) {
             return Err(StepError::Node(NodeRefusal::NotHeld));
         }
-        make_room(&mut self.under_way, &mut self.log, MAX_SENDS, MAX_MARKS)?;
+        // The REPLYs that were deferred and the next request are sent, and it is left, requested and entered.
+        let sends = 2 * self.nodes.len() as u64;
+        make_room(&mut self.under_way, &mut self.log, sends, 3)?;
         let left = &mut self.nodes[place];
         let outcome = left.leave(alloc, client, name)?;
         let step = Step::Leave { node, client, name };
@@ -309,20 +318,21 @@ impl World {
     {
         kept_runs_go_on();
         runs_go_on_where_steps_are_allowed();
-        events_keep_a_node_consistent();
         let Some(slot) = self.under_way.find(message, near) else {
             return Err(StepError::NotUnderWay);
         };
-        // What is under way is for one of the nodes, so there is always a place.
+        // What is under way is for one of the nodes.
         let Some(place) = place_of(&self.nodes, message.to()) else {
-            return Err(StepError::NotUnderWay);
+            unreachable!()
         };
-        make_room(&mut self.under_way, &mut self.log, MAX_SENDS, MAX_MARKS)?;
+        let receiver = &self.nodes[place];
+        make_room_for(&mut self.under_way, &mut self.log, receiver, message)?;
         let receiver = &mut self.nodes[place];
-        // What is under way is for its node and from another one, so only memory can be wanting.
         let outcome = match receiver.receive(alloc, message) {
             Ok(outcome) => outcome,
-            Err(_) => return Err(StepError::Memory),
+            Err(ReceiveError::Memory) => return Err(StepError::Memory),
+            // What is under way is for its node and from another one.
+            Err(ReceiveError::WrongNode | ReceiveError::Stranger) => unreachable!(),
         };
         self.under_way.take_from(slot, message);
         let step = Step::Deliver(*message);

@@ -88,3 +88,13 @@ fn two_nodes_make_a_hundred_thousand_steps(rt: HostRuntime) {
     ];
     follow(&rt, 2, 0, ACTS);
 }
+
+#[test]
+fn sixteen_nodes_make_more_than_two_to_the_24th_steps(rt: HostRuntime) {
+    const ACTS: &[Act] = &[
+        Lock(524_300, 30),
+        HasSteps(16_777_600),
+        IsQuiet(1_572_900, 524_300, 15_729_000),
+    ];
+    follow(&rt, 16, 0, ACTS);
+}

@@ -1,4 +1,5 @@
 use Rattle.ra_world.proofs.KeptRuns as kept
+use Rattle.ra_world.proofs.Bringing.{name_is_met}
 use Rattle.ra_world.proofs.Queues.{few_queued, at_all}
 use Rattle.ra_world.proofs.keeping.kept_runs_go_on.Goals as goal
 
@@ -19,6 +20,15 @@ returns-clause-loss c =
 
 pub returns-clause-is_taken : goal.returns-clause-is_taken
 returns-clause-is_taken c = kept.is_taken c.events_leave_other_names.ensures.node c.messages_under_way_are_between_nodes.ensures.between_nodes
+
+pub returns-clause-counts : goal.returns-clause-counts
+returns-clause-counts c = kept.counts c.events_leave_other_names.ensures.node
+
+pub returns-clause-met : goal.returns-clause-met
+returns-clause-met c =
+    name_is_met c.messages_under_way_are_between_nodes.ensures.between_nodes
+    (λ n start moves count run message. (c.runs_go_on_where_steps_are_allowed.ensures.deliver n start moves count run message).1)
+    c.no_delivered_reply_is_a_stray.ensures
 
 pub returns-clause-queued : goal.returns-clause-queued
 returns-clause-queued c = few_queued

@@ -1,4 +1,4 @@
-use Rattle.std.proofs.Common.{rules, ◌≡◌, ◌+◌, ◌<◌, ◌++◌, List, length, get_or, refl, sym, ap, ◌∙◌, subst, arith}
+use Rattle.std.proofs.Common.{rules, ◌≡◌, ◌+◌, ◌<◌, ◌++◌, List, length, get_or, refl, sym, ap, ◌∙◌, subst, arith, inl}
 use Rattle.std.proofs.lemmas.Bool.{false≢true}
 use Rattle.ra_stamp.specs.declared.message.Message.{Message}
 use Rattle.ra_node.specs.Events.Event.{Leave as GivenBack}
@@ -40,7 +40,7 @@ returns-in_err-make_room-clause-tried c =
     short w.start w.nodes.items w.log.moves c.args.self.now _ (Leave c.args.node c.args.client c.args.name) c.from_residual.result c.self.view_is
     (ap (shown w.start w.nodes.items) c.make_room.ensures.moves)
     (leave_on c.runs_go_on_where_steps_are_allowed.ensures.leave w.start w.nodes.items w.under_way.items w.log.moves place c.args.node c.args.client c.args.name old
-    c.self.invariant number within at may)
+    c.self.invariant number within at may) (inl tt)
     c.from_residual.ensures.1
 
 pub returns-in_err-outcome-clause-tried : goal.returns-in_err-outcome-clause-tried
@@ -59,7 +59,7 @@ returns-in_err-outcome-clause-tried c =
     short w.start w.nodes.items w.log.moves c.args.self.now _ (Leave c.args.node c.args.client c.args.name) c.from_residual-in_err-outcome.result c.self.view_is
     (same_nodes w.start w.nodes.items w.log.moves c.make_room.new.log.moves place old c.leave.new.self at c.in_err-outcome.ensures.err c.make_room.ensures.moves)
     (leave_on c.runs_go_on_where_steps_are_allowed.ensures.leave w.start w.nodes.items w.under_way.items w.log.moves place c.args.node c.args.client c.args.name old
-    c.self.invariant number within at may)
+    c.self.invariant number within at may) (inl tt)
     (memory_of_leave c.from_residual-in_err-outcome.result c.in_err-outcome.field-0.0 c.from_residual-in_err-outcome.ensures.1 memory)
 
 pub returns-in_err-outcome-clause-run : goal.returns-in_err-outcome-clause-run
@@ -97,8 +97,9 @@ keep-requires-clause-bag_room c =
     let within : place < length w.nodes.items = search rules in
     let at_first : first ≡ get_or w.nodes.items place first = search rules in
     let at : old ≡ get_or w.nodes.items place old = search rules in
-    let few = few_carried c.events_keep_a_node_consistent.ensures.room w.nodes.items place first old c.leave.new.self (GivenBack c.args.client c.args.name)
-    outcome.sends.items outcome.marks.items within at_first at c.is_held_by.ensures.consistent c.in_ok-outcome.ensures.ok in
+    let few = few_carried c.events_keep_a_node_consistent.ensures.room_by_event w.nodes.items place first old c.leave.new.self (GivenBack c.args.client c.args.name)
+    outcome.sends.items outcome.marks.items
+    (c.kept_runs_go_on.ensures.counts w.start w.nodes.items w.under_way.items w.log.moves place c.self.invariant within) within at_first at c.is_held_by.ensures.consistent c.in_ok-outcome.ensures.ok in
     omega (arith, few.0, c.in_ok-make_room.ensures.bag_room)
 
 pub keep-requires-clause-log_room : goal.keep-requires-clause-log_room
@@ -111,6 +112,7 @@ keep-requires-clause-log_room c =
     let within : place < length w.nodes.items = search rules in
     let at_first : first ≡ get_or w.nodes.items place first = search rules in
     let at : old ≡ get_or w.nodes.items place old = search rules in
-    let few = few_carried c.events_keep_a_node_consistent.ensures.room w.nodes.items place first old c.leave.new.self (GivenBack c.args.client c.args.name)
-    outcome.sends.items outcome.marks.items within at_first at c.is_held_by.ensures.consistent c.in_ok-outcome.ensures.ok in
-    room_for c.make_room.new.log (length outcome.marks.items) c.in_ok-make_room.ensures.log_room few.1
+    let few = few_carried c.events_keep_a_node_consistent.ensures.room_by_event w.nodes.items place first old c.leave.new.self (GivenBack c.args.client c.args.name)
+    outcome.sends.items outcome.marks.items
+    (c.kept_runs_go_on.ensures.counts w.start w.nodes.items w.under_way.items w.log.moves place c.self.invariant within) within at_first at c.is_held_by.ensures.consistent c.in_ok-outcome.ensures.ok in
+    room_for c.make_room.new.log (length outcome.marks.items) 3 c.in_ok-make_room.ensures.log_room few.1

@@ -1,4 +1,4 @@
-use Rattle.std.proofs.Common.{◌≡◌, ◌++◌, ◌∷◌, [], List, Contains, refl, sym, ap, ◌∙◌, subst}
+use Rattle.std.proofs.Common.{◌≡◌, ◌++◌, ◌∷◌, [], List, Contains, refl, sym, ap, ◌∙◌, subst, arith, inl, inr}
 use Rattle.std.proofs.lemmas.List.{append-nil}
 use Rattle.ra_stamp.specs.declared.message.Message.{Message}
 use Rattle.ra_stamp.specs.Sequence.{Listed}
@@ -26,6 +26,7 @@ returns-in_err-make_room-clause-tried c =
     short w.start w.nodes.items w.log.moves c.args.self.now _ (Lose c.args.message.now) c.from_residual.result c.self.view_is
     (ap (shown w.start w.nodes.items) c.make_room.ensures.moves)
     ((c.runs_go_on_where_steps_are_allowed.ensures.lose _ w.start w.log.moves k.count k.run c.args.message.now).1 (under.1 there))
+    (elim c.in_err-make_room.ensures.err [ inl sends ↦ absurd (omega (arith, sends)) | inr other ↦ elim other [ inl marks ↦ absurd (omega (arith, marks)) | inr full ↦ inr full ] ])
     c.from_residual.ensures.1
 
 pub invariant_of-self-2 : goal.invariant_of-self-2
