@@ -1,6 +1,5 @@
 -- A policy makes one choice, a choice stands for one step, and has one fault at most.
-use Rattle.std.proofs.Common.{◌≡◌, ◌⊎◌, ℕ, zero, suc, ◌+◌, ◌-◌, ◌%◌, ◌<◌, ◌≤◌, true, Option, Some, None, List, [], ◌∷◌, length, slice_get, refl, sym, ap, ◌∙◌, subst, arith, inl, inr}
-use Rattle.std.specs.Option.{IfSome, is_some}
+use Rattle.std.proofs.Common.{◌≡◌, ◌⊎◌, ℕ, zero, suc, ◌+◌, ◌-◌, ◌%◌, ◌<◌, ◌≤◌, Option, Some, List, [], ◌∷◌, length, slice_get, refl, sym, ap, ◌∙◌, subst, arith, inl, inr}
 use Rattle.std.proofs.lemmas.Bool.{cases_eq}
 use Rattle.ra_stamp.specs.Sequence.{Listed as Listing}
 use Rattle.ra_stamp.specs.declared.message.Message.{Message as Sent}
@@ -129,10 +128,6 @@ nobody_past_the_end script moves n few none (suc k) (step, h) =
     past [] k e = absurd cc
     past (x ∷ xs) zero e = omega arith
     past (x ∷ xs) (suc k) e = let less = past xs k e in omega arith
-
-pub found : {X : Type 0} (o : Option X) (P : X → Type 0) → IfSome o P → true ≡ is_some o → (x : X) × P x
-found None P h e = absurd cc
-found (Some x) P h e = (x, h)
 
 -- where no client is enabled and no message under way, no choice is left
 pub nothing_left : OneList → (script : ScriptState) (policy : Policy) (moves : List Move) → ((choices : Listing Choice) → policy ≡ Listed choices → ⊥)

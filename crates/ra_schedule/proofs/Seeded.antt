@@ -1,7 +1,6 @@
 -- A policy and its generator.
-use Rattle.std.proofs.Common.{◌≡◌, ℕ, suc, ◌+◌, ◌%◌, Option, Some, None, List, [], ◌∷◌, length, slice_get, refl, sym, ap, ◌∙◌, subst}
+use Rattle.std.proofs.Common.{◌≡◌, ℕ, suc, ◌+◌, ◌%◌, Some, None, List, [], ◌∷◌, length, slice_get, refl, sym, ap, ◌∙◌, subst}
 use Rattle.std.proofs.Math.Numerals.{add-one}
-use Rattle.std.specs.Prelude.{IsSome}
 use Rattle.ra_stamp.specs.declared.message.Message.{Message as Sent}
 use Rattle.rand_pcg.specs.Lcg.{Lcg}
 use Rattle.rand_pcg.specs.Pcg.{pcg64, pcg64_of_seed}
@@ -77,15 +76,3 @@ none_goes_on Oldest turns is = refl
 none_goes_on Newest turns is = refl
 none_goes_on (Seeded seed) turns is = absurd cc
 none_goes_on (Listed choices) turns is = refl
-
-no_none : (generator : Option Lcg) → generator ≡ None → IsSome generator → ⊥
-no_none None is some = absurd cc
-no_none (Some generator) is some = absurd cc
-
--- who has a generator then had one before
-pub had_one : (policy : Policy) (turns later : ℕ) (old new : Option Lcg) → old ≡ generator_at policy turns → new ≡ generator_at policy later
-    → IsSome new → IsSome old
-had_one Oldest turns later old new is then some = absurd (no_none new then some)
-had_one Newest turns later old new is then some = absurd (no_none new then some)
-had_one (Seeded seed) turns later old new is then some = subst IsSome (sym is) refl
-had_one (Listed choices) turns later old new is then some = absurd (no_none new then some)

@@ -1,32 +1,33 @@
 -- What the driver keeps from turn to turn, and how its end is read off.
-use Rattle.std.proofs.Common.{◌≡◌, ℕ, zero, suc, ◌+◌, ◌<◌, ◌≤◌, ◌^◌, Bool, true, false, Some, None, List, [], ◌∷◌, ◌++◌, All, length, take, replicate, slice_get, slice_index_or, refl, sym, ap, ◌∙◌, subst, arith, inl, inr}
-use Rattle.std.specs.Prelude.{IsSome, ◌==◌, if◌then◌else◌, option_map, option_and_then, Contains}
+use Rattle.std.proofs.Common.{◌≡◌, ℕ, zero, suc, ◌+◌, ◌<◌, ◌≤◌, ◌^◌, Bool, true, false, Some, None, Result, Ok, Err, List, [], ◌∷◌, ◌++◌, All, length, take, replicate, slice_get, slice_index_or, refl, sym, ap, ◌∙◌, subst, arith, inl, inr}
+use Rattle.std.specs.Prelude.{◌↔◌, IsTrue, IfOk, IfSome, ◌==◌, if◌then◌else◌, option_map, option_and_then, Contains}
 use Rattle.std.proofs.lemmas.List as lists
 use Rattle.std.proofs.lemmas.List.Elements.{All-replicate}
+use Rattle.std.proofs.lemmas.Option.{IfSome_then}
 use Rattle.ra_stamp.specs.NodeId.{IsNodeNumber}
 use Rattle.ra_stamp.specs.declared.message.Message.{Message as Sent}
 use Rattle.ra_world.specs.declared.step.Step.{Step}
 use Rattle.ra_world.specs.declared.step.Step.TheVariants.{Ask, Leave, Deliver, Lose}
 use Rattle.ra_world.specs.Traffic.{Move, IsUnderWay}
-use Rattle.ra_world.specs.World.{WorldState}
+use Rattle.ra_world.specs.World.{WorldState, Reports}
+use Rattle.ra_world.specs.MainTheorem.{MainTheorem}
 use Rattle.ra_world.specs.Run.{IsRun, GoesOn}
 use Rattle.ra_schedule.specs.declared.driver.Driver.{Driver}
-use Rattle.ra_schedule.specs.declared.enabled.Enabled.{Enabled}
+use Rattle.ra_schedule.specs.declared.driving.Recording.{Recording}
+use Rattle.ra_schedule.specs.declared.error.DriveError.{DriveError}
 use Rattle.ra_schedule.specs.declared.progress.Progress.{Progress}
 use Rattle.ra_schedule.specs.declared.choice.Choice.{Choice}
 use Rattle.ra_schedule.specs.declared.choice.Choice.TheVariants.{Client, Message, Lost}
 use Rattle.ra_schedule.specs.declared.choice.Policy.{Policy}
 use Rattle.ra_schedule.specs.Script.{ScriptClient, ScriptState, client_at, op_at}
-use Rattle.ra_schedule.specs.Schedule.{steps_of, steps_in, steps_by, Enters, IsEnabled, IsAtPlace, StandsFor, Picks, Follows}
+use Rattle.ra_schedule.specs.Schedule.{steps_of, steps_in, steps_by, Enters, IsEnabled, IsAtPlace, StandsFor, Picks, Follows, IsFinished}
 use Rattle.ra_schedule.specs.Progress.{IsProgress, Tracks, OfEach, IsProgressAfter, AreCountable, AreDone, IsStuck, AreStuck, NoneEnters, recorded}
-use Rattle.ra_schedule.specs.Enabled.{AreFlags, AreFlagsElsewhere, AreRosters, numbers_from}
-use Rattle.ra_schedule.specs.Drawing.{generator_at}
-use Rattle.ra_schedule.specs.Driving.{IsDriven, IsReady, HasMade}
+use Rattle.ra_schedule.specs.Drawing.{AreDraws, AreDrawsElsewhere, generator_at, generator_in}
+use Rattle.ra_schedule.specs.Driving.{IsDriven, IsReady, IsAtEnd, HasMade, Records}
 use Rattle.ra_schedule.specs.Below.{LawsBelow}
 use Rattle.ra_schedule.proofs.Waiting.{nobody_waits, goes_on}
 use Rattle.ra_schedule.proofs.Elsewhere.{flags_elsewhere}
 use Rattle.ra_schedule.proofs.Following.{follows_none, follows_more}
-use Rattle.ra_schedule.proofs.Seeded.{had_one}
 use Rattle.ra_schedule.proofs.Choosing.{same_some}
 
 abbrev pub opening_progress : Progress
@@ -58,11 +59,9 @@ module _ (script : ScriptState) (world : WorldState) (is : world ≡ record { co
   }
 
   pub ready_none : (policy : Policy) (driver : Driver) → IsNodeNumber script.nodes → IsRun world.count world.start world.moves
-      → Tracks script world driver.clients.items → driver.first ≡ 0 → driver.draws.generator ≡ generator_at policy 0
-      → AreRosters script driver.draws.rosters.items → AreFlags script world.moves driver.draws.enabled.flags.items
-      → driver.draws.enabled.count ≡ length (numbers_from 1 driver.draws.enabled.flags.items) → driver.steps.items ≡ []
-      → IsReady script policy world driver
-  ready_none policy driver nodes run tracks first drawn rosters flags count steps =
+      → Tracks script world driver.clients.items → driver.first ≡ 0 → generator_in driver.draws ≡ generator_at policy 0
+      → IfSome driver.draws (AreDraws script world.moves) → driver.steps.items ≡ [] → IsReady script policy world driver
+  ready_none policy driver nodes run tracks first drawn draws steps =
       let run' : IsRun script.nodes 0 world.moves =
       subst (λ (s : ℕ). IsRun script.nodes s world.moves) tracks.start (subst (λ (n : ℕ). IsRun n world.start world.moves) tracks.count run) in
       record {
@@ -71,10 +70,7 @@ module _ (script : ScriptState) (world : WorldState) (is : world ≡ record { co
           run = run';
           tracks = tracks;
           stuck = λ k d less within. absurd (omega (arith, less, first));
-          rosters = rosters;
-          alike = flags.length_is;
-          count = count;
-          flags = λ some. flags;
+          draws = draws;
           steps = nothing_recorded driver.records driver.steps.items world.moves steps none_moved;
         };
         follows = subst (Follows script policy) (sym none_moved) (follows_none script policy (subst (IsRun script.nodes 0) none_moved run'));
@@ -152,26 +148,20 @@ nobody_below script world clients first tracks stuck k below (step, enables) =
 
 -- ---- One more turn
 
--- a policy chose, by draws that keep who is enabled, and looked for a client that is free
-pub driven_with : (script : ScriptState) (policy : Policy) (world : WorldState) (driver chosen : Driver) (later : ℕ)
+-- a policy chose, by draws that know who is enabled, and looked for a client that is free
+pub driven_with : (script : ScriptState) (policy : Policy) (world : WorldState) (driver chosen : Driver)
     → IsReady script policy world driver → chosen.clients.items ≡ driver.clients.items
     → chosen.steps.items ≡ driver.steps.items → chosen.records ≡ driver.records
     → AreStuck script driver.clients.items chosen.first
-    → chosen.draws.rosters.items ≡ driver.draws.rosters.items → chosen.draws.enabled ≡ driver.draws.enabled
-    → chosen.draws.generator ≡ generator_at policy later → IsDriven script world chosen
-driven_with script policy world driver chosen later ready items steps records stuck rosters enabled drawn =
+    → IfSome chosen.draws (AreDraws script world.moves) → IsDriven script world chosen
+driven_with script policy world driver chosen ready items steps records stuck draws =
     let driven = ready.driven in
     record {
       nodes = driven.nodes;
       run = driven.run;
       tracks = subst (Tracks script world) (sym items) driven.tracks;
       stuck = subst (λ (ps : List Progress). AreStuck script ps chosen.first) (sym items) stuck;
-      rosters = subst (AreRosters script) (sym rosters) driven.rosters;
-      alike = ap (λ (e : Enabled). length e.flags.items) enabled ∙ driven.alike;
-      count = subst (λ (e : Enabled). e.count ≡ length (numbers_from 1 e.flags.items)) (sym enabled) driven.count;
-      flags = λ some.
-          subst (λ (e : Enabled). AreFlags script world.moves e.flags.items) (sym enabled)
-          (driven.flags (had_one policy (length world.moves) later driver.draws.generator chosen.draws.generator ready.drawn drawn some));
+      draws = draws;
       steps = steps ∙ driven.steps ∙ ap (λ (b : Bool). recorded b world.moves) (sym records);
     }
 
@@ -183,28 +173,28 @@ module _ (script : ScriptState) (world next : WorldState) (driver : Driver) (mov
       subst (λ (s : ℕ). IsRun script.nodes s next.moves) (ap (λ (w : WorldState). w.start) is ∙ driven.tracks.start)
       (subst (λ (n : ℕ). IsRun n next.start next.moves) (ap (λ (w : WorldState). w.count) is ∙ driven.tracks.count) run)
 
-  pub flags_before : LawsBelow → (choice : Choice) → StandsFor script world.moves choice move.step → IsSome driver.draws.generator
-      → AreFlagsElsewhere move.step move.marks script next.moves driver.draws.enabled.flags.items
-  flags_before laws choice means some =
-      flags_elsewhere laws script world.moves next.moves move choice driver.draws.enabled.flags.items driven.nodes
-      (ap (λ (w : WorldState). w.moves) is) run_more means (driven.flags some)
+  pub draws_before : LawsBelow → (choice : Choice) → StandsFor script world.moves choice move.step
+      → IfSome driver.draws (AreDrawsElsewhere move.step move.marks script next.moves)
+  draws_before laws choice means =
+      IfSome_then driver.draws driven.draws (λ draws are. record {
+        rosters = are.rosters;
+        alike = are.flags.length_is;
+        flags = flags_elsewhere laws script world.moves next.moves move choice draws.enabled.flags.items driven.nodes
+            (ap (λ (w : WorldState). w.moves) is) run_more means are.flags;
+        count = are.count;
+      })
 
   pub driven_more : (new : Driver) → Tracks script next new.clients.items → OfEach (IsProgressAfter move) driver.clients.items new.clients.items
       → new.first ≤ driver.first → NoneEnters new.first move.marks
-      → AreRosters script new.draws.rosters.items → length new.draws.enabled.flags.items ≡ length script.clients
-      → new.draws.enabled.count ≡ length (numbers_from 1 new.draws.enabled.flags.items)
-      → (IsSome new.draws.generator → AreFlags script next.moves new.draws.enabled.flags.items)
+      → IfSome new.draws (AreDraws script next.moves)
       → new.steps.items ≡ recorded new.records (world.moves ++ move ∷ []) → IsDriven script next new
-  driven_more new tracks after less none rosters alike count flags steps = record {
+  driven_more new tracks after less none draws steps = record {
     nodes = driven.nodes;
     run = run_more;
     tracks = tracks;
     stuck = still_stuck script driver.clients.items new.clients.items driver.first new.first move driven.stuck
         (tracks.length_is ∙ sym driven.tracks.length_is) after less none;
-    rosters = rosters;
-    alike = alike;
-    count = count;
-    flags = flags;
+    draws = draws;
     steps = steps ∙ ap (recorded new.records) (sym (ap (λ (w : WorldState). w.moves) is));
   }
 
@@ -214,7 +204,7 @@ one_longer moves next move is = ap length is ∙ lists.length-append moves (move
 -- the policy chose, and its choice was made
 pub ready_more : (script : ScriptState) (policy : Policy) (world next : WorldState) (driver chosen new : Driver) (choice : Choice)
     → IsReady script policy world driver → Picks script policy world.moves choice
-    → chosen.draws.generator ≡ generator_at policy (length world.moves + 1)
+    → generator_in chosen.draws ≡ generator_at policy (length world.moves + 1)
     → HasMade script choice world chosen next new → IsReady script policy next new
 ready_more script policy world next driver chosen new choice ready picks drawn made =
     let (move, means, moves) = made.made in
@@ -307,6 +297,26 @@ are_done script world clients steps tracks are done k d within =
     let count = done (k + 1) who at in
     let same : (slice_index_or clients k d).done ≡ length who.ops = stands ∙ ap (steps_by (k + 1)) (sym are) ∙ count in
     ap (option_map (λ (w : ScriptClient). length w.ops)) at ∙ ap Some (sym same)
+
+-- what is recorded where no choice is left
+pub records_all : (script : ScriptState) (policy : Policy) (world : WorldState) (driver : Driver) (limit : ℕ) (records : Bool)
+    (result : Result Recording DriveError) → IsAtEnd script policy world driver → length world.moves ≤ limit → driver.records ≡ records
+    → IfOk result (λ recording. recording.steps.items ≡ driver.steps.items)
+    → IfOk result (λ recording. Reports script.nodes 0 world.moves recording.report)
+    → IfOk result (λ recording. MainTheorem script.nodes recording.report)
+    → IfOk result (λ recording. IsTrue recording.finished ↔ IsFinished script (steps_of world.moves) recording.report)
+    → IfOk result (Records script policy limit records)
+records_all script policy world driver limit records (Err why) ends within same steps reports theorem finished = tt
+records_all script policy world driver limit records (Ok recording) ends within same steps reports theorem finished = record {
+  moves = world.moves;
+  steps = steps ∙ ends.steps ∙ ap (λ (b : Bool). recorded b world.moves) same;
+  follows = ends.follows;
+  ends = ends.ends;
+  within = within;
+  reports = reports;
+  finished = finished;
+  main_theorem = theorem;
+}
 
 -- ---- A list that was lent whole comes back whole
 

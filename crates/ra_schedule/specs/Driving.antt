@@ -1,5 +1,5 @@
 -- How far the driver has come with a script, and how it ends. No public contract speaks of it.
-use Rattle.std.specs.Prelude.{◌≡◌, ◌≢◌, ◌⊎◌, ◌↔◌, ℕ, ◌+◌, ◌≤◌, Bool, true, false, List, [], ◌∷◌, ◌++◌, length, Result, IsTrue, IsSome, IsErrOf, IsOkUnless}
+use Rattle.std.specs.Prelude.{◌≡◌, ◌≢◌, ◌⊎◌, ◌↔◌, ℕ, ◌+◌, ◌≤◌, Bool, true, false, List, [], ◌∷◌, ◌++◌, length, Result, IsTrue, IfOk, IfErr, IsErrOf, IsOkUnless, IfSome}
 use Rattle.ra_stamp.specs.NodeId.{IsNodeNumber}
 use Rattle.ra_world.specs.Traffic.{Move}
 use Rattle.ra_world.specs.Run.{IsRun}
@@ -7,6 +7,7 @@ use Rattle.ra_world.specs.World.{WorldState, Reports}
 use Rattle.ra_world.specs.MainTheorem.{MainTheorem}
 use Rattle.ra_schedule.specs.declared.choice.Choice.{Choice}
 use Rattle.ra_schedule.specs.declared.choice.Policy.{Policy}
+use Rattle.ra_world.specs.declared.step.Step.{Step}
 use Rattle.ra_schedule.specs.declared.driver.Driver.{Driver}
 use Rattle.ra_schedule.specs.declared.driving.Recording.{Recording}
 use Rattle.ra_schedule.specs.declared.error.DriveError.{DriveError}
@@ -14,27 +15,23 @@ use Rattle.ra_schedule.specs.declared.error.DriveError.TheVariants.{BadPlace, No
 use Rattle.ra_schedule.specs.Script.{ScriptState}
 use Rattle.ra_schedule.specs.Schedule.{steps_of, StandsFor, Picks, IsBadPlace, IsNotEnabled, Ends, Follows, Stops, IsFinished}
 use Rattle.ra_schedule.specs.Progress.{Tracks, AreStuck, recorded}
-use Rattle.ra_schedule.specs.Drawing.{generator_at}
-use Rattle.ra_schedule.specs.Enabled.{AreFlags, AreRosters, numbers_from}
+use Rattle.ra_schedule.specs.Drawing.{AreDraws, generator_at, generator_in}
 
--- the cluster has come so far with the script, whoever chose: this is how its clients stand, and who of them is enabled where
--- there is a generator
+-- the cluster has come so far with the script, whoever chose: this is how its clients stand, and what chance knows of them where it
+-- chooses
 pub record IsDriven (script : ScriptState) (world : WorldState) (driver : Driver) : Type 0 where
   pub nodes : IsNodeNumber script.nodes
   pub run : IsRun script.nodes 0 world.moves
   pub tracks : Tracks script world driver.clients.items
   pub stuck : AreStuck script driver.clients.items driver.first
-  pub rosters : AreRosters script driver.draws.rosters.items
-  pub alike : length driver.draws.enabled.flags.items ≡ length script.clients
-  pub count : driver.draws.enabled.count ≡ length (numbers_from 1 driver.draws.enabled.flags.items)
-  pub flags : IsSome driver.draws.generator → AreFlags script world.moves driver.draws.enabled.flags.items
+  pub draws : IfSome driver.draws (AreDraws script world.moves)
   pub steps : driver.steps.items ≡ recorded driver.records world.moves
 
 -- the policy has come so far with the script, and its generator has given a word for each turn
 pub record IsReady (script : ScriptState) (policy : Policy) (world : WorldState) (driver : Driver) : Type 0 where
   pub driven : IsDriven script world driver
   pub follows : Follows script policy world.moves
-  pub drawn : driver.draws.generator ≡ generator_at policy (length world.moves)
+  pub drawn : generator_in driver.draws ≡ generator_at policy (length world.moves)
 
 -- the policy has no choice left
 pub record IsAtEnd (script : ScriptState) (policy : Policy) (world : WorldState) (driver : Driver) : Type 0 where
@@ -46,7 +43,7 @@ pub record IsAtEnd (script : ScriptState) (policy : Policy) (world : WorldState)
 -- what the choice stands for was done
 pub record HasMade (script : ScriptState) (choice : Choice) (world : WorldState) (driver : Driver) (next : WorldState) (new : Driver) : Type 0 where
   pub driven : IsDriven script next new
-  pub drawn : new.draws.generator ≡ driver.draws.generator
+  pub drawn : generator_in new.draws ≡ generator_in driver.draws
   pub records : new.records ≡ driver.records
   pub made : (move : Move) × StandsFor script world.moves choice move.step × (next.moves ≡ world.moves ++ move ∷ [])
 
@@ -56,10 +53,19 @@ AfterTurn script policy world driver next new true = (length next.moves ≡ leng
     × IsReady script policy next new
 AfterTurn script policy world driver next new false = (next ≡ world) × (new.records ≡ driver.records) × IsAtEnd script policy next new
 
+-- a choice has this fault
+abbrev pub HasFault : ScriptState → List Move → Choice → DriveError → Type 0
+HasFault script moves choice fault =
+    ((fault ≡ BadPlace) × IsBadPlace script moves choice) ⊎ ((fault ≡ NotEnabled) × IsNotEnabled script moves choice)
+
+-- this is the step that a choice stands for, or its fault
+pub record IsMeaning (script : ScriptState) (moves : List Move) (choice : Choice) (meaning : Result Step DriveError) : Type 0 where
+  pub ok : IfOk meaning (StandsFor script moves choice)
+  pub err : IfErr meaning (HasFault script moves choice)
+
 -- want of memory keeps a choice from being made, or a fault of its own
 abbrev pub CannotBeMade : ScriptState → List Move → Choice → DriveError → Type 0
-CannotBeMade script moves choice fault = (fault ≡ Memory)
-    ⊎ (((fault ≡ BadPlace) × IsBadPlace script moves choice) ⊎ ((fault ≡ NotEnabled) × IsNotEnabled script moves choice))
+CannotBeMade script moves choice fault = (fault ≡ Memory) ⊎ HasFault script moves choice fault
 
 -- behind these moves the choice of the policy cannot be made
 abbrev pub IsRefused : ScriptState → Policy → List Move → DriveError → Type 0

@@ -1,8 +1,7 @@
-//! What a policy keeps from turn to turn.
-ghost use Rattle.std.specs.Prelude.{◌≡◌, length, IfOk, IsSome};
-ghost use Rattle.ra_schedule.specs.Drawing.{generator_at};
+//! What chance keeps from turn to turn.
+ghost use Rattle.std.specs.Prelude.{◌≡◌, IfOk, IfSome};
+ghost use Rattle.ra_schedule.specs.Drawing.{AreDraws, AreDrawsElsewhere, generator_at, generator_in};
 ghost use Rattle.ra_schedule.specs.Progress.{Tracks};
-ghost use Rattle.ra_schedule.specs.Enabled.{AreFlags, AreFlagsElsewhere, AreRosters, numbers_from};
 
 use crate::enabled::Enabled;
 use crate::progress::Progress;
@@ -14,19 +13,19 @@ use rand_core::SeedableRng;
 use rand_pcg::Lcg128Xsl64;
 use std::alloc::Global;
 
-/// What a policy chooses by.
+/// What chance chooses by.
 #[derive(Drop)]
 pub struct Draws {
-    /// The one generator of a run, where the policy is a seed's.
-    pub generator: Option<Lcg128Xsl64>,
+    /// The one generator of a run.
+    pub generator: Lcg128Xsl64,
     /// The clients of each node.
     pub rosters: Vec<Roster>,
-    /// Which clients are enabled, where there is a generator.
+    /// Which clients are enabled.
     pub enabled: Enabled,
 }
 
 impl Draws {
-    /// Makes what a policy begins with.
+    /// Makes what chance begins with, or `None` where the policy is no seed's: then nothing is kept, and no memory taken.
     ///
     /// # Errors
     ///
@@ -37,26 +36,26 @@ impl Draws {
         script: &Script,
         world: &World,
         clients: &[Progress],
-    ) -> Result<Draws, Memory>
+    ) -> Result<Option<Draws>, Memory>
         requires { Tracks script.now world.now clients.now }
-        ensures generator { IfOk result (λ draws. draws.generator ≡ generator_at policy.now 0) }
-        ensures rosters { IfOk result (λ draws. AreRosters script.now draws.rosters.items) }
-        ensures flags { IfOk result (λ draws. AreFlags script.now world.now.moves draws.enabled.flags.items) }
-        ensures count { IfOk result (λ draws. draws.enabled.count ≡ length (numbers_from 1 draws.enabled.flags.items)) }
+        ensures generator { IfOk result (λ draws. generator_in draws ≡ generator_at policy.now 0) }
+        ensures draws { IfOk result (λ draws. IfSome draws (AreDraws script.now world.now.moves)) }
     {
-        let generator = generator_of(policy);
+        let Some(generator) = generator_of(policy) else {
+            return Ok(None);
+        };
         let rosters = rosters_of(alloc, script)?;
         let enabled = Enabled::of(alloc, script, world, clients)?;
-        Ok(Draws {
+        Ok(Some(Draws {
             generator,
             rosters,
             enabled,
-        })
+        }))
     }
 
     /// Notes a step that was made with these marks. Only at its node something has changed, so that only the clients there are
     /// looked at, and those that entered.
-    pub fn note(
+    fn note(
         &mut self,
         script: &Script,
         world: &World,
@@ -65,23 +64,32 @@ impl Draws {
         marks: &[Mark],
     )
         requires tracked { Tracks script.now world.now clients.now }
-        requires rosters { AreRosters script.now self.old.rosters.items }
-        requires alike { length self.old.enabled.flags.items ≡ length script.now.clients }
-        requires count { self.old.enabled.count ≡ length (numbers_from 1 self.old.enabled.flags.items) }
-        requires elsewhere { IsSome self.old.generator
-            → AreFlagsElsewhere step.now marks.now script.now world.now.moves self.old.enabled.flags.items }
+        requires draws { AreDrawsElsewhere step.now marks.now script.now world.now.moves self.old }
         ensures generator { self.new.generator ≡ self.old.generator }
-        ensures rosters { AreRosters script.now self.new.rosters.items }
-        ensures alike { length self.new.enabled.flags.items ≡ length script.now.clients }
-        ensures count { self.new.enabled.count ≡ length (numbers_from 1 self.new.enabled.flags.items) }
-        ensures flags { IsSome self.new.generator → AreFlags script.now world.now.moves self.new.enabled.flags.items }
+        ensures draws { AreDraws script.now world.now.moves self.new }
     {
-        if self.generator.is_none() {
-            return;
-        }
         let members = members_at(&self.rosters, node_at(step));
         self.enabled.look_at_all(script, world, clients, members);
         self.enabled.look_at_entered(script, world, clients, marks);
+    }
+}
+
+/// Notes a step that was made with these marks, where chance chooses.
+pub fn note_step_in(
+    draws: &mut Option<Draws>,
+    script: &Script,
+    world: &World,
+    clients: &[Progress],
+    step: &Step,
+    marks: &[Mark],
+)
+    requires tracked { Tracks script.now world.now clients.now }
+    requires draws { IfSome draws.old (AreDrawsElsewhere step.now marks.now script.now world.now.moves) }
+    ensures generator { generator_in draws.new ≡ generator_in draws.old }
+    ensures draws { IfSome draws.new (AreDraws script.now world.now.moves) }
+{
+    if let Some(draws) = draws {
+        draws.note(script, world, clients, step, marks);
     }
 }
 

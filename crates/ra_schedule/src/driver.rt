@@ -6,11 +6,11 @@ ghost use Rattle.ra_schedule.specs.declared.choice.Choice.{Choice};
 ghost use Rattle.ra_schedule.specs.declared.error.DriveError.{DriveError};
 ghost use Rattle.ra_schedule.specs.Schedule.{StandsFor};
 ghost use Rattle.ra_schedule.specs.Progress.{OfEach, IsProgressAfter, AreCountable, recorded};
-ghost use Rattle.ra_schedule.specs.Driving.{IsDriven, IsReady, IsAtEnd, AfterTurn, HasMade, CannotBeMade, IsRefused, IsStopped};
+ghost use Rattle.ra_schedule.specs.Driving.{IsDriven, IsReady, IsAtEnd, IsMeaning, AfterTurn, HasMade, CannotBeMade, IsRefused, IsStopped};
 
-use crate::draws::Draws;
+use crate::draws::{Draws, note_step_in};
 use crate::laws::schedules_rest_on_runs;
-use crate::picking::{meaning, pick};
+use crate::picking::{Picked, pick};
 use crate::progress::{
     Progress, first_entered, first_free, note_marks, note_step, opening_progress,
 };
@@ -24,8 +24,8 @@ use std::alloc::Global;
 pub struct Driver {
     /// Where each client stands.
     pub clients: Vec<Progress>,
-    /// What the policy chooses by.
-    draws: Draws,
+    /// What chance chooses by, where it does.
+    draws: Option<Draws>,
     /// Each client before this place waits or has nothing left to do, so that most turns need not look at all clients.
     first: u32,
     /// Whether the steps are recorded.
@@ -118,7 +118,7 @@ impl Driver {
         ensures err { IfErr result (IsRefused script.now policy.now world.old.moves) }
     {
         self.first = first_free(script, &self.clients, self.first);
-        let Some(choice) = pick(
+        let Some(picked) = pick(
             script,
             policy,
             &mut self.draws,
@@ -128,11 +128,11 @@ impl Driver {
         ) else {
             return Ok(false);
         };
-        self.follow(alloc, script, world, choice)?;
+        self.follow(alloc, script, world, picked)?;
         Ok(true)
     }
 
-    /// Does what a choice stands for.
+    /// Does what a choice stands for, where it can be made.
     ///
     /// # Errors
     ///
@@ -142,14 +142,16 @@ impl Driver {
         alloc: Global,
         script: &Script,
         world: &mut World,
-        choice: Choice,
+        picked: Picked,
     ) -> Result<(), DriveError>
         requires driven { IsDriven script.now world.old self.old }
         requires countable { length world.old.moves + 1 < 2 ^ 64 }
-        ensures ok { OnOk result (HasMade script.now choice world.old self.old world.new self.new) }
-        ensures err { IfErr result (CannotBeMade script.now world.old.moves choice) }
+        requires meaning { IsMeaning script.now world.old.moves picked.choice picked.meaning }
+        ensures ok { OnOk result (HasMade script.now picked.choice world.old self.old world.new self.new) }
+        ensures err { IfErr result (CannotBeMade script.now world.old.moves picked.choice) }
     {
-        match meaning(script, world, &self.clients, choice) {
+        let Picked { choice, meaning } = picked;
+        match meaning {
             Ok(step) => self.take_step(alloc, script, world, choice, &step),
             Err(fault) => Err(fault),
         }
@@ -179,7 +181,7 @@ impl Driver {
         keep_step(&mut self.steps, self.records, step)?;
         let marks = made.as_slice();
         self.first = first_entered(marks, self.first);
-        self.draws.note(script, world, &self.clients, step, marks);
+        note_step_in(&mut self.draws, script, world, &self.clients, step, marks);
         Ok(())
     }
 }

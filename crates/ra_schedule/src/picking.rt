@@ -4,10 +4,10 @@ ghost use Rattle.ra_world.specs.declared.step.Step.{Step};
 ghost use Rattle.ra_schedule.specs.declared.choice.Choice.{Choice};
 ghost use Rattle.ra_schedule.specs.declared.error.DriveError.{DriveError};
 ghost use Rattle.ra_schedule.specs.Script.{client_at, op_at};
-ghost use Rattle.ra_schedule.specs.Schedule.{Enables, IsEnabled, IsFirstEnabled, IsNext, StandsFor, IsBadPlace, IsNotEnabled, Picks, Ends, step_of};
+ghost use Rattle.ra_schedule.specs.Schedule.{Enables, IsEnabled, IsFirstEnabled, StandsFor, Picks, Ends, step_of};
+ghost use Rattle.ra_schedule.specs.Driving.{HasFault, IsMeaning};
 ghost use Rattle.ra_schedule.specs.Progress.{Tracks, IsProgress, AreStuck};
-ghost use Rattle.ra_schedule.specs.Drawing.{generator_at};
-ghost use Rattle.ra_schedule.specs.Enabled.{AreFlags, numbers_from};
+ghost use Rattle.ra_schedule.specs.Drawing.{AreDraws, generator_at, generator_in};
 
 use crate::drawing::draw;
 use crate::draws::Draws;
@@ -53,62 +53,93 @@ pub fn enabled_step(script: &Script, world: &World, client: u32, progress: Progr
     }
 }
 
+/// A choice, and the step that it stands for, or why it can't be made.
+#[derive(Clone, Copy)]
+pub struct Picked {
+    pub choice: Choice,
+    pub meaning: Result<Step, DriveError>,
+}
+
+/// The first client that is enabled, and its step.
+#[derive(Clone, Copy)]
+struct First {
+    client: u32,
+    step: Step,
+}
+
 /// Returns the first enabled client in the order of the script, or `None`. None is before the place `first`.
-fn first_enabled(script: &Script, world: &World, clients: &[Progress], first: u32) -> Option<u32>
+fn first_enabled(script: &Script, world: &World, clients: &[Progress], first: u32) -> Option<First>
     requires tracked { Tracks script.now world.now clients.now }
     requires stuck { AreStuck script.now clients.now first }
-    ensures some { IfSome result (IsFirstEnabled script.now world.now.moves) }
+    ensures first { IfSome result (λ found. IsFirstEnabled script.now world.now.moves found.client) }
+    ensures step { IfSome result (λ found. Enables script.now world.now.moves found.client found.step) }
     ensures none { IsNone result → (client : ℕ) → IsEnabled script.now world.now.moves client → ⊥ }
 {
     for place in first..script.clients() {
         let client = place + 1;
         let progress = clients[place as usize];
-        if enabled_step(script, world, client, progress).is_some() {
-            return Some(client);
+        if let Some(step) = enabled_step(script, world, client, progress) {
+            return Some(First { client, step });
         }
     }
     None
 }
 
-/// Returns the choice that the policy makes next, or `None` at the end. No client before the place `first` is enabled.
+/// Returns a choice with its meaning.
+fn with_meaning(script: &Script, world: &World, clients: &[Progress], choice: Choice) -> Picked
+    requires { Tracks script.now world.now clients.now }
+    ensures choice { result.choice ≡ choice }
+    ensures meaning { IsMeaning script.now world.now.moves choice result.meaning }
+{
+    let meaning = meaning(script, world, clients, choice);
+    Picked { choice, meaning }
+}
+
+/// Returns the choice that the policy makes next, with its meaning, or `None` at the end. No client before the place `first` is
+/// enabled.
 #[inline(always)]
 pub fn pick(
     script: &Script,
     policy: &Policy,
-    draws: &mut Draws,
+    draws: &mut Option<Draws>,
     world: &World,
     clients: &[Progress],
     first: u32,
-) -> Option<Choice>
+) -> Option<Picked>
     requires tracked { Tracks script.now world.now clients.now }
     requires stuck { AreStuck script.now clients.now first }
-    requires flags { IsSome draws.old.generator → AreFlags script.now world.now.moves draws.old.enabled.flags.items }
-    requires count { draws.old.enabled.count ≡ length (numbers_from 1 draws.old.enabled.flags.items) }
-    requires drawn { draws.old.generator ≡ generator_at policy.now (length world.now.moves) }
-    ensures some { IfSome result (Picks script.now policy.now world.now.moves) }
+    requires draws { IfSome draws.old (AreDraws script.now world.now.moves) }
+    requires drawn { generator_in draws.old ≡ generator_at policy.now (length world.now.moves) }
+    ensures some { IfSome result (λ picked. Picks script.now policy.now world.now.moves picked.choice) }
+    ensures meaning { IfSome result (λ picked. IsMeaning script.now world.now.moves picked.choice picked.meaning) }
     ensures none { IsNone result → Ends script.now policy.now world.now.moves }
-    ensures drawn { IsSome result → draws.new.generator ≡ generator_at policy.now (length world.now.moves + 1) }
-    ensures rosters { draws.new.rosters.items ≡ draws.old.rosters.items }
-    ensures enabled { draws.new.enabled ≡ draws.old.enabled }
+    ensures drawn { IsSome result → generator_in draws.new ≡ generator_at policy.now (length world.now.moves + 1) }
+    ensures draws { IfSome draws.new (AreDraws script.now world.now.moves) }
 {
     schedules_rest_on_runs();
     if let Policy::Listed(choices) = policy {
-        return choices.at(world.steps());
+        let choice = choices.at(world.steps())?;
+        return Some(with_meaning(script, world, clients, choice));
     }
-    if let Some(generator) = &mut draws.generator {
-        return draw(generator, script, world, &draws.enabled);
+    if let Some(draws) = draws {
+        let choice = draw(&mut draws.generator, script, world, &draws.enabled)?;
+        return Some(with_meaning(script, world, clients, choice));
     }
-    if let Some(client) = first_enabled(script, world, clients, first) {
-        return Some(Choice::Client(client));
+    if let Some(found) = first_enabled(script, world, clients, first) {
+        return Some(Picked {
+            choice: Choice::Client(found.client),
+            meaning: Ok(found.step),
+        });
     }
     let messages = world.under_way();
     if messages == 0 {
         return None;
     }
-    match policy {
-        Policy::Newest => Some(Choice::Message(messages - 1)),
-        _ => Some(Choice::Message(0)),
-    }
+    let choice = match policy {
+        Policy::Newest => Choice::Message(messages - 1),
+        _ => Choice::Message(0),
+    };
+    Some(with_meaning(script, world, clients, choice))
 }
 
 /// Returns what a choice stands for.
@@ -119,7 +150,7 @@ pub fn pick(
 ///
 /// 1. `BadPlace`: there is no such client or message.
 /// 2. `NotEnabled`: the client is not enabled.
-pub fn meaning(
+fn meaning(
     script: &Script,
     world: &World,
     clients: &[Progress],
@@ -127,8 +158,7 @@ pub fn meaning(
 ) -> Result<Step, DriveError>
     requires { Tracks script.now world.now clients.now }
     ensures ok { IfOk result (StandsFor script.now world.now.moves choice) }
-    ensures err { IfErr result (λ fault. ((fault ≡ DriveError.BadPlace) × IsBadPlace script.now world.now.moves choice)
-        ⊎ ((fault ≡ DriveError.NotEnabled) × IsNotEnabled script.now world.now.moves choice)) }
+    ensures err { IfErr result (HasFault script.now world.now.moves choice) }
 {
     schedules_rest_on_runs();
     match choice {

@@ -1,21 +1,19 @@
-use Rattle.std.proofs.Common.{◌+◌, sym, arith, below_more}
-use Rattle.ra_schedule.specs.Schedule.{Enables, IsEnabled}
+use Rattle.std.proofs.Common.{◌+◌, refl, arith, below_more}
+use Rattle.ra_schedule.specs.Schedule.{IsEnabled}
 use Rattle.ra_schedule.proofs.Turns.{nobody_below}
-use Rattle.ra_schedule.proofs.Choosing.{found, none_below, nobody_past_the_end}
+use Rattle.ra_schedule.proofs.Choosing.{none_below, nobody_past_the_end}
 use Rattle.ra_schedule.proofs.picking.first_enabled.Goals as goal
 
-pub returns-then-is_some-clause-some : goal.returns-then-is_some-clause-some
-returns-then-is_some-clause-some c =
-    let script = c.args.script.now in
-    let moves = c.args.world.now.moves in (
-      found c.enabled_step.result (Enables script moves (c.loop-place.place + 1)) c.enabled_step.ensures.some c.if-is_some.ensures,
-      none_below script moves c.loop-place.place c.loop-place.invariant,
-    )
+pub returns-in-Some-clause-first : goal.returns-in-Some-clause-first
+returns-in-Some-clause-first c = (
+  (c.in-Some.step, c.in-Some.ensures.some),
+  none_below c.args.script.now c.args.world.now.moves c.loop-place.place c.loop-place.invariant,
+)
 
 pub loop-place-preserved : goal.loop-place-preserved
 loop-place-preserved c =
     below_more (λ k. IsEnabled c.args.script.now c.args.world.now.moves (k + 1) → ⊥) c.loop-place.place c.loop-place.invariant
-    (c.enabled_step.ensures.none (sym c.if-is_some.ensures))
+    (c.in_default.ensures.none refl)
 
 pub returns-clause-none : goal.returns-clause-none
 returns-clause-none c e =

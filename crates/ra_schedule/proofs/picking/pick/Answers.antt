@@ -1,62 +1,88 @@
-use Rattle.std.proofs.Common.{◌≡◌, Some, None, length, refl, sym, ◌∙◌}
-use Rattle.std.proofs.lemmas.Option.{IfSome_then}
+use Rattle.std.proofs.Common.{rules, ◌≡◌, Option, Some, None, length, refl, sym, ap, ◌∙◌, subst}
+use Rattle.std.specs.Option.{IfSome}
+use Rattle.ra_schedule.specs.declared.choice.Choice.{Choice}
+use Rattle.ra_schedule.specs.declared.draws.Draws.{Draws}
+use Rattle.ra_schedule.specs.Schedule.{Picks}
+use Rattle.ra_schedule.specs.Drawing.{AreDraws, generator_in}
+use Rattle.ra_schedule.specs.Driving.{IsMeaning}
 use Rattle.ra_schedule.proofs.Choosing.{nothing_left, newest_message, oldest_message}
 use Rattle.ra_schedule.proofs.Seeded.{no_seed, drawn_is_picked, nothing_is_picked, goes_on, none_goes_on}
 use Rattle.ra_schedule.proofs.picking.pick.Goals as goal
+use Rattle.ra_schedule.proofs.picking.pick.Goals.{in-Newest, in_default-policy}
+
+pub returns-in_err-choice-2 : goal.returns-in_err-choice-2
+returns-in_err-choice-2 c =
+    let script = c.args.script.now in
+    let policy = c.args.policy.now in
+    let moves = c.args.world.now.moves in
+    let generator = c.in-Some.draws.generator in
+    let has : Some generator ≡ _ = sym (ap generator_in c.in-Some.is) ∙ c.requires.drawn in
+    let draws : AreDraws script moves c.in-Some.draws = subst (λ (o : Option Draws). IfSome o (AreDraws script moves)) c.in-Some.is c.requires.draws in
+    let is : c.from_residual-in_err-choice-2.result ≡ None = search rules in
+    rw is (record {
+      some = tt;
+      meaning = tt;
+      none = λ e. nothing_is_picked script policy moves generator (c.schedules_rest_on_runs.ensures.one_list moves) has (c.in_err-choice-2.ensures.none refl);
+      drawn = λ e. absurd cc;
+      draws = record { rosters = draws.rosters; flags = draws.flags; count = draws.count };
+    })
 
 pub returns-in-Some : goal.returns-in-Some
 returns-in-Some c =
     let script = c.args.script.now in
     let policy = c.args.policy.now in
     let moves = c.args.world.now.moves in
-    let generator = c.in-Some.generator in
-    let has : Some generator ≡ _ = sym c.in-Some.is ∙ c.requires.drawn in
+    let generator = c.in-Some.draws.generator in
+    let picked = c.with_meaning-in-Some in
+    let has : Some generator ≡ _ = sym (ap generator_in c.in-Some.is) ∙ c.requires.drawn in
+    let draws : AreDraws script moves c.in-Some.draws = subst (λ (o : Option Draws). IfSome o (AreDraws script moves)) c.in-Some.is c.requires.draws in
     record {
-      some = IfSome_then c.draw.result c.draw.ensures.some (λ choice named. drawn_is_picked script policy moves generator choice has named);
-      none = λ e. nothing_is_picked script policy moves generator (c.schedules_rest_on_runs.ensures.one_list moves) has (c.draw.ensures.none e);
-      drawn = λ e. goes_on policy (length moves) generator c.draw.new.generator has (c.draw.ensures.drawn e);
-      rosters = refl;
-      enabled = refl;
+      some = subst (Picks script policy moves) (sym picked.ensures.choice)
+          (drawn_is_picked script policy moves generator c.in_ok-choice-2.choice has c.in_ok-choice-2.ensures.some);
+      meaning = subst (λ (x : Choice). IsMeaning script moves x picked.result.meaning) (sym picked.ensures.choice) picked.ensures.meaning;
+      none = λ e. absurd cc;
+      drawn = λ e. goes_on policy (length moves) generator c.draw.new.generator has (c.in_ok-choice-2.ensures.drawn refl);
+      draws = record { rosters = draws.rosters; flags = draws.flags; count = draws.count };
     }
 
 pub returns-then-messages-eq0 : goal.returns-then-messages-eq0
 returns-then-messages-eq0 c =
     let none = c.in_default-first_enabled.ensures.none refl in
     let (left, leaves, is) = c.under_way-messages.ensures.value in
+    let has : None ≡ _ = sym (ap generator_in c.in_default-draws.is) ∙ c.requires.drawn in
     record {
       some = tt;
+      meaning = tt;
       none = λ e. nothing_left c.schedules_rest_on_runs.ensures.one_list c.args.script.now c.args.policy.now c.args.world.now.moves
-          c.in_default.not-Listed (no_seed c.args.policy.now (length c.args.world.now.moves) (sym c.in_default-generator.is ∙ c.requires.drawn))
+          c.in_default.not-Listed (no_seed c.args.policy.now (length c.args.world.now.moves) has)
           (none, (left, leaves, sym is ∙ c.if-messages-eq0.true));
       drawn = λ e. absurd cc;
-      rosters = refl;
-      enabled = refl;
+      draws = c.requires.draws;
     }
 
-pub returns-in-Newest : goal.returns-in-Newest
-returns-in-Newest c =
+pub returns : goal.returns
+returns c =
+    let script = c.args.script.now in
+    let policy = c.args.policy.now in
+    let moves = c.args.world.now.moves in
     let none = c.in_default-first_enabled.ensures.none refl in
     let (left, leaves, is) = c.under_way-messages.ensures.value in
+    let has : None ≡ _ = sym (ap generator_in c.in_default-draws.is) ∙ c.requires.drawn in
+    let picked = c.with_meaning-2 in
+    let choice : Picks script policy moves c.match-policy-2.choice =
+    elim c.match-policy-2.branch [
+      | in-Newest w ↦
+          subst (Picks script policy moves) (sym w.choice-is)
+          (newest_message script policy moves c.under_way-messages.result w.in-Newest.is (λ zero. c.if-messages-eq0.false zero) (none, (left, leaves, sym is)))
+      | in_default-policy w ↦
+          subst (Picks script policy moves) (sym w.choice-is)
+          (oldest_message script policy moves c.under_way-messages.result c.in_default.not-Listed (no_seed policy (length moves) has) w.in_default-policy.not-Newest
+          (λ zero. c.if-messages-eq0.false zero) (none, (left, leaves, sym is)))
+    ] in
     record {
-      some = newest_message c.args.script.now c.args.policy.now c.args.world.now.moves c.under_way-messages.result c.in-Newest.is
-          (λ zero. c.if-messages-eq0.false zero) (none, (left, leaves, sym is));
+      some = subst (Picks script policy moves) (sym picked.ensures.choice) choice;
+      meaning = subst (λ (x : Choice). IsMeaning script moves x picked.result.meaning) (sym picked.ensures.choice) picked.ensures.meaning;
       none = λ e. absurd cc;
-      drawn = λ e. c.in_default-generator.is ∙ none_goes_on c.args.policy.now (length c.args.world.now.moves) (sym c.in_default-generator.is ∙ c.requires.drawn);
-      rosters = refl;
-      enabled = refl;
-    }
-
-pub returns-in_default-policy : goal.returns-in_default-policy
-returns-in_default-policy c =
-    let none = c.in_default-first_enabled.ensures.none refl in
-    let (left, leaves, is) = c.under_way-messages.ensures.value in
-    let has : None ≡ _ = sym c.in_default-generator.is ∙ c.requires.drawn in
-    record {
-      some = oldest_message c.args.script.now c.args.policy.now c.args.world.now.moves c.under_way-messages.result
-          c.in_default.not-Listed (no_seed c.args.policy.now (length c.args.world.now.moves) has) c.in_default-policy.not-Newest
-          (λ zero. c.if-messages-eq0.false zero) (none, (left, leaves, sym is));
-      none = λ e. absurd cc;
-      drawn = λ e. c.in_default-generator.is ∙ none_goes_on c.args.policy.now (length c.args.world.now.moves) has;
-      rosters = refl;
-      enabled = refl;
+      drawn = λ e. ap generator_in c.in_default-draws.is ∙ none_goes_on policy (length moves) has;
+      draws = c.requires.draws;
     }

@@ -1,13 +1,14 @@
 use Rattle.std.proofs.Common.{◌≡◌, ℕ, List, drop, length, refl, sym, ap, ◌∙◌, subst, arith}
+use Rattle.std.specs.Option.{IfSome}
 use Rattle.ra_stamp.specs.declared.entry.Mark.{Mark}
 use Rattle.ra_world.specs.declared.step.Step.{Step}
 use Rattle.ra_world.specs.Run.{GoesOn}
 use Rattle.ra_world.specs.World.{WorldState}
 use Rattle.ra_schedule.specs.declared.progress.Progress.{Progress}
 use Rattle.ra_schedule.specs.Schedule.{StandsFor}
-use Rattle.ra_schedule.specs.Enabled.{AreFlagsElsewhere}
+use Rattle.ra_schedule.specs.Drawing.{AreDrawsElsewhere}
 use Rattle.ra_schedule.specs.Progress.{Tracks, AreCountable, OfEach, IsProgressAfter, NoneEnters}
-use Rattle.ra_schedule.proofs.Turns.{tracks_on, flags_before, driven_more, countable, can_be_done, whole}
+use Rattle.ra_schedule.proofs.Turns.{tracks_on, draws_before, driven_more, countable, can_be_done, whole}
 use Rattle.ra_schedule.proofs.driver.Driver.take_step.Goals as goal
 
 pub make-requires-clause-allowed : goal.make-requires-clause-allowed
@@ -24,8 +25,8 @@ make-requires-clause-countable c =
     subst AreCountable (sym c.deref_mut.ensures.value)
     (countable c.args.script.now c.args.world.now c.args.self.now.clients.items c.requires.driven.tracks c.requires.countable)
 
-pub note-requires-clause-tracked : goal.note-requires-clause-tracked
-note-requires-clause-tracked c =
+pub note_step_in-requires-clause-tracked : goal.note_step_in-requires-clause-tracked
+note_step_in-requires-clause-tracked c =
     let clients = c.args.self.now.clients in
     let driven = c.requires.driven in
     let (move, this, marks, next, after) = c.in_ok-made.ensures.ok in
@@ -36,17 +37,17 @@ note-requires-clause-tracked c =
     (c.make.auto.clients ∙ ap length c.deref_mut.ensures.value)
     (subst (λ (list : List Progress). OfEach (IsProgressAfter move) list c.make.new.clients) c.deref_mut.ensures.value after))
 
-pub note-requires-clause-elsewhere : goal.note-requires-clause-elsewhere
-note-requires-clause-elsewhere c some =
+pub note_step_in-requires-clause-draws : goal.note_step_in-requires-clause-draws
+note_step_in-requires-clause-draws c =
     let script = c.args.script.now in
     let moves = c.make.new.world.moves in
-    let flags = c.args.self.now.draws.enabled.flags.items in
+    let draws = c.args.self.now.draws in
     let (move, this, marks, next, after) = c.in_ok-made.ensures.ok in
     let told : c.as_slice-marks.result.now ≡ move.marks = c.as_slice-marks.ensures ∙ sym marks in
-    let kept = flags_before script c.args.world.now c.make.new.world c.args.self.now move c.requires.driven next c.in_ok-made.ensures.run
-    c.schedules_rest_on_runs.ensures c.args.choice (subst (StandsFor script c.args.world.now.moves c.args.choice) (sym this) c.requires.means) some in
-    subst (λ (ms : List Mark). AreFlagsElsewhere c.args.step.now ms script moves flags) (sym told)
-    (subst (λ (s : Step). AreFlagsElsewhere s move.marks script moves flags) this kept)
+    let kept = draws_before script c.args.world.now c.make.new.world c.args.self.now move c.requires.driven next c.in_ok-made.ensures.run
+    c.schedules_rest_on_runs.ensures c.args.choice (subst (StandsFor script c.args.world.now.moves c.args.choice) (sym this) c.requires.means) in
+    subst (λ (ms : List Mark). IfSome draws (AreDrawsElsewhere c.args.step.now ms script moves)) (sym told)
+    (subst (λ (s : Step). IfSome draws (AreDrawsElsewhere s move.marks script moves)) this kept)
 
 pub returns-clause-ok : goal.returns-clause-ok
 returns-clause-ok c =
@@ -65,9 +66,9 @@ returns-clause-ok c =
           (c.make.auto.clients ∙ ap length c.deref_mut.ensures.value) after'))
           (subst (λ (list : List Progress). OfEach (IsProgressAfter move) clients.items list) (sym back) after')
           c.first_entered-self.ensures.not_past (subst (NoneEnters c.first_entered-self.result) told c.first_entered-self.ensures.none)
-          c.note.ensures.rosters c.note.ensures.alike c.note.ensures.count c.note.ensures.flags
+          c.note_step_in.ensures.draws
           (c.in_ok-keep_step.ensures c.args.world.now.moves move this c.requires.driven.steps);
-      drawn = c.note.ensures.generator;
+      drawn = c.note_step_in.ensures.generator;
       records = refl;
       made = (move, means, ap (λ (w : WorldState). w.moves) next);
     }

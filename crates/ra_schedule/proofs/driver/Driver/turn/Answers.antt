@@ -1,4 +1,4 @@
-use Rattle.std.proofs.Common.{◌+◌, List, length, refl, subst}
+use Rattle.std.proofs.Common.{List, refl, subst}
 use Rattle.ra_schedule.specs.declared.progress.Progress.{Progress}
 use Rattle.ra_schedule.specs.Progress.{AreStuck}
 use Rattle.ra_schedule.proofs.Turns.{driven_with, ready_more, one_longer}
@@ -6,10 +6,10 @@ use Rattle.ra_schedule.proofs.driver.Driver.turn.Goals as goal
 
 pub follow-requires-clause-driven : goal.follow-requires-clause-driven
 follow-requires-clause-driven c =
-    driven_with c.args.script.now c.args.policy.now c.args.world.now c.args.self.now _ (length c.args.world.now.moves + 1) c.requires.ready
+    driven_with c.args.script.now c.args.policy.now c.args.world.now c.args.self.now _ c.requires.ready
     refl refl refl
     (subst (λ (list : List Progress). AreStuck c.args.script.now list c.first_free-self.result) c.deref.ensures.value c.first_free-self.ensures)
-    c.in-Some.ensures.rosters c.in-Some.ensures.enabled (c.in-Some.ensures.drawn refl)
+    c.in-Some.ensures.draws
 
 pub returns-clause-ok : goal.returns-clause-ok
 returns-clause-ok c =
@@ -17,6 +17,6 @@ returns-clause-ok c =
     let (move, means, moves) = made.made in (
       one_longer c.args.world.now.moves c.follow.new.world.moves move moves,
       made.records,
-      ready_more c.args.script.now c.args.policy.now c.args.world.now c.follow.new.world c.args.self.now _ c.follow.new.self c.in-Some.choice
+      ready_more c.args.script.now c.args.policy.now c.args.world.now c.follow.new.world c.args.self.now _ c.follow.new.self c.in-Some.picked.choice
           c.requires.ready c.in-Some.ensures.some (c.in-Some.ensures.drawn refl) made,
     )
