@@ -8,6 +8,7 @@ use std::io::{Read, Write};
 use std::process::Abort;
 use std::sync::Wait;
 use std::thread::Threads;
+use test_support::{FailingReader, failing_writer};
 
 /// A command, and what `ra` makes of it.
 pub struct Case {
@@ -34,67 +35,6 @@ pub struct Refused {
 pub struct Answered {
     pub status: u8,
     pub output: Vec<u8>,
-}
-
-/// Gives one byte at a time. After so many reads it fails once, and then goes on.
-#[derive(Drop)]
-pub struct FailingReader<'a> {
-    pub bytes: &'a [u8],
-    pub before_fault: Option<usize>,
-    pub fault: io::ErrorKind,
-}
-
-impl Read for FailingReader<'_> {
-    fn read(&mut self, buf: &mut [u8]) -> io::Result<usize> {
-        match self.before_fault {
-            Some(0) => {
-                self.before_fault = None;
-                return Err(self.fault.into());
-            }
-            Some(reads) => self.before_fault = Some(reads - 1),
-            None => {}
-        }
-        if self.bytes.is_empty() || buf.is_empty() {
-            return Ok(0);
-        }
-        buf[0] = self.bytes[0];
-        self.bytes = &self.bytes[1..];
-        Ok(1)
-    }
-}
-
-/// Takes one byte at a time. After so many writes it fails once, or takes nothing once where there is no fault, and
-/// then goes on.
-#[derive(Drop)]
-pub struct FailingWriter {
-    pub taken: Vec<u8>,
-    pub before_fault: Option<usize>,
-    pub fault: Option<io::ErrorKind>,
-}
-
-impl Write for FailingWriter {
-    fn write(&mut self, buf: &[u8]) -> io::Result<usize> {
-        match self.before_fault {
-            Some(0) => {
-                self.before_fault = None;
-                return match self.fault {
-                    Some(kind) => Err(kind.into()),
-                    None => Ok(0),
-                };
-            }
-            Some(writes) => self.before_fault = Some(writes - 1),
-            None => {}
-        }
-        if buf.is_empty() {
-            return Ok(0);
-        }
-        self.taken.push(buf[0])?;
-        Ok(1)
-    }
-
-    fn flush(&mut self) -> io::Result<()> {
-        Ok(())
-    }
 }
 
 /// Adds a word, and returns whether there was memory for it.
@@ -320,6 +260,7 @@ pub fn is_read_fault<T: AllocGlobal + Threads + Wait + Abort + Sync>(
 ) -> bool {
     let mut reader = FailingReader {
         bytes,
+        size: 1,
         before_fault: Some(before_fault),
         fault,
     };
@@ -353,13 +294,9 @@ fn leaves_a_front<T: AllocGlobal + Threads + Wait + Abort + Sync>(
     status: u8,
 ) -> bool {
     let mut reader = input.as_bytes();
-    let mut writer = FailingWriter {
-        taken: Vec::new(rt.alloc()),
-        before_fault: Some(before_fault),
-        fault,
-    };
+    let mut writer = failing_writer(printed, before_fault, fault);
     status_of(rt, line, None, &mut reader, &mut writer) == status
-        && printed.get(..before_fault) == Some(writer.taken.as_slice())
+        && writer.has_taken(printed, before_fault)
 }
 
 /// Ends the test where a fault of a writer, behind one of these bytes but the last, is not status 1 or does not leave a front of them.

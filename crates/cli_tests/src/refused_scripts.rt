@@ -1,7 +1,6 @@
 //! What `sim` refuses: texts that are no script, and words that are no simulation.
 use crate::helpers::{
-    FailingReader, Refused, assert_prints, assert_refuses, has_status, is_refusal, refuses_input,
-    repeated, run_on,
+    Refused, assert_prints, assert_refuses, has_status, is_refusal, refuses_input, repeated, run_on,
 };
 use crate::scripts::ONE_CLIENT;
 use ra_schedule::DriveError;
@@ -11,6 +10,7 @@ use std::io;
 use std::process::Abort;
 use std::sync::Wait;
 use std::thread::Threads;
+use test_support::FailingReader;
 
 /// Ends the test where the words of a line are not refused by this word where the first read would fail, or something is read.
 fn assert_refuses_unread<T: AllocGlobal + Threads + Wait + Abort + Sync>(
@@ -20,6 +20,7 @@ fn assert_refuses_unread<T: AllocGlobal + Threads + Wait + Abort + Sync>(
 ) {
     let mut reader = FailingReader {
         bytes: ONE_CLIENT.as_bytes(),
+        size: 1,
         before_fault: Some(0),
         fault: io::ErrorKind::BrokenPipe,
     };
@@ -43,6 +44,7 @@ fn is_too_long<T: AllocGlobal + Threads + Wait + Abort + Sync>(
 ) -> bool {
     let mut reader = FailingReader {
         bytes,
+        size: 1,
         before_fault: Some(65_537),
         fault: io::ErrorKind::BrokenPipe,
     };

@@ -2,8 +2,8 @@
 use crate::checks;
 use crate::frames::{ANSWER, FED_TWICE, FOLLOWED, REPLY, REQUEST, REQUEST_LINE};
 use crate::helpers::{
-    FAULTS, FailingReader, FailingWriter, WRITER_FAULTS, assert_fails_at_each_byte,
-    assert_fails_in_fronts, assert_written, is_read_fault, repeated,
+    FAULTS, WRITER_FAULTS, assert_fails_at_each_byte, assert_fails_in_fronts, assert_written,
+    is_read_fault, repeated,
 };
 use crate::scripts::{ONE_CLIENT, ONE_CLIENT_PRINTED};
 use ra_cli::{AnswerError, answer};
@@ -12,12 +12,14 @@ use std::io;
 use std::process::Abort;
 use std::sync::Wait;
 use std::thread::Threads;
+use test_support::{FailingReader, failing_writer};
 
 /// Returns whether `answer` names the fault of a reader that fails once, behind so many of its bytes, reads no byte after it, and
 /// writes nothing.
 fn fails_to_read(alloc: Global, bytes: &[u8], before_fault: usize, fault: io::ErrorKind) -> bool {
     let mut reader = FailingReader {
         bytes,
+        size: 1,
         before_fault: Some(before_fault),
         fault,
     };
@@ -59,6 +61,7 @@ fn a_reader_that_fails_once_at_any_byte_is_a_fault(rt: HostRuntime) {
 fn reads_to_the_end(alloc: Global) -> bool {
     let mut reader = FailingReader {
         bytes: REQUEST_LINE.as_bytes(),
+        size: 1,
         before_fault: Some(REQUEST_LINE.len() + 1),
         fault: io::ErrorKind::Interrupted,
     };
@@ -94,14 +97,9 @@ fn a_fault_of_the_reader_comes_before_what_is_wrong_with_the_line(rt: HostRuntim
 /// and the writer has those and no more.
 fn fails_to_write(alloc: Global, before_fault: usize, fault: Option<io::ErrorKind>) -> bool {
     let mut reader = REQUEST.as_bytes();
-    let mut writer = FailingWriter {
-        taken: Vec::new(alloc),
-        before_fault: Some(before_fault),
-        fault,
-    };
+    let mut writer = failing_writer(REPLY.as_bytes(), before_fault, fault);
     let answered = answer(alloc, 2, 3, &mut reader, &mut writer);
-    matches!(answered, Err(AnswerError::Write))
-        && REPLY.as_bytes().get(..before_fault) == Some(writer.taken.as_slice())
+    matches!(answered, Err(AnswerError::Write)) && writer.has_taken(REPLY.as_bytes(), before_fault)
 }
 
 #[test]

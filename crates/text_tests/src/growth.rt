@@ -1,5 +1,5 @@
 //! Each growth refused: the call answers `Memory`, writes nothing, and does what it should when it is made again.
-use crate::helpers::{FailingWriter, ONE_LOCK, ONE_LOCK_SCRIPT, failing};
+use crate::helpers::{ONE_LOCK, ONE_LOCK_SCRIPT, failing};
 use crate::performing::ONE_LOCK_LINES;
 use crate::traces::one_lock;
 use ra_schedule::Policy;
@@ -9,7 +9,7 @@ use ra_script::{
 use ra_trace::{TraceError, Verdict, WriteTraceError, check, trace_text, write_trace};
 use std::alloc::Global;
 use std::process::Abort;
-use test_support::{Tried, again};
+use test_support::{FailingWriter, Tried, again};
 
 /// Ends a test.
 fn end(rt: &(impl Abort), tried: Tried) {

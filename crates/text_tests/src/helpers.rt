@@ -4,8 +4,9 @@ use ra_trace::{Cause, Verdict, check};
 use std::alloc::Global;
 use std::fmt::Display;
 use std::io;
-use std::io::{Read, Write};
+use std::io::Read;
 use std::process::Abort;
+use test_support::{FailingWriter, failing_writer};
 
 /// The trace of one client that locks and unlocks, at the first of two nodes.
 pub const ONE_LOCK: &str = "trace 1 2 0
@@ -53,79 +54,9 @@ leave 2 2 r X 1
 end
 ";
 
-/// Gives so many bytes at a time, and at most so many in all. Then it fails once, and then goes on.
-#[derive(Drop)]
-pub struct Pieces<'a> {
-    pub bytes: &'a [u8],
-    pub size: usize,
-    pub before_fault: Option<usize>,
-}
-
-impl Read for Pieces<'_> {
-    fn read(&mut self, buf: &mut [u8]) -> io::Result<usize> {
-        let mut count = self.size.min(self.bytes.len()).min(buf.len());
-        if let Some(left) = self.before_fault {
-            if left == 0 {
-                self.before_fault = None;
-                return Err(io::ErrorKind::Interrupted.into());
-            }
-            count = count.min(left);
-            self.before_fault = Some(left - count);
-        }
-        buf[..count].copy_from_slice(&self.bytes[..count]);
-        self.bytes = &self.bytes[count..];
-        Ok(count)
-    }
-}
-
-/// Takes one byte at a time, and looks whether it is the one that comes next in a text. After so many bytes it fails once, or
-/// takes nothing once where there is no fault, and then goes on.
-#[derive(Drop)]
-pub struct FailingWriter<'a> {
-    /// What is left of the text.
-    pub left: &'a [u8],
-    /// Whether a byte came that was not the next one.
-    pub differs: bool,
-    pub before_fault: Option<usize>,
-    pub fault: Option<io::ErrorKind>,
-}
-
-impl Write for FailingWriter<'_> {
-    fn write(&mut self, buf: &[u8]) -> io::Result<usize> {
-        match self.before_fault {
-            Some(0) => {
-                self.before_fault = None;
-                return match self.fault {
-                    Some(kind) => Err(kind.into()),
-                    None => Ok(0),
-                };
-            }
-            Some(bytes) => self.before_fault = Some(bytes - 1),
-            None => {}
-        }
-        if buf.is_empty() {
-            return Ok(0);
-        }
-        match self.left {
-            [next, rest @ ..] if *next == buf[0] => self.left = rest,
-            _ => self.differs = true,
-        }
-        Ok(1)
-    }
-
-    fn flush(&mut self) -> io::Result<()> {
-        Ok(())
-    }
-}
-
-/// Returns a writer that looks for this text, and fails after so many bytes.
+/// Returns a writer that looks for this text, and fails after so many writes, of a byte each.
 pub fn failing(text: &str, before_fault: usize, fault: Option<io::ErrorKind>) -> FailingWriter<'_> {
-    FailingWriter {
-        left: text.as_bytes(),
-        differs: false,
-        before_fault: Some(before_fault),
-        fault,
-    }
+    failing_writer(text.as_bytes(), before_fault, fault)
 }
 
 /// Returns the name `r`.

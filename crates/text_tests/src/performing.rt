@@ -1,12 +1,11 @@
 //! How a script is performed by readers that fail while it is read, and by writers that fail while what comes of it is written.
-use crate::helpers::{
-    FailingWriter, ONE_LOCK, ONE_LOCK_LENGTH, ONE_LOCK_SCRIPT, Pieces, assert_rows, failing,
-};
-use Form::{Lines, Trace};
+use crate::helpers::{ONE_LOCK, ONE_LOCK_LENGTH, ONE_LOCK_SCRIPT, assert_rows, failing};
+use Format::{Lines, Trace};
 use ra_schedule::Policy;
 use ra_script::{PerformError, perform, perform_trace};
 use std::alloc::Global;
 use std::io;
+use test_support::{FailingReader, FailingWriter};
 
 /// The lines of the run of which the trace is [`ONE_LOCK`].
 pub const ONE_LOCK_LINES: &str = "request 1 1 r X 1
@@ -25,36 +24,37 @@ const ONE_LOCK_LINES_LENGTH: usize = 110;
 
 /// What is written of a run: the lines of its report, or its trace.
 #[derive(Clone, Copy)]
-enum Form {
+enum Format {
     Lines,
     Trace,
 }
 
 /// Returns what is written of the script.
-fn text_of(form: Form) -> &'static str {
-    match form {
+fn text_of(format: Format) -> &'static str {
+    match format {
         Lines => ONE_LOCK_LINES,
         Trace => ONE_LOCK,
     }
 }
 
 /// Returns a reader of the script that fails after so many bytes, or does not.
-fn script_reader(before_fault: Option<usize>) -> Pieces<'static> {
-    Pieces {
+fn script_reader(before_fault: Option<usize>) -> FailingReader<'static> {
+    FailingReader {
         bytes: ONE_LOCK_SCRIPT.as_bytes(),
         size: 1,
         before_fault,
+        fault: io::ErrorKind::Interrupted,
     }
 }
 
 /// Performs a script from the oldest message on, and returns the fault, or `None` where there is none.
 fn fault_of(
     alloc: Global,
-    reader: &mut Pieces<'_>,
+    reader: &mut FailingReader<'_>,
     writer: &mut FailingWriter<'_>,
-    form: Form,
+    format: Format,
 ) -> Option<PerformError> {
-    let performed = match form {
+    let performed = match format {
         Lines => perform(alloc, reader, writer, &Policy::Oldest),
         Trace => perform_trace(alloc, reader, writer, &Policy::Oldest),
     };
@@ -62,18 +62,18 @@ fn fault_of(
 }
 
 /// Returns whether the fault of a reader after so many bytes is named, and no byte is read after it and none written.
-fn fails_to_read(alloc: Global, form: Form, before_fault: usize) -> bool {
+fn fails_to_read(alloc: Global, format: Format, before_fault: usize) -> bool {
     let mut reader = script_reader(Some(before_fault));
     let mut writer = failing("", 1000, None);
-    fault_of(alloc, &mut reader, &mut writer, form) == Some(PerformError::Read)
+    fault_of(alloc, &mut reader, &mut writer, format) == Some(PerformError::Read)
         && ONE_LOCK_SCRIPT.len().checked_sub(reader.bytes.len()) == Some(before_fault)
         && !writer.differs
 }
 
 /// Returns behind how many bytes of the script the fault of a reader is named, from 0 up to the first where it is not.
-fn named_when_read(alloc: Global, form: Form) -> usize {
+fn named_when_read(alloc: Global, format: Format) -> usize {
     for before_fault in 0..=ONE_LOCK_SCRIPT.len() {
-        if !fails_to_read(alloc, form, before_fault) {
+        if !fails_to_read(alloc, format, before_fault) {
             return before_fault;
         }
     }
@@ -97,28 +97,32 @@ fn a_reader_that_fails_behind_any_byte_is_a_fault(rt: HostRuntime) {
 /// Returns whether the fault of a writer after so many bytes is named, and just these are written.
 fn fails_to_write(
     alloc: Global,
-    form: Form,
+    format: Format,
     before_fault: usize,
     fault: Option<io::ErrorKind>,
 ) -> bool {
-    let text = text_of(form);
+    let text = text_of(format);
     let mut reader = script_reader(None);
     let mut writer = failing(text, before_fault, fault);
-    fault_of(alloc, &mut reader, &mut writer, form) == Some(PerformError::Write)
+    fault_of(alloc, &mut reader, &mut writer, format) == Some(PerformError::Write)
         && text.len().checked_sub(writer.left.len()) == Some(before_fault)
         && !writer.differs
 }
 
 /// Returns whether it is so for a fault that other writers would try again, and for a write that takes nothing.
-fn fails_to_write_each(alloc: Global, form: Form, before_fault: usize) -> bool {
-    fails_to_write(alloc, form, before_fault, Some(io::ErrorKind::Interrupted))
-        && fails_to_write(alloc, form, before_fault, None)
+fn fails_to_write_each(alloc: Global, format: Format, before_fault: usize) -> bool {
+    fails_to_write(
+        alloc,
+        format,
+        before_fault,
+        Some(io::ErrorKind::Interrupted),
+    ) && fails_to_write(alloc, format, before_fault, None)
 }
 
 /// Returns behind how many of so many bytes the fault of a writer is named, from 0 up to the first where it is not.
-fn named_when_written(alloc: Global, form: Form, length: usize) -> usize {
+fn named_when_written(alloc: Global, format: Format, length: usize) -> usize {
     for before_fault in 0..length {
-        if !fails_to_write_each(alloc, form, before_fault) {
+        if !fails_to_write_each(alloc, format, before_fault) {
             return before_fault;
         }
     }
@@ -134,11 +138,11 @@ fn a_writer_that_fails_behind_any_byte_has_those_before(rt: HostRuntime) {
 }
 
 /// Returns whether all is written byte by byte, to a writer that would fail behind it.
-fn is_written_byte_by_byte(alloc: Global, form: Form, length: usize) -> bool {
-    let text = text_of(form);
+fn is_written_byte_by_byte(alloc: Global, format: Format, length: usize) -> bool {
+    let text = text_of(format);
     let mut reader = script_reader(None);
     let mut writer = failing(text, length, None);
-    fault_of(alloc, &mut reader, &mut writer, form).is_none()
+    fault_of(alloc, &mut reader, &mut writer, format).is_none()
         && text.len() == length
         && writer.left.is_empty()
         && !writer.differs

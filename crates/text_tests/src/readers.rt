@@ -1,10 +1,12 @@
-//! How far `check` reads, and what comes of readers that fail or give a text in pieces.
-use crate::helpers::{ONE_LOCK, ONE_LOCK_LENGTH, Part, Pieces, TWO_LOCKS, assert_rows, text_of};
+//! How far `check` and `check_buffered` read, and what comes of readers that fail or give a text in pieces.
+use crate::helpers::{ONE_LOCK, ONE_LOCK_LENGTH, Part, TWO_LOCKS, assert_rows, text_of};
 use Part::{Text, Times};
 use Way::{Failing, InPieces, Within};
-use ra_trace::{Cause, TraceError, Verdict, check, check_within};
+use ra_trace::{Cause, TraceError, Verdict, check, check_buffered, check_within};
 use std::alloc::Global;
+use std::io;
 use std::process::Abort;
+use test_support::FailingReader;
 
 /// What comes of a text.
 type Checked = Result<Verdict, TraceError>;
@@ -24,32 +26,43 @@ enum Way {
 struct Case(&'static [Part<'static>], Way, Checked, usize);
 
 /// Returns a reader of a text.
-fn reader(text: &[u8], way: Way) -> Pieces<'_> {
+fn reader(text: &[u8], way: Way) -> FailingReader<'_> {
     let (size, before_fault) = match way {
         InPieces(size) => (size, None),
         Failing(before_fault) => (1, Some(before_fault)),
         Within(_) => (64, None),
     };
-    Pieces {
+    FailingReader {
         bytes: text,
         size,
         before_fault,
+        fault: io::ErrorKind::Interrupted,
     }
 }
 
 /// Returns what comes of what a reader gives.
-fn checked(alloc: Global, reader: &mut Pieces<'_>, way: Way) -> Checked {
+fn checked(alloc: Global, reader: &mut FailingReader<'_>, way: Way) -> Checked {
     match way {
         Within(limit) => check_within(alloc, reader, u64::from(limit)),
         InPieces(_) | Failing(_) => check(alloc, reader),
     }
 }
 
-/// Returns whether this comes of a text, of which so many bytes are taken.
+/// Returns what comes of what a reader shows in its buffer.
+fn checked_shown(alloc: Global, reader: &mut FailingReader<'_>, way: Way) -> Checked {
+    match way {
+        Within(limit) => check_within(alloc, reader, u64::from(limit)),
+        InPieces(_) | Failing(_) => check_buffered(alloc, reader),
+    }
+}
+
+/// Returns whether this comes of a text, of which so many bytes are taken, each by a read of its own or from a buffer.
 fn comes(alloc: Global, text: &[u8], way: Way, wanted: &Checked, taken: usize) -> bool {
-    let mut reader = reader(text, way);
-    checked(alloc, &mut reader, way) == *wanted
-        && text.len().checked_sub(reader.bytes.len()) == Some(taken)
+    let (mut given, mut shown) = (reader(text, way), reader(text, way));
+    checked(alloc, &mut given, way) == *wanted
+        && checked_shown(alloc, &mut shown, way) == *wanted
+        && text.len().checked_sub(given.bytes.len()) == Some(taken)
+        && shown.bytes == given.bytes
 }
 
 /// Returns whether a case is so.

@@ -1,6 +1,6 @@
 use crate::helpers::{
-    FailingWriter, Judged, ONE_LOCK, ONE_LOCK_LENGTH, TWO_LOCKS, all_kinds, assert_judged,
-    assert_rows, failing, printed, r,
+    Judged, ONE_LOCK, ONE_LOCK_LENGTH, TWO_LOCKS, all_kinds, assert_judged, assert_rows, failing,
+    printed, r,
 };
 use Act::{Ask, AskForAllKinds, Deliver, Leave, Lose};
 use Judged::{Invalid, Valid};
@@ -11,6 +11,7 @@ use ra_world::{NodeRefusal, RunError, Step, StepError, Steps};
 use std::alloc::Global;
 use std::io;
 use std::process::Abort;
+use test_support::FailingWriter;
 
 /// A message of number 1 on `r`, of a writer where it is a REQUEST: its sender and its receiver.
 #[derive(Clone, Copy)]

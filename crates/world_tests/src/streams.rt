@@ -3,34 +3,7 @@ use crate::helpers::{assert_rows, printed, prints};
 use ra_world::{ReadFault, WriteFault, read_up_to, write_out};
 use std::alloc::Global;
 use std::io;
-use std::io::{Read, Write};
-
-/// Gives one byte at a time. After so many reads it fails once, and then goes on.
-#[derive(Clone, Copy)]
-struct FailingReader<'a> {
-    bytes: &'a [u8],
-    before_fault: Option<usize>,
-    fault: io::ErrorKind,
-}
-
-impl Read for FailingReader<'_> {
-    fn read(&mut self, buf: &mut [u8]) -> io::Result<usize> {
-        match self.before_fault {
-            Some(0) => {
-                self.before_fault = None;
-                return Err(self.fault.into());
-            }
-            Some(reads) => self.before_fault = Some(reads - 1),
-            None => {}
-        }
-        if self.bytes.is_empty() || buf.is_empty() {
-            return Ok(0);
-        }
-        buf[0] = self.bytes[0];
-        self.bytes = &self.bytes[1..];
-        Ok(1)
-    }
-}
+use test_support::{FailingReader, failing_writer};
 
 /// The bytes that are read and written.
 const BYTES: &[u8] = b"abc";
@@ -39,6 +12,7 @@ const BYTES: &[u8] = b"abc";
 fn failing_reader(before_fault: usize, fault: io::ErrorKind) -> FailingReader<'static> {
     FailingReader {
         bytes: BYTES,
+        size: 1,
         before_fault: Some(before_fault),
         fault,
     }
@@ -118,58 +92,11 @@ fn the_limit_may_be_more_than_there_is_room_for(rt: HostRuntime) {
     assert!(rt; reads_all(rt.alloc(), &[b'a'; 10_000]));
 }
 
-/// Takes one byte at a time, and has room for four. After so many writes it fails once, or takes nothing once where there is no
-/// fault, and then goes on.
-#[derive(Clone, Copy)]
-struct FailingWriter {
-    taken: [u8; 4],
-    count: usize,
-    before_fault: usize,
-    fault: Option<io::ErrorKind>,
-    failed: bool,
-}
-
-impl Write for FailingWriter {
-    fn write(&mut self, buf: &[u8]) -> io::Result<usize> {
-        if self.count == self.before_fault && !self.failed {
-            self.failed = true;
-            return match self.fault {
-                Some(kind) => Err(kind.into()),
-                None => Ok(0),
-            };
-        }
-        if buf.is_empty() || self.count >= 4 {
-            return Ok(0);
-        }
-        self.taken[self.count] = buf[0];
-        self.count += 1;
-        Ok(1)
-    }
-
-    fn flush(&mut self) -> io::Result<()> {
-        Ok(())
-    }
-}
-
 /// Returns whether [`BYTES`] are written or not to a writer that fails after so many writes, and it has taken these then.
 fn has_taken(before_fault: usize, fault: Option<io::ErrorKind>, written: bool) -> bool {
-    let mut writer = FailingWriter {
-        taken: [0; 4],
-        count: 0,
-        before_fault,
-        fault,
-        failed: false,
-    };
+    let mut writer = failing_writer(BYTES, before_fault, fault);
     let answer = write_out(&mut writer, BYTES);
-    answer.is_ok() == written && is_taken(&writer, before_fault)
-}
-
-/// Returns whether a writer has taken so many of [`BYTES`].
-fn is_taken(writer: &FailingWriter, count: usize) -> bool {
-    match writer.taken.get(..writer.count) {
-        Some(taken) => is_front(taken, count),
-        None => false,
-    }
+    answer.is_ok() == written && writer.has_taken(BYTES, before_fault)
 }
 
 /// Returns whether a writer that fails so is not written to again, wherever it fails, and takes all where it would fail behind

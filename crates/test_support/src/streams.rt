@@ -1,0 +1,118 @@
+//! Readers and writers that fail.
+use std::io;
+use std::io::{BufRead, Read, Write};
+
+/// Gives so many bytes at a time. After so many reads it fails once, and then goes on. What it shows as a buffer is what it would
+/// give, and counts as a read.
+#[derive(Clone, Copy)]
+pub struct FailingReader<'a> {
+    /// What is left to be read.
+    pub bytes: &'a [u8],
+    /// How many bytes a read gives at most.
+    pub size: usize,
+    /// How many reads are left before the fault, where there is to be one.
+    pub before_fault: Option<usize>,
+    pub fault: io::ErrorKind,
+}
+
+impl FailingReader<'_> {
+    /// Counts a read.
+    ///
+    /// # Errors
+    ///
+    /// The fault, where it is its turn.
+    fn count_read(&mut self) -> io::Result<()> {
+        match self.before_fault {
+            Some(0) => {
+                self.before_fault = None;
+                return Err(self.fault.into());
+            }
+            Some(reads) => self.before_fault = Some(reads - 1),
+            None => {}
+        }
+        Ok(())
+    }
+}
+
+impl Read for FailingReader<'_> {
+    fn read(&mut self, buf: &mut [u8]) -> io::Result<usize> {
+        self.count_read()?;
+        let count = self.size.min(self.bytes.len()).min(buf.len());
+        buf[..count].copy_from_slice(&self.bytes[..count]);
+        self.bytes = &self.bytes[count..];
+        Ok(count)
+    }
+}
+
+impl BufRead for FailingReader<'_> {
+    fn fill_buf(&mut self) -> io::Result<&[u8]> {
+        self.count_read()?;
+        Ok(&self.bytes[..self.size.min(self.bytes.len())])
+    }
+
+    fn consume(&mut self, amount: usize) {
+        self.bytes = &self.bytes[amount.min(self.bytes.len())..];
+    }
+}
+
+/// Takes one byte at a time, and looks whether it is the one that comes next in a text. After so many writes it fails once, or
+/// takes nothing once where there is no fault, and then goes on.
+#[derive(Clone, Copy)]
+pub struct FailingWriter<'a> {
+    /// What is left of the text.
+    pub left: &'a [u8],
+    /// Whether a byte came that was not the next one.
+    pub differs: bool,
+    /// How many writes are left before the fault, where there is to be one.
+    pub before_fault: Option<usize>,
+    pub fault: Option<io::ErrorKind>,
+}
+
+impl FailingWriter<'_> {
+    /// Returns whether so many bytes of this text were taken and nothing else.
+    pub fn has_taken(&self, text: &[u8], count: usize) -> bool {
+        !self.differs && text.get(count..) == Some(self.left)
+    }
+}
+
+impl Write for FailingWriter<'_> {
+    fn write(&mut self, buf: &[u8]) -> io::Result<usize> {
+        match self.before_fault {
+            Some(0) => {
+                self.before_fault = None;
+                return match self.fault {
+                    Some(kind) => Err(kind.into()),
+                    None => Ok(0),
+                };
+            }
+            Some(writes) => self.before_fault = Some(writes - 1),
+            None => {}
+        }
+        if buf.is_empty() {
+            return Ok(0);
+        }
+        match self.left {
+            [next, rest @ ..] if *next == buf[0] => self.left = rest,
+            _ => self.differs = true,
+        }
+        Ok(1)
+    }
+
+    fn flush(&mut self) -> io::Result<()> {
+        Ok(())
+    }
+}
+
+/// Returns a writer that looks for this text, and fails after so many writes.
+pub fn failing_writer(
+    text: &[u8],
+    before_fault: usize,
+    fault: Option<io::ErrorKind>,
+) -> FailingWriter<'_> {
+    FailingWriter {
+        left: text,
+        differs: false,
+        before_fault: Some(before_fault),
+        fault,
+    }
+}
