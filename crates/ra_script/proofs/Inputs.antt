@@ -11,7 +11,7 @@ use Rattle.ra_world.specs.declared.error.ReadFault.{ReadFault}
 use Rattle.ra_world.specs.declared.error.ReadFault.TheVariants as read
 use Rattle.ra_schedule.specs.declared.choice.Policy.{Policy}
 use Rattle.ra_schedule.specs.Script.{ScriptState}
-use Rattle.ra_script.specs.declared.form.Form.{Form}
+use Rattle.ra_script.specs.declared.format.Format.{Format}
 use Rattle.ra_script.specs.declared.error.ScriptError.TheVariants.{Limit, Toml, Shape}
 use Rattle.ra_script.specs.declared.error.PerformError.{PerformError}
 use Rattle.ra_script.specs.declared.error.PerformError.TheVariants as fault
@@ -43,34 +43,34 @@ is_read input rest taken h =
       | inr long ↦ record { how = inr (long, omega (arith, ap length h.taken, length-append taken rest)) }
     ]
 
-too_long : (form : Form) (policy : Policy) (taken input : List ℕ) (why : PerformError) → why ≢ fault.Write → 65537 ≤ length taken → 65537 ≤ length input
-    → RefusesAs form policy taken why → RefusesAs form policy input why
-too_long form policy taken input fault.Read early t i h = h
-too_long form policy taken input (fault.Script why) early t i h = (h.0, long_is_refused input i ∙ sym (long_is_refused taken t) ∙ h.1)
-too_long form policy taken input (fault.Drive cause) early t i (script, moves, is, follows, stops) = absurd (no_long_script taken script t is)
-too_long form policy taken input fault.Memory early t i h = h
-too_long form policy taken input fault.Write early t i h = absurd (early refl)
+too_long : (format : Format) (policy : Policy) (taken input : List ℕ) (why : PerformError) → why ≢ fault.Write → 65537 ≤ length taken → 65537 ≤ length input
+    → RefusesAs format policy taken why → RefusesAs format policy input why
+too_long format policy taken input fault.Read early t i h = h
+too_long format policy taken input (fault.Script why) early t i h = (h.0, long_is_refused input i ∙ sym (long_is_refused taken t) ∙ h.1)
+too_long format policy taken input (fault.Drive cause) early t i (script, moves, is, follows, stops) = absurd (no_long_script taken script t is)
+too_long format policy taken input fault.Memory early t i h = h
+too_long format policy taken input fault.Write early t i h = absurd (early refl)
 
 -- a refusal of what was read is one of the input
-pub refuses_input : (old new : Option (List ℕ)) (form : Form) (policy : Policy) (taken : List ℕ) (why : PerformError) → why ≢ fault.Write
-    → Reads old new 65537 taken → RefusesAs form policy taken why → IfSome old (λ input. RefusesAs form policy input why)
-refuses_input None new form policy taken why early h r = tt
-refuses_input (Some input) None form policy taken why early h r = absurd h.taken
-refuses_input (Some input) (Some rest) form policy taken why early h r =
+pub refuses_input : (old new : Option (List ℕ)) (format : Format) (policy : Policy) (taken : List ℕ) (why : PerformError) → why ≢ fault.Write
+    → Reads old new 65537 taken → RefusesAs format policy taken why → IfSome old (λ input. RefusesAs format policy input why)
+refuses_input None new format policy taken why early h r = tt
+refuses_input (Some input) None format policy taken why early h r = absurd h.taken
+refuses_input (Some input) (Some rest) format policy taken why early h r =
     elim (is_read input rest taken h).how [
-      | inl whole ↦ subst (λ (xs : List ℕ). RefusesAs form policy xs why) (sym whole.0) r
-      | inr long ↦ too_long form policy taken input why early long.0 long.1 r
+      | inl whole ↦ subst (λ (xs : List ℕ). RefusesAs format policy xs why) (sym whole.0) r
+      | inr long ↦ too_long format policy taken input why early long.0 long.1 r
     ]
 
 -- what comes of what was read comes of the input, and nothing of it is left
-pub performs_input : (old new : Option (List ℕ)) (form : Form) (policy : Policy) (taken output : List ℕ) (finished : Bool) → Reads old new 65537 taken
-    → IsPerformedAs form policy taken output finished → IfSome old (λ input. IsPerformedAs form policy input output finished × Consumes old new input)
-performs_input None new form policy taken output finished h r = tt
-performs_input (Some input) None form policy taken output finished h r = absurd h.taken
-performs_input (Some input) (Some rest) form policy taken output finished h r =
+pub performs_input : (old new : Option (List ℕ)) (format : Format) (policy : Policy) (taken output : List ℕ) (finished : Bool) → Reads old new 65537 taken
+    → IsPerformedAs format policy taken output finished → IfSome old (λ input. IsPerformedAs format policy input output finished × Consumes old new input)
+performs_input None new format policy taken output finished h r = tt
+performs_input (Some input) None format policy taken output finished h r = absurd h.taken
+performs_input (Some input) (Some rest) format policy taken output finished h r =
     elim (is_read input rest taken h).how [
       | inl whole ↦ (
-        subst (λ (xs : List ℕ). IsPerformedAs form policy xs output finished) (sym whole.0) r,
+        subst (λ (xs : List ℕ). IsPerformedAs format policy xs output finished) (sym whole.0) r,
         subst (λ (xs : List ℕ). Consumes (Some input) (Some rest) xs) (sym whole.0) h.taken,
       )
       | inr long ↦ absurd (no_long_script taken r.script long.0 r.script_is)
@@ -87,14 +87,14 @@ not_nil bytes [] back e left nothing = left (sym e ∙ nothing)
 not_nil bytes (x ∷ xs) back e left nothing = absurd cc
 
 -- a reader that failed, and memory that ran out while it was read
-pub read_refuses : (old : Option (List ℕ)) (form : Form) (policy : Policy) (why : ReadFault) → IfSome old (λ input. RefusesAs form policy input (of_read why))
-read_refuses None form policy why = tt
-read_refuses (Some input) form policy read.Read = tt
-read_refuses (Some input) form policy read.Memory = tt
+pub read_refuses : (old : Option (List ℕ)) (format : Format) (policy : Policy) (why : ReadFault) → IfSome old (λ input. RefusesAs format policy input (of_read why))
+read_refuses None format policy why = tt
+read_refuses (Some input) format policy read.Read = tt
+read_refuses (Some input) format policy read.Memory = tt
 
-pub read_cause : (form : Form) (policy : Policy) (why : ReadFault) → RefusesAs form policy [] (of_read why)
-read_cause form policy read.Read = tt
-read_cause form policy read.Memory = tt
+pub read_cause : (format : Format) (policy : Policy) (why : ReadFault) → RefusesAs format policy [] (of_read why)
+read_cause format policy read.Read = tt
+read_cause format policy read.Memory = tt
 
 pub read_early : (why : ReadFault) → of_read why ≢ fault.Write
 read_early read.Read e = absurd cc
@@ -105,13 +105,13 @@ read_failed read.Read e = refl
 read_failed read.Memory e = absurd cc
 
 -- what comes of what was read
-pub printed_of_input : (old new : Option (List ℕ)) (form : Form) (policy : Policy) (taken : List ℕ) (r : Result Printed PerformError) → Reads old new 65537 taken
-    → IfOk r (λ printed. IsPerformedAs form policy taken (string_bytes printed.text) printed.finished)
-    → IfOk r (λ printed. IfSome old (λ input. IsPerformedAs form policy input (string_bytes printed.text) printed.finished × Consumes old new input))
-printed_of_input old new form policy taken (Ok printed) h made = performs_input old new form policy taken (string_bytes printed.text) printed.finished h made
-printed_of_input old new form policy taken (Err why) h made = tt
+pub printed_of_input : (old new : Option (List ℕ)) (format : Format) (policy : Policy) (taken : List ℕ) (r : Result Printed PerformError) → Reads old new 65537 taken
+    → IfOk r (λ printed. IsPerformedAs format policy taken (string_bytes printed.text) printed.finished)
+    → IfOk r (λ printed. IfSome old (λ input. IsPerformedAs format policy input (string_bytes printed.text) printed.finished × Consumes old new input))
+printed_of_input old new format policy taken (Ok printed) h made = performs_input old new format policy taken (string_bytes printed.text) printed.finished h made
+printed_of_input old new format policy taken (Err why) h made = tt
 
-pub refused_of_input : (old new : Option (List ℕ)) (form : Form) (policy : Policy) (taken : List ℕ) (r : Result Printed PerformError) → Reads old new 65537 taken
-    → IfErr r (λ why. why ≢ fault.Write) → IfErr r (RefusesAs form policy taken) → IfErr r (λ why. IfSome old (λ input. RefusesAs form policy input why))
-refused_of_input old new form policy taken (Ok printed) h early refusal = tt
-refused_of_input old new form policy taken (Err why) h early refusal = refuses_input old new form policy taken why early h refusal
+pub refused_of_input : (old new : Option (List ℕ)) (format : Format) (policy : Policy) (taken : List ℕ) (r : Result Printed PerformError) → Reads old new 65537 taken
+    → IfErr r (λ why. why ≢ fault.Write) → IfErr r (RefusesAs format policy taken) → IfErr r (λ why. IfSome old (λ input. RefusesAs format policy input why))
+refused_of_input old new format policy taken (Ok printed) h early refusal = tt
+refused_of_input old new format policy taken (Err why) h early refusal = refuses_input old new format policy taken why early h refusal

@@ -5,7 +5,7 @@
 mod choices;
 mod document;
 mod error;
-mod form;
+mod format;
 mod operation;
 mod performing;
 mod reading;

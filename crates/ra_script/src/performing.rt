@@ -1,10 +1,10 @@
 ghost use Rattle.std.specs.Prelude.{◌≡◌, ◌≢◌, ◌≤◌, ◌<◌, List, ℕ, [], ◌++◌, Bool, length, string_bytes, Ok, IfOk, IfErr, IfSome, IsErrOf};
 ghost use Rattle.std.specs.Io.KnownBytes.{Consumes, Appends};
-ghost use Rattle.ra_script.specs.declared.form.Form.{Form};
+ghost use Rattle.ra_script.specs.declared.format.Format.{Format};
 ghost use Rattle.ra_script.specs.ScriptText.{script_of};
 ghost use Rattle.ra_script.specs.Performed.{IsPerformed, IsPerformedAs, IsTraced, Refuses, RefusesAs};
 
-use crate::form::Form;
+use crate::format::Format;
 use crate::{PerformError, read_script};
 use ra_schedule::{Policy, Script, drive, summarize};
 use ra_trace::trace_text;
@@ -35,8 +35,8 @@ struct Printed {
 /// 2. `Memory`.
 fn lines_of(alloc: Global, policy: &Policy, script: &Script) -> Result<Printed, PerformError>
     ensures ok { (input : List ℕ) → script_of input ≡ Ok script.now
-        → IfOk result (λ printed. IsPerformedAs Form.Lines policy.now input (string_bytes printed.text) printed.finished) }
-    ensures err { (input : List ℕ) → script_of input ≡ Ok script.now → IfErr result (RefusesAs Form.Lines policy.now input) }
+        → IfOk result (λ printed. IsPerformedAs Format.Lines policy.now input (string_bytes printed.text) printed.finished) }
+    ensures err { (input : List ℕ) → script_of input ≡ Ok script.now → IfErr result (RefusesAs Format.Lines policy.now input) }
     ensures early { IfErr result (λ fault. fault ≢ PerformError.Write) }
     ensures unread { ¬ IsErrOf result PerformError.Read }
 {
@@ -58,8 +58,8 @@ fn lines_of(alloc: Global, policy: &Policy, script: &Script) -> Result<Printed, 
 /// 2. `Memory`.
 fn trace_of(alloc: Global, policy: &Policy, script: &Script) -> Result<Printed, PerformError>
     ensures ok { (input : List ℕ) → script_of input ≡ Ok script.now
-        → IfOk result (λ printed. IsPerformedAs Form.Trace policy.now input (string_bytes printed.text) printed.finished) }
-    ensures err { (input : List ℕ) → script_of input ≡ Ok script.now → IfErr result (RefusesAs Form.Trace policy.now input) }
+        → IfOk result (λ printed. IsPerformedAs Format.Trace policy.now input (string_bytes printed.text) printed.finished) }
+    ensures err { (input : List ℕ) → script_of input ≡ Ok script.now → IfErr result (RefusesAs Format.Trace policy.now input) }
     ensures early { IfErr result (λ fault. fault ≢ PerformError.Write) }
     ensures unread { ¬ IsErrOf result PerformError.Read }
 {
@@ -86,23 +86,23 @@ fn trace_of(alloc: Global, policy: &Policy, script: &Script) -> Result<Printed, 
 /// 3. `Memory`.
 fn make_printed(
     alloc: Global,
-    form: Form,
+    format: Format,
     policy: &Policy,
     input: &[u8],
 ) -> Result<Printed, PerformError>
-    ensures ok { IfOk result (λ printed. IsPerformedAs form policy.now input.now (string_bytes printed.text) printed.finished) }
-    ensures err { IfErr result (RefusesAs form policy.now input.now) }
+    ensures ok { IfOk result (λ printed. IsPerformedAs format policy.now input.now (string_bytes printed.text) printed.finished) }
+    ensures err { IfErr result (RefusesAs format policy.now input.now) }
     ensures early { IfErr result (λ fault. fault ≢ PerformError.Write) }
     ensures unread { ¬ IsErrOf result PerformError.Read }
 {
     let script = read_script(alloc, input)?;
-    match form {
-        Form::Lines => lines_of(alloc, policy, &script),
-        Form::Trace => trace_of(alloc, policy, &script),
+    match format {
+        Format::Lines => lines_of(alloc, policy, &script),
+        Format::Trace => trace_of(alloc, policy, &script),
     }
 }
 
-/// Reads the text of a script, drives a cluster through it by a policy, and returns what is to be written of it in a form.
+/// Reads the text of a script, drives a cluster through it by a policy, and returns what is to be written of it in a format.
 ///
 /// # Errors
 ///
@@ -110,19 +110,19 @@ fn make_printed(
 fn read_printed<R: Read>(
     alloc: Global,
     reader: &mut R,
-    form: Form,
+    format: Format,
     policy: &Policy,
 ) -> Result<Printed, PerformError>
     ensures ok { IfOk result (λ printed. IfSome (R.remaining reader.old) (λ input.
-        IsPerformedAs form policy.now input (string_bytes printed.text) printed.finished
+        IsPerformedAs format policy.now input (string_bytes printed.text) printed.finished
         × Consumes (R.remaining reader.old) (R.remaining reader.new) input)) }
     ensures refused { IfErr result (λ fault.
-        IfSome (R.remaining reader.old) (λ input. RefusesAs form policy.now input fault)) }
+        IfSome (R.remaining reader.old) (λ input. RefusesAs format policy.now input fault)) }
 
     // Where the reader tells nothing of its input, there still is one of which this holds.
     ensures performed { IfOk result (λ printed. (input : List ℕ)
-        × IsPerformedAs form policy.now input (string_bytes printed.text) printed.finished) }
-    ensures cause { IfErr result (λ fault. (input : List ℕ) × RefusesAs form policy.now input fault) }
+        × IsPerformedAs format policy.now input (string_bytes printed.text) printed.finished) }
+    ensures cause { IfErr result (λ fault. (input : List ℕ) × RefusesAs format policy.now input fault) }
 
     ensures early { IfErr result (λ fault. fault ≢ PerformError.Write) }
     ensures failed { IsErrOf result PerformError.Read → (taken : List ℕ) × (length taken < 65537)
@@ -131,10 +131,10 @@ fn read_printed<R: Read>(
         × Consumes (R.remaining reader.old) (R.remaining reader.new) taken }
 {
     let input = read_up_to(alloc, reader, MAX_INPUT)?;
-    make_printed(alloc, form, policy, &input)
+    make_printed(alloc, format, policy, &input)
 }
 
-/// Reads the text of a script, drives a cluster through it by a policy, and writes what came of it in a form. Returns whether
+/// Reads the text of a script, drives a cluster through it by a policy, and writes what came of it in a format. Returns whether
 /// the run is finished.
 ///
 /// # Errors
@@ -144,27 +144,27 @@ fn perform_as<R: Read, W: Write>(
     alloc: Global,
     reader: &mut R,
     writer: &mut W,
-    form: Form,
+    format: Format,
     policy: &Policy,
 ) -> Result<bool, PerformError>
     // What is read is a script to its end, and what is written is what comes of it and nothing else.
     ensures ok { IfOk result (λ finished. IfSome (R.remaining reader.old) (λ input. (output : List ℕ)
-        × IsPerformedAs form policy.now input output finished
+        × IsPerformedAs format policy.now input output finished
         × Consumes (R.remaining reader.old) (R.remaining reader.new) input
         × Appends (W.contents writer.old) (W.contents writer.new) output)) }
 
     ensures refused { IfErr result (λ fault.
-        IfSome (R.remaining reader.old) (λ input. RefusesAs form policy.now input fault)) }
+        IfSome (R.remaining reader.old) (λ input. RefusesAs format policy.now input fault)) }
     // Where the reader tells nothing of its input, there still is one of which this holds.
     ensures performed { IfOk result (λ finished. (input output : List ℕ)
-        × IsPerformedAs form policy.now input output finished
+        × IsPerformedAs format policy.now input output finished
         × Appends (W.contents writer.old) (W.contents writer.new) output) }
-    ensures cause { IfErr result (λ fault. (input : List ℕ) × RefusesAs form policy.now input fault) }
+    ensures cause { IfErr result (λ fault. (input : List ℕ) × RefusesAs format policy.now input fault) }
 
     ensures unwritten { IfErr result (λ fault. fault ≢ PerformError.Write → writer.new ≡ writer.old) }
     // A fault of the writer comes only with something left to write.
     ensures front { IsErrOf result PerformError.Write → IfSome (R.remaining reader.old) (λ input.
-        (front back : List ℕ) × (finished : Bool) × IsPerformedAs form policy.now input (front ++ back) finished × (back ≢ [])
+        (front back : List ℕ) × (finished : Bool) × IsPerformedAs format policy.now input (front ++ back) finished × (back ≢ [])
         × Appends (W.contents writer.old) (W.contents writer.new) front) }
 
     ensures failed { IsErrOf result PerformError.Read → (taken : List ℕ) × (length taken < 65537)
@@ -172,7 +172,7 @@ fn perform_as<R: Read, W: Write>(
     ensures at_most { (taken : List ℕ) × (length taken ≤ 65537)
         × Consumes (R.remaining reader.old) (R.remaining reader.new) taken }
 {
-    let done = read_printed(alloc, reader, form, policy)?;
+    let done = read_printed(alloc, reader, format, policy)?;
     write_out(writer, done.text.as_bytes())?;
     Ok(done.finished)
 }
@@ -223,7 +223,7 @@ pub fn perform<R: Read, W: Write>(
     ensures at_most { (taken : List ℕ) × (length taken ≤ 65537)
         × Consumes (R.remaining reader.old) (R.remaining reader.new) taken }
 {
-    perform_as(alloc, reader, writer, Form::Lines, policy)
+    perform_as(alloc, reader, writer, Format::Lines, policy)
 }
 
 /// Does as [`perform`], and writes the trace of the run in place of the lines of its report. It keeps the steps, and makes them a
@@ -253,12 +253,12 @@ pub fn perform_trace<R: Read, W: Write>(
         × Appends (W.contents writer.old) (W.contents writer.new) output)) }
 
     ensures refused { IfErr result (λ fault.
-        IfSome (R.remaining reader.old) (λ input. RefusesAs Form.Trace policy.now input fault)) }
+        IfSome (R.remaining reader.old) (λ input. RefusesAs Format.Trace policy.now input fault)) }
     // Where the reader tells nothing of its input, there still is one of which this holds.
     ensures performed { IfOk result (λ finished. (input output : List ℕ)
         × IsTraced policy.now input output finished
         × Appends (W.contents writer.old) (W.contents writer.new) output) }
-    ensures cause { IfErr result (λ fault. (input : List ℕ) × RefusesAs Form.Trace policy.now input fault) }
+    ensures cause { IfErr result (λ fault. (input : List ℕ) × RefusesAs Format.Trace policy.now input fault) }
 
     ensures unwritten { IfErr result (λ fault. fault ≢ PerformError.Write → writer.new ≡ writer.old) }
     // A fault of the writer comes only with something left to write.
@@ -271,5 +271,5 @@ pub fn perform_trace<R: Read, W: Write>(
     ensures at_most { (taken : List ℕ) × (length taken ≤ 65537)
         × Consumes (R.remaining reader.old) (R.remaining reader.new) taken }
 {
-    perform_as(alloc, reader, writer, Form::Trace, policy)
+    perform_as(alloc, reader, writer, Format::Trace, policy)
 }

@@ -36,7 +36,7 @@ returns-in_err-write_out-clause-refused g c =
     let finished = c.in_ok-done.done.finished in
     let left = c.in_err-write_out.ensures.err in
     let some : output ≢ [] = not_nil output left.0 left.1 (sym c.as_bytes.ensures.value ∙ left.2) left.3 in
-    rw (p.1, p.2) (of_known old (λ input. IsPerformedAs c.args.form policy input output finished × Consumes old new input) (λ input. RefusesAs c.args.form policy input Write)
+    rw (p.1, p.2) (of_known old (λ input. IsPerformedAs c.args.format policy input output finished × Consumes old new input) (λ input. RefusesAs c.args.format policy input Write)
     (λ input h. (output, finished, h.0, some)) c.in_ok-done.ensures.ok)
 
 pub returns-in_err-write_out-clause-cause : goal.returns-in_err-write_out-clause-cause
@@ -56,14 +56,14 @@ returns-in_err-write_out-clause-front g c e =
     let output = string_bytes c.in_ok-done.done.text in
     let finished = c.in_ok-done.done.finished in
     let (front, back, is, left, appends) = c.in_err-write_out.ensures.err in
-    of_known old (λ input. IsPerformedAs c.args.form policy input output finished × Consumes old new input)
-    (λ input. (f : List ℕ) × (b : List ℕ) × (done : Bool) × IsPerformedAs c.args.form policy input (f ++ b) done × (b ≢ [])
+    of_known old (λ input. IsPerformedAs c.args.format policy input output finished × Consumes old new input)
+    (λ input. (f : List ℕ) × (b : List ℕ) × (done : Bool) × IsPerformedAs c.args.format policy input (f ++ b) done × (b ≢ [])
     × Appends (g.W.Write.contents c.args.writer.now) (g.W.Write.contents c.write_out.new.writer) f)
     (λ input h. (
       front,
       back,
       finished,
-      subst (λ (xs : List ℕ). IsPerformedAs c.args.form policy input xs finished) (sym c.as_bytes.ensures.value ∙ is) h.0,
+      subst (λ (xs : List ℕ). IsPerformedAs c.args.format policy input xs finished) (sym c.as_bytes.ensures.value ∙ is) h.0,
       left,
       appends,
     )) c.in_ok-done.ensures.ok
@@ -82,8 +82,8 @@ returns-clause-ok g c =
     let output = string_bytes c.in_ok-done.done.text in
     let finished = c.in_ok-done.done.finished in
     let appends = rw c.as_bytes.ensures.value at c.in_ok-write_out.ensures.ok in
-    of_known old (λ input. IsPerformedAs c.args.form policy input output finished × Consumes old new input)
-    (λ input. (bytes : List ℕ) × IsPerformedAs c.args.form policy input bytes finished × Consumes old new input
+    of_known old (λ input. IsPerformedAs c.args.format policy input output finished × Consumes old new input)
+    (λ input. (bytes : List ℕ) × IsPerformedAs c.args.format policy input bytes finished × Consumes old new input
     × Appends (g.W.Write.contents c.args.writer.now) (g.W.Write.contents c.write_out.new.writer) bytes)
     (λ input h. (output, h.0, h.1, appends)) c.in_ok-done.ensures.ok
 

@@ -8,12 +8,12 @@ use Rattle.ra_script.proofs.performing.read_printed.Goals as goal
 pub returns-in_err-input-clause-refused : goal.returns-in_err-input-clause-refused
 returns-in_err-input-clause-refused g c =
     let p = err_from_is_err_and c.from_residual.result c.from_residual.ensures.1 in
-    rw (p.1, p.2) (read_refuses (g.R.Read.remaining c.args.reader.now) c.args.form c.args.policy.now c.in_err-input.field-0.0)
+    rw (p.1, p.2) (read_refuses (g.R.Read.remaining c.args.reader.now) c.args.format c.args.policy.now c.in_err-input.field-0.0)
 
 pub returns-in_err-input-clause-cause : goal.returns-in_err-input-clause-cause
 returns-in_err-input-clause-cause g c =
     let p = err_from_is_err_and c.from_residual.result c.from_residual.ensures.1 in
-    rw (p.1, p.2) ([], read_cause c.args.form c.args.policy.now c.in_err-input.field-0.0)
+    rw (p.1, p.2) ([], read_cause c.args.format c.args.policy.now c.in_err-input.field-0.0)
 
 pub returns-in_err-input-clause-early : goal.returns-in_err-input-clause-early
 returns-in_err-input-clause-early g c =
@@ -31,13 +31,13 @@ returns-in_err-input-clause-at_most g c = c.read_up_to.ensures.at_most
 pub returns-clause-ok : goal.returns-clause-ok
 returns-clause-ok g c =
     let made = rw c.deref.ensures.value at c.make_printed.ensures.ok in
-    printed_of_input (g.R.Read.remaining c.args.reader.now) (g.R.Read.remaining c.read_up_to.new.reader) c.args.form c.args.policy.now c.in_ok-input.input.items c.make_printed.result
+    printed_of_input (g.R.Read.remaining c.args.reader.now) (g.R.Read.remaining c.read_up_to.new.reader) c.args.format c.args.policy.now c.in_ok-input.input.items c.make_printed.result
     c.in_ok-input.ensures.bytes made
 
 pub returns-clause-refused : goal.returns-clause-refused
 returns-clause-refused g c =
     let refusal = rw c.deref.ensures.value at c.make_printed.ensures.err in
-    refused_of_input (g.R.Read.remaining c.args.reader.now) (g.R.Read.remaining c.read_up_to.new.reader) c.args.form c.args.policy.now c.in_ok-input.input.items c.make_printed.result
+    refused_of_input (g.R.Read.remaining c.args.reader.now) (g.R.Read.remaining c.read_up_to.new.reader) c.args.format c.args.policy.now c.in_ok-input.input.items c.make_printed.result
     c.in_ok-input.ensures.bytes c.make_printed.ensures.early refusal
 
 pub returns-clause-performed : goal.returns-clause-performed

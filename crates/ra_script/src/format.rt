@@ -1,6 +1,6 @@
 /// What is written of a run.
 #[derive(Clone, Copy, Debug)]
-pub enum Form {
+pub enum Format {
     /// The lines of its report.
     Lines,
     /// Its trace.
