@@ -6,7 +6,7 @@ use Rattle.std.proofs.lemmas.Str.{IsUtf8-from_is_utf8, is_utf8-from_IsUtf8}
 use Rattle.std.specs.Str.{IsUtf8, is_utf8}
 use Rattle.toml.specs.Parse.{parse_document}
 use Rattle.ra_script.specs.declared.error.ScriptError.TheVariants as fault
-use Rattle.ra_script.specs.ScriptText.{tree_of}
+use Rattle.ra_script.specs.ScriptText.{IsText, tree_of}
 
 long_or_not : (n : ℕ) → 65536 < n → nat_lt 65536 n ≡ true
 long_or_not n h = grind (arith, nat_tests)
@@ -26,3 +26,6 @@ tree_of-bytes text short other =
 
 pub tree_of-text : (text : List ℕ) → length text ≤ 65536 → IsUtf8 text → tree_of text ≡ ok_or (parse_document text) fault.Toml
 tree_of-text text short utf8 = rw (not_long (length text) short, is_utf8-from_IsUtf8 text utf8)
+
+pub is_text : (text : List ℕ) → length text ≤ 65536 → IsUtf8 text → IsText text
+is_text text short utf8 = (short, is_utf8-from_IsUtf8 text utf8)

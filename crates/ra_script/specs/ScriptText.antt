@@ -1,5 +1,5 @@
 -- The script of a text, check by check, in the order in which refusals come.
-use Rattle.std.specs.Prelude.{ℕ, ℤ, pos, negsuc, nat_le, nat_lt, ◌&&◌, Bool, true, false, not, List, [], ◌∷◌, ◌++◌, length, Result, Ok, Err, if◌then◌else◌, ok_or}
+use Rattle.std.specs.Prelude.{◌≡◌, ◌≤◌, ℕ, ℤ, pos, negsuc, nat_le, nat_lt, ◌&&◌, Bool, true, false, not, List, [], ◌∷◌, ◌++◌, length, Result, Ok, Err, if◌then◌else◌, ok_or}
 use Rattle.std.specs.List.{list_all}
 use Rattle.std.specs.Str.{is_utf8, bytes_eq}
 use Rattle.toml.specs.Data.{Members}
@@ -85,6 +85,10 @@ tree_of text =
     if nat_lt 65536 (length text) then Err fault.Limit
     else if not (is_utf8 text) then Err fault.Toml
     else ok_or (parse_document text) fault.Toml
+
+-- a text that is parsed: at most 65,536 bytes of UTF-8
+abbrev pub IsText : List ℕ → Type 0
+IsText text = (length text ≤ 65536) × (is_utf8 text ≡ true)
 
 -- the script of a text
 abbrev pub script_of : List ℕ → Result ScriptState ScriptError

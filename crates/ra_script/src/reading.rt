@@ -8,6 +8,7 @@ ghost use Rattle.ra_script.specs.Document.{texts, client_table, document as show
 ghost use Rattle.ra_script.specs.Faults.{IsRefusal};
 ghost use Rattle.ra_script.specs.Meaning.{Means};
 ghost use Rattle.ra_script.specs.ScriptText as spec;
+ghost use Rattle.ra_script.specs.ScriptText.{IsText};
 
 use crate::ScriptError;
 use crate::document::{ClientRef, DocumentRef, document_of};
@@ -33,6 +34,8 @@ fn tree_of(alloc: Global, text: &[u8]) -> Result<Table, ScriptError>
     ensures ok { IfOk result (λ tree. spec.tree_of text.now ≡ Ok (table_view tree)) }
     ensures err { IfErr result (IsRefusal (spec.tree_of text.now)) }
     ensures limit { 65536 < length text.now → IsErrOf result ScriptError.Limit }
+    ensures parsed { OnOk result (IsText text.now) }
+    ensures memory { IsErrOf result ScriptError.Memory → IsText text.now }
 {
     if text.len() > MAX_TEXT {
         return Err(ScriptError::Limit);
@@ -180,7 +183,7 @@ fn script_with(alloc: Global, nodes: u16, clients: &[ClientRef<'_>]) -> Result<S
 ///
 /// # Errors
 ///
-/// The first that holds, but that `Memory` may come before any behind the first:
+/// The first that holds, but that `Memory` may come before any behind these two: that the text is too long, and that it is not UTF-8.
 ///
 /// 1. `Limit`: the text has more than 65,536 bytes.
 /// 2. `Toml`: it is not UTF-8, or no TOML document.
@@ -195,6 +198,8 @@ pub fn read_script(alloc: Global, text: &[u8]) -> Result<Script, ScriptError>
     ensures ok { IfOk result (λ script. spec.script_of text.now ≡ Ok script) }
     ensures refused { IfErr result (IsRefusal (spec.script_of text.now)) }
     ensures limit { 65536 < length text.now → IsErrOf result ScriptError.Limit }
+    // Memory is wanting only for a text that is not too long and is UTF-8: what is decided before it is parsed.
+    ensures memory { IsErrOf result ScriptError.Memory → IsText text.now }
     ensures script { IfOk result IsScript }
 
     // It is read as a script only where it is a document of that script, and where it is, only memory can be wanting.
