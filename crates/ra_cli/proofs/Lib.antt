@@ -3,3 +3,6 @@ mod Replies
 mod Refusals
 mod Scripts
 mod ClusterRuns
+mod Options
+mod Statuses
+mod Helping

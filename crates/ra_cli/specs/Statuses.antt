@@ -1,20 +1,59 @@
--- What the statuses of the commands say that one thread does.
-use Rattle.std.specs.Prelude.{ℕ, ◌⊎◌, List, true, false, Option, IfSome}
+-- What the statuses of the commands say.
+use Rattle.std.specs.Prelude.{◌≡◌, ◌≢◌, ℕ, ◌⊎◌, List, [], ◌++◌, Bool, true, false, Option, IfSome, Any, codes}
 use Rattle.std.specs.Io.KnownBytes.{Consumes, Appends}
+use Rattle.ra_schedule.specs.declared.choice.Policy.{Policy}
+use Rattle.ra_trace.specs.declared.verdict.Verdict.{Verdict}
+use Rattle.ra_trace.specs.Verdict.{IsVerdict}
+use Rattle.ra_cli.specs.declared.refusal.Refusal.{Refusal}
 use Rattle.ra_cli.specs.Answer.{IsAnswered}
-use Rattle.ra_cli.specs.Performs.{Performs}
-use Rattle.ra_cli.specs.Checks.{Checks}
+use Rattle.ra_cli.specs.Words.{IsHelpWord, GivesNode}
+use Rattle.ra_cli.specs.Performs.{Performs, Prints}
+use Rattle.ra_cli.specs.Checks.{Checks, verdict_text}
+use Rattle.ra_cli.specs.ClusterRun.{IsClusterRun}
+use Rattle.ra_cli.specs.Refusals.{IsOfReader, IsOfWriter, refused_line, word_of}
 
--- some node answered what was to be read, where it is known; it was read to its end, and the answer was written and nothing else
-abbrev pub Answers : (old new before after : Option (List ℕ)) → Type 0
-Answers old new before after = (node : ℕ) × (nodes : ℕ) × IfSome old (λ input. (output : List ℕ)
+-- the node of the words, of as many as they say, answered what was to be read, where it is known; it was read to its end, and the answer
+-- was written and nothing else
+abbrev pub Answers : (words : List (List ℕ)) → (old new before after : Option (List ℕ)) → Type 0
+Answers words old new before after = (node : ℕ) × (nodes : ℕ) × GivesNode words node nodes × IfSome old (λ input. (output : List ℕ)
     × IsAnswered node nodes input output × Consumes old new input × Appends before after output)
 
 -- status 0: the input was answered, or performed to its end, or is the trace of a run
-abbrev pub IsDone : (old new before after : Option (List ℕ)) → Type 0
-IsDone old new before after =
-    Answers old new before after ⊎ Performs old new before after true ⊎ Checks old new before after true
+abbrev pub IsDone : (words : List (List ℕ)) → (old new before after : Option (List ℕ)) → Type 0
+IsDone words old new before after =
+    Answers words old new before after ⊎ Performs old new before after true ⊎ Checks old new before after true
 
 -- status 3: the input was performed and something is left to do, or is the trace of no run
 abbrev pub IsUnfinished : (old new before after : Option (List ℕ)) → Type 0
 IsUnfinished old new before after = Performs old new before after false ⊎ Checks old new before after false
+
+-- status 2: the line of a refusal was written and nothing else, and neither the reader nor the writer failed
+abbrev pub IsRefused : (before after : Option (List ℕ)) → Type 0
+IsRefused before after = (refusal : Refusal) × (IsOfReader refusal → ⊥) × (IsOfWriter refusal → ⊥)
+    × Appends before after (refused_line (word_of refusal))
+
+-- of a refusal that is none of the writer: the reader failed and the line was written, or the writer failed at the line
+abbrev pub IsSaid : Refusal → (before after : Option (List ℕ)) → Type 0
+IsSaid refusal before after = (IsOfReader refusal × Appends before after (refused_line (word_of refusal)))
+    ⊎ ((front back : List ℕ) × (refused_line (word_of refusal) ≡ front ++ back) × (back ≢ []) × Appends before after front)
+
+-- what the words have printed of an input: the line of a refusal, or what came of it, or a text of help
+abbrev pub IsPrinted : (words : List (List ℕ)) → (input text : List ℕ) → Type 0
+IsPrinted words input text =
+    ((refusal : Refusal) × (text ≡ refused_line (word_of refusal)))
+    ⊎ ((node nodes : ℕ) × GivesNode words node nodes × IsAnswered node nodes input text)
+    ⊎ ((policy : Policy) × (trace finished : Bool) × Prints trace policy input text finished)
+    ⊎ ((verdict : Verdict) × IsVerdict input verdict × (text ≡ verdict_text verdict))
+    ⊎ IsClusterRun input text
+    ⊎ Any IsHelpWord words
+
+-- a front of what is to be printed was written, and not all of it
+abbrev pub BreaksOff : (words : List (List ℕ)) → (input : List ℕ) → (before after : Option (List ℕ)) → Type 0
+BreaksOff words input before after = (front back : List ℕ) × IsPrinted words input (front ++ back) × (back ≢ [])
+    × Appends before after front
+
+-- status 1: the reader failed and the line that says so was written, or the writer failed; where what was to be read is known, a front
+-- of what is printed was written then
+abbrev pub IsBroken : (words : List (List ℕ)) → (old before after : Option (List ℕ)) → Type 0
+IsBroken words old before after =
+    Appends before after (codes "refused Read\n") ⊎ IfSome old (λ input. BreaksOff words input before after)

@@ -1,5 +1,6 @@
 -- What the words of a command line ask for.
-use Rattle.std.specs.Prelude.{◌≡◌, ℕ, ◌⊎◌, ⊤, List, codes}
+use Rattle.std.specs.Prelude.{◌≡◌, ℕ, ◌+◌, ◌≤◌, ◌⊎◌, ⊤, List, ◌∷◌, ◌++◌, Some, slice_get, codes}
+use Rattle.std.specs.Str.Parse.{IsNumeral, digits_value, without_leading_plus}
 use Rattle.ra_cli.specs.declared.command_line.CommandFault.{CommandFault}
 use Rattle.ra_cli.specs.declared.command_line.CommandFault.TheVariants.{Usage, Memory}
 use Rattle.ra_cli.specs.declared.command_line.Task.{Task}
@@ -8,6 +9,28 @@ use Rattle.ra_cli.specs.declared.command_line.Task.TheVariants.{Answer, Sim, Che
 -- the word is `--help` or `-h`
 abbrev pub IsHelpWord : List ℕ → Type 0
 IsHelpWord word = (word ≡ codes "--help") ⊎ (word ≡ codes "-h")
+
+-- behind the program's name, a word is this option and the next one this text, or one word is both, with `=` between them
+abbrev pub GivesText : (words : List (List ℕ)) → (option text : List ℕ) → Type 0
+GivesText words option text = (place : ℕ) × (1 ≤ place) × (((slice_get words place ≡ Some option) × (slice_get words (place + 1) ≡ Some text))
+    ⊎ (slice_get words place ≡ Some (option ++ 61 ∷ text)))
+
+-- the words give an option this number, in decimal digits, before which a plus may stand
+abbrev pub Gives : (words : List (List ℕ)) → (option : List ℕ) → ℕ → Type 0
+Gives words option number = (text : List ℕ) × GivesText words option text × IsNumeral 10 (without_leading_plus text)
+    × (digits_value 10 (without_leading_plus text) ≡ number)
+
+-- the words give the number of a node, and how many there are
+abbrev pub GivesNode : (words : List (List ℕ)) → ℕ → ℕ → Type 0
+GivesNode words node nodes = Gives words (codes "--node") node × Gives words (codes "--nodes") nodes
+
+-- a fact for the two numbers of the command `answer`
+abbrev pub OnAnswer : Task → (ℕ → ℕ → Type 0) → Type 0
+OnAnswer (Answer node nodes) P = P node nodes
+OnAnswer (Sim policy choices trace) P = ⊤
+OnAnswer Check P = ⊤
+OnAnswer Cluster P = ⊤
+OnAnswer (Help text) P = ⊤
 
 -- a fact for a text of help
 abbrev pub OnHelp : Task → Type 0 → Type 0

@@ -1,5 +1,5 @@
-ghost use Rattle.std.specs.Prelude.{Any, IsTrue, IfOk, IfSome, string_bytes};
-ghost use Rattle.ra_cli.specs.Words.{IsHelpWord, OnHelp};
+ghost use Rattle.std.specs.Prelude.{◌≡◌, ◌∷◌, ◌++◌, Any, map, IsTrue, IfOk, IfSome, string_bytes};
+ghost use Rattle.ra_cli.specs.Words.{Gives, GivesNode, GivesText, IsHelpWord, OnAnswer, OnHelp};
 
 use clap::error::ErrorKind;
 use clap::{Arg, ArgAction, ArgMatches, Command, Error as ParseError, value_parser};
@@ -240,12 +240,47 @@ fn command<'a>(alloc: Global) -> Result<Command<'a>, AllocError> {
     with_command(ra, Ok(check_command(alloc)))
 }
 
-/// Returns the task of the command `answer`.
-fn answer_task<'a>(answer: &ArgMatches<'a>) -> Option<Task<'a>>
-    ensures { IfSome result (λ task. OnHelp task ⊥) }
+/// Returns the text behind an option and `=` in a word, or `None` where it is no such word. It does not allocate.
+fn text_in<'a>(word: &'a str, option: &str) -> Option<&'a str>
+    ensures { IfSome result (λ text. word.now ≡ option.now ++ 61 ∷ text.now) }
 {
-    let node = answer.get_one("node")?;
-    let nodes = answer.get_one("nodes")?;
+    let (name, text) = word.split_once('=')?;
+    if name == option { Some(text) } else { None }
+}
+
+/// Returns the text that the words give an option, or `None`. The first word is the program's name. It does not allocate.
+fn text_of<'a>(words: &'a [String], option: &str) -> Option<&'a str>
+    ensures { IfSome result (λ text. GivesText (map string_bytes words.now) option.now text.now) }
+{
+    for place in 1..words.len() {
+        let word = words[place].as_str();
+        if word == option {
+            let next = words.get(place + 1)?;
+            return Some(next.as_str());
+        }
+        if let Some(text) = text_in(word, option) {
+            return Some(text);
+        }
+    }
+    None
+}
+
+/// Returns the number that the words give an option, or `None`. It does not allocate.
+fn number_of(words: &[String], option: &str) -> Option<u16>
+    ensures { IfSome result (Gives (map string_bytes words.now) option.now) }
+{
+    let text = text_of(words, option)?;
+    text.parse().ok()
+}
+
+/// Returns the task of the command `answer`, with the numbers that the words give. The parser has found that they give each once, and
+/// tells less of them in its contract than the words do.
+fn answer_task<'a>(words: &[String]) -> Option<Task<'a>>
+    ensures help { IfSome result (λ task. OnHelp task ⊥) }
+    ensures numbers { IfSome result (λ task. OnAnswer task (GivesNode (map string_bytes words.now))) }
+{
+    let node = number_of(words, "--node")?;
+    let nodes = number_of(words, "--nodes")?;
     Some(Task::Answer { node, nodes })
 }
 
@@ -261,7 +296,8 @@ fn policy_name(sim: &ArgMatches) -> Option<PolicyName> {
 
 /// Returns the task of the command `sim`.
 fn sim_task<'a>(sim: &ArgMatches<'a>) -> Option<Task<'a>>
-    ensures { IfSome result (λ task. OnHelp task ⊥) }
+    ensures help { IfSome result (λ task. OnHelp task ⊥) }
+    ensures numbers { IfSome result (λ task. OnAnswer task (λ _ _. ⊥)) }
 {
     let policy = policy_name(sim)?;
     let choices = sim.get_str("choices")?;
@@ -274,12 +310,13 @@ fn sim_task<'a>(sim: &ArgMatches<'a>) -> Option<Task<'a>>
 }
 
 /// Returns the task of a command line that was understood, or `None` where it has no command.
-fn task_of<'a>(matches: &ArgMatches<'a>) -> Option<Task<'a>>
-    ensures { IfSome result (λ task. OnHelp task ⊥) }
+fn task_of<'a>(words: &[String], matches: &ArgMatches<'a>) -> Option<Task<'a>>
+    ensures help { IfSome result (λ task. OnHelp task ⊥) }
+    ensures numbers { IfSome result (λ task. OnAnswer task (GivesNode (map string_bytes words.now))) }
 {
     let (name, given) = matches.subcommand()?;
     match name {
-        "answer" => answer_task(given),
+        "answer" => answer_task(words),
         "sim" => sim_task(given),
         "cluster" => Some(Task::Cluster),
         "check" => Some(Task::Check),
@@ -308,12 +345,13 @@ fn asks_for_help(words: &[String]) -> bool
 pub fn parse<'a>(alloc: Global, words: &'a [String]) -> Result<Task<'a>, CommandFault>
     ensures help { IfOk result (λ task.
         OnHelp task (Any (λ word. IsHelpWord (string_bytes word)) words.now)) }
+    ensures numbers { IfOk result (λ task. OnAnswer task (GivesNode (map string_bytes words.now))) }
 {
     let Ok(command) = command(alloc) else {
         return Err(CommandFault::Memory);
     };
     match command.try_get_matches_from(words) {
-        Ok(matches) => task_of(&matches).ok_or(CommandFault::Usage),
+        Ok(matches) => task_of(words, &matches).ok_or(CommandFault::Usage),
         Err(error) => help_of(alloc, words, &error),
     }
 }
@@ -328,8 +366,9 @@ fn help_of<'a>(
     words: &[String],
     error: &ParseError,
 ) -> Result<Task<'a>, CommandFault>
-    ensures { IfOk result (λ task.
+    ensures help { IfOk result (λ task.
         OnHelp task (Any (λ word. IsHelpWord (string_bytes word)) words.now)) }
+    ensures numbers { IfOk result (λ task. OnAnswer task (λ _ _. ⊥)) }
 {
     match error.kind() {
         // No contract of the parser's says that it gives help only to those who ask.

@@ -1,17 +1,19 @@
-ghost use Rattle.std.specs.Prelude.{true, false, [], ◌++◌, None, ◌≢◌, IsErr, IfOk, IfErr, IfNone, ◌≡◌, ◌≤◌, ◌⊎◌, List, ℕ, Any, IfSome, string_bytes};
+ghost use Rattle.std.specs.Prelude.{true, false, [], ◌++◌, None, ◌≢◌, ◌↔◌, Bool, IsErr, IsErrOf, IsTrue, IfOk, IfErr, IfNone, ◌≡◌, ◌≤◌, ◌⊎◌, List, ℕ, Any, map, IfSome, string_bytes};
 ghost use Rattle.std.specs.Io.KnownBytes.{Consumes, Appends};
 ghost use Rattle.ra_cli.specs.Words.{IsHelpWord};
 ghost use Rattle.ra_cli.specs.Words as spec;
-ghost use Rattle.ra_cli.specs.Performs.{IsNamed, PerformsBy};
+ghost use Rattle.ra_cli.specs.Performs.{IsNamed, PerformsBy, Prints};
 ghost use Rattle.ra_cli.specs.Checks.{Checks, is_valid};
-ghost use Rattle.ra_cli.specs.Statuses.{IsDone, IsUnfinished};
+ghost use Rattle.ra_cli.specs.Statuses.{IsBroken, IsDone, IsRefused, IsSaid, IsUnfinished};
 ghost use Rattle.ra_cli.specs.ClusterRun.{RunsCluster};
 ghost use Rattle.ra_script.specs.ChoicesText.{choices_of};
 ghost use Rattle.ra_schedule.specs.declared.choice.Policy.{Policy};
-ghost use Rattle.ra_cli.specs.declared.serving.Refusal.{Refusal};
+ghost use Rattle.ra_cli.specs.declared.refusal.Refusal.{Refusal};
+ghost use Rattle.ra_cli.specs.Refusals.{IsOfReader, IsOfWriter, refused_line, word_of};
 
 use crate::command_line::{PolicyName, Task, parse};
 use crate::error::RunScriptError;
+use crate::refusal::{Refusal, line_of};
 use crate::running::run_script;
 use crate::verdict::verdict_text;
 use crate::{AnswerError, CommandFault, answer};
@@ -23,7 +25,6 @@ use std::alloc::Global;
 use std::io::{Read, Write};
 use std::sync::Wait;
 use std::thread::Threads;
-use thiserror::Error;
 
 /// The command did what it was asked.
 const DONE: u8 = 0;
@@ -36,23 +37,6 @@ const REFUSED: u8 = 2;
 
 /// The run ended with something left to do, or the trace is none.
 const UNFINISHED: u8 = 3;
-
-/// Why a command was not done. Its `Display` is the word that is printed.
-#[derive(Clone, Copy, Debug, Error)]
-pub enum Refusal {
-    #[error(transparent)]
-    Command(CommandFault),
-    #[error(transparent)]
-    Answer(AnswerError),
-    #[error(transparent)]
-    Choices(ChoicesError),
-    #[error(transparent)]
-    Perform(PerformError),
-    #[error(transparent)]
-    Check(TraceError),
-    #[error(transparent)]
-    Cluster(RunScriptError),
-}
 
 /// Writes a text and returns the status, or that of a fault where the writer fails. It does not allocate.
 fn written<W: Write>(writer: &mut W, text: &[u8], status: u8) -> u8
@@ -70,8 +54,7 @@ fn written<W: Write>(writer: &mut W, text: &[u8], status: u8) -> u8
 
 /// Returns whether the writer failed, so that nothing more is to be written. It does not allocate.
 fn is_of_the_writer(refusal: Refusal) -> bool
-    ensures { (refusal ≡ Refusal.Answer AnswerError.Write) ⊎ (refusal ≡ Refusal.Perform PerformError.Write)
-        ⊎ (refusal ≡ Refusal.Cluster RunScriptError.Write) → result ≡ true }
+    ensures { IsTrue result ↔ IsOfWriter refusal }
 {
     matches!(
         refusal,
@@ -81,32 +64,38 @@ fn is_of_the_writer(refusal: Refusal) -> bool
     )
 }
 
-/// Returns the status of a refusal that is printed: 1 where the reader failed, and else 2. It does not allocate.
-fn refused_status(refusal: Refusal) -> u8
-    ensures { (1 ≤ result) × (result ≤ 2) }
+/// Returns whether the reader failed. It does not allocate.
+fn is_of_the_reader(refusal: Refusal) -> bool
+    ensures { IsTrue result ↔ IsOfReader refusal }
 {
-    match refusal {
+    matches!(
+        refusal,
         Refusal::Answer(AnswerError::Read)
-        | Refusal::Perform(PerformError::Read)
-        | Refusal::Check(TraceError::Read)
-        | Refusal::Cluster(RunScriptError::Read) => BROKEN,
-        _ => REFUSED,
-    }
+            | Refusal::Perform(PerformError::Read)
+            | Refusal::Check(TraceError::Read)
+            | Refusal::Cluster(RunScriptError::Read)
+    )
 }
 
-/// Prints a refusal and returns its status. After a fault of the writer it prints nothing.
-pub fn refuse<W: Write>(alloc: Global, writer: &mut W, refusal: Refusal) -> u8
+/// Prints the line of a refusal and returns its status: 1 where the reader or the writer failed, and else 2. After a fault of the
+/// writer it prints nothing. It does not allocate.
+fn refuse<W: Write>(writer: &mut W, refusal: Refusal) -> u8
     ensures range { result ≤ 2 }
     ensures not_done { 1 ≤ result }
-    ensures unwritten { (refusal ≡ Refusal.Answer AnswerError.Write) ⊎ (refusal ≡ Refusal.Perform PerformError.Write)
-        ⊎ (refusal ≡ Refusal.Cluster RunScriptError.Write) → (result ≡ 1) × (writer.new ≡ writer.old) }
+    ensures unwritten { IsOfWriter refusal → (result ≡ 1) × (writer.new ≡ writer.old) }
+    ensures refused { result ≡ 2 → (IsOfReader refusal → ⊥) × (IsOfWriter refusal → ⊥)
+        × Appends (W.contents writer.old) (W.contents writer.new) (refused_line (word_of refusal)) }
+    ensures broken { result ≡ 1 → IsOfWriter refusal
+        ⊎ ((IsOfWriter refusal → ⊥) × IsSaid refusal (W.contents writer.old) (W.contents writer.new)) }
 {
     if is_of_the_writer(refusal) {
         return BROKEN;
     }
-    match format!(in alloc; "refused {refusal}\n") {
-        Ok(line) => written(writer, line.as_bytes(), refused_status(refusal)),
-        Err(_) => written(writer, b"refused Memory\n", REFUSED),
+    let line = line_of(refusal).as_bytes();
+    if is_of_the_reader(refusal) {
+        written(writer, line, BROKEN)
+    } else {
+        written(writer, line, REFUSED)
     }
 }
 
@@ -166,8 +155,12 @@ fn perform_as<R: Read, W: Write>(
     policy: &Policy,
     trace: bool,
 ) -> Result<bool, PerformError>
-    ensures { IfOk result (PerformsBy policy.now trace (R.remaining reader.old) (R.remaining reader.new)
+    ensures ok { IfOk result (PerformsBy policy.now trace (R.remaining reader.old) (R.remaining reader.new)
         (W.contents writer.old) (W.contents writer.new)) }
+    ensures unwritten { IfErr result (λ fault. fault ≢ PerformError.Write → writer.new ≡ writer.old) }
+    ensures front { IsErrOf result PerformError.Write → IfSome (R.remaining reader.old) (λ input.
+        (front back : List ℕ) × (finished : Bool) × Prints trace policy.now input (front ++ back) finished × (back ≢ [])
+        × Appends (W.contents writer.old) (W.contents writer.new) front) }
 {
     if trace {
         perform_trace(alloc, reader, writer, policy)
@@ -192,17 +185,20 @@ fn simulate<R: Read, W: Write>(
     ensures unfinished { result ≡ 3 → (policy : Policy) × IsNamed name choices.now policy
         × PerformsBy policy trace (R.remaining reader.old) (R.remaining reader.new)
         (W.contents writer.old) (W.contents writer.new) false }
+    ensures refused { result ≡ 2 → IsRefused (W.contents writer.old) (W.contents writer.new) }
+    ensures broken { (words : List (List ℕ)) → result ≡ 1
+        → IsBroken words (R.remaining reader.old) (W.contents writer.old) (W.contents writer.new) }
     // Choices that are none are refused before anything is read.
     ensures choices_first { choices_of choices.now ≡ None → (1 ≤ result) × (reader.new ≡ reader.old) }
 {
     let policy = match policy_of(alloc, name, choices) {
         Ok(policy) => policy,
-        Err(fault) => return refuse(alloc, writer, Refusal::Choices(fault)),
+        Err(fault) => return refuse(writer, Refusal::Choices(fault)),
     };
     match perform_as(alloc, reader, writer, &policy, trace) {
         Ok(true) => DONE,
         Ok(false) => UNFINISHED,
-        Err(fault) => refuse(alloc, writer, Refusal::Perform(fault)),
+        Err(fault) => refuse(writer, Refusal::Perform(fault)),
     }
 }
 
@@ -223,14 +219,17 @@ fn judge<R: Read, W: Write>(alloc: Global, reader: &mut R, writer: &mut W) -> u8
         (W.contents writer.old) (W.contents writer.new) true }
     ensures invalid { result ≡ 3 → Checks (R.remaining reader.old) (R.remaining reader.new)
         (W.contents writer.old) (W.contents writer.new) false }
+    ensures refused { result ≡ 2 → IsRefused (W.contents writer.old) (W.contents writer.new) }
+    ensures broken { (words : List (List ℕ)) → result ≡ 1
+        → IsBroken words (R.remaining reader.old) (W.contents writer.old) (W.contents writer.new) }
 {
     let verdict = match check(alloc, reader) {
         Ok(verdict) => verdict,
-        Err(fault) => return refuse(alloc, writer, Refusal::Check(fault)),
+        Err(fault) => return refuse(writer, Refusal::Check(fault)),
     };
     match verdict_text(alloc, &verdict) {
         Ok(text) => written(writer, text.as_bytes(), status_of(&verdict)),
-        Err(_) => refuse(alloc, writer, Refusal::Check(TraceError::Memory)),
+        Err(_) => refuse(writer, Refusal::Check(TraceError::Memory)),
     }
 }
 
@@ -245,15 +244,19 @@ fn serve_alone<R: Read, W: Write>(
     ensures range { IfSome result (λ status. status ≤ 3) }
     ensures done { IfSome result (λ status. status ≡ 0
         → ((reader.new ≡ reader.old) × Any (λ word. IsHelpWord (string_bytes word)) words.now)
-        ⊎ IsDone (R.remaining reader.old) (R.remaining reader.new) (W.contents writer.old) (W.contents writer.new)) }
+        ⊎ IsDone (map string_bytes words.now) (R.remaining reader.old) (R.remaining reader.new)
+        (W.contents writer.old) (W.contents writer.new)) }
     ensures unfinished { IfSome result (λ status. status ≡ 3
         → IsUnfinished (R.remaining reader.old) (R.remaining reader.new) (W.contents writer.old) (W.contents writer.new)) }
+    ensures refused { IfSome result (λ status. status ≡ 2 → IsRefused (W.contents writer.old) (W.contents writer.new)) }
+    ensures broken { IfSome result (λ status. status ≡ 1
+        → IsBroken (map string_bytes words.now) (R.remaining reader.old) (W.contents writer.old) (W.contents writer.new)) }
     ensures untouched { IfNone result ((reader.new ≡ reader.old) × (writer.new ≡ writer.old)) }
 {
     let status = match parse(alloc, words) {
         Ok(Task::Answer { node, nodes }) => match answer(alloc, node, nodes, reader, writer) {
             Ok(()) => DONE,
-            Err(fault) => refuse(alloc, writer, Refusal::Answer(fault)),
+            Err(fault) => refuse(writer, Refusal::Answer(fault)),
         },
         Ok(
             Task::Sim {
@@ -265,7 +268,7 @@ fn serve_alone<R: Read, W: Write>(
         Ok(Task::Check) => judge(alloc, reader, writer),
         Ok(Task::Cluster) => return None,
         Ok(Task::Help(text)) => written(writer, text.as_bytes(), DONE),
-        Err(fault) => refuse(alloc, writer, Refusal::Command(fault)),
+        Err(fault) => refuse(writer, Refusal::Command(fault)),
     };
     Some(status)
 }
@@ -288,16 +291,22 @@ pub fn serve<T: Threads + Wait + Sync, R: Read, W: Write>(
     // is the trace of no run.
     ensures done { result ≡ 0
         → ((reader.new ≡ reader.old) × Any (λ word. IsHelpWord (string_bytes word)) words.now)
-        ⊎ IsDone (R.remaining reader.old) (R.remaining reader.new) (W.contents writer.old) (W.contents writer.new)
+        ⊎ IsDone (map string_bytes words.now) (R.remaining reader.old) (R.remaining reader.new)
+        (W.contents writer.old) (W.contents writer.new)
         ⊎ RunsCluster (R.remaining reader.old) (R.remaining reader.new) (W.contents writer.old) (W.contents writer.new) }
     ensures unfinished { result ≡ 3
         → IsUnfinished (R.remaining reader.old) (R.remaining reader.new) (W.contents writer.old) (W.contents writer.new) }
+    // Status 2 comes only with the line of a refusal that is none of the reader and none of the writer; and status 1 only where one of
+    // these failed: with the line that says so of the reader, or a front of what is printed.
+    ensures refused { result ≡ 2 → IsRefused (W.contents writer.old) (W.contents writer.new) }
+    ensures broken { result ≡ 1
+        → IsBroken (map string_bytes words.now) (R.remaining reader.old) (W.contents writer.old) (W.contents writer.new) }
 {
     if let Some(status) = serve_alone(alloc, words, reader, writer) {
         return status;
     }
     match run_script(rt, alloc, reader, writer) {
         Ok(()) => DONE,
-        Err(fault) => refuse(alloc, writer, Refusal::Cluster(fault)),
+        Err(fault) => refuse(writer, Refusal::Cluster(fault)),
     }
 }

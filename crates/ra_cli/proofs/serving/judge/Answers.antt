@@ -1,10 +1,13 @@
-use Rattle.std.proofs.Common.{◌≡◌, ◌≤◌, ℕ, Bool, true, false, List, length, Option, Some, None, inl, inr, arith, refl, subst, ◌∙◌}
+use Rattle.std.proofs.Common.{◌≡◌, ◌≤◌, sym, ℕ, Bool, true, false, List, length, Option, Some, None, inl, inr, arith, refl, subst, ◌∙◌}
 use Rattle.std.specs.Prelude.{IfSome}
 use Rattle.std.specs.Io.KnownBytes.{Consumes, Appends}
 use Rattle.ra_trace.specs.declared.verdict.Verdict.{Verdict}
 use Rattle.ra_trace.specs.declared.verdict.Verdict.TheVariants.{Valid, Invalid}
 use Rattle.ra_trace.specs.Verdict.{IsVerdict}
 use Rattle.ra_cli.specs.Checks.{Checks, is_valid, verdict_text}
+use Rattle.ra_trace.specs.declared.error.TraceError.TheVariants.{Memory}
+use Rattle.ra_cli.specs.declared.refusal.Refusal.TheVariants.{Check}
+use Rattle.ra_cli.proofs.Statuses.{none_of_check, of_verdict, refused, broken, front_of}
 use Rattle.ra_cli.proofs.serving.judge.Goals as goal
 
 -- what is valid was read to its end
@@ -49,4 +52,53 @@ returns-in-Ok-verdict_text-clause-invalid g c is =
             c.in-Ok.ensures.valid c.in-Ok.ensures.alone status.1 (subst (Appends before after) (c.as_bytes.ensures.value ∙ c.in-Ok-verdict_text.ensures) all.1)
       ]
       | inr front ↦ absurd (omega (arith, front.0, is))
+    ]
+
+pub returns-in-Err-clause-refused : goal.returns-in-Err-clause-refused
+returns-in-Err-clause-refused g c two =
+    let before = g.W.Write.contents c.args.writer.now in
+    refused (Check c.in-Err.fault) before before (g.W.Write.contents c.refuse.new.writer) (λ other. refl) (c.refuse.ensures.refused two)
+
+pub returns-in-Err-clause-broken : goal.returns-in-Err-clause-broken
+returns-in-Err-clause-broken g c words one =
+    let before = g.W.Write.contents c.args.writer.now in
+    let never = none_of_check c.in-Err.fault in
+    broken words (g.R.Read.remaining c.args.reader.now) before before (g.W.Write.contents c.refuse.new.writer) (Check c.in-Err.fault)
+    (λ is. absurd (never is)) (λ is. absurd (never is)) (λ other. refl) (c.refuse.ensures.broken one)
+
+pub returns-in-Err-verdict_text-clause-refused : goal.returns-in-Err-verdict_text-clause-refused
+returns-in-Err-verdict_text-clause-refused g c two =
+    let before = g.W.Write.contents c.args.writer.now in
+    refused (Check Memory) before before (g.W.Write.contents c.refuse-in-Err-verdict_text.new.writer) (λ other. refl)
+    (c.refuse-in-Err-verdict_text.ensures.refused two)
+
+pub returns-in-Err-verdict_text-clause-broken : goal.returns-in-Err-verdict_text-clause-broken
+returns-in-Err-verdict_text-clause-broken g c words one =
+    let before = g.W.Write.contents c.args.writer.now in
+    let never = none_of_check Memory in
+    broken words (g.R.Read.remaining c.args.reader.now) before before (g.W.Write.contents c.refuse-in-Err-verdict_text.new.writer) (Check Memory)
+    (λ is. absurd (never is)) (λ is. absurd (never is)) (λ other. refl) (c.refuse-in-Err-verdict_text.ensures.broken one)
+
+pub returns-in-Ok-verdict_text-clause-refused : goal.returns-in-Ok-verdict_text-clause-refused
+returns-in-Ok-verdict_text-clause-refused g c two =
+    elim c.written.ensures.value [
+      | inl all ↦ elim c.status_of.ensures [
+        | inl status ↦ absurd (omega (arith, all.0, status.0, two))
+        | inr status ↦ absurd (omega (arith, all.0, status.0, two))
+      ]
+      | inr front ↦ absurd (omega (arith, front.0, two))
+    ]
+
+pub returns-in-Ok-verdict_text-clause-broken : goal.returns-in-Ok-verdict_text-clause-broken
+returns-in-Ok-verdict_text-clause-broken g c words one =
+    let old = g.R.Read.remaining c.args.reader.now in
+    elim c.written.ensures.value [
+      | inl all ↦ elim c.status_of.ensures [
+        | inl status ↦ absurd (omega (arith, all.0, status.0, one))
+        | inr status ↦ absurd (omega (arith, all.0, status.0, one))
+      ]
+      | inr part ↦
+          let (is_one, front, back, is, left, some) = part in
+          front_of words old (g.W.Write.contents c.args.writer.now) (g.W.Write.contents c.written.new.writer) (verdict_text c.in-Ok.verdict) front back
+          (of_verdict words old c.in-Ok.verdict c.in-Ok.ensures.ok) (sym (c.as_bytes.ensures.value ∙ c.in-Ok-verdict_text.ensures) ∙ is) left some
     ]

@@ -1,5 +1,55 @@
-use Rattle.std.proofs.Common.{inl, inr}
+use Rattle.std.proofs.Common.{Err, map, refl, ap, inl, inr, arith, string_bytes}
+use Rattle.ra_cli.specs.declared.refusal.Refusal.TheVariants.{Command, Answer}
+use Rattle.ra_cli.proofs.Helping.{of_help}
+use Rattle.ra_cli.proofs.Statuses.{none_of_command, of_answer, of_answered, refused, broken, front_of}
 use Rattle.ra_cli.proofs.serving.serve_alone.Goals as goal
 
 pub returns-in-Ok-clause-done : goal.returns-in-Ok-clause-done
-returns-in-Ok-clause-done g c is = inr (inl (c.in-Ok-Answer.node, c.in-Ok-Answer.nodes, c.in-Ok.ensures.ok))
+returns-in-Ok-clause-done g c is =
+    let gives = rw c.in-Ok-Answer.field-0-is at c.in-Ok-Answer.ensures.numbers in
+    inr (inl (c.in-Ok-Answer.node, c.in-Ok-Answer.nodes, gives, c.in-Ok.ensures.ok))
+
+pub returns-in-Err-answer-clause-refused : goal.returns-in-Err-answer-clause-refused
+returns-in-Err-answer-clause-refused g c two =
+    refused (Answer c.in-Err-answer.fault) (g.W.Write.contents c.args.writer.now) (g.W.Write.contents c.answer.new.writer)
+    (g.W.Write.contents c.refuse.new.writer)
+    (λ other. ap g.W.Write.contents (c.in-Err-answer.ensures.unwritten (λ e. other (inl (ap Answer e))))) (c.refuse.ensures.refused two)
+
+pub returns-in-Err-answer-clause-broken : goal.returns-in-Err-answer-clause-broken
+returns-in-Err-answer-clause-broken g c one =
+    let fault = c.in-Err-answer.fault in
+    let words = map string_bytes c.args.words.now in
+    let gives = rw c.in-Ok-Answer.field-0-is at c.in-Ok-Answer.ensures.numbers in
+    let old = g.R.Read.remaining c.args.reader.now in
+    let before = g.W.Write.contents c.args.writer.now in
+    let between = g.W.Write.contents c.answer.new.writer in
+    broken words old before between (g.W.Write.contents c.refuse.new.writer) (Answer fault)
+    (λ is. of_answered words c.in-Ok-Answer.node c.in-Ok-Answer.nodes old before between gives (c.in-Err-answer.ensures.front (ap Err (of_answer fault is))))
+    (λ is. ap g.W.Write.contents (c.refuse.ensures.unwritten is).1)
+    (λ other. ap g.W.Write.contents (c.in-Err-answer.ensures.unwritten (λ e. other (inl (ap Answer e)))))
+    (c.refuse.ensures.broken one)
+
+pub returns-in-Ok-Help-clause-broken : goal.returns-in-Ok-Help-clause-broken
+returns-in-Ok-Help-clause-broken g c one =
+    let words = map string_bytes c.args.words.now in
+    let old = g.R.Read.remaining c.args.reader.now in
+    let help = rw c.in-Ok-Help.field-0-is at c.in-Ok-Help.ensures.help in
+    elim c.written-status.ensures.value [
+      | inl all ↦ absurd (omega (arith, all.0, one))
+      | inr part ↦
+          let (is_one, front, back, is, left, some) = part in
+          front_of words old (g.W.Write.contents c.args.writer.now) (g.W.Write.contents c.written-status.new.writer) c.as_bytes.result.now front back
+          (of_help c.args.words.now old c.as_bytes.result.now help) is left some
+    ]
+
+pub returns-in-Err-clause-refused : goal.returns-in-Err-clause-refused
+returns-in-Err-clause-refused g c two =
+    let before = g.W.Write.contents c.args.writer.now in
+    refused (Command c.in-Err.fault) before before (g.W.Write.contents c.refuse-status.new.writer) (λ other. refl) (c.refuse-status.ensures.refused two)
+
+pub returns-in-Err-clause-broken : goal.returns-in-Err-clause-broken
+returns-in-Err-clause-broken g c one =
+    let before = g.W.Write.contents c.args.writer.now in
+    let never = none_of_command c.in-Err.fault in
+    broken (map string_bytes c.args.words.now) (g.R.Read.remaining c.args.reader.now) before before (g.W.Write.contents c.refuse-status.new.writer)
+    (Command c.in-Err.fault) (λ is. absurd (never is)) (λ is. absurd (never is)) (λ other. refl) (c.refuse-status.ensures.broken one)

@@ -1,11 +1,46 @@
+use Rattle.std.proofs.Common.{Err, refl, ap, inl, inr}
+use Rattle.ra_cli.specs.declared.refusal.Refusal.TheVariants.{Choices, Perform}
+use Rattle.ra_cli.proofs.Statuses.{none_of_choices, of_perform, of_performed, refused, broken}
 use Rattle.ra_cli.proofs.serving.simulate.Goals as goal
 
 pub returns-in-Ok-true-clause-done : goal.returns-in-Ok-true-clause-done
 returns-in-Ok-true-clause-done g c is =
-    let told = rw c.in-Ok-true.field-0-test at c.in-Ok-true.ensures in
+    let told = rw c.in-Ok-true.field-0-test at c.in-Ok-true.ensures.ok in
     (c.in-Ok.policy, c.in-Ok.ensures.ok, told)
 
 pub returns-in-Ok-false-clause-unfinished : goal.returns-in-Ok-false-clause-unfinished
 returns-in-Ok-false-clause-unfinished g c is =
-    let told = rw c.in-Ok-false.field-0-test at c.in-Ok-false.ensures in
+    let told = rw c.in-Ok-false.field-0-test at c.in-Ok-false.ensures.ok in
     (c.in-Ok.policy, c.in-Ok.ensures.ok, told)
+
+pub returns-in-Err-clause-refused : goal.returns-in-Err-clause-refused
+returns-in-Err-clause-refused g c two =
+    let before = g.W.Write.contents c.args.writer.now in
+    refused (Choices c.in-Err.fault) before before (g.W.Write.contents c.refuse.new.writer) (λ other. refl) (c.refuse.ensures.refused two)
+
+pub returns-in-Err-clause-broken : goal.returns-in-Err-clause-broken
+returns-in-Err-clause-broken g c words one =
+    let before = g.W.Write.contents c.args.writer.now in
+    let never = none_of_choices c.in-Err.fault in
+    broken words (g.R.Read.remaining c.args.reader.now) before before (g.W.Write.contents c.refuse.new.writer) (Choices c.in-Err.fault)
+    (λ is. absurd (never is)) (λ is. absurd (never is)) (λ other. refl) (c.refuse.ensures.broken one)
+
+pub returns-clause-refused : goal.returns-clause-refused
+returns-clause-refused g c two =
+    let fault = c.in-Err-perform_as.fault in
+    refused (Perform fault) (g.W.Write.contents c.args.writer.now) (g.W.Write.contents c.perform_as.new.writer)
+    (g.W.Write.contents c.refuse-in-Err-perform_as.new.writer)
+    (λ other. ap g.W.Write.contents (c.in-Err-perform_as.ensures.unwritten (λ e. other (inr (inl (ap Perform e))))))
+    (c.refuse-in-Err-perform_as.ensures.refused two)
+
+pub returns-clause-broken : goal.returns-clause-broken
+returns-clause-broken g c words one =
+    let fault = c.in-Err-perform_as.fault in
+    let old = g.R.Read.remaining c.args.reader.now in
+    let before = g.W.Write.contents c.args.writer.now in
+    let between = g.W.Write.contents c.perform_as.new.writer in
+    broken words old before between (g.W.Write.contents c.refuse-in-Err-perform_as.new.writer) (Perform fault)
+    (λ is. of_performed words c.in-Ok.policy c.args.trace old before between (c.in-Err-perform_as.ensures.front (ap Err (of_perform fault is))))
+    (λ is. ap g.W.Write.contents (c.refuse-in-Err-perform_as.ensures.unwritten is).1)
+    (λ other. ap g.W.Write.contents (c.in-Err-perform_as.ensures.unwritten (λ e. other (inr (inl (ap Perform e))))))
+    (c.refuse-in-Err-perform_as.ensures.broken one)

@@ -1,0 +1,24 @@
+-- A text of help is printed where a word asks for it.
+use Rattle.std.proofs.Common.{◌≡◌, ℕ, zero, suc, ◌<◌, Option, Some, None, List, [], ◌∷◌, length, map, slice_index_or, String, Global, string_bytes, ap, inr, arith}
+use Rattle.std.specs.Prelude.{IfSome, Any}
+use Rattle.ra_cli.specs.Statuses.{IsPrinted}
+use Rattle.ra_cli.specs.Words.{IsHelpWord}
+
+for_each : (old : Option (List ℕ)) (P : List ℕ → Type 0) → ((input : List ℕ) → P input) → IfSome old P
+for_each None P h = tt
+for_each (Some input) P h = h input
+
+-- a word of the command line that asks for help, among the bytes of the words
+help_at : (words : List (String Global)) (k : ℕ) (word : String Global) → k < length words → slice_index_or words k word ≡ word
+    → (k < length (map string_bytes words)) × (slice_index_or (map string_bytes words) k (string_bytes word) ≡ string_bytes word)
+help_at [] k word less is = absurd (omega arith)
+help_at (x ∷ xs) zero word less is = (omega arith, ap string_bytes is)
+help_at (x ∷ xs) (suc k) word less is = let rest = help_at xs k word (omega arith) is in (omega (arith, rest.0), rest.1)
+
+pub asks_for_help : (words : List (String Global)) → Any (λ word. IsHelpWord (string_bytes word)) words → Any IsHelpWord (map string_bytes words)
+asks_for_help words (k, word, less, is, help) = let at = help_at words k word less is in (k, string_bytes word, at.0, at.1, help)
+
+pub of_help : (words : List (String Global)) (old : Option (List ℕ)) (text : List ℕ) → Any (λ word. IsHelpWord (string_bytes word)) words
+    → IfSome old (λ input. IsPrinted (map string_bytes words) input text)
+of_help words old text help =
+    for_each old (λ input. IsPrinted (map string_bytes words) input text) (λ input. inr (inr (inr (inr (inr (asks_for_help words help))))))

@@ -1,0 +1,133 @@
+-- What a refusal comes to, and a text of which the writer took a front, as the statuses tell it.
+use Rattle.std.proofs.Common.{◌≡◌, ◌≢◌, ◌⊎◌, ℕ, Bool, List, [], ◌++◌, Option, Some, None, sym, ap, subst, refl, inl, inr, codes}
+use Rattle.std.specs.Prelude.{IfSome}
+use Rattle.std.specs.Io.KnownBytes.{Appends}
+use Rattle.ra_schedule.specs.declared.choice.Policy.{Policy}
+use Rattle.ra_script.specs.declared.error.ChoicesError.{ChoicesError}
+use Rattle.ra_script.specs.declared.error.PerformError.{PerformError}
+use Rattle.ra_script.specs.declared.error.PerformError.TheVariants as perform
+use Rattle.ra_trace.specs.declared.error.TraceError.{TraceError}
+use Rattle.ra_trace.specs.declared.verdict.Verdict.{Verdict}
+use Rattle.ra_trace.specs.Verdict.{IsVerdict}
+use Rattle.ra_cli.specs.declared.command_line.CommandFault.{CommandFault}
+use Rattle.ra_cli.specs.declared.error.AnswerError.{AnswerError}
+use Rattle.ra_cli.specs.declared.error.AnswerError.TheVariants as answer
+use Rattle.ra_cli.specs.declared.error.RunScriptError.{RunScriptError}
+use Rattle.ra_cli.specs.declared.error.RunScriptError.TheVariants as run
+use Rattle.ra_cli.specs.declared.refusal.Refusal.{Refusal}
+use Rattle.ra_cli.specs.declared.refusal.Refusal.TheVariants.{Command, Answer, Choices, Perform, Check, Cluster}
+use Rattle.ra_cli.specs.Answer.{IsAnswered}
+use Rattle.ra_cli.specs.Checks.{verdict_text}
+use Rattle.ra_cli.specs.ClusterRun.{IsClusterRun}
+use Rattle.ra_cli.specs.Performs.{Prints}
+use Rattle.ra_cli.specs.Refusals.{IsOfReader, IsOfWriter, refused_line, word_of}
+use Rattle.ra_cli.specs.Statuses.{IsRefused, IsSaid, IsBroken, IsPrinted, BreaksOff}
+use Rattle.ra_cli.specs.Words.{GivesNode}
+use Rattle.ra_cli.proofs.ClusterRuns.{of_known}
+
+for_each : (old : Option (List ℕ)) (P : List ℕ → Type 0) → ((input : List ℕ) → P input) → IfSome old P
+for_each None P h = tt
+for_each (Some input) P h = h input
+
+-- ---- Who failed
+
+pub none_of_command : (fault : CommandFault) → IsOfWriter (Command fault) → ⊥
+none_of_command fault (inl is) = absurd cc
+none_of_command fault (inr (inl is)) = absurd cc
+none_of_command fault (inr (inr is)) = absurd cc
+
+pub none_of_choices : (fault : ChoicesError) → IsOfWriter (Choices fault) → ⊥
+none_of_choices fault (inl is) = absurd cc
+none_of_choices fault (inr (inl is)) = absurd cc
+none_of_choices fault (inr (inr is)) = absurd cc
+
+pub none_of_check : (fault : TraceError) → IsOfWriter (Check fault) → ⊥
+none_of_check fault (inl is) = absurd cc
+none_of_check fault (inr (inl is)) = absurd cc
+none_of_check fault (inr (inr is)) = absurd cc
+
+pub of_answer : (fault : AnswerError) → IsOfWriter (Answer fault) → fault ≡ answer.Write
+of_answer fault (inl is) = cc
+of_answer fault (inr (inl is)) = absurd cc
+of_answer fault (inr (inr is)) = absurd cc
+
+pub of_perform : (fault : PerformError) → IsOfWriter (Perform fault) → fault ≡ perform.Write
+of_perform fault (inl is) = absurd cc
+of_perform fault (inr (inl is)) = cc
+of_perform fault (inr (inr is)) = absurd cc
+
+pub of_run : (fault : RunScriptError) → IsOfWriter (Cluster fault) → fault ≡ run.Write
+of_run fault (inl is) = absurd cc
+of_run fault (inr (inl is)) = absurd cc
+of_run fault (inr (inr is)) = cc
+
+-- ---- Status 2
+
+pub refused : (refusal : Refusal) (before between after : Option (List ℕ)) → ((IsOfWriter refusal → ⊥) → between ≡ before)
+    → (IsOfReader refusal → ⊥) × (IsOfWriter refusal → ⊥) × Appends between after (refused_line (word_of refusal)) → IsRefused before after
+refused refusal before between after same h =
+    (refusal, h.0, h.1, subst (λ (o : Option (List ℕ)). Appends o after (refused_line (word_of refusal))) (same h.1) h.2)
+
+-- ---- Status 1
+
+line_of_reader : (refusal : Refusal) → IsOfReader refusal → refused_line (word_of refusal) ≡ codes "refused Read\n"
+line_of_reader refusal (inl is) = ap (λ (r : Refusal). refused_line (word_of r)) is
+line_of_reader refusal (inr (inl is)) = ap (λ (r : Refusal). refused_line (word_of r)) is
+line_of_reader refusal (inr (inr (inl is))) = ap (λ (r : Refusal). refused_line (word_of r)) is
+line_of_reader refusal (inr (inr (inr is))) = ap (λ (r : Refusal). refused_line (word_of r)) is
+
+-- of a refusal that is none of the writer
+said : (words : List (List ℕ)) (old before after : Option (List ℕ)) (refusal : Refusal) → IsSaid refusal before after → IsBroken words old before after
+said words old before after refusal (inl (reader, all)) = inl (subst (Appends before after) (line_of_reader refusal reader) all)
+said words old before after refusal (inr (front, back, is, left, some)) =
+    inr (for_each old (λ input. BreaksOff words input before after) (λ input. (front, back, inl (refusal, sym is), left, some)))
+
+-- of any refusal
+pub broken : (words : List (List ℕ)) (old before between after : Option (List ℕ)) (refusal : Refusal)
+    → (IsOfWriter refusal → IfSome old (λ input. BreaksOff words input before between)) → (IsOfWriter refusal → after ≡ between)
+    → ((IsOfWriter refusal → ⊥) → between ≡ before)
+    → IsOfWriter refusal ⊎ ((IsOfWriter refusal → ⊥) × IsSaid refusal between after) → IsBroken words old before after
+broken words old before between after refusal fails stays same (inl writer) =
+    inr (subst (λ (o : Option (List ℕ)). IfSome old (λ input. BreaksOff words input before o)) (sym (stays writer)) (fails writer))
+broken words old before between after refusal fails stays same (inr (other, says)) =
+    said words old before after refusal (subst (λ (o : Option (List ℕ)). IsSaid refusal o after) (same other) says)
+
+-- of a text of which the writer took a front
+pub front_of : (words : List (List ℕ)) (old before after : Option (List ℕ)) (text front back : List ℕ) → IfSome old (λ input. IsPrinted words input text)
+    → text ≡ front ++ back → back ≢ [] → Appends before after front → IsBroken words old before after
+front_of words old before after text front back printed is left some =
+    inr (of_known old (λ input. IsPrinted words input text) (λ input. BreaksOff words input before after)
+    (λ input h. (front, back, subst (IsPrinted words input) is h, left, some)) printed)
+
+-- ---- What is printed
+
+pub of_verdict : (words : List (List ℕ)) (old : Option (List ℕ)) (verdict : Verdict) → IfSome old (λ input. IsVerdict input verdict)
+    → IfSome old (λ input. IsPrinted words input (verdict_text verdict))
+of_verdict words old verdict =
+    of_known old (λ input. IsVerdict input verdict) (λ input. IsPrinted words input (verdict_text verdict))
+    (λ input h. inr (inr (inr (inl (verdict, h, refl)))))
+
+pub of_answered : (words : List (List ℕ)) (node nodes : ℕ) (old before after : Option (List ℕ)) → GivesNode words node nodes
+    → IfSome old (λ input. (front back : List ℕ) × IsAnswered node nodes input (front ++ back) × (back ≢ []) × Appends before after front)
+    → IfSome old (λ input. BreaksOff words input before after)
+of_answered words node nodes old before after gives =
+    of_known old (λ input. (front back : List ℕ) × IsAnswered node nodes input (front ++ back) × (back ≢ []) × Appends before after front)
+    (λ input. BreaksOff words input before after)
+    (λ input (front, back, answered, left, some). (front, back, inr (inl (node, nodes, gives, answered)), left, some))
+
+pub of_performed : (words : List (List ℕ)) (policy : Policy) (trace : Bool) (old before after : Option (List ℕ))
+    → IfSome old (λ input. (front back : List ℕ) × (finished : Bool) × Prints trace policy input (front ++ back) finished × (back ≢ [])
+    × Appends before after front)
+    → IfSome old (λ input. BreaksOff words input before after)
+of_performed words policy trace old before after =
+    of_known old (λ input. (front back : List ℕ) × (finished : Bool) × Prints trace policy input (front ++ back) finished × (back ≢ [])
+    × Appends before after front) (λ input. BreaksOff words input before after)
+    (λ input (front, back, finished, prints, left, some). (front, back, inr (inr (inl (policy, trace, finished, prints))), left, some))
+
+pub of_cluster_run : (words : List (List ℕ)) (old before after : Option (List ℕ))
+    → IfSome old (λ input. (front back : List ℕ) × IsClusterRun input (front ++ back) × (back ≢ []) × Appends before after front)
+    → IfSome old (λ input. BreaksOff words input before after)
+of_cluster_run words old before after =
+    of_known old (λ input. (front back : List ℕ) × IsClusterRun input (front ++ back) × (back ≢ []) × Appends before after front)
+    (λ input. BreaksOff words input before after)
+    (λ input (front, back, runs, left, some). (front, back, inr (inr (inr (inr (inl runs)))), left, some))

@@ -1,0 +1,127 @@
+-- What `ra` prints where it does not do what it is asked: the word of each refusal, behind `refused`, as one line.
+use Rattle.std.specs.Prelude.{◌≡◌, ℕ, ◌⊎◌, List, ◌++◌, codes}
+use Rattle.ra_frame.specs.declared.error.FrameError.{FrameError}
+use Rattle.ra_frame.specs.declared.error.FrameError.TheVariants as frame
+use Rattle.ra_script.specs.declared.error.ScriptError.{ScriptError}
+use Rattle.ra_script.specs.declared.error.ScriptError.TheVariants as script
+use Rattle.ra_schedule.specs.declared.error.DriveError.{DriveError}
+use Rattle.ra_schedule.specs.declared.error.DriveError.TheVariants as drive
+use Rattle.ra_cluster.specs.declared.cluster.ClusterError.{ClusterError}
+use Rattle.ra_cluster.specs.declared.cluster.ClusterError.TheVariants as cluster
+use Rattle.ra_cli.specs.declared.command_line.CommandFault.{CommandFault}
+use Rattle.ra_cli.specs.declared.command_line.CommandFault.TheVariants as command
+use Rattle.ra_cli.specs.declared.error.AnswerError.{AnswerError}
+use Rattle.ra_cli.specs.declared.error.AnswerError.TheVariants as answer
+use Rattle.ra_script.specs.declared.error.ChoicesError.{ChoicesError}
+use Rattle.ra_script.specs.declared.error.ChoicesError.TheVariants as choices
+use Rattle.ra_script.specs.declared.error.PerformError.{PerformError}
+use Rattle.ra_script.specs.declared.error.PerformError.TheVariants as perform
+use Rattle.ra_trace.specs.declared.error.TraceError.{TraceError}
+use Rattle.ra_trace.specs.declared.error.TraceError.TheVariants as trace
+use Rattle.ra_cli.specs.declared.error.RunScriptError.{RunScriptError}
+use Rattle.ra_cli.specs.declared.error.RunScriptError.TheVariants as run
+use Rattle.ra_cli.specs.declared.refusal.Refusal.{Refusal}
+use Rattle.ra_cli.specs.declared.refusal.Refusal.TheVariants.{Command, Answer, Choices, Perform, Check, Cluster}
+
+abbrev pub frame_word : FrameError → List ℕ
+frame_word frame.Short = codes "Short"
+frame_word frame.Version = codes "Version"
+frame_word frame.Kind = codes "Kind"
+frame_word frame.From = codes "From"
+frame_word frame.To = codes "To"
+frame_word frame.SameNode = codes "SameNode"
+frame_word frame.Mode = codes "Mode"
+frame_word frame.Seq = codes "Seq"
+frame_word frame.Clock = codes "Clock"
+frame_word frame.NameLength = codes "NameLength"
+frame_word frame.NameByte = codes "NameByte"
+frame_word frame.Trailing = codes "Trailing"
+
+abbrev pub script_word : ScriptError → List ℕ
+script_word script.Toml = codes "Toml"
+script_word script.Shape = codes "Shape"
+script_word script.Nodes = codes "Nodes"
+script_word script.Clients = codes "Clients"
+script_word script.Op = codes "Op"
+script_word script.NotHeld = codes "NotHeld"
+script_word script.AlreadyHeld = codes "AlreadyHeld"
+script_word script.Limit = codes "Limit"
+script_word script.Memory = codes "Memory"
+
+abbrev pub drive_word : DriveError → List ℕ
+drive_word drive.TurnLimit = codes "TurnLimit"
+drive_word drive.BadPlace = codes "BadPlace"
+drive_word drive.NotEnabled = codes "NotEnabled"
+drive_word drive.Memory = codes "Memory"
+
+abbrev pub cluster_word : ClusterError → List ℕ
+cluster_word cluster.OutOfOrder = codes "OutOfOrder"
+cluster_word cluster.Unreleased = codes "Unreleased"
+cluster_word (cluster.Fault stop) = codes "Fault"
+cluster_word cluster.Settle = codes "Settle"
+cluster_word cluster.PlanUnmet = codes "PlanUnmet"
+cluster_word cluster.Lost = codes "Lost"
+cluster_word cluster.UnderWay = codes "UnderWay"
+cluster_word cluster.Memory = codes "Memory"
+
+abbrev pub command_word : CommandFault → List ℕ
+command_word command.Usage = codes "Usage"
+command_word command.Memory = codes "Memory"
+
+abbrev pub answer_word : AnswerError → List ℕ
+answer_word answer.BadCount = codes "BadCount"
+answer_word answer.BadNode = codes "BadNode"
+answer_word answer.Read = codes "Read"
+answer_word answer.Line = codes "Line"
+answer_word answer.Hex = codes "Hex"
+answer_word (answer.Frame why) = frame_word why
+answer_word answer.WrongNode = codes "WrongNode"
+answer_word answer.Stranger = codes "Stranger"
+answer_word answer.ClockFull = codes "ClockFull"
+answer_word answer.Memory = codes "Memory"
+answer_word answer.Write = codes "Write"
+
+abbrev pub choices_word : ChoicesError → List ℕ
+choices_word choices.Choice = codes "Choice"
+choices_word choices.Memory = codes "Memory"
+
+abbrev pub perform_word : PerformError → List ℕ
+perform_word perform.Read = codes "Read"
+perform_word (perform.Script why) = script_word why
+perform_word (perform.Drive why) = drive_word why
+perform_word perform.Memory = codes "Memory"
+perform_word perform.Write = codes "Write"
+
+abbrev pub trace_word : TraceError → List ℕ
+trace_word trace.Read = codes "Read"
+trace_word trace.Limit = codes "Limit"
+trace_word trace.Memory = codes "Memory"
+
+abbrev pub run_word : RunScriptError → List ℕ
+run_word run.Read = codes "Read"
+run_word (run.Script why) = script_word why
+run_word (run.Cluster why) = cluster_word why
+run_word run.Memory = codes "Memory"
+run_word run.Write = codes "Write"
+
+-- the word of a refusal
+abbrev pub word_of : Refusal → List ℕ
+word_of (Command why) = command_word why
+word_of (Answer why) = answer_word why
+word_of (Choices why) = choices_word why
+word_of (Perform why) = perform_word why
+word_of (Check why) = trace_word why
+word_of (Cluster why) = run_word why
+
+-- the line of a word
+abbrev pub refused_line : List ℕ → List ℕ
+refused_line word = codes "refused " ++ word ++ codes "\n"
+
+-- the reader failed
+abbrev pub IsOfReader : Refusal → Type 0
+IsOfReader refusal = (refusal ≡ Answer answer.Read) ⊎ (refusal ≡ Perform perform.Read) ⊎ (refusal ≡ Check trace.Read)
+    ⊎ (refusal ≡ Cluster run.Read)
+
+-- the writer failed
+abbrev pub IsOfWriter : Refusal → Type 0
+IsOfWriter refusal = (refusal ≡ Answer answer.Write) ⊎ (refusal ≡ Perform perform.Write) ⊎ (refusal ≡ Cluster run.Write)
