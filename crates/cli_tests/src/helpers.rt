@@ -4,7 +4,7 @@ use ra_cli::serve;
 use std::alloc::Global;
 use std::fmt::Display;
 use std::io;
-use std::io::{Read, Write};
+use std::io::{BufRead, Write};
 use std::process::Abort;
 use std::sync::Wait;
 use std::thread::Threads;
@@ -95,7 +95,7 @@ pub fn repeated(
 
 /// Returns the status that `ra` answers to the words of a line, and a last one where there is one, or 255 where there is no memory
 /// for them.
-pub fn status_alone<T: AllocGlobal + Threads + Wait + Sync, R: Read, W: Write>(
+pub fn status_alone<T: AllocGlobal + Threads + Wait + Sync, R: BufRead, W: Write>(
     rt: &T,
     line: &str,
     last: Option<&str>,
@@ -109,7 +109,7 @@ pub fn status_alone<T: AllocGlobal + Threads + Wait + Sync, R: Read, W: Write>(
 }
 
 /// The same by a thread, since the command may be one that waits for threads.
-fn status_of<T: AllocGlobal + Threads + Wait + Abort + Sync, R: Read + Send, W: Write + Send>(
+fn status_of<T: AllocGlobal + Threads + Wait + Abort + Sync, R: BufRead + Send, W: Write + Send>(
     rt: &T,
     line: &str,
     last: Option<&str>,
@@ -120,7 +120,7 @@ fn status_of<T: AllocGlobal + Threads + Wait + Abort + Sync, R: Read + Send, W: 
 }
 
 /// Returns what `ra` makes of the words of a line, and a last one where there is one, and what a reader gives.
-pub fn run_on<T: AllocGlobal + Threads + Wait + Abort + Sync, R: Read + Send>(
+pub fn run_on<T: AllocGlobal + Threads + Wait + Abort + Sync, R: BufRead + Send>(
     rt: &T,
     line: &str,
     last: Option<&str>,

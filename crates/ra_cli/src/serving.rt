@@ -19,10 +19,10 @@ use crate::verdict::verdict_text;
 use crate::{AnswerError, CommandFault, answer};
 use ra_schedule::Policy;
 use ra_script::{ChoicesError, PerformError, perform, perform_trace, read_choices};
-use ra_trace::{TraceError, Verdict, check};
+use ra_trace::{TraceError, Verdict, check_buffered};
 use ra_world::write_out;
 use std::alloc::Global;
-use std::io::{Read, Write};
+use std::io::{BufRead, Read, Write};
 use std::sync::Wait;
 use std::thread::Threads;
 
@@ -213,7 +213,7 @@ fn status_of(verdict: &Verdict) -> u8
 }
 
 /// Checks the text of the reader, and writes the lines of its verdict.
-fn judge<R: Read, W: Write>(alloc: Global, reader: &mut R, writer: &mut W) -> u8
+fn judge<R: BufRead, W: Write>(alloc: Global, reader: &mut R, writer: &mut W) -> u8
     ensures range { result ≤ 3 }
     ensures valid { result ≡ 0 → Checks (R.remaining reader.old) (R.remaining reader.new)
         (W.contents writer.old) (W.contents writer.new) true }
@@ -223,7 +223,7 @@ fn judge<R: Read, W: Write>(alloc: Global, reader: &mut R, writer: &mut W) -> u8
     ensures broken { (words : List (List ℕ)) → result ≡ 1
         → IsBroken words (R.remaining reader.old) (W.contents writer.old) (W.contents writer.new) }
 {
-    let verdict = match check(alloc, reader) {
+    let verdict = match check_buffered(alloc, reader) {
         Ok(verdict) => verdict,
         Err(fault) => return refuse(writer, Refusal::Check(fault)),
     };
@@ -235,7 +235,7 @@ fn judge<R: Read, W: Write>(alloc: Global, reader: &mut R, writer: &mut W) -> u8
 
 /// Does what the words ask for but the command `cluster`, and returns the exit status. Where they ask for that it does nothing,
 /// and returns `None`. It waits for nobody but the reader and the writer.
-fn serve_alone<R: Read, W: Write>(
+fn serve_alone<R: BufRead, W: Write>(
     alloc: Global,
     words: &[String],
     reader: &mut R,
@@ -278,7 +278,7 @@ fn serve_alone<R: Read, W: Write>(
 /// printed as one line, `refused` and its word. No read or write that failed is tried again, and after a fault of the output
 /// nothing more is written. It waits for nobody but the reader and the writer, and with the command `cluster` for the threads
 /// that it starts.
-pub fn serve<T: Threads + Wait + Sync, R: Read, W: Write>(
+pub fn serve<T: Threads + Wait + Sync, R: BufRead, W: Write>(
     rt: &T,
     alloc: Global,
     words: &[String],

@@ -34,7 +34,7 @@ returns-in-Ok-verdict_text-clause-valid g c is =
     let after = g.W.Write.contents c.written.new.writer in
     elim c.written.ensures.value [
       | inl all ↦ elim c.status_of.ensures [
-        | inl status ↦ checks 16777216 (g.R.Read.remaining c.args.reader.now) (g.R.Read.remaining c.check.new.reader) before after c.in-Ok.verdict true c.in-Ok.ensures.ok
+        | inl status ↦ checks 16777216 (g.R.Read.remaining c.args.reader.now) (g.R.Read.remaining c.check_buffered.new.reader) before after c.in-Ok.verdict true c.in-Ok.ensures.ok
             c.in-Ok.ensures.valid c.in-Ok.ensures.alone status.1 (subst (Appends before after) (c.as_bytes.ensures.value ∙ c.in-Ok-verdict_text.ensures) all.1)
         | inr status ↦ absurd (omega (arith, all.0, status.0, is))
       ]
@@ -48,7 +48,7 @@ returns-in-Ok-verdict_text-clause-invalid g c is =
     elim c.written.ensures.value [
       | inl all ↦ elim c.status_of.ensures [
         | inl status ↦ absurd (omega (arith, all.0, status.0, is))
-        | inr status ↦ checks 16777216 (g.R.Read.remaining c.args.reader.now) (g.R.Read.remaining c.check.new.reader) before after c.in-Ok.verdict false c.in-Ok.ensures.ok
+        | inr status ↦ checks 16777216 (g.R.Read.remaining c.args.reader.now) (g.R.Read.remaining c.check_buffered.new.reader) before after c.in-Ok.verdict false c.in-Ok.ensures.ok
             c.in-Ok.ensures.valid c.in-Ok.ensures.alone status.1 (subst (Appends before after) (c.as_bytes.ensures.value ∙ c.in-Ok-verdict_text.ensures) all.1)
       ]
       | inr front ↦ absurd (omega (arith, front.0, is))
