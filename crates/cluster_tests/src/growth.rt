@@ -7,8 +7,8 @@ use crate::histories::Done::{At, Passes};
 use crate::histories::{Done, ONE, TWO, books_after};
 use crate::plans::{TWO_WRITERS, script_of};
 use ra_cluster::{
-    Book, BookError, ClusterError, Gate, NewPostError, OpenGate, Post, SendError, SettleError,
-    Site, SiteError, Stop, is_cluster, settle,
+    Book, BookError, CallError, Cluster, ClusterError, Gate, Grant, NewPostError, OpenGate, Post,
+    SendError, SettleError, Site, SiteError, Stop, is_cluster, settle,
 };
 use ra_frame::Frame;
 use ra_schedule::Script;
@@ -277,6 +277,59 @@ fn try_sites<R: Wait>(rt: &R, alloc: Global) -> Result<Tried, bool> {
 fn growth_of_a_site(rt: HostRuntime) {
     let alloc = rt.alloc();
     end(&rt, again(try_sites(&rt, alloc), try_sites(&rt, alloc)));
+}
+
+/// What a call answers that found no memory, and did nothing.
+const WANTING: SiteError = SiteError::Refused(BookError::Memory);
+
+/// A client of the one node of a cluster locks `r`, does nothing and unlocks it. Where it is not let in, returns whether memory was
+/// wanting.
+fn try_work<R: Wait>(
+    rt: &R,
+    alloc: Global,
+    cluster: &Cluster<OpenGate>,
+    node: NodeId,
+    name: Name,
+) -> Result<Tried, bool> {
+    let mode = Mode::Exclusive;
+    let held = match cluster.with_lock(rt, alloc, node, 1, name, mode, |_grant: Grant| {}) {
+        Ok(held) => held,
+        Err(fault) => return Err(fault == CallError::Site(WANTING)),
+    };
+    match held.unlocked {
+        Ok(()) => Ok(Tried::AtOnce),
+        Err(fault) if fault == WANTING && cluster.unlock(rt, alloc, node, 1, name) == Ok(()) => {
+            Ok(Tried::Again)
+        }
+        Err(_) => Ok(Tried::Wrong),
+    }
+}
+
+/// Makes a cluster of one node, at which a client works, and closes it, which takes no memory. Where there is none, returns whether
+/// memory was wanting.
+fn try_whole<R: Wait>(rt: &R, alloc: Global) -> Result<Tried, bool> {
+    let (Some(node), Some(name)) = (NodeId::new(1), r()) else {
+        return Ok(Tried::Wrong);
+    };
+    let cluster = match Cluster::new(alloc, 1, 0, OpenGate) {
+        Ok(cluster) => cluster,
+        Err(fault) => return Err(fault == NewPostError::Memory),
+    };
+    let tried = again(
+        try_work(rt, alloc, &cluster, node, name),
+        try_work(rt, alloc, &cluster, node, name),
+    );
+    if cluster.close(alloc).len() == 1 {
+        Ok(tried)
+    } else {
+        Ok(Tried::Wrong)
+    }
+}
+
+#[test]
+fn growth_of_a_whole_cluster(rt: HostRuntime) {
+    let alloc = rt.alloc();
+    end(&rt, again(try_whole(&rt, alloc), try_whole(&rt, alloc)));
 }
 
 /// Returns whether a cluster of threads may answer so where a growth was refused.

@@ -40,3 +40,5 @@ mod stops;
 mod threads;
 #[cfg(test)]
 mod waiting;
+#[cfg(test)]
+mod whole;

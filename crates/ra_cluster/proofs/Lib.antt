@@ -36,3 +36,4 @@ mod Deliveries
 mod LossesApart
 mod SentApart
 mod BooksFit
+mod SiteNumbers

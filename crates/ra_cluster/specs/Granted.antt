@@ -1,4 +1,4 @@
--- What a client that waited is given. No public contract speaks of it.
+-- What a client that waited is given.
 use Rattle.std.specs.Prelude.{◌≡◌, ℕ, List}
 use Rattle.ra_stamp.specs.declared.mode.Mode.{Mode}
 use Rattle.ra_cluster.specs.declared.grant.Grant.{Grant}

@@ -11,3 +11,4 @@ pub mod Granted
 pub mod Order
 pub mod Plan
 pub mod Outcome
+pub mod Cluster

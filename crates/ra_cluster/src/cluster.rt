@@ -9,10 +9,11 @@ ghost use Rattle.ra_cluster.specs.Outcome.{IsDone, IsOfThreads};
 
 use crate::order::check_script;
 use crate::outcome::settle_script;
+use crate::sites::make_sites;
 use crate::threads::{ScriptRun, run_threads};
 use crate::{Book, Gate, Grant, Post, Settled, Site, Stop};
 use ra_schedule::Script;
-use ra_stamp::{Memory, NodeId};
+use ra_stamp::Memory;
 use std::alloc::{AllocError, AllocFailed, Global};
 use std::sync::{Mutex, Wait};
 use std::thread::Threads;
@@ -130,7 +131,7 @@ fn books_of<R: Threads + Wait + Sync, G: Gate>(
     script: &Script,
     gate: &G,
 ) -> Result<(Vec<Book>, Vec<Grant>), Memory> {
-    let sites = make_sites(alloc, script.nodes())?;
+    let sites = make_sites(alloc, script.nodes(), 0)?;
     let grants = run_at(rt, alloc, script, &sites, gate)?;
     let books = close_all(alloc, sites)?;
     Ok((books, grants))
@@ -158,32 +159,6 @@ fn run_at<R: Threads + Wait + Sync, G: Gate>(
     };
     run_threads(rt, alloc, &run, &inboxes);
     Ok(grants.into_inner())
-}
-
-/// Makes the sites of a cluster of this many nodes, in the order of the nodes.
-fn make_sites(alloc: Global, nodes: u16) -> Result<Vec<Site>, Memory>
-    ensures { IfOk result (λ sites. vec_len sites ≡ nodes) }
-{
-    let mut sites = Vec::new(alloc);
-    for place in 0..nodes {
-        push_site(alloc, &mut sites, place + 1, nodes)?;
-    }
-    Ok(sites)
-}
-
-/// Makes the site of the node with this number, one of so many, and puts it behind the others.
-fn push_site(alloc: Global, sites: &mut Vec<Site>, number: u16, nodes: u16) -> Result<(), Memory>
-    ensures { OnOk result (vec_len sites.new ≡ vec_len sites.old + 1) }
-{
-    // The numbers are those of nodes, so only memory can be wanting.
-    let Some(me) = NodeId::new(number) else {
-        return Err(Memory);
-    };
-    let Ok(site) = Site::new(alloc, me, nodes, 0) else {
-        return Err(Memory);
-    };
-    sites.push(site)?;
-    Ok(())
 }
 
 /// Gives up the locks of all sites, and returns their books in order.

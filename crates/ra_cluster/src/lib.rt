@@ -6,12 +6,14 @@
 //!
 //! # What a service does
 //!
-//! - It makes a [`Site`] for each node and the [`Post`] with its inboxes, and starts a thread for each inbox, in [`Site::pump`].
-//! - Its own threads lock and unlock names by [`Site::lock`] and [`Site::unlock`], and end where a site is stopped.
-//! - At the end it closes the post, joins the threads of the inboxes, closes the sites, and [`settle`] shows the run.
+//! - It makes a [`Cluster`], and starts a thread for each node, in [`Cluster::pump`].
+//! - Its own threads lock and unlock names by [`Cluster::with_lock`], or by [`Cluster::lock`] and [`Cluster::unlock`], and end where a
+//!   node is stopped.
+//! - At the end it closes the post, joins the threads of the nodes, closes the cluster, and [`settle`] shows the run.
 //!
-//! The shortest program that does so stands in docs/EMBEDDING.md, with each line said. [`run_cluster`] does all of it for a
-//! script; [`run_threads`] and [`settle_script`] are two parts of it, for whoever makes the sites.
+//! The shortest program that does so stands in docs/EMBEDDING.md, with each line said, and how it is done with a [`Site`] for each node
+//! and the [`Post`] apart. [`run_cluster`] does all of it for a script; [`run_threads`] and [`settle_script`] are two parts of it, for
+//! whoever makes the sites.
 #![tactic(auto)]
 
 mod book;
@@ -26,6 +28,7 @@ mod heard;
 mod keeping;
 mod keys;
 mod laws;
+mod letter;
 mod losses;
 mod order;
 mod ordering;
@@ -39,6 +42,8 @@ mod settled;
 mod settled_runs;
 mod settling;
 mod site;
+mod site_cluster;
+mod sites;
 mod sought;
 mod stop;
 mod stopping;
@@ -59,5 +64,6 @@ pub use sent::{Frames, Sent};
 pub use settled::Settled;
 pub use settling::{is_cluster, settle};
 pub use site::{Site, SiteError};
+pub use site_cluster::{CallError, Cluster, Held};
 pub use stop::Stop;
 pub use threads::{ScriptRun, run_threads};

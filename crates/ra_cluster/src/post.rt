@@ -1,8 +1,9 @@
-ghost use Rattle.std.specs.Prelude.{◌≡◌, ◌↔◌, ◌≤◌, ◌<◌, ◌+◌, length, vec_len, IfOk, IsErrOf, IsOkUnless, MatchResult};
+ghost use Rattle.std.specs.Prelude.{◌≡◌, ◌↔◌, ◌≤◌, ◌<◌, ◌+◌, length, map, vec_len, IfOk, IsErrOf, IsOkUnless, MatchResult};
 ghost use Rattle.ra_stamp.specs.NodeId.{IsNodeNumber};
 ghost use Rattle.ra_frame.specs.Fits.{Fits};
 
-use crossbeam_channel::{Receiver, Sender, unbounded};
+use crate::letter::{FrameSender, Letter, send_to};
+use crossbeam_channel::{Receiver, unbounded};
 use ra_frame::{Frame, encode};
 use ra_stamp::{Memory, NodeId};
 use std::alloc::{AllocError, AllocFailed, Global};
@@ -62,7 +63,7 @@ pub struct Inbox {
 #[derive(Drop)]
 pub struct Post {
     /// In the order of the nodes. There are none once the post is closed. Threads that send share it, and only a close excludes them.
-    senders: RwLock<Option<Vec<Sender<Vec<u8>>>>>,
+    senders: RwLock<Option<Vec<FrameSender>>>,
 }
 
 impl Post {
@@ -112,13 +113,23 @@ impl Post {
         let Ok(bytes) = bytes else {
             return Err(SendError::Refused);
         };
-        let place = usize::from(frame.message.to().get()) - 1;
-        let Some(sender) = senders.get(place) else {
-            return Err(SendError::Refused);
+        if send_to(rt, senders, frame.message.to(), bytes) {
+            Ok(())
+        } else {
+            Err(SendError::Refused)
+        }
+    }
+
+    /// Sends letters, each whether or not the ones before were sent; none where the post is closed. No close comes between them.
+    pub(crate) fn send_all<R: Wait>(&self, rt: &R, letters: &mut [Letter])
+        ensures { map (λ letter. letter.frame) letters.new ≡ map (λ letter. letter.frame) letters.old }
+    {
+        let senders = self.senders.read(rt);
+        let Some(senders) = senders.as_ref() else {
+            return;
         };
-        match sender.send(rt, bytes) {
-            Ok(()) => Ok(()),
-            Err(_) => Err(SendError::Refused),
+        for letter in letters {
+            letter.send(rt, senders);
         }
     }
 
@@ -132,7 +143,7 @@ impl Post {
 /// Makes one more inbox and its sender.
 fn open_inbox(
     alloc: Global,
-    senders: &mut Vec<Sender<Vec<u8>>>,
+    senders: &mut Vec<FrameSender>,
     inboxes: &mut Vec<Inbox>,
 ) -> Result<(), NewPostError>
     ensures { MatchResult result (λ _. vec_len inboxes.new ≡ vec_len inboxes.old + 1) (λ e. e ≡ NewPostError.Memory) }

@@ -3,10 +3,11 @@ ghost use Rattle.ra_stamp.specs.NodeId.{IsNodeNumber};
 ghost use Rattle.ra_frame.specs.Fits.{Fits};
 
 use crate::call::Call;
+use crate::letter::{Letter, letters_of};
 use crate::stopping::stop_of;
 use crate::{Book, BookError, Gate, Grant, Inbox, NewError, Post, Posted, Stop};
 use ra_frame::Frame;
-use ra_stamp::{Mark, Mode, Name, NodeId};
+use ra_stamp::{Entry, Mark, Memory, Mode, Name, NodeId};
 use std::alloc::Global;
 use std::marker::Model;
 use std::sync::{Condvar, Mutex, Wait};
@@ -34,8 +35,7 @@ pub enum SiteError {
 /// the post does not take is flagged as lost, and then each site is stopped, which ends all waiting of clients at them.
 ///
 /// Each such call costs what the book's call costs and the sending of the frames; where its event lets a client in, waking all
-/// clients that wait at the node, for whatever name; and for each frame that the post does not take, a look through the frames that the
-/// book has sent since.
+/// clients that wait at the node, for whatever name; and for each frame that the post does not take, what [`Book::mark_lost`] costs.
 #[derive(Drop)]
 pub struct Site {
     node: NodeId,
@@ -170,6 +170,32 @@ impl Site {
         self.turned.notify_all();
     }
 
+    /// Returns the cause for which the node is stopped, or `None` where it goes on. As of each of these readers, it is so when the
+    /// lock is had for it; it waits for the lock, and does not allocate.
+    pub fn fault<R: Wait>(&self, rt: &R) -> Option<Stop> {
+        self.book.lock(rt).fault()
+    }
+
+    /// Returns the request that is granted at this node on a name, or `None`.
+    pub fn holder<R: Wait>(&self, rt: &R, name: &Name) -> Option<Entry> {
+        self.book.lock(rt).holder(name)
+    }
+
+    /// Returns how many requests of this node wait for their replies, over all names.
+    pub fn waiting<R: Wait>(&self, rt: &R) -> u64 {
+        self.book.lock(rt).node().waiting()
+    }
+
+    /// Returns how many clients of this node are queued, over all names.
+    pub fn queued<R: Wait>(&self, rt: &R) -> u128 {
+        self.book.lock(rt).node().queued()
+    }
+
+    /// Returns how many events the book of this node has.
+    pub fn events<R: Wait>(&self, rt: &R) -> u64 {
+        self.book.lock(rt).events().len()
+    }
+
     /// Gives up the lock, and returns the book. It does not allocate.
     pub fn close(self) -> Book
         ensures history { HasHistory result }
@@ -183,6 +209,28 @@ impl Site {
         // Each reader tells that the book has a history.
         let _me = book.me();
         book
+    }
+
+    /// Does the same for a site that is one of so many, from this start. No contract tells what lies under a lock, so the book is
+    /// looked at; were it another one, as it never is, there would be an empty book of the node, which is stopped.
+    pub(crate) fn close_as(self, alloc: Global, nodes: u16, start: u64) -> Book
+        requires count { IsNodeNumber nodes }
+        requires member { self ≤ nodes }
+        ensures me { result.me ≡ self }
+        ensures nodes { result.nodes ≡ nodes }
+        ensures start { result.start ≡ start }
+        ensures history { HasHistory result }
+    {
+        let me = self.node;
+        let book = self.close();
+        if book.me() == me && book.nodes() == nodes && book.start() == start {
+            return book;
+        }
+        let Ok(mut empty) = Book::new(alloc, me, nodes, start) else {
+            unreachable!()
+        };
+        empty.fail(Stop::Refused);
+        empty
     }
 
     /// Makes one call of the book, and sends the frames of its event.
@@ -240,16 +288,45 @@ impl Site {
     fn send<R: Wait>(&self, rt: &R, alloc: Global, frames: &[Frame], post: &Post, sites: &[Site])
         requires { All Fits frames.now }
     {
-        let mut all_sent = true;
+        if frames.is_empty() {
+            return;
+        }
+        let are_sent = match letters_of(alloc, frames) {
+            Ok(mut letters) => {
+                post.send_all(rt, letters.as_mut_slice());
+                self.mark_unsent(rt, letters.as_slice())
+            }
+            Err(Memory) => self.send_each(rt, alloc, frames, post),
+        };
+        if !are_sent {
+            stop_all(rt, sites, Stop::Send);
+        }
+    }
+
+    /// Sends frames one by one, and flags those that were not taken as lost. Returns whether all were.
+    fn send_each<R: Wait>(&self, rt: &R, alloc: Global, frames: &[Frame], post: &Post) -> bool
+        requires { All Fits frames.now }
+    {
+        let mut are_sent = true;
         for frame in frames {
             if post.send(rt, alloc, frame).is_err() {
                 self.mark_lost(rt, frame);
-                all_sent = false;
+                are_sent = false;
             }
         }
-        if !all_sent {
-            stop_all(rt, sites, Stop::Send);
+        are_sent
+    }
+
+    /// Flags the frames of letters that were not sent as lost. Returns whether there are none.
+    fn mark_unsent<R: Wait>(&self, rt: &R, letters: &[Letter]) -> bool {
+        let mut are_sent = true;
+        for letter in letters {
+            if let Some(frame) = letter.unsent() {
+                self.mark_lost(rt, frame);
+                are_sent = false;
+            }
         }
+        are_sent
     }
 
     /// Flags a frame that the book sent as lost.
@@ -262,7 +339,7 @@ impl Site {
     /// Returns the cause for which the node is stopped.
     fn cause<R: Wait>(&self, rt: &R) -> Stop {
         // It is stopped where it is among the sites, as it should be.
-        self.book.lock(rt).fault().unwrap_or(Stop::Gate)
+        self.fault(rt).unwrap_or(Stop::Gate)
     }
 
     /// Waits until a client holds a name in a mode.

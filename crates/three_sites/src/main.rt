@@ -2,88 +2,73 @@
 //! settle into one run of the cluster.
 #![tactic(auto)]
 
-use anyhow::{Context, Result, ensure};
-use ra_cluster::{Grant, Inbox, OpenGate, Post, Site, SiteError, Stop, is_cluster, settle};
+use anyhow::{Context, Result};
+use ra_cluster::{CallError, Cluster, Grant, OpenGate, Stop, settle};
 use ra_stamp::{Mode, Name, NodeId};
 use std::alloc::Global;
 use std::sync::Wait;
 use std::thread;
 use std::thread::Threads;
 
-/// Makes the site of one of the three nodes.
-fn site_of(alloc: Global, number: u16) -> Result<Site> {
-    let me = NodeId::new(number).context("a node's number is 1 to 16")?;
-    Ok(Site::new(alloc, me, 3, 0)?)
-}
-
-/// Stops all sites, so that nobody waits at them any more.
-fn stop_all<R: Wait>(rt: &R, sites: &[Site], why: Stop) {
-    for site in sites {
-        site.stop(rt, why);
-    }
-}
-
-/// A client locks a name at its site, uses what the name stands for, and unlocks it.
+/// A client locks a name at its node, uses what the name stands for, and unlocks it.
 fn work<R: Wait>(
     rt: &R,
     alloc: Global,
+    cluster: &Cluster<OpenGate>,
+    node: NodeId,
     client: u32,
     name: Name,
-    site: &Site,
-    post: &Post,
-    sites: &[Site],
-) -> Result<Grant, SiteError> {
+) -> Result<Grant, CallError> {
     let mode = Mode::Exclusive;
-    let grant = site.lock(rt, alloc, client, name, mode, post, sites, &OpenGate)?;
-    // Here the client has the name for itself.
-    if let Err(refused) = site.unlock(rt, alloc, client, name, post, sites, &OpenGate) {
+    let held = cluster.with_lock(rt, alloc, node, client, name, mode, |_grant: Grant| {
+        // Here the client has the name for itself.
+    })?;
+    if held.unlocked.is_err() {
         // It still holds the name, so that the others would wait for ever.
-        stop_all(rt, sites, Stop::Refused);
-        return Err(refused);
+        cluster.stop(rt, Stop::Refused);
     }
-    Ok(grant)
+    Ok(held.grant)
 }
 
 /// Runs a thread for each node and, while these run, the two clients. Returns what these got, once all threads have ended.
 fn run<R: Threads + Wait + Sync>(
     rt: &R,
     alloc: Global,
+    cluster: &Cluster<OpenGate>,
+    nodes: &[NodeId; 3],
     name: Name,
-    sites: &[Site; 3],
-    post: &Post,
-    inboxes: &[Inbox],
-) -> (Result<Grant, SiteError>, Result<Grant, SiteError>) {
-    let [one, two, _] = sites;
-    let sites: &[Site] = sites;
-    thread::scope(thread::scope_env(), rt, |nodes| {
-        for (site, inbox) in sites.iter().zip(inboxes) {
-            let pump = move || site.pump(rt, alloc, inbox, post, sites, &OpenGate);
-            if nodes.spawn(pump).is_err() {
-                stop_all(rt, sites, Stop::Spawn);
+) -> (Result<Grant, CallError>, Result<Grant, CallError>) {
+    let [one, two, _] = nodes;
+    thread::scope(thread::scope_env(), rt, |scope| {
+        for node in nodes {
+            let pump = move || cluster.pump(rt, alloc, *node);
+            if scope.spawn(pump).is_err() {
+                cluster.stop(rt, Stop::Spawn);
             }
         }
         let grants = thread::join(
             rt,
-            || work(rt, alloc, 7, name, one, post, sites),
-            || work(rt, alloc, 9, name, two, post, sites),
+            || work(rt, alloc, cluster, *one, 7, name),
+            || work(rt, alloc, cluster, *two, 9, name),
         );
-        post.close(rt);
+        cluster.close_post(rt);
         grants
     })
+}
+
+/// Returns the node with this number.
+fn node(number: u16) -> Result<NodeId> {
+    NodeId::new(number).context("a node's number is 1 to 16")
 }
 
 fn main(rt: HostRuntime) -> Result<()> {
     let alloc = rt.alloc();
     let disk = Name::new(b"disk")?;
-    let sites = [site_of(alloc, 1)?, site_of(alloc, 2)?, site_of(alloc, 3)?];
-    let (post, inboxes) = Post::new(alloc, 3)?;
-    let (first, second) = run(&rt, alloc, disk, &sites, &post, &inboxes);
+    let nodes = [node(1)?, node(2)?, node(3)?];
+    let cluster = Cluster::new(alloc, 3, 0, OpenGate)?;
+    let (first, second) = run(&rt, alloc, &cluster, &nodes, disk);
     // All threads have ended. Nothing was stopped unless something failed, so the books have no fault.
-    let mut books = Vec::new(alloc);
-    for site in sites {
-        books.push(site.close())?;
-    }
-    ensure!(is_cluster(&books), "the books are those of one cluster");
+    let books = cluster.close(alloc);
     let settled = settle(alloc, &books, &[first?, second?])?;
     println!(rt; "requests {}", settled.report.requests)?;
     println!(rt; "messages {}", settled.report.sent)?;

@@ -1,0 +1,228 @@
+//! A cluster whose sites, post and gate are kept in one value.
+use crate::helpers::{Counting, comes_to, entry, in_a_thread, r};
+use ra_cluster::{
+    Book, BookError, CallError, Cluster, Grant, Held, NewPostError, OpenGate, SiteError, Stop,
+    settle,
+};
+use ra_stamp::{Mode, Name, NodeId};
+use std::alloc::Global;
+use std::process::Abort;
+use std::sync::atomic::{AtomicU64, Ordering};
+use std::sync::{Mutex, Wait};
+use std::thread;
+use std::thread::Threads;
+
+/// How many nodes there are, and whether there is a cluster of so many.
+const COUNTS: &[(u16, bool)] = &[(0, false), (17, false), (1, true), (16, true)];
+
+/// Returns whether there is a cluster of so many nodes, or none.
+fn is_cluster_of(alloc: Global, nodes: u16, is_there: bool) -> bool {
+    match Cluster::new(alloc, nodes, 7, OpenGate) {
+        Ok(cluster) => {
+            let count = cluster.nodes();
+            is_there && count == nodes && cluster.close(alloc).len() == usize::from(nodes)
+        }
+        Err(fault) => !is_there && matches!(fault, NewPostError::BadCount),
+    }
+}
+
+#[test]
+fn a_cluster_has_1_to_16_nodes(rt: HostRuntime) {
+    for row in COUNTS {
+        assert!(rt; is_cluster_of(rt.alloc(), row.0, row.1), "{} nodes", row.0);
+    }
+}
+
+/// What a watchdog sees of a node: its fault, who holds the name there, how many wait and are queued, and how many events its book has.
+#[derive(Clone, Copy)]
+struct Seen {
+    fault: Option<Stop>,
+    holder: Option<u32>,
+    waiting: u64,
+    queued: u128,
+    events: u64,
+}
+
+/// A node at which nothing has happened.
+const QUIET: Seen = Seen {
+    fault: None,
+    holder: None,
+    waiting: 0,
+    queued: 0,
+    events: 0,
+};
+
+/// Returns whether a watchdog sees this of a node.
+fn sees<R: Wait>(
+    rt: &R,
+    cluster: &Cluster<Counting>,
+    node: NodeId,
+    name: Name,
+    seen: Seen,
+) -> bool {
+    let Some(site) = cluster.site(node) else {
+        return false;
+    };
+    let holder = match site.holder(rt, &name) {
+        Some(entry) => Some(entry.client),
+        None => None,
+    };
+    site.fault(rt) == seen.fault
+        && holder == seen.holder
+        && site.waiting(rt) == seen.waiting
+        && site.queued(rt) == seen.queued
+        && site.events(rt) == seen.events
+}
+
+/// What a client gets that locks a name in a thread of its own, and what it finds inside.
+type Answer = Mutex<Option<Result<Held<bool>, CallError>>>;
+
+/// Has a client of node 1 lock the name, and look whether it holds it.
+fn works<R: Wait>(
+    rt: &R,
+    alloc: Global,
+    cluster: &Cluster<Counting>,
+    node: NodeId,
+    client: u32,
+    name: Name,
+) -> Result<Held<bool>, CallError> {
+    let mode = Mode::Exclusive;
+    cluster.with_lock(
+        rt,
+        alloc,
+        node,
+        client,
+        name,
+        mode,
+        |grant: Grant| -> bool {
+            let Some(site) = cluster.site(node) else {
+                return false;
+            };
+            site.holder(rt, &name) == Some(grant.entry)
+        },
+    )
+}
+
+/// Has client 1 of node 1 of two hold the name while client 2 asks for it, which another thread does, and the frames go between the
+/// nodes. Returns whether a watchdog sees what there is to see, and the clients and the node that there are not are refused.
+fn holds_and_hands_over<R: Threads + Wait + Abort + Sync>(
+    rt: &R,
+    alloc: Global,
+    cluster: &Cluster<Counting>,
+    nodes: &[NodeId; 3],
+    name: &Name,
+    second: &Answer,
+) -> bool {
+    let [one, two, three] = nodes;
+    let ended = AtomicU64::new(0);
+    let ended = &ended;
+    let x = Mode::Exclusive;
+    thread::scope(thread::scope_env(), rt, move |scope| {
+        let mut are_started = true;
+        for node in [one, two] {
+            let pump = move || cluster.pump(rt, alloc, *node);
+            are_started = are_started && scope.spawn(pump).is_ok();
+        }
+        let is_let_in = match cluster.lock(rt, alloc, *one, 1, *name, x) {
+            Ok(grant) => entry(*name, 1, 1, x, 8) == Some(grant.entry),
+            Err(_) => false,
+        };
+        let waits = scope.spawn(move || {
+            *second.lock(rt) = Some(works(rt, alloc, cluster, *one, 2, *name));
+            ended.fetch_add(1, Ordering::SeqCst);
+        });
+        let held = Seen {
+            holder: Some(1),
+            queued: 1,
+            // Both asked, and the REPLY came.
+            events: 3,
+            ..QUIET
+        };
+        // Each look waits for the lock of node 1, so that there is no hurry.
+        let mut is_seen = false;
+        for _ in 0..1_000_000u32 {
+            if sees(rt, cluster, *one, *name, held) {
+                is_seen = true;
+                break;
+            }
+            thread::yield_now();
+        }
+        let is_other = cluster.lock(rt, alloc, *three, 1, *name, x) == Err(CallError::NoNode)
+            && cluster.unlock(rt, alloc, *three, 1, *name) == Err(CallError::NoNode)
+            && cluster.site(*three).is_none();
+        cluster.pump(rt, alloc, *three);
+        let not_held = SiteError::Refused(BookError::NotHeld);
+        let is_refused = cluster.unlock(rt, alloc, *one, 9, *name)
+            == Err(CallError::Site(not_held));
+        let has_left = cluster.unlock(rt, alloc, *one, 1, *name) == Ok(());
+        let has_ended = waits.is_ok() && comes_to(ended, 1);
+        // Where something went wrong nobody waits any more, and else nobody is there who could.
+        if !has_ended {
+            cluster.stop(rt, Stop::Refused);
+        }
+        cluster.close_post(rt);
+        are_started && is_let_in && is_seen && is_other && is_refused && has_left && has_ended
+    })
+}
+
+/// Returns whether the books, which are a cluster, settle with a grant into two requests and four messages.
+fn settles(alloc: Global, cluster: Cluster<Counting>, grant: Grant) -> bool {
+    let books: Vec<Book> = cluster.close(alloc);
+    match settle(alloc, &books, &[grant]) {
+        Ok(settled) => settled.report.requests == 2 && settled.report.sent == 4,
+        Err(_) => false,
+    }
+}
+
+/// Returns whether client 2 held the name while it worked, with the number behind that of client 1, and gave it back; and the books
+/// settle.
+fn hands_over<R: Threads + Wait + Abort + Sync>(rt: &R, alloc: Global) -> Option<bool> {
+    let name = r()?;
+    let nodes = [NodeId::new(1)?, NodeId::new(2)?, NodeId::new(3)?];
+    let cluster = Cluster::new(alloc, 2, 7, Counting::open()).ok()?;
+    let second = Mutex::new(None);
+    let is_so = holds_and_hands_over(rt, alloc, &cluster, &nodes, &name, &second);
+    let held = second.into_inner()?.ok()?;
+    let is_second = entry(name, 1, 2, Mode::Exclusive, 9) == Some(held.grant.entry);
+    let has_worked = held.value && held.unlocked == Ok(());
+    Some(is_so && is_second && has_worked && settles(alloc, cluster, held.grant))
+}
+
+#[test]
+fn a_cluster_hands_a_name_over_and_its_books_settle(rt: HostRuntime) {
+    assert!(rt; in_a_thread(&rt, || hands_over(&rt, rt.alloc()) == Some(true)));
+}
+
+/// Returns whether a client whose node is stopped while it holds the name keeps its grant and what it did, and is told that the name
+/// was not given back; and who comes later is refused.
+fn is_told<R: Wait>(rt: &R, alloc: Global) -> Option<bool> {
+    let (name, one) = (r()?, NodeId::new(1)?);
+    let cluster = Cluster::new(alloc, 1, 0, Counting::open()).ok()?;
+    let x = Mode::Exclusive;
+    let held = cluster.with_lock(rt, alloc, one, 1, name, x, |_grant: Grant| -> u8 {
+        cluster.stop(rt, Stop::Gate);
+        7
+    });
+    let failed = SiteError::Refused(BookError::Failed);
+    let is_told = match held {
+        Ok(held) => held.value == 7 && held.unlocked == Err(failed),
+        Err(_) => false,
+    };
+    let later = works(rt, alloc, &cluster, one, 2, name);
+    let is_refused = matches!(
+        later,
+        Err(CallError::Site(SiteError::Refused(BookError::Failed)))
+    );
+    let seen = Seen {
+        fault: Some(Stop::Gate),
+        holder: Some(1),
+        events: 1,
+        ..QUIET
+    };
+    Some(is_told && is_refused && sees(rt, &cluster, one, name, seen))
+}
+
+#[test]
+fn a_client_is_told_that_its_name_was_not_given_back(rt: HostRuntime) {
+    assert!(rt; in_a_thread(&rt, || is_told(&rt, rt.alloc()) == Some(true)));
+}

@@ -1,0 +1,127 @@
+-- The sites of a cluster stand in the order of their numbers, and so do the books that they give when they are closed.
+use Rattle.std.proofs.Common.{◌≡◌, ℕ, zero, suc, ◌+◌, ◌<◌, ◌≤◌, List, [], ◌∷◌, ◌++◌, map, length, get_or, Bor, Option, Some, None, is_some, IfSome, ltb, sym, ap, ◌∙◌, arith}
+use Rattle.std.specs.Prelude.{All}
+use Rattle.std.specs.List.{range_with_len}
+use Rattle.std.proofs.Math.Seq.{get_or-append_seam}
+use Rattle.std.proofs.lemmas.List.{nil_from_length, length-append, map-append, length-map, append-nil, append_assoc}
+use Rattle.std.proofs.lemmas.List.Elements.{All-append, All-nil, All-cons}
+use Rattle.std.proofs.lemmas.List.FromFn.{length-range_with_len, get_or-range_with_len}
+use borrow.Author.Tests.{ltb-true}
+use Rattle.ra_cluster.specs.Book.{BookState, HasHistory}
+use Rattle.ra_cluster.specs.Settled.{IsCluster, start_of}
+
+-- there are as many sites as numbers
+pub count_of : (n : ℕ) (sites : List ℕ) → sites ≡ range_with_len 1 n → length sites ≡ n
+count_of n sites are = ap length are ∙ length-range_with_len 1 n
+
+-- the site that is found at a place has the number behind it
+pub found_at : (n node place : ℕ) (sites : List ℕ) (found : Option (Bor ℕ)) → sites ≡ range_with_len 1 n → place + 1 ≡ node
+    → is_some found ≡ ltb place (length sites) → IfSome found (λ s. s.now ≡ get_or sites place s.now) → IfSome found (λ s. s.now ≡ node)
+found_at n node place sites None are is within at = tt
+found_at n node place sites (Some s) are is within at =
+    let low : place < n = omega (arith, ltb-true place (length sites) (sym within), count_of n sites are) in
+    let e : 1 + place ≡ node = omega arith in
+    at ∙ ap (λ (xs : List ℕ). get_or xs place s.now) are ∙ get_or-range_with_len 1 n place s.now low ∙ e
+
+-- one more number stands behind those that there are
+numbers_from : (a n : ℕ) → range_with_len a (suc n) ≡ range_with_len a n ++ (a + n) ∷ []
+numbers_from a zero = let e : a ≡ a + 0 = omega arith in ap (λ (x : ℕ). x ∷ []) e
+numbers_from a (suc n) =
+    let e : (a + 1) + n ≡ a + suc n = omega arith in
+    ap (λ (xs : List ℕ). a ∷ xs) (numbers_from (a + 1) n ∙ ap (λ (x : ℕ). range_with_len (a + 1) n ++ x ∷ []) e)
+
+pub numbers_more : (n : ℕ) (sites new : List ℕ) → sites ≡ range_with_len 1 n → new ≡ sites ++ (n + 1) ∷ [] → new ≡ range_with_len 1 (n + 1)
+numbers_more n sites new are is =
+    is
+    ∙ ap (λ (xs : List ℕ). xs ++ (n + 1) ∷ []) are
+    ∙ (let e : n + 1 ≡ 1 + n = omega arith in ap (λ (x : ℕ). range_with_len 1 n ++ x ∷ []) e)
+    ∙ sym (numbers_from 1 n)
+    ∙ (let e : suc n ≡ n + 1 = omega arith in ap (λ (k : ℕ). range_with_len 1 k) e)
+
+abbrev pub numbers_of : List BookState → List ℕ
+numbers_of books = map (λ b. b.me) books
+
+-- some of the sites are closed, and the others are left
+pub record Closes (n start : ℕ) (books : List BookState) (left : List ℕ) : Type 0 where
+  pub numbers : numbers_of books ++ left ≡ range_with_len 1 n
+  pub counts : All (λ b. b.nodes ≡ n) books
+  pub starts : All (λ b. b.start ≡ start) books
+  pub histories : All HasHistory books
+
+pub closes_none : (n start : ℕ) (sites : List ℕ) → sites ≡ range_with_len 1 n → Closes n start [] sites
+closes_none n start sites is = record {
+  numbers = is;
+  counts = All-nil (λ (b : BookState). b.nodes ≡ n);
+  starts = All-nil (λ (b : BookState). b.start ≡ start);
+  histories = All-nil HasHistory;
+}
+
+pub how_many : (n start : ℕ) (books : List BookState) (left : List ℕ) → Closes n start books left → length books + length left ≡ n
+how_many n start books left c =
+    omega (arith, ap length c.numbers, length-append (numbers_of books) left, length-map books (λ (b : BookState). b.me), length-range_with_len 1 n)
+
+-- the next one is the node behind those that are closed
+pub next_is : (n start : ℕ) (books : List BookState) (me : ℕ) (left : List ℕ) → Closes n start books (me ∷ left) → me ≡ length books + 1
+next_is n start books me left c =
+    let front = numbers_of books in
+    let many = how_many n start books (me ∷ left) c in
+    let count = length-map books (λ (b : BookState). b.me) in
+    let low : length front < n = omega (arith, many, count) in
+    omega (
+      arith,
+      get_or-append_seam front me left 0,
+      ap (λ (xs : List ℕ). get_or xs (length front) 0) c.numbers,
+      get_or-range_with_len 1 n (length front) 0 low,
+      count,
+    )
+
+pub next_within : (n start : ℕ) (books : List BookState) (me : ℕ) (left : List ℕ) → Closes n start books (me ∷ left) → me ≤ n
+next_within n start books me left c = omega (arith, next_is n start books me left c, how_many n start books (me ∷ left) c)
+
+pub closes_more : (n start : ℕ) (books : List BookState) (me : ℕ) (left : List ℕ) (b : BookState) → Closes n start books (me ∷ left)
+    → b.me ≡ me → b.nodes ≡ n → b.start ≡ start → HasHistory b → Closes n start (books ++ b ∷ []) left
+closes_more n start books me left b c me_is nodes start_is history =
+    record {
+      numbers =
+          ap (λ (xs : List ℕ). xs ++ left) (map-append (λ (x : BookState). x.me) books (b ∷ []))
+          ∙ append_assoc (numbers_of books) (b.me ∷ []) left
+          ∙ ap (λ (x : ℕ). numbers_of books ++ x ∷ left) me_is
+          ∙ c.numbers;
+      counts = All-append (λ (x : BookState). x.nodes ≡ n) books (b ∷ []) c.counts (All-cons (λ (x : BookState). x.nodes ≡ n) b [] nodes (All-nil (λ (x : BookState). x.nodes ≡ n)));
+      starts = All-append (λ (x : BookState). x.start ≡ start) books (b ∷ []) c.starts (All-cons (λ (x : BookState). x.start ≡ start) b [] start_is (All-nil (λ (x : BookState). x.start ≡ start)));
+      histories = All-append HasHistory books (b ∷ []) c.histories (All-cons HasHistory b [] history (All-nil HasHistory));
+    }
+
+-- all books of at least one site begin with the first, which is from the start of all
+start_of_all : (start : ℕ) (books : List BookState) → 1 ≤ length books → All (λ b. b.start ≡ start) books → start_of books ≡ start
+start_of_all start [] some starts = absurd (omega arith)
+start_of_all start (b ∷ books) some starts = starts 0 b (omega arith)
+
+-- once none is left the books are a cluster
+pub record IsClosed (n start : ℕ) (books : List BookState) : Type 0 where
+  pub cluster : IsCluster books
+  pub count : length books ≡ n
+  pub start_is : start_of books ≡ start
+  pub histories : All HasHistory books
+
+pub closes_all : (n start : ℕ) (books : List BookState) (left : List ℕ) → 1 ≤ n → length left ≡ 0 → Closes n start books left → IsClosed n start books
+closes_all n start books left some empty c =
+    let count : length books ≡ n = omega (arith, empty, how_many n start books left c) in
+    let first = start_of_all start books (omega (arith, count)) c.starts in
+    let none : left ≡ [] = nil_from_length left empty in
+    let front = numbers_of books in
+    record {
+      cluster = record {
+        some = omega (arith, count);
+        numbers =
+            sym (append-nil front)
+            ∙ ap (λ (xs : List ℕ). front ++ xs) (sym none)
+            ∙ c.numbers
+            ∙ ap (λ (k : ℕ). range_with_len 1 k) (sym count);
+        one_count = λ k d within. c.counts k d within ∙ sym count;
+        one_start = λ k d within. c.starts k d within ∙ sym first;
+      };
+      count = count;
+      start_is = first;
+      histories = c.histories;
+    }

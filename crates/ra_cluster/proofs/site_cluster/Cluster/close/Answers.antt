@@ -1,0 +1,63 @@
+-- Each site that is closed gives the book of the node behind those that were closed.
+use Rattle.std.proofs.Common.{◌≡◌, ℕ, ◌+◌, ◌≤◌, List, [], ◌∷◌, length, vec_len, refl, ap, ◌∙◌, sym, arith}
+use Rattle.std.specs.Vec.Iter.{into_iter_items, into_iter_len}
+use Rattle.ra_cluster.specs.Cluster.{ClusterState}
+use Rattle.ra_cluster.proofs.SiteNumbers.{Closes, IsClosed, next_within, closes_more, closes_all}
+use Rattle.ra_cluster.proofs.site_cluster.Cluster.close.Goals as goal
+
+pub close_as-requires-clause-member : goal.close_as-requires-clause-member
+close_as-requires-clause-member g c =
+    next_within
+    c.len-nodes.result
+    c.self.inside.start
+    c.loop-site.books.items
+    c.in-Some.site
+    (into_iter_items c.next.new.self)
+    (rw c.in-Some.ensures.steps.0 at c.loop-site.invariant.closes)
+
+pub loop-site-preserved : goal.loop-site-preserved
+loop-site-preserved g c =
+    let steps = c.in-Some.ensures.steps in
+    let more = ap length steps.0 in
+    record {
+      closes =
+          rw
+          c.push_reserved.ensures.items
+          (closes_more
+          c.len-nodes.result
+          c.self.inside.start
+          c.loop-site.books.items
+          c.in-Some.site
+          (into_iter_items c.next.new.self)
+          c.close_as.result
+          (rw steps.0 at c.loop-site.invariant.closes)
+          c.close_as.ensures.me
+          c.close_as.ensures.nodes
+          c.close_as.ensures.start
+          c.close_as.ensures.history);
+      counted = omega (arith, steps.1, more, c.loop-site.invariant.counted);
+      room = omega (arith, steps.1, more, c.loop-site.invariant.room, c.push_reserved.ensures.len, c.push_reserved.ensures.capacity);
+    }
+
+pub returns-clause-cluster : goal.returns-clause-cluster
+returns-clause-cluster g c =
+    (closes_all
+    c.len-nodes.result
+    c.self.inside.start
+    c.loop-site.books.items
+    (into_iter_items c.loop-site.site-iterator)
+    (omega (arith, c.len-nodes.ensures, c.self.invariant.0.0))
+    (omega (arith, c.in-None.ensures.steps, c.loop-site.invariant.counted))
+    c.loop-site.invariant.closes).cluster
+
+pub returns-clause-start : goal.returns-clause-start
+returns-clause-start g c =
+    (closes_all
+    c.len-nodes.result
+    c.self.inside.start
+    c.loop-site.books.items
+    (into_iter_items c.loop-site.site-iterator)
+    (omega (arith, c.len-nodes.ensures, c.self.invariant.0.0))
+    (omega (arith, c.in-None.ensures.steps, c.loop-site.invariant.counted))
+    c.loop-site.invariant.closes).start_is
+    ∙ ap (λ (s : ClusterState). s.start) c.self.view_is

@@ -1,0 +1,269 @@
+//! A whole cluster in one value.
+ghost use Rattle.std.specs.Prelude.{◌≡◌, ◌↔◌, ◌<◌, ◌≤◌, IfOk, IfSome, IsNone, IsErrOf, IsOkUnless, All, vec_len};
+ghost use Rattle.ra_stamp.specs.NodeId.{IsNodeNumber};
+ghost use Rattle.ra_cluster.specs.Book.{HasHistory};
+ghost use Rattle.ra_cluster.specs.Granted.{IsGrantOf};
+ghost use Rattle.ra_cluster.specs.Settled.{IsCluster, start_of};
+
+use crate::site::stop_all;
+use crate::sites::make_sites;
+use crate::{Book, Gate, Grant, Inbox, NewPostError, Post, Site, SiteError, Stop};
+use ra_stamp::{Mode, Name, NodeId};
+use std::alloc::Global;
+use std::marker::Model;
+use std::sync::Wait;
+use thiserror::Error;
+
+/// Why a call of a cluster did not do what it is for.
+#[derive(Clone, Copy, Debug, PartialEq, Eq, Error)]
+pub enum CallError {
+    /// The cluster has no node with this number.
+    #[error("NoNode")]
+    NoNode,
+    /// The call of the node's site did not.
+    #[error(transparent)]
+    Site(SiteError),
+}
+
+/// What a client did while it held a name, and how it gave the name back.
+#[derive(Debug, Drop)]
+pub struct Held<T> {
+    /// The grant of the name.
+    pub grant: Grant,
+    /// What was done with it.
+    pub value: T,
+    /// Whether the name was given back. Where it was not, the client holds it still.
+    pub unlocked: Result<(), SiteError>,
+}
+
+/// The nodes of a cluster that run on the threads of one process: the sites of nodes 1 to n, all from one start, the post between
+/// them with its inboxes, and the gate that watches. Threads share it. Contracts see how many nodes there are, and the start.
+///
+/// Each node needs a thread in [`Cluster::pump`] while clients lock and unlock names. At the end [`Cluster::close_post`] ends these
+/// threads, and [`Cluster::close`] gives the books, which [`settle`](crate::settle) takes as they are.
+#[derive(Drop)]
+pub struct Cluster<G> {
+    start: u64,
+    sites: Vec<Site>,
+    post: Post,
+    inboxes: Vec<Inbox>,
+    /// None yet, and room for one of each node, so that a cluster can be closed where there is no memory.
+    books: Vec<Book>,
+    gate: G,
+}
+
+impl<G> Model for Cluster<G> {
+    ghost use Rattle.std.specs.Prelude.{◌≡◌, ◌≤◌, [], vec_len, vec_capacity};
+    ghost use Rattle.std.specs.List.{range_with_len};
+    ghost use Rattle.ra_stamp.specs.NodeId.{IsNodeNumber};
+    ghost use Rattle.ra_cluster.specs.Cluster.{ClusterState};
+
+    ghost Value = { ClusterState };
+
+    ghost view = { λ c. record { nodes = vec_len c.sites; start = c.start } };
+
+    ghost invariant = { λ c. IsNodeNumber (vec_len c.sites) × (c.sites.items ≡ range_with_len 1 (vec_len c.sites))
+        × (c.books.items ≡ []) × (vec_len c.sites ≤ vec_capacity c.books) };
+}
+
+impl<G: Gate + Drop> Cluster<G> {
+    /// Makes a cluster of this many nodes, in which nothing has happened yet. The highest number of each resource begins at
+    /// `start`, 0 to 2^64-1.
+    ///
+    /// # Errors
+    ///
+    /// The first that holds:
+    ///
+    /// 1. `BadCount`: the number of nodes is not 1 to 16.
+    /// 2. `Memory`.
+    pub fn new(alloc: Global, nodes: u16, start: u64, gate: G) -> Result<Cluster<G>, NewPostError>
+        ensures nodes { IfOk result (λ cluster. cluster.nodes ≡ nodes) }
+        ensures start { IfOk result (λ cluster. cluster.start ≡ start) }
+        ensures bad_count { IsErrOf result NewPostError.BadCount ↔ (IsNodeNumber nodes → ⊥) }
+        // Memory is the one other error.
+        ensures allowed { IsOkUnless result NewPostError.Memory ↔ IsNodeNumber nodes }
+    {
+        let (post, inboxes) = Post::new(alloc, nodes)?;
+        let Ok(sites) = make_sites(alloc, nodes, start) else {
+            return Err(NewPostError::Memory);
+        };
+        let mut books = Vec::new(alloc);
+        books.reserve(sites.len())?;
+        Ok(Cluster {
+            start,
+            sites,
+            post,
+            inboxes,
+            books,
+            gate,
+        })
+    }
+
+    /// Returns how many nodes there are, 1 to 16. It does not allocate.
+    pub fn nodes(&self) -> u16
+        ensures { result ≡ self.now.nodes }
+    {
+        self.sites.len() as u16
+    }
+
+    /// Returns the site of a node, whose readers tell how it stands, or `None` where there is no such node. It does not allocate.
+    pub fn site(&self, node: NodeId) -> Option<&Site>
+        ensures found { IfSome result (λ site. site.now ≡ node) }
+        ensures absent { IsNone result ↔ self.now.nodes < node }
+    {
+        self.sites.get(usize::from(node.get()) - 1)
+    }
+
+    /// Asks for a name for a client of a node, and waits until the client holds it, as [`Site::lock`] does.
+    ///
+    /// # Errors
+    ///
+    /// The first that comes:
+    ///
+    /// 1. `NoNode`: the cluster has no such node.
+    /// 2. `Site`: as [`Site::lock`] says.
+    pub fn lock<R: Wait>(
+        &self,
+        rt: &R,
+        alloc: Global,
+        node: NodeId,
+        client: u32,
+        name: Name,
+        mode: Mode,
+    ) -> Result<Grant, CallError>
+        ensures node { IfOk result (λ grant. grant.entry.stamp.node ≡ node) }
+        ensures client { IfOk result (λ grant. grant.entry.client ≡ client) }
+        ensures name { IfOk result (λ grant. grant.entry.name ≡ name) }
+        ensures mode { IfOk result (λ grant. grant.entry.mode ≡ mode) }
+        ensures no_node { IsErrOf result CallError.NoNode ↔ self.now.nodes < node }
+    {
+        let Some(site) = self.site(node) else {
+            return Err(CallError::NoNode);
+        };
+        let (post, sites, gate) = (&self.post, self.sites.as_slice(), &self.gate);
+        match site.lock(rt, alloc, client, name, mode, post, sites, gate) {
+            Ok(grant) => Ok(grant),
+            Err(refused) => Err(CallError::Site(refused)),
+        }
+    }
+
+    /// Gives back the name that a client of a node holds, as [`Site::unlock`] does.
+    ///
+    /// # Errors
+    ///
+    /// The first that holds, and nothing was given back:
+    ///
+    /// 1. `NoNode`: the cluster has no such node.
+    /// 2. `Site`: as [`Site::unlock`] says.
+    pub fn unlock<R: Wait>(
+        &self,
+        rt: &R,
+        alloc: Global,
+        node: NodeId,
+        client: u32,
+        name: Name,
+    ) -> Result<(), CallError>
+        ensures no_node { IsErrOf result CallError.NoNode ↔ self.now.nodes < node }
+    {
+        let Some(site) = self.site(node) else {
+            return Err(CallError::NoNode);
+        };
+        let (post, sites, gate) = (&self.post, self.sites.as_slice(), &self.gate);
+        match site.unlock(rt, alloc, client, name, post, sites, gate) {
+            Ok(()) => Ok(()),
+            Err(refused) => Err(CallError::Site(refused)),
+        }
+    }
+
+    /// Locks a name as [`Cluster::lock`] does, has this done while the client holds it, and then unlocks it, whatever was done. Where
+    /// the unlock is refused the client holds the name still: [`Cluster::unlock`] can be called again, and unless that
+    /// succeeds the cluster has to be stopped, or the others wait for ever.
+    ///
+    /// # Errors
+    ///
+    /// Those of [`Cluster::lock`]. Nothing was done.
+    pub fn with_lock<R: Wait, T, F: FnOnce(Grant) -> T + Drop>(
+        &self,
+        rt: &R,
+        alloc: Global,
+        node: NodeId,
+        client: u32,
+        name: Name,
+        mode: Mode,
+        does: F,
+    ) -> Result<Held<T>, CallError>
+        requires { (grant : Grant) → IsGrantOf node client name mode grant → F.pre does grant }
+        ensures grant { IfOk result (λ held. IsGrantOf node client name mode held.grant) }
+        ensures done { IfOk result (λ held. F.post does held.grant held.value) }
+        ensures no_node { IsErrOf result CallError.NoNode ↔ self.now.nodes < node }
+    {
+        let Some(site) = self.site(node) else {
+            return Err(CallError::NoNode);
+        };
+        let (post, sites, gate) = (&self.post, self.sites.as_slice(), &self.gate);
+        let grant = match site.lock(rt, alloc, client, name, mode, post, sites, gate) {
+            Ok(grant) => grant,
+            Err(refused) => return Err(CallError::Site(refused)),
+        };
+        // The closure has a copy of its own.
+        let given = grant;
+        let value = does(given);
+        let unlocked = site.unlock(rt, alloc, client, name, post, sites, gate);
+        Ok(Held {
+            grant,
+            value,
+            unlocked,
+        })
+    }
+
+    /// Hands a node each frame that comes for it, until the post is closed, as [`Site::pump`] does. It returns at once where there is
+    /// no such node.
+    pub fn pump<R: Wait>(&self, rt: &R, alloc: Global, node: NodeId) {
+        let Some(inbox) = self.inboxes.get(usize::from(node.get()) - 1) else {
+            return;
+        };
+        if let Some(site) = self.site(node) {
+            site.pump(
+                rt,
+                alloc,
+                inbox,
+                &self.post,
+                self.sites.as_slice(),
+                &self.gate,
+            );
+        }
+    }
+
+    /// Stops each node for this cause, in turn from node 1 up, as [`Site::stop`] does.
+    pub fn stop<R: Wait>(&self, rt: &R, stop: Stop) {
+        stop_all(rt, self.sites.as_slice(), stop);
+    }
+
+    /// Closes the post, on which the threads in [`Cluster::pump`] end, as [`Post::close`] does.
+    pub fn close_post<R: Wait>(&self, rt: &R) {
+        self.post.close(rt);
+    }
+
+    /// Gives up the cluster, and returns the books of its nodes in their order. They are a cluster, as [`settle`](crate::settle)
+    /// requires. It does not allocate.
+    pub fn close(self, alloc: Global) -> Vec<Book>
+        ensures cluster { IsCluster result.items }
+        ensures count { vec_len result ≡ self.nodes }
+        ensures start { start_of result.items ≡ self.start }
+        ensures histories { All HasHistory result.items }
+    {
+        let Cluster {
+            start,
+            sites,
+            post: _,
+            inboxes: _,
+            mut books,
+            gate: _,
+        } = self;
+        let nodes = sites.len() as u16;
+        for site in sites {
+            books.push_reserved(site.close_as(alloc, nodes, start));
+        }
+        books
+    }
+}

@@ -1,0 +1,42 @@
+//! The sites of a whole cluster.
+ghost use Rattle.std.specs.Prelude.{◌≡◌, ◌++◌, ◌∷◌, [], IfOk, OnOk};
+ghost use Rattle.std.specs.List.{range_with_len};
+
+use crate::Site;
+use ra_stamp::{Memory, NodeId};
+use std::alloc::Global;
+
+/// Makes the sites of a cluster of this many nodes, in the order of the nodes, whose numbers begin at `start`.
+///
+/// # Errors
+///
+/// `Memory`, also where there cannot be so many nodes.
+pub fn make_sites(alloc: Global, nodes: u16, start: u64) -> Result<Vec<Site>, Memory>
+    ensures { IfOk result (λ sites. sites.items ≡ range_with_len 1 nodes) }
+{
+    let mut sites = Vec::new(alloc);
+    for place in 0..nodes {
+        push_site(alloc, &mut sites, place + 1, nodes, start)?;
+    }
+    Ok(sites)
+}
+
+/// Makes the site of the node with this number, one of so many, and puts it behind the others.
+fn push_site(
+    alloc: Global,
+    sites: &mut Vec<Site>,
+    number: u16,
+    nodes: u16,
+    start: u64,
+) -> Result<(), Memory>
+    ensures { OnOk result (sites.new.items ≡ sites.old.items ++ number ∷ []) }
+{
+    let Some(me) = NodeId::new(number) else {
+        return Err(Memory);
+    };
+    let Ok(site) = Site::new(alloc, me, nodes, start) else {
+        return Err(Memory);
+    };
+    sites.push(site)?;
+    Ok(())
+}
