@@ -2,13 +2,13 @@
 use crate::books::Call::Receive;
 use crate::books::Step::Takes;
 use crate::books::{ASK, Call, LEAVE, REPLIES, has, make};
-use crate::helpers::{r, ran, request, sites_of};
+use crate::helpers::{r, request, sites_of};
 use crate::histories::Done::{At, Passes};
 use crate::histories::{Done, ONE, TWO, books_after};
 use crate::plans::{TWO_WRITERS, script_of};
 use ra_cluster::{
     Book, BookError, CallError, Cluster, ClusterError, Gate, Grant, NewPostError, OpenGate, Post,
-    SendError, SettleError, Site, SiteError, Stop, is_cluster, settle,
+    SendError, SettleError, Site, SiteError, Stop, is_cluster, run_cluster, settle,
 };
 use ra_frame::Frame;
 use ra_schedule::Script;
@@ -343,13 +343,14 @@ fn is_of_memory(fault: ClusterError) -> bool {
     )
 }
 
-/// Has threads do a script of two writers. Where they do not, returns whether memory was wanting.
-fn try_threads<R: Threads + Wait + Abort + Sync>(
+/// Has threads do a script of two writers. Where they do not, returns whether memory was wanting. No thread of the test's own stands
+/// round it, since that would have growths of its own.
+fn try_threads<R: Threads + Wait + Sync>(
     rt: &R,
     alloc: Global,
     script: &Script,
 ) -> Result<Tried, bool> {
-    match ran(rt, alloc, script, &OpenGate) {
+    match run_cluster(rt, alloc, script, &OpenGate) {
         Ok(settled) if settled.report.requests == 2 && settled.report.sent == 4 => {
             Ok(Tried::AtOnce)
         }
@@ -359,7 +360,7 @@ fn try_threads<R: Threads + Wait + Abort + Sync>(
 }
 
 /// Makes a script, and has threads do it. Where there is none, memory was wanting.
-fn try_cluster<R: Threads + Wait + Abort + Sync>(rt: &R, alloc: Global) -> Result<Tried, bool> {
+fn try_cluster<R: Threads + Wait + Sync>(rt: &R, alloc: Global) -> Result<Tried, bool> {
     match script_of(alloc, 2, TWO_WRITERS) {
         Some(script) => try_threads(rt, alloc, &script),
         None => Err(true),
