@@ -166,9 +166,9 @@ fn holds_and_hands_over<R: Threads + Wait + Abort + Sync>(
 }
 
 /// Returns whether the books, which are a cluster, settle with a grant into two requests and four messages.
-fn settles(alloc: Global, cluster: Cluster<Counting>, grant: Grant) -> bool {
+fn settles(alloc: Global, cluster: Cluster<Counting>, grant: &Grant) -> bool {
     let books: Vec<Book> = cluster.close(alloc);
-    match settle(alloc, &books, &[grant]) {
+    match settle(alloc, &books, &[*grant]) {
         Ok(settled) => settled.report.requests == 2 && settled.report.sent == 4,
         Err(_) => false,
     }
@@ -183,9 +183,12 @@ fn hands_over<R: Threads + Wait + Abort + Sync>(rt: &R, alloc: Global) -> Option
     let second = Mutex::new(None);
     let is_so = holds_and_hands_over(rt, alloc, &cluster, &nodes, &name, &second);
     let held = second.into_inner()?.ok()?;
-    let is_second = entry(name, 1, 2, Mode::Exclusive, 9) == Some(held.grant.entry);
+    let is_second = match entry(name, 1, 2, Mode::Exclusive, 9) {
+        Some(expected) => expected == held.grant.entry,
+        None => false,
+    };
     let has_worked = held.value && held.unlocked == Ok(());
-    Some(is_so && is_second && has_worked && settles(alloc, cluster, held.grant))
+    Some(is_so && is_second && has_worked && settles(alloc, cluster, &held.grant))
 }
 
 #[test]
