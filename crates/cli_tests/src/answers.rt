@@ -1,11 +1,11 @@
 //! The command `answer`: what it says to a request and to a reply, and its help.
-use crate::frames::{ANSWER, REPLY, REQUEST, REQUEST_LINE};
+use crate::frames::{ANSWER, ANSWER_64, REPLY, REQUEST, REQUEST_LINE};
 use crate::helpers::{Case, assert_answers, assert_meets};
 use ra_cli::answer;
 use std::alloc::Global;
 
 /// The REPLY of node 2 at clock 2^62, as a line.
-const LATE_REPLY: &str = "0102020100000000000000000140000000000000000172\n";
+const LATE_REPLY: &str = "02020002000100000000000000000140000000000000000172\n";
 
 /// Requests in either case, with a line feed or not.
 const REQUESTS: &[Case] = &[
@@ -51,6 +51,20 @@ const REQUESTS: &[Case] = &[
         status: 0,
         output: LATE_REPLY,
     },
+    Case {
+        shows: "the first request in version 2",
+        words: ANSWER,
+        input: "02010001000201000000000000000100000000000000010172",
+        status: 0,
+        output: REPLY,
+    },
+    Case {
+        shows: "an intent exclusive request of node 40",
+        words: ANSWER_64,
+        input: "02010028000203000000000000000100000000000000010172",
+        status: 0,
+        output: "02020002002800000000000000000100000000000000020172\n",
+    },
 ];
 
 #[test]
@@ -94,6 +108,13 @@ const REPLIES: &[Case] = &[
         status: 0,
         output: "",
     },
+    Case {
+        shows: "a reply in version 2",
+        words: ANSWER,
+        input: "02020001000200000000000000000100000000000000010172",
+        status: 0,
+        output: "",
+    },
 ];
 
 #[test]
@@ -107,12 +128,18 @@ Usage: ra answer --node <node> --nodes <nodes>
 
 Options:
       --node <node>    The number of the node that answers
-      --nodes <nodes>  How many nodes there are, 1 to 16
+      --nodes <nodes>  How many nodes there are, 1 to 64
   -h, --help           Print help
 
-The node has met no number before, and its clock was 0. It prints the frames that it sends, a line each.
+The node has met no number before, and its clock was 0. A frame of version 1 or 2 is read, and the frames that the node sends are
+printed in version 2, a line each. The modes, and their bytes, of which version 1 has the first two:
+  S    00  shared
+  X    01  exclusive
+  IS   02  intent shared
+  IX   03  intent exclusive
+  SIX  04  shared and intent exclusive
 
-Example, a REQUEST of node 1 for the name r, answered by node 2 of 3:
+Example, a REQUEST of node 1 for the name r, in version 1, answered by node 2 of 3:
   echo 0101010201000000000000000100000000000000010172 | ra answer --node 2 --nodes 3
 ";
 

@@ -3,14 +3,14 @@ use crate::helpers::{
     Answered, Case, Refused, assert_answers, assert_fails_at_each_byte, assert_fails_in_fronts,
     assert_meets, assert_refuses, assert_written, is_answer, is_refusal, prints, run, status_alone,
 };
-use crate::scripts::{A_DEADLOCK, A_QUEUE, A_WRITER, ONE_CLIENT, ONE_ORDER, TWO_CLIENTS};
+use crate::scripts::{A_DEADLOCK, A_QUEUE, A_TABLE, A_WRITER, ONE_CLIENT, ONE_ORDER, TWO_CLIENTS};
 use std::alloc::Global;
 use std::process::Abort;
 use std::sync::Wait;
 use std::thread::Threads;
 
 /// The trace of a client that locks and unlocks a name, at the first of two nodes.
-pub const ALONE: &str = "trace 1 2 0
+pub const ALONE: &str = "trace 2 2 0
 ask 1 1 r X
 request 1 1 r X 1
 deliver request 1 2 r X 1
@@ -22,7 +22,7 @@ end
 ";
 
 /// The trace of two clients that ask at once, at two of three nodes.
-const AT_ONCE: &str = "trace 1 3 0
+const AT_ONCE: &str = "trace 2 3 0
 ask 1 1 r X
 request 1 1 r X 1
 ask 2 2 r X
@@ -45,7 +45,7 @@ end
 ";
 
 /// The trace of a client whose REQUEST is lost.
-const LOST: &str = "trace 1 2 0
+const LOST: &str = "trace 2 2 0
 ask 1 1 r X
 request 1 1 r X 1
 lose request 1 2 r X 1
@@ -91,6 +91,7 @@ fn traces_of_runs_are_valid(rt: HostRuntime) {
 }
 
 /// A line, counted from 1, that is put in before the one that stands there, or stands in its place.
+#[derive(Clone, Copy)]
 struct Edit {
     place: usize,
     line: &'static str,
@@ -122,12 +123,82 @@ fn edited(alloc: Global, trace: &str, edit: &Edit) -> Option<String> {
     Some(text)
 }
 
-/// Returns whether the verdict, with status 3, is said of the two clients' trace with an edit.
-fn is_invalid<T: AllocGlobal + Threads + Wait + Abort + Sync>(rt: &T, edit: &Edit) -> bool {
-    match edited(rt.alloc(), AT_ONCE, edit) {
+/// Returns whether the verdict, with status 3, is said of a trace with an edit.
+fn is_invalid<T: AllocGlobal + Threads + Wait + Abort + Sync>(
+    rt: &T,
+    trace: &str,
+    edit: &Edit,
+) -> bool {
+    match edited(rt.alloc(), trace, edit) {
         Some(trace) => prints(rt, "ra check", trace.as_str(), 3, edit.verdict),
         None => false,
     }
+}
+
+/// The first line in version 1 of the two clients' trace.
+const IN_VERSION_1: Edit = Edit {
+    place: 1,
+    line: "trace 1 3 0\n",
+    stays: false,
+    verdict: "valid\nrequests 2\nmessages 8\n",
+};
+
+/// Returns whether it is so of the two clients' trace with an edit, in version 2, in which it is written, and in version 1.
+fn is_invalid_in_both<T: AllocGlobal + Threads + Wait + Abort + Sync>(rt: &T, edit: &Edit) -> bool {
+    match edited(rt.alloc(), AT_ONCE, &IN_VERSION_1) {
+        Some(old) => is_invalid(rt, AT_ONCE, edit) && is_invalid(rt, old.as_str(), edit),
+        None => false,
+    }
+}
+
+/// Traces, the lines in version 1 that may stand in place of their first, and what is said of them then.
+const OLDER: &[(&str, &str, &str)] = &[
+    (ALONE, "trace 1 2 0\n", "valid\nrequests 1\nmessages 2\n"),
+    (AT_ONCE, "trace 1 3 0\n", "valid\nrequests 2\nmessages 8\n"),
+    (LOST, "trace 1 2 0\n", "valid\nrequests 1\nmessages 1\n"),
+];
+
+/// Returns whether the verdict, with status 0, is said of a trace with another first line.
+fn is_valid_behind<T: AllocGlobal + Threads + Wait + Abort + Sync>(
+    rt: &T,
+    trace: &str,
+    line: &'static str,
+    verdict: &'static str,
+) -> bool {
+    let edit = Edit {
+        place: 1,
+        line,
+        stays: false,
+        verdict,
+    };
+    match edited(rt.alloc(), trace, &edit) {
+        Some(trace) => prints(rt, "ra check", trace.as_str(), 0, verdict),
+        None => false,
+    }
+}
+
+#[test]
+fn the_same_traces_are_valid_in_version_1(rt: HostRuntime) {
+    for row in OLDER {
+        assert!(rt; is_valid_behind(&rt, row.0, row.1, row.2), "{}", row.1);
+    }
+}
+
+/// The lines of the client alone in version 1, with a mode that only version 2 has.
+const NEWER_MODE: &str = "trace 1 2 0
+ask 1 1 r IS
+request 1 1 r X 1
+deliver request 1 2 r X 1
+deliver reply 2 1 r 1
+enter 1 1 r X 1
+release 1 1 r
+leave 1 1 r X 1
+end
+";
+
+#[test]
+fn a_mode_of_version_2_is_no_line_of_version_1(rt: HostRuntime) {
+    assert_answers(&rt, "ra check", NEWER_MODE, 3, "invalid 2 Line\n");
 }
 
 /// Edits by which a trace is none any more.
@@ -165,9 +236,9 @@ const EDITS: &[Edit] = &[
 ];
 
 #[test]
-fn the_first_wrong_line_is_named(rt: HostRuntime) {
+fn the_first_wrong_line_is_named_in_both_versions(rt: HostRuntime) {
     for edit in EDITS {
-        assert!(rt; is_invalid(&rt, edit), "{}", edit.verdict);
+        assert!(rt; is_invalid_in_both(&rt, edit), "{}", edit.verdict);
     }
 }
 
@@ -250,6 +321,7 @@ fn each_trace_that_sim_prints_is_valid(rt: HostRuntime) {
     assert_valid(&rt, ONE_ORDER, "valid\nrequests 4\nmessages 8\n");
     assert_valid(&rt, A_WRITER, "valid\nrequests 3\nmessages 12\n");
     assert_valid(&rt, A_QUEUE, "valid\nrequests 2\nmessages 4\n");
+    assert_valid(&rt, A_TABLE, "valid\nrequests 5\nmessages 20\n");
 }
 
 #[test]
@@ -266,14 +338,20 @@ Options:
   -h, --help  Print help
 
 A trace, read from standard input, is the steps of a run, each on a line with its marks on the lines below it:
-  trace 1 2 0
+  trace 2 2 0
   ask 1 1 r X
   request 1 1 r X 1
   deliver request 1 2 r X 1
   deliver reply 2 1 r 1
   enter 1 1 r X 1
   end
-The first line says how many nodes there are, and the number that each resource begins with.
+The first line says which version of traces it is, how many nodes there are, and the number that each resource begins with. In
+version 2, which `ra sim --trace` prints, there are 1 to 64 nodes and five modes; version 1 has 1 to 16 nodes and the modes S and X:
+  S    shared
+  X    exclusive
+  IS   intent shared
+  IX   intent exclusive
+  SIX  shared and intent exclusive
 
 It prints `valid`, and how many requests and messages there were; or `invalid`, the first line that is wrong, and why:
   Line         it is none, or stands where it may not

@@ -1,6 +1,6 @@
 //! The policy `listed`: choices that are made one after the other, and those that cannot be made.
 use crate::helpers::{assert_answers, is_answer, refuses_input, run};
-use crate::scripts::{A_QUEUE, NOTHING, ONE_CLIENT, ONE_CLIENT_PRINTED, TWO_READERS};
+use crate::scripts::{A_QUEUE, NOTHING, ONE_CLIENT, ONE_CLIENT_PRINTED, TWO_INTENTS, TWO_READERS};
 use std::process::Abort;
 use std::sync::Wait;
 use std::thread::Threads;
@@ -48,6 +48,21 @@ waiting 0
 queued 0
 ";
 
+/// What those who change and read parts print where both are inside at once.
+const INTENTS_PRINTED: &str = "request 1 1 r IX 1
+request 2 2 r IS 1
+enter 1 1 r IX 1
+enter 2 2 r IS 1
+leave 1 1 r IX 1
+leave 2 2 r IS 1
+requests 2
+messages 4
+under-way 0
+lost 0
+waiting 0
+queued 0
+";
+
 /// What two clients print that go one after the other.
 const IN_TURN: &str = "request 1 1 r X 1
 enter 1 1 r X 1
@@ -80,6 +95,12 @@ const CHOICES: &[Listed] = &[
         script: TWO_READERS,
         status: 0,
         output: READERS_PRINTED,
+    },
+    Listed {
+        choices: "c1 c2 m0 m0 m0 m0 c1 c2",
+        script: TWO_INTENTS,
+        status: 0,
+        output: INTENTS_PRINTED,
     },
     Listed {
         choices: "c1 m0 m0 c1 c2 m0 m0 c2",

@@ -4,9 +4,9 @@ use crate::helpers::{
     assert_refuses, assert_written, is_answer, is_read_fault, run,
 };
 use crate::scripts::{
-    A_DEADLOCK, A_KEEPER, A_QUEUE, A_QUEUE_PRINTED, A_WRITER, ALONE, ALONE_PRINTED, APART, NOTHING,
-    ONE_CLIENT, ONE_CLIENT_PRINTED, ONE_ORDER, SIXTEEN_NODES, SIXTEEN_NODES_PRINTED, TWO_CLIENTS,
-    TWO_NAMES, TWO_READERS,
+    A_DEADLOCK, A_KEEPER, A_QUEUE, A_QUEUE_PRINTED, A_TABLE, A_WRITER, ALONE, ALONE_PRINTED, APART,
+    NOTHING, ONE_CLIENT, ONE_CLIENT_PRINTED, ONE_ORDER, SIXTY_FOUR_NODES, SIXTY_FOUR_NODES_PRINTED,
+    TWO_CLIENTS, TWO_NAMES, TWO_READERS,
 };
 use ra_cluster::{ClusterError, Stop};
 use ra_script::ScriptError;
@@ -113,11 +113,11 @@ const ONE_OUTPUT: &[Case] = &[
         output: ONE_CLIENT_PRINTED,
     },
     Case {
-        shows: "sixteen nodes",
+        shows: "sixty-four nodes",
         words: "ra cluster",
-        input: SIXTEEN_NODES,
+        input: SIXTY_FOUR_NODES,
         status: 0,
-        output: SIXTEEN_NODES_PRINTED,
+        output: SIXTY_FOUR_NODES_PRINTED,
     },
 ];
 
@@ -201,6 +201,29 @@ const IN_ORDER: &[Run] = &[
         third: &[],
         totals: "requests 4\nmessages 8\nunder-way 0\nlost 0\nwaiting 0\nqueued 0\n",
         lines: 18,
+    },
+    Run {
+        shows: "a table and its rows",
+        script: A_TABLE,
+        first: &[
+            "request 1 1 t IX ",
+            "enter 1 1 t IX ",
+            "request 1 1 t.1 X ",
+            "enter 1 1 t.1 X ",
+            "leave 1 1 t.1 X ",
+            "leave 1 1 t IX ",
+        ],
+        second: &[
+            "request 2 2 t IX ",
+            "enter 2 2 t IX ",
+            "request 2 2 t.2 X ",
+            "enter 2 2 t.2 X ",
+            "leave 2 2 t.2 X ",
+            "leave 2 2 t IX ",
+        ],
+        third: &["request 3 3 t S ", "enter 3 3 t S ", "leave 3 3 t S "],
+        totals: "requests 5\nmessages 20\nunder-way 0\nlost 0\nwaiting 0\nqueued 0\n",
+        lines: 21,
     },
 ];
 
@@ -339,7 +362,7 @@ const NO_DOCUMENTS: &[Refused] = &[
     },
     Refused {
         words: "ra cluster",
-        input: "nodes = 17\nclient = [{ node = 1, ops = [] }]",
+        input: "nodes = 65\nclient = [{ node = 1, ops = [] }]",
         word: "Nodes",
     },
     Refused {
@@ -456,7 +479,14 @@ Usage: ra cluster
 Options:
   -h, --help  Print help
 
-A script is read from standard input; `ra sim --help` says what it is. This one has two clients that want the same name:
+A script is read from standard input; `ra sim --help` says what it is. It has 1 to 64 nodes, and its modes are
+  S    shared
+  X    exclusive
+  IS   intent shared
+  IX   intent exclusive
+  SIX  shared and intent exclusive
+
+This one has two clients that want the same name:
   nodes = 3
   client = [{ node = 1, ops = [\"X r\", \"U r\"] },
             { node = 2, ops = [\"X r\", \"U r\"] }]

@@ -1,5 +1,5 @@
 //! What `answer` refuses: lines that are no frame, frames for others and from strangers, and numbers of no node.
-use crate::frames::{ANSWER, FED_TWICE, FOLLOWED, REQUEST};
+use crate::frames::{ANSWER, ANSWER_64, FED_TWICE, FOLLOWED, REQUEST};
 use crate::helpers::{Refused, assert_refuses, refuses_input, repeated};
 use std::process::Abort;
 use std::sync::Wait;
@@ -107,6 +107,27 @@ const REFUSALS: &[Refused] = &[
         input: "0101050201000000000000000100000000000000010172",
         word: "Stranger",
     },
+    // In version 2.
+    Refused {
+        words: ANSWER_64,
+        input: "02010028000205000000000000000100000000000000010172",
+        word: "Mode",
+    },
+    Refused {
+        words: ANSWER_64,
+        input: "02010041000203000000000000000100000000000000010172",
+        word: "From",
+    },
+    Refused {
+        words: ANSWER_64,
+        input: "020100280002030000000000000001000000000000000101",
+        word: "Short",
+    },
+    Refused {
+        words: ANSWER,
+        input: "02010028000203000000000000000100000000000000010172",
+        word: "Stranger",
+    },
 ];
 
 #[test]
@@ -176,12 +197,12 @@ fn of_two_causes_the_first_is_named(rt: HostRuntime) {
 /// Numbers of no node, with an input that is a frame and one that is none.
 const NUMBERS: &[Refused] = &[
     Refused {
-        words: "ra answer --node 2 --nodes 17",
+        words: "ra answer --node 2 --nodes 65",
         input: REQUEST,
         word: "BadCount",
     },
     Refused {
-        words: "ra answer --node 2 --nodes 17",
+        words: "ra answer --node 2 --nodes 65",
         input: "zz",
         word: "BadCount",
     },

@@ -103,7 +103,7 @@ const NO_SCRIPTS: &[Refused] = &[
     },
     Refused {
         words: "ra sim",
-        input: "nodes = 17\nclient = [{ node = 1, ops = [] }]",
+        input: "nodes = 65\nclient = [{ node = 1, ops = [] }]",
         word: "Nodes",
     },
     Refused {
@@ -119,6 +119,16 @@ const NO_SCRIPTS: &[Refused] = &[
     Refused {
         words: "ra sim",
         input: "nodes = 2\nclient = [{ node = 1, ops = [\"Y r\"] }]",
+        word: "Op",
+    },
+    Refused {
+        words: "ra sim",
+        input: "nodes = 2\nclient = [{ node = 1, ops = [\"SIXX r\"] }]",
+        word: "Op",
+    },
+    Refused {
+        words: "ra sim",
+        input: "nodes = 2\nclient = [{ node = 1, ops = [\"S IX r\"] }]",
         word: "Op",
     },
     Refused {

@@ -46,6 +46,27 @@ nodes = 2
 client = [{ node = 1, ops = ["S r", "U r"] }, { node = 2, ops = ["S r", "U r"] }]
 "#;
 
+/// Two clients that change and read parts of what a name stands for.
+pub const TWO_INTENTS: &str = r#"
+nodes = 2
+client = [{ node = 1, ops = ["IX r", "U r"] }, { node = 2, ops = ["IS r", "U r"] }]
+"#;
+
+/// One that changes parts of it, and one that reads it whole.
+pub const INTENT_AND_READER: &str = r#"
+nodes = 2
+client = [{ node = 1, ops = ["IX r", "U r"] }, { node = 2, ops = ["S r", "U r"] }]
+"#;
+
+/// Two clients that each change a row of a table, and one that reads the table whole.
+pub const A_TABLE: &str = r#"nodes = 3
+client = [
+    { node = 1, ops = ["IX t", "X t.1", "U t.1", "U t"] },
+    { node = 2, ops = ["IX t", "X t.2", "U t.2", "U t"] },
+    { node = 3, ops = ["S t", "U t"] },
+]
+"#;
+
 /// Two clients of one node.
 pub const A_QUEUE: &str = r#"nodes = 2
 client = [{ node = 1, ops = ["X r", "U r"] }, { node = 1, ops = ["X r", "U r"] }]
@@ -91,6 +112,18 @@ nodes = 16
 client = [{ node = 1, ops = ["X r", "U r"] }]
 "#;
 
+/// One client of seventeen nodes, which does nothing.
+pub const SEVENTEEN_IDLE_NODES: &str = r#"
+nodes = 17
+client = [{ node = 1, ops = [] }]
+"#;
+
+/// One client of sixty-four nodes.
+pub const SIXTY_FOUR_NODES: &str = r#"
+nodes = 64
+client = [{ node = 1, ops = ["X r", "U r"] }]
+"#;
+
 /// What the client of one node prints.
 pub const ALONE_PRINTED: &str = "request 1 1 r X 1
 enter 1 1 r X 1
@@ -124,6 +157,18 @@ enter 1 1 r X 1
 leave 1 1 r X 1
 requests 1
 messages 30
+under-way 0
+lost 0
+waiting 0
+queued 0
+";
+
+/// What the client of sixty-four nodes prints.
+pub const SIXTY_FOUR_NODES_PRINTED: &str = "request 1 1 r X 1
+enter 1 1 r X 1
+leave 1 1 r X 1
+requests 1
+messages 126
 under-way 0
 lost 0
 waiting 0

@@ -1,8 +1,9 @@
 //! The command `sim` by policies that choose by themselves, and its help.
 use crate::helpers::{Case, assert_answers, assert_meets};
 use crate::scripts::{
-    A_DEADLOCK, A_KEEPER, A_QUEUE, A_QUEUE_PRINTED, A_WRITER, ALONE, ALONE_PRINTED, APART,
-    ONE_CLIENT, ONE_CLIENT_PRINTED, ONE_ORDER, SIXTEEN_NODES, SIXTEEN_NODES_PRINTED, TWO_CLIENTS,
+    A_DEADLOCK, A_KEEPER, A_QUEUE, A_QUEUE_PRINTED, A_TABLE, A_WRITER, ALONE, ALONE_PRINTED, APART,
+    INTENT_AND_READER, NOTHING, ONE_CLIENT, ONE_CLIENT_PRINTED, ONE_ORDER, SEVENTEEN_IDLE_NODES,
+    SIXTEEN_NODES, SIXTEEN_NODES_PRINTED, SIXTY_FOUR_NODES, SIXTY_FOUR_NODES_PRINTED, TWO_CLIENTS,
     TWO_NAMES,
 };
 
@@ -78,6 +79,45 @@ enter 3 3 r S 1
 leave 3 3 r S 1
 requests 3
 messages 12
+under-way 0
+lost 0
+waiting 0
+queued 0
+";
+
+/// What the client that changes parts and the reader print: they exclude each other.
+const INTENT_AND_READER_PRINTED: &str = "request 1 1 r IX 1
+request 2 2 r S 1
+enter 1 1 r IX 1
+leave 1 1 r IX 1
+enter 2 2 r S 1
+leave 2 2 r S 1
+requests 2
+messages 4
+under-way 0
+lost 0
+waiting 0
+queued 0
+";
+
+/// What the clients of the table print: those who change rows are inside at once, and who reads it whole waits for both.
+const A_TABLE_PRINTED: &str = "request 1 1 t IX 1
+request 2 2 t IX 1
+request 3 3 t S 1
+enter 1 1 t IX 1
+request 1 1 t.1 X 1
+enter 2 2 t IX 1
+request 2 2 t.2 X 1
+enter 1 1 t.1 X 1
+leave 1 1 t.1 X 1
+leave 1 1 t IX 1
+enter 2 2 t.2 X 1
+leave 2 2 t.2 X 1
+leave 2 2 t IX 1
+enter 3 3 t S 1
+leave 3 3 t S 1
+requests 5
+messages 20
 under-way 0
 lost 0
 waiting 0
@@ -191,6 +231,20 @@ const SCRIPTS: &[Case] = &[
         output: A_WRITER_PRINTED,
     },
     Case {
+        shows: "one changes parts, and one reads the whole",
+        words: "ra sim --policy oldest",
+        input: INTENT_AND_READER,
+        status: 0,
+        output: INTENT_AND_READER_PRINTED,
+    },
+    Case {
+        shows: "a table and its rows",
+        words: "ra sim",
+        input: A_TABLE,
+        status: 0,
+        output: A_TABLE_PRINTED,
+    },
+    Case {
         shows: "two clients of one node",
         words: "ra sim",
         input: A_QUEUE,
@@ -224,6 +278,20 @@ const SCRIPTS: &[Case] = &[
         input: SIXTEEN_NODES,
         status: 0,
         output: SIXTEEN_NODES_PRINTED,
+    },
+    Case {
+        shows: "one client of seventeen nodes that does nothing",
+        words: "ra sim",
+        input: SEVENTEEN_IDLE_NODES,
+        status: 0,
+        output: NOTHING,
+    },
+    Case {
+        shows: "one client of sixty-four nodes",
+        words: "ra sim",
+        input: SIXTY_FOUR_NODES,
+        status: 0,
+        output: SIXTY_FOUR_NODES_PRINTED,
     },
 ];
 
@@ -270,11 +338,18 @@ Options:
       --trace              Print the trace of the run
   -h, --help               Print help
 
-A script, read from standard input, is a TOML document: how many nodes there are, and for each client its node and what it
-does, in order. `X NAME` locks a name exclusively, `S NAME` locks it shared, and `U NAME` unlocks it.
+A script, read from standard input, is a TOML document: how many nodes there are, 1 to 64, and for each client its node and what
+it does, in order. A mode and a name, as `X r`, lock the name in that mode, and `U r` unlocks it.
   nodes = 2
   client = [{ node = 1, ops = [\"X r\", \"U r\"] },
             { node = 2, ops = [\"S r\", \"U r\"] }]
+
+Modes:
+  S    shared: to read it whole, beside S and IS
+  X    exclusive: to change it whole, beside none
+  IS   intent shared: to read parts of it, which are locked S each, beside all but X
+  IX   intent exclusive: to change parts of it, which are locked X each, beside IS and IX
+  SIX  shared and intent exclusive: to read it whole, and change parts of it, which are locked X each, beside IS
 
 Policies:
   oldest  the first client in the order of the script that can go on, and else the message that was sent first

@@ -16,12 +16,22 @@ use std::alloc::Global;
 use std::process::Abort;
 
 /// A REQUEST of number 1 from node 1 to node 2 for `r`, exclusively, at clock 1.
-pub const ASKS: [u8; 23] = [
+pub const ASKS: [u8; 25] = [
+    2, 1, 0, 1, 0, 2, 1, 0, 0, 0, 0, 0, 0, 0, 1, 0, 0, 0, 0, 0, 0, 0, 1, 1, b'r',
+];
+
+/// The same in version 1.
+pub const ASKS_1: [u8; 23] = [
     1, 1, 1, 2, 1, 0, 0, 0, 0, 0, 0, 0, 1, 0, 0, 0, 0, 0, 0, 0, 1, 1, b'r',
 ];
 
 /// The REPLY to it, at clock 2.
-pub const REPLIES: [u8; 23] = [
+pub const REPLIES: [u8; 25] = [
+    2, 2, 0, 2, 0, 1, 0, 0, 0, 0, 0, 0, 0, 0, 1, 0, 0, 0, 0, 0, 0, 0, 2, 1, b'r',
+];
+
+/// The same in version 1.
+pub const REPLIES_1: [u8; 23] = [
     1, 2, 2, 1, 0, 0, 0, 0, 0, 0, 0, 0, 1, 0, 0, 0, 0, 0, 0, 0, 2, 1, b'r',
 ];
 
@@ -71,7 +81,7 @@ pub enum Step<'a> {
     /// frames, and this clock.
     TakesAgain(Call<'a>, u64, u64, u64),
     /// It takes the call, which sends just a frame with this text, or none, and has just this mark, or none.
-    Posts(Call<'a>, Option<&'a [u8; 23]>, Option<Turn>),
+    Posts(Call<'a>, Option<&'a [u8; 25]>, Option<Turn>),
     /// It refuses the call, for this reason.
     Refuses(Call<'a>, BookError),
     /// It refuses the bytes of [`ASKS`] with another byte at this place, for this reason.
@@ -141,7 +151,7 @@ fn refuses(alloc: Global, book: &mut Book, name: Name, call: Call<'_>, fault: Bo
 }
 
 /// Returns whether a frame fits and has this text.
-fn is_text(alloc: Global, frame: &Frame, text: &[u8; 23]) -> bool {
+fn is_text(alloc: Global, frame: &Frame, text: &[u8; 25]) -> bool {
     if !frame.fits() {
         return false;
     }
@@ -152,7 +162,7 @@ fn is_text(alloc: Global, frame: &Frame, text: &[u8; 23]) -> bool {
 }
 
 /// Returns whether just a frame with this text is sent, or none.
-fn has_frame(alloc: Global, posted: &Posted, text: Option<&[u8; 23]>) -> bool {
+fn has_frame(alloc: Global, posted: &Posted, text: Option<&[u8; 25]>) -> bool {
     let count = posted.frames.len();
     match (posted.frames.at(0), text) {
         (Some(frame), Some(text)) => count == 1 && is_text(alloc, &frame, text),
@@ -185,7 +195,7 @@ fn posts(
     book: &mut Book,
     name: Name,
     call: Call<'_>,
-    text: Option<&[u8; 23]>,
+    text: Option<&[u8; 25]>,
     turn: Option<Turn>,
 ) -> bool {
     match make(alloc, book, name, call) {

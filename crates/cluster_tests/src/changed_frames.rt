@@ -1,14 +1,14 @@
 //! Frames of which one byte is another, or of which the last bytes are missing: whether a book takes them, and that it is as before
 //! where it does not.
-use crate::books::ASKS;
+use crate::books::{ASKS, ASKS_1};
 use crate::helpers::r;
 use ra_cluster::{Book, BookError};
 use ra_frame::FrameError;
 use ra_stamp::{Mode, Name, NodeId};
 use std::alloc::Global;
 
-/// With how many of the 256 bytes at each place node 2 of 3 takes the REQUEST.
-const TAKEN: [u32; 23] = [
+/// With how many of the 256 bytes at each place node 2 of 3 takes the REQUEST of version 1.
+const TAKEN_1: [u32; 23] = [
     // The version 1, the kind REQUEST, a sender 1 or 3, the receiver 2, and a mode.
     1, 1, 2, 1, 2,
     // A number that is not 0.
@@ -19,9 +19,17 @@ const TAKEN: [u32; 23] = [
     1, 65,
 ];
 
-/// Returns the REQUEST with this byte at the place.
-fn with(place: usize, byte: u8) -> [u8; 23] {
-    let mut bytes = ASKS;
+/// With how many that of version 2.
+const TAKEN_2: [u32; 25] = [
+    // The version 2, the kind REQUEST, a sender 1 or 3, the receiver 2, and a mode.
+    1, 1, 1, 2, 1, 1, 5,
+    // All else as in version 1.
+    256, 256, 256, 256, 256, 256, 256, 255, 64, 256, 256, 256, 256, 256, 256, 255, 1, 65,
+];
+
+/// Returns these bytes with this byte at the place.
+fn with<const N: usize>(text: &[u8; N], place: usize, byte: u8) -> [u8; N] {
+    let mut bytes = *text;
     if place < bytes.len() {
         bytes[place] = byte;
     }
@@ -72,10 +80,10 @@ fn outcome(alloc: Global, bytes: &[u8]) -> Option<Result<(), BookError>> {
 }
 
 /// Returns with how many of the 256 bytes at the place the REQUEST is taken, or `None` where a book is not as it is to be.
-fn count_taken(alloc: Global, place: usize) -> Option<u32> {
+fn count_taken<const N: usize>(alloc: Global, text: &[u8; N], place: usize) -> Option<u32> {
     let mut count = 0u32;
     for byte in 0..=u8::MAX {
-        if outcome(alloc, &with(place, byte))?.is_ok() {
+        if outcome(alloc, &with(text, place, byte))?.is_ok() {
             count = count.wrapping_add(1);
         }
     }
@@ -83,10 +91,20 @@ fn count_taken(alloc: Global, place: usize) -> Option<u32> {
 }
 
 #[test]
-fn with_another_byte_a_frame_is_taken_or_leaves_the_book(rt: HostRuntime) {
+fn with_another_byte_a_frame_of_version_1_is_taken_or_leaves_the_book(rt: HostRuntime) {
     for place in 0..23 {
         assert!(rt;
-            count_taken(rt.alloc(), place) == TAKEN.get(place).copied(),
+            count_taken(rt.alloc(), &ASKS_1, place) == TAKEN_1.get(place).copied(),
+            "at {place}"
+        );
+    }
+}
+
+#[test]
+fn with_another_byte_a_frame_of_version_2_is_taken_or_leaves_the_book(rt: HostRuntime) {
+    for place in 0..25 {
+        assert!(rt;
+            count_taken(rt.alloc(), &ASKS, place) == TAKEN_2.get(place).copied(),
             "at {place}"
         );
     }
@@ -96,6 +114,15 @@ fn with_another_byte_a_frame_is_taken_or_leaves_the_book(rt: HostRuntime) {
 fn each_part_of_a_frame_leaves_the_book(rt: HostRuntime) {
     let short = Some(Err(BookError::Frame(FrameError::Short)));
     for end in 0..23 {
-        assert!(rt; outcome(rt.alloc(), &ASKS[..end]) == short, "{end} bytes");
+        assert!(rt;
+            outcome(rt.alloc(), &ASKS_1[..end]) == short,
+            "{end} bytes of version 1"
+        );
+    }
+    for end in 0..25 {
+        assert!(rt;
+            outcome(rt.alloc(), &ASKS[..end]) == short,
+            "{end} bytes of version 2"
+        );
     }
 }

@@ -1,5 +1,7 @@
 //! The book of a node: what it keeps and sends, what it refuses, and the words of that.
-use crate::books::{ASK, ASKS, Call, LEAVE, REPLIES, Step, Turn, Wire, assert_book_does};
+use crate::books::{
+    ASK, ASKS, ASKS_1, Call, LEAVE, REPLIES, REPLIES_1, Step, Turn, Wire, assert_book_does,
+};
 use crate::helpers::assert_prints;
 use Call::{Ask, Receive};
 use Step::{
@@ -13,13 +15,14 @@ use ra_stamp::{Mode, NodeId};
 use std::alloc::Global;
 
 /// The same REQUEST at clock 2^62-1.
-const ASKS_LATE: [u8; 23] = [
-    1, 1, 1, 2, 1, 0, 0, 0, 0, 0, 0, 0, 1, 0x3f, 0xff, 0xff, 0xff, 0xff, 0xff, 0xff, 0xff, 1, b'r',
+const ASKS_LATE: [u8; 25] = [
+    2, 1, 0, 1, 0, 2, 1, 0, 0, 0, 0, 0, 0, 0, 1, 0x3f, 0xff, 0xff, 0xff, 0xff, 0xff, 0xff, 0xff, 1,
+    b'r',
 ];
 
 /// The same REQUEST at clock 2^62.
-const ASKS_LAST: [u8; 23] = [
-    1, 1, 1, 2, 1, 0, 0, 0, 0, 0, 0, 0, 1, 0x40, 0, 0, 0, 0, 0, 0, 0, 1, b'r',
+const ASKS_LAST: [u8; 25] = [
+    2, 1, 0, 1, 0, 2, 1, 0, 0, 0, 0, 0, 0, 0, 1, 0x40, 0, 0, 0, 0, 0, 0, 0, 1, b'r',
 ];
 
 /// Returns whether there is no book of this node of so many, for this reason.
@@ -37,7 +40,7 @@ fn is_no_book(alloc: Global, me: u16, nodes: u16, fault: NewError) -> bool {
 fn bad_counts_and_nodes_make_no_book(rt: HostRuntime) {
     let alloc = rt.alloc();
     assert!(rt; is_no_book(alloc, 1, 0, NewError::BadCount));
-    assert!(rt; is_no_book(alloc, 1, 17, NewError::BadCount));
+    assert!(rt; is_no_book(alloc, 1, 65, NewError::BadCount));
     assert!(rt; is_no_book(alloc, 3, 2, NewError::BadNode));
 }
 
@@ -66,6 +69,31 @@ fn frames_carry_the_clock_of_their_event(rt: HostRuntime) {
             Takes(Receive(&ASKS)),
             WasSent(1, 3, Replies, false),
             Has(2, 2, 3),
+        ],
+    );
+}
+
+#[test]
+fn frames_of_version_1_are_taken_and_answered_in_version_2(rt: HostRuntime) {
+    assert_book_does(
+        &rt,
+        2,
+        2,
+        0,
+        &[
+            Posts(Receive(&ASKS_1), Some(&REPLIES), None),
+            Got(0, 2, 1, Asks),
+        ],
+    );
+    assert_book_does(
+        &rt,
+        1,
+        2,
+        0,
+        &[
+            Takes(ASK),
+            Posts(Receive(&REPLIES_1), None, Some(Turn::Entered)),
+            Got(1, 3, 2, Replies),
         ],
     );
 }
@@ -196,13 +224,15 @@ fn refused_bytes_leave_the_book(rt: HostRuntime) {
         0,
         &[
             RefusesByte(0, 3, BookError::Frame(FrameError::Version)),
-            RefusesByte(2, 2, BookError::Frame(FrameError::SameNode)),
-            RefusesByte(12, 0, BookError::Frame(FrameError::Seq)),
-            RefusesByte(13, 0x40, BookError::Frame(FrameError::Clock)),
-            RefusesByte(3, 3, BookError::WrongNode),
-            RefusesByte(2, 5, BookError::Stranger),
+            RefusesByte(2, 1, BookError::Frame(FrameError::From)),
+            RefusesByte(3, 2, BookError::Frame(FrameError::SameNode)),
+            RefusesByte(6, 5, BookError::Frame(FrameError::Mode)),
+            RefusesByte(14, 0, BookError::Frame(FrameError::Seq)),
+            RefusesByte(15, 0x40, BookError::Frame(FrameError::Clock)),
+            RefusesByte(5, 3, BookError::WrongNode),
+            RefusesByte(3, 5, BookError::Stranger),
             Refuses(Receive(&[]), BookError::Frame(FrameError::Short)),
-            Refuses(Receive(&ASKS[..22]), BookError::Frame(FrameError::Short)),
+            Refuses(Receive(&ASKS[..24]), BookError::Frame(FrameError::Short)),
             Has(0, 0, 0),
         ],
     );

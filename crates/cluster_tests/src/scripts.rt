@@ -2,7 +2,7 @@
 use crate::endings::{ends_behind, fails_behind, is_done};
 use crate::helpers::{Counting, assert_prints, ran};
 use crate::plans::Does::{Locks, Shares, Unlocks};
-use crate::plans::{Client, Does, LOCKS_R, READS_R, TWO_WRITERS, script_of};
+use crate::plans::{Client, Does, LOCKS_R, READS_R, TWO_WRITERS, USES_R, script_of};
 use ra_cluster::{ClusterError, OpenGate, Settled, Stop};
 use std::alloc::Global;
 use std::process::Abort;
@@ -119,7 +119,7 @@ fn two_writers_of_three_nodes(rt: HostRuntime) {
 
 #[test]
 fn no_clients_do_nothing(rt: HostRuntime) {
-    assert!(rt; ends_behind(&rt, rt.alloc(), 16, &[], &OpenGate, 0, 0));
+    assert!(rt; ends_behind(&rt, rt.alloc(), 64, &[], &OpenGate, 0, 0));
 }
 
 /// A client has `a` exclusively and `b` shared at a time.
@@ -181,6 +181,27 @@ const TWELVE: &[Client] = &[
 fn many_clients_of_many_nodes(rt: HostRuntime) {
     // 4 clients with two locks and 8 with one, and 6 messages for each.
     assert!(rt; ends_behind(&rt, rt.alloc(), 4, TWELVE, &OpenGate, 16, 96));
+}
+
+/// Returns a writer for each of 64 nodes.
+fn writers_of_64_nodes() -> [Client; 64] {
+    let mut clients = [Client {
+        node: 0,
+        ops: USES_R,
+    }; 64];
+    let mut node: u16 = 0;
+    for client in &mut clients {
+        node = node.wrapping_add(1);
+        client.node = node;
+    }
+    clients
+}
+
+#[test]
+fn as_many_nodes_and_clients_as_there_may_be(rt: HostRuntime) {
+    // Each of the 64 requests has a REQUEST to each of the 63 other nodes, and a REPLY from it.
+    let clients = writers_of_64_nodes();
+    assert!(rt; ends_behind(&rt, rt.alloc(), 64, &clients, &OpenGate, 64, 8064));
 }
 
 /// Why threads do not bring a script to its end, and the word of it.

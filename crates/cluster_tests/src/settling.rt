@@ -191,8 +191,8 @@ fn a_frame_that_was_not_sent_is_refused(rt: HostRuntime) {
 }
 
 /// The REQUEST of [`ASKS`] at clock 2.
-const ASKS_AT_2: [u8; 23] = [
-    1, 1, 1, 2, 1, 0, 0, 0, 0, 0, 0, 0, 1, 0, 0, 0, 0, 0, 0, 0, 2, 1, b'r',
+const ASKS_AT_2: [u8; 25] = [
+    2, 1, 0, 1, 0, 2, 1, 0, 0, 0, 0, 0, 0, 0, 1, 0, 0, 0, 0, 0, 0, 0, 2, 1, b'r',
 ];
 
 #[test]

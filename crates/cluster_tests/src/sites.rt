@@ -28,10 +28,10 @@ fn is_post(alloc: Global, nodes: u16, is_there: bool) -> bool {
 }
 
 /// How many nodes there are, and whether there is a post for so many.
-const COUNTS: &[(u16, bool)] = &[(0, false), (17, false), (1, true), (16, true)];
+const COUNTS: &[(u16, bool)] = &[(0, false), (65, false), (1, true), (64, true)];
 
 #[test]
-fn a_post_has_1_to_16_nodes(rt: HostRuntime) {
+fn a_post_has_1_to_64_nodes(rt: HostRuntime) {
     for row in COUNTS {
         assert!(rt; is_post(rt.alloc(), row.0, row.1), "{} nodes", row.0);
     }

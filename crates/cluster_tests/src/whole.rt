@@ -13,7 +13,7 @@ use std::thread;
 use std::thread::Threads;
 
 /// How many nodes there are, and whether there is a cluster of so many.
-const COUNTS: &[(u16, bool)] = &[(0, false), (17, false), (1, true), (16, true)];
+const COUNTS: &[(u16, bool)] = &[(0, false), (65, false), (1, true), (64, true)];
 
 /// Returns whether there is a cluster of so many nodes, or none.
 fn is_cluster_of(alloc: Global, nodes: u16, is_there: bool) -> bool {
@@ -27,7 +27,7 @@ fn is_cluster_of(alloc: Global, nodes: u16, is_there: bool) -> bool {
 }
 
 #[test]
-fn a_cluster_has_1_to_16_nodes(rt: HostRuntime) {
+fn a_cluster_has_1_to_64_nodes(rt: HostRuntime) {
     for row in COUNTS {
         assert!(rt; is_cluster_of(rt.alloc(), row.0, row.1), "{} nodes", row.0);
     }

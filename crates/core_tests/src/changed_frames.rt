@@ -1,5 +1,5 @@
-//! Frames of which one byte is another: each of the 256, at each place.
-use crate::frames::{ASKS, is_read, is_refused, with};
+//! Frames of which one byte is another: each of the 256, at each place, in both versions.
+use crate::frames::{ASKS_1, ASKS_2, is_read, is_refused, with};
 use crate::helpers::r;
 use ra_frame::{Frame, FrameError};
 use ra_stamp::{Message, Mode, Name, NodeId};
@@ -7,39 +7,98 @@ use ra_stamp::{Message, Mode, Name, NodeId};
 /// A place in the REQUEST, the first and the last of some bytes, and why it is refused with one of them at the place.
 struct WrongBytes(usize, u8, u8, FrameError);
 
-/// All bytes with which it is refused.
-const WRONG: &[WrongBytes] = &[
-    WrongBytes(0, 0, 0, FrameError::Version),
-    WrongBytes(0, 2, 255, FrameError::Version),
-    WrongBytes(1, 0, 0, FrameError::Kind),
-    // A REPLY has no mode.
-    WrongBytes(1, 2, 2, FrameError::Mode),
-    WrongBytes(1, 3, 255, FrameError::Kind),
-    WrongBytes(2, 0, 0, FrameError::From),
-    WrongBytes(2, 2, 2, FrameError::SameNode),
-    WrongBytes(2, 17, 255, FrameError::From),
-    WrongBytes(3, 0, 0, FrameError::To),
-    WrongBytes(3, 1, 1, FrameError::SameNode),
-    WrongBytes(3, 17, 255, FrameError::To),
-    WrongBytes(4, 2, 255, FrameError::Mode),
-    WrongBytes(12, 0, 0, FrameError::Seq),
-    // Above 2^62, since the last byte of the clock is 1.
-    WrongBytes(13, 64, 255, FrameError::Clock),
-    WrongBytes(20, 0, 0, FrameError::Clock),
-    WrongBytes(21, 0, 0, FrameError::NameLength),
-    WrongBytes(21, 2, 32, FrameError::Short),
-    WrongBytes(21, 33, 255, FrameError::NameLength),
-    WrongBytes(22, 0, b',', FrameError::NameByte),
-    WrongBytes(22, b'/', b'/', FrameError::NameByte),
-    WrongBytes(22, b':', b'@', FrameError::NameByte),
-    WrongBytes(22, b'[', b'^', FrameError::NameByte),
-    WrongBytes(22, b'`', b'`', FrameError::NameByte),
-    WrongBytes(22, b'{', 255, FrameError::NameByte),
-];
+/// Where the fields of a version stand, of the number of a node its last byte, and with which bytes its REQUEST is refused.
+struct Version {
+    from: usize,
+    to: usize,
+    mode: usize,
+    seq: usize,
+    clock: usize,
+    name: usize,
+    wrong: &'static [WrongBytes],
+}
+
+const VERSION_1: Version = Version {
+    from: 2,
+    to: 3,
+    mode: 4,
+    seq: 5,
+    clock: 13,
+    name: 22,
+    wrong: &[
+        WrongBytes(0, 0, 0, FrameError::Version),
+        // Sender and receiver are one number in version 2, 258.
+        WrongBytes(0, 2, 2, FrameError::From),
+        WrongBytes(0, 3, 255, FrameError::Version),
+        WrongBytes(1, 0, 0, FrameError::Kind),
+        // A REPLY has no mode.
+        WrongBytes(1, 2, 2, FrameError::Mode),
+        WrongBytes(1, 3, 255, FrameError::Kind),
+        WrongBytes(2, 0, 0, FrameError::From),
+        WrongBytes(2, 2, 2, FrameError::SameNode),
+        WrongBytes(2, 17, 255, FrameError::From),
+        WrongBytes(3, 0, 0, FrameError::To),
+        WrongBytes(3, 1, 1, FrameError::SameNode),
+        WrongBytes(3, 17, 255, FrameError::To),
+        WrongBytes(4, 2, 255, FrameError::Mode),
+        WrongBytes(12, 0, 0, FrameError::Seq),
+        // Above 2^62, since the last byte of the clock is 1.
+        WrongBytes(13, 64, 255, FrameError::Clock),
+        WrongBytes(20, 0, 0, FrameError::Clock),
+        WrongBytes(21, 0, 0, FrameError::NameLength),
+        WrongBytes(21, 2, 32, FrameError::Short),
+        WrongBytes(21, 33, 255, FrameError::NameLength),
+        WrongBytes(22, 0, b',', FrameError::NameByte),
+        WrongBytes(22, b'/', b'/', FrameError::NameByte),
+        WrongBytes(22, b':', b'@', FrameError::NameByte),
+        WrongBytes(22, b'[', b'^', FrameError::NameByte),
+        WrongBytes(22, b'`', b'`', FrameError::NameByte),
+        WrongBytes(22, b'{', 255, FrameError::NameByte),
+    ],
+};
+
+const VERSION_2: Version = Version {
+    from: 3,
+    to: 5,
+    mode: 6,
+    seq: 7,
+    clock: 15,
+    name: 24,
+    wrong: &[
+        WrongBytes(0, 0, 0, FrameError::Version),
+        // The upper byte of the sender, 0, is the sender in version 1.
+        WrongBytes(0, 1, 1, FrameError::From),
+        WrongBytes(0, 3, 255, FrameError::Version),
+        WrongBytes(1, 0, 0, FrameError::Kind),
+        WrongBytes(1, 2, 2, FrameError::Mode),
+        WrongBytes(1, 3, 255, FrameError::Kind),
+        WrongBytes(2, 1, 255, FrameError::From),
+        WrongBytes(3, 0, 0, FrameError::From),
+        WrongBytes(3, 2, 2, FrameError::SameNode),
+        WrongBytes(3, 65, 255, FrameError::From),
+        WrongBytes(4, 1, 255, FrameError::To),
+        WrongBytes(5, 0, 0, FrameError::To),
+        WrongBytes(5, 1, 1, FrameError::SameNode),
+        WrongBytes(5, 65, 255, FrameError::To),
+        WrongBytes(6, 5, 255, FrameError::Mode),
+        WrongBytes(14, 0, 0, FrameError::Seq),
+        WrongBytes(15, 64, 255, FrameError::Clock),
+        WrongBytes(22, 0, 0, FrameError::Clock),
+        WrongBytes(23, 0, 0, FrameError::NameLength),
+        WrongBytes(23, 2, 32, FrameError::Short),
+        WrongBytes(23, 33, 255, FrameError::NameLength),
+        WrongBytes(24, 0, b',', FrameError::NameByte),
+        WrongBytes(24, b'/', b'/', FrameError::NameByte),
+        WrongBytes(24, b':', b'@', FrameError::NameByte),
+        WrongBytes(24, b'[', b'^', FrameError::NameByte),
+        WrongBytes(24, b'`', b'`', FrameError::NameByte),
+        WrongBytes(24, b'{', 255, FrameError::NameByte),
+    ],
+};
 
 /// Returns why the REQUEST is refused with this byte at the place, or `None` where it is read.
-fn fault_of(place: usize, byte: u8) -> Option<FrameError> {
-    for wrong in WRONG {
+fn fault_of(version: &Version, place: usize, byte: u8) -> Option<FrameError> {
+    for wrong in version.wrong {
         if wrong.0 == place && wrong.1 <= byte && byte <= wrong.2 {
             return Some(wrong.3);
         }
@@ -66,8 +125,8 @@ fn node_of(place: usize, byte: u8, own_place: usize, own: u16) -> Option<NodeId>
 }
 
 /// Returns the name of this byte where that stands at the place of the name, or else this one.
-fn name_of(name: Name, place: usize, byte: u8) -> Option<Name> {
-    if place == 22 {
+fn name_of(name: Name, place: usize, byte: u8, own_place: usize) -> Option<Name> {
+    if place == own_place {
         Name::new(&[byte]).ok()
     } else {
         Some(name)
@@ -75,56 +134,57 @@ fn name_of(name: Name, place: usize, byte: u8) -> Option<Name> {
 }
 
 /// Returns the mode that the REQUEST has with this byte at the place.
-fn mode_of(place: usize, byte: u8) -> Mode {
-    if place == 4 && byte == 0 {
-        Mode::Shared
-    } else {
-        Mode::Exclusive
+fn mode_of(place: usize, byte: u8, own_place: usize) -> Mode {
+    if place != own_place {
+        return Mode::Exclusive;
+    }
+    match byte {
+        0 => Mode::Shared,
+        1 => Mode::Exclusive,
+        2 => Mode::IntentShared,
+        3 => Mode::IntentExclusive,
+        _ => Mode::SharedIntentExclusive,
     }
 }
 
 /// Returns the frame that the REQUEST is with this byte at the place, or `None` where a node or the name cannot be so.
-fn frame_of(name: Name, place: usize, byte: u8) -> Option<Frame> {
-    let (from, to) = (node_of(place, byte, 2, 1), node_of(place, byte, 3, 2));
-    match (from, to, name_of(name, place, byte)) {
+fn frame_of(version: &Version, name: Name, place: usize, byte: u8) -> Option<Frame> {
+    let from = node_of(place, byte, version.from, 1);
+    let to = node_of(place, byte, version.to, 2);
+    match (from, to, name_of(name, place, byte, version.name)) {
         (Some(from), Some(to), Some(name)) => Some(Frame {
-            clock: number(place.wrapping_sub(13), byte),
+            clock: number(place.wrapping_sub(version.clock), byte),
             message: Message::Request {
                 from,
                 to,
                 name,
-                mode: mode_of(place, byte),
-                seq: number(place.wrapping_sub(5), byte),
+                mode: mode_of(place, byte, version.mode),
+                seq: number(place.wrapping_sub(version.seq), byte),
             },
         }),
         _ => None,
     }
 }
 
-/// Returns whether these bytes, the REQUEST with this byte at the place, are read as the frame that they are.
-fn is_its_frame(bytes: &[u8], name: Name, place: usize, byte: u8) -> bool {
-    match frame_of(name, place, byte) {
+/// Returns whether these bytes, the REQUEST with this byte at the place, are read or refused as they are to be.
+fn is_judged(version: &Version, bytes: &[u8], name: Name, place: usize, byte: u8) -> bool {
+    if let Some(fault) = fault_of(version, place, byte) {
+        return is_refused(bytes, fault);
+    }
+    match frame_of(version, name, place, byte) {
         Some(frame) => is_read(bytes, &frame),
         None => false,
     }
 }
 
-/// Returns whether the REQUEST with this byte at the place is read or refused as it is to be.
-fn is_judged(name: Name, place: usize, byte: u8) -> bool {
-    let bytes = with(&ASKS, &[(place, byte)]);
-    match fault_of(place, byte) {
-        Some(fault) => is_refused(&bytes, fault),
-        None => is_its_frame(&bytes, name, place, byte),
-    }
-}
-
 /// Returns whether it is so with each byte at the place.
-fn all_are_judged(place: usize) -> bool {
+fn all_are_judged<const N: usize>(version: &Version, text: &[u8; N], place: usize) -> bool {
     let Some(name) = r() else {
         return false;
     };
     for byte in 0..=u8::MAX {
-        if !is_judged(name, place, byte) {
+        let changed = with(text, &[(place, byte)]);
+        if !is_judged(version, &changed, name, place, byte) {
             return false;
         }
     }
@@ -132,8 +192,15 @@ fn all_are_judged(place: usize) -> bool {
 }
 
 #[test]
-fn each_byte_at_each_place_is_read_by_the_format(rt: HostRuntime) {
+fn each_byte_at_each_place_of_version_1_is_read_by_the_format(rt: HostRuntime) {
     for place in 0..23 {
-        assert!(rt; all_are_judged(place), "at {place}");
+        assert!(rt; all_are_judged(&VERSION_1, &ASKS_1, place), "at {place}");
+    }
+}
+
+#[test]
+fn each_byte_at_each_place_of_version_2_is_read_by_the_format(rt: HostRuntime) {
+    for place in 0..25 {
+        assert!(rt; all_are_judged(&VERSION_2, &ASKS_2, place), "at {place}");
     }
 }

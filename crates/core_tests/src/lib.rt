@@ -6,11 +6,15 @@ mod automata;
 #[cfg(test)]
 mod changed_frames;
 #[cfg(test)]
+mod first_faults;
+#[cfg(test)]
 mod frames;
 #[cfg(test)]
 mod growth;
 #[cfg(test)]
 mod helpers;
+#[cfg(test)]
+mod many_nodes;
 #[cfg(test)]
 mod numbers;
 #[cfg(test)]

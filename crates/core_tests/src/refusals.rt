@@ -30,13 +30,15 @@ fn are_so(alloc: Global, rows: &[Made]) -> usize {
 }
 
 #[test]
-fn there_are_one_to_sixteen_nodes(rt: HostRuntime) {
+fn there_are_one_to_sixty_four_nodes(rt: HostRuntime) {
     const ROWS: &[Made] = &[
         Made(1, 1, None),
-        Made(16, 16, None),
+        Made(64, 64, None),
         Made(3, 3, None),
+        Made(63, 63, None),
+        Made(64, 63, Some(NewError::BadNode)),
         Made(1, 0, Some(NewError::BadCount)),
-        Made(1, 17, Some(NewError::BadCount)),
+        Made(1, 65, Some(NewError::BadCount)),
         Made(4, 3, Some(NewError::BadNode)),
         Made(2, 0, Some(NewError::BadCount)),
     ];

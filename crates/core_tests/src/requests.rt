@@ -1,13 +1,14 @@
 //! What becomes of a REQUEST at a node that is idle, waits or is inside.
-use crate::helpers::{assert_none_wrong, node};
+use crate::helpers::{Modes, PAIRS, assert_rows, node};
 use crate::steps::{Answer, NOTHING, Step, done_by, follow};
 use Answer::{Defer, Reply};
-use Mode::{Exclusive, Shared};
+use Mode::{Exclusive, IntentExclusive, IntentShared, Shared, SharedIntentExclusive};
 use Step::{
     Begins, Defers, DefersOf, IgnoresReply, Is, IsIdle, IsInside, TakesReply, TakesRequest, Waits,
 };
 use ra_stamp::Mode;
 use std::alloc::Global;
+use std::process::Abort;
 
 #[test]
 fn a_deferral_keeps_the_greater_number(rt: HostRuntime) {
@@ -36,103 +37,149 @@ fn is_answered_when_idle(alloc: Global, mode: Mode) -> bool {
     )
 }
 
-#[test]
-fn an_idle_node_answers_each_request(rt: HostRuntime) {
-    assert!(rt; is_answered_when_idle(rt.alloc(), Shared), "shared");
-    assert!(rt; is_answered_when_idle(rt.alloc(), Exclusive), "exclusive");
+/// Returns how many modes are answered at once by an idle node, up to the first that is not.
+fn answered_when_idle(alloc: Global, modes: &[Mode]) -> usize {
+    for place in 0..modes.len() {
+        if !is_answered_when_idle(alloc, modes[place]) {
+            return place;
+        }
+    }
+    modes.len()
 }
 
-/// A REQUEST at node 2, which waits or is inside with number 5. In turn: its label, of the mode that is wanted, the own
-/// mode and how its stamp compares; the own mode; the sender; the mode that is wanted; its number; what becomes of it.
-struct Case(&'static str, Mode, u16, Mode, u64, Answer);
+#[test]
+fn an_idle_node_answers_each_request(rt: HostRuntime) {
+    const MODES: &[Mode] = &[
+        Shared,
+        Exclusive,
+        IntentShared,
+        IntentExclusive,
+        SharedIntentExclusive,
+    ];
+    assert_rows(&rt, answered_when_idle(rt.alloc(), MODES), MODES.len());
+}
 
-/// The cases at a busy node. For each pair of modes the stamp has in turn a lower number, a lower node, a higher node,
-/// and a higher number.
-const CASES: &[Case] = &[
-    Case("S at S, a lower number", Shared, 3, Shared, 4, Reply),
-    Case("S at S, a lower node", Shared, 1, Shared, 5, Reply),
-    Case("S at S, a higher node", Shared, 3, Shared, 5, Reply),
-    Case("S at S, a higher number", Shared, 1, Shared, 6, Reply),
-    Case("X at S, a lower number", Shared, 3, Exclusive, 4, Reply),
-    Case("X at S, a lower node", Shared, 1, Exclusive, 5, Reply),
-    Case("X at S, a higher node", Shared, 3, Exclusive, 5, Defer),
-    Case("X at S, a higher number", Shared, 1, Exclusive, 6, Defer),
-    Case("S at X, a lower number", Exclusive, 3, Shared, 4, Reply),
-    Case("S at X, a lower node", Exclusive, 1, Shared, 5, Reply),
-    Case("S at X, a higher node", Exclusive, 3, Shared, 5, Defer),
-    Case("S at X, a higher number", Exclusive, 1, Shared, 6, Defer),
-    Case("X at X, a lower number", Exclusive, 3, Exclusive, 4, Reply),
-    Case("X at X, a lower node", Exclusive, 1, Exclusive, 5, Reply),
-    Case("X at X, a higher node", Exclusive, 3, Exclusive, 5, Defer),
-    Case("X at X, a higher number", Exclusive, 1, Exclusive, 6, Defer),
+/// How the stamp of a REQUEST compares with that of the request with number 5 of node 2: its label, its node, its number,
+/// and whether it is behind.
+#[derive(Clone, Copy)]
+struct Order(&'static str, u16, u64, bool);
+
+const ORDERS: &[Order] = &[
+    Order("a lower number", 3, 4, false),
+    Order("a lower node", 1, 5, false),
+    Order("a higher node", 3, 5, true),
+    Order("a higher number", 1, 6, true),
 ];
+
+/// A REQUEST at node 2, which waits or is inside with number 5: the own mode, the sender, the mode that is wanted, the
+/// number, and what becomes of it.
+#[derive(Drop)]
+struct Case {
+    own: Mode,
+    from: u16,
+    wanted: Mode,
+    seq: u64,
+    answer: Answer,
+}
+
+/// Returns the case of two modes and an order: the REPLY is deferred where the modes do not go together and the REQUEST
+/// is behind.
+fn case_of(modes: Modes, order: Order) -> Case {
+    let Modes(_, own, wanted, together) = modes;
+    let Order(_, from, seq, behind) = order;
+    let answer = if behind && !together { Defer } else { Reply };
+    Case {
+        own,
+        from,
+        wanted,
+        seq,
+        answer,
+    }
+}
 
 /// Returns the number with which the sender of a case is deferred, or `None` where it is not.
 fn deferred_in(case: &Case) -> Option<u64> {
-    match case.5 {
+    match case.answer {
         Reply => None,
-        Defer => Some(case.4),
+        Defer => Some(case.seq),
     }
 }
 
 /// Returns the REQUEST of a case, and what becomes of it.
 fn request_of(case: &Case) -> Step {
-    TakesRequest(case.2, case.3, case.4, case.5)
+    TakesRequest(case.from, case.wanted, case.seq, case.answer)
 }
 
 /// Returns whether a node that waits meets a case.
 fn meets_waiting(alloc: Global, case: &Case) -> bool {
-    let mode = case.1;
     goes(
         alloc,
         &[
-            Begins(mode),
+            Begins(case.own),
             request_of(case),
-            Waits(mode, 5, case.4.max(5)),
-            DefersOf(case.2, deferred_in(case)),
+            Waits(case.own, 5, case.seq.max(5)),
+            DefersOf(case.from, deferred_in(case)),
         ],
     )
 }
 
 /// Returns whether a node that is inside meets a case.
 fn meets_inside(alloc: Global, case: &Case) -> bool {
-    let mode = case.1;
     goes(
         alloc,
         &[
-            Begins(mode),
+            Begins(case.own),
             TakesReply(1, 5, false),
             TakesReply(3, 5, true),
             request_of(case),
-            IsInside(mode, 5, case.4.max(5)),
-            DefersOf(case.2, deferred_in(case)),
+            IsInside(case.own, 5, case.seq.max(5)),
+            DefersOf(case.from, deferred_in(case)),
         ],
     )
 }
 
-/// Returns the label of the first case that a node does not meet, while it is inside or while it waits, or `None` where it meets all.
-fn first_not_met(alloc: Global, cases: &[Case], inside: bool) -> Option<&'static str> {
-    for case in cases {
+/// Returns the label of the first order in which a node does not meet the case of two modes, while it is inside or while it
+/// waits, or `None` where it meets all.
+fn wrong_order(alloc: Global, modes: Modes, inside: bool) -> Option<&'static str> {
+    for order in ORDERS {
+        let case = case_of(modes, *order);
         let met = if inside {
-            meets_inside(alloc, case)
+            meets_inside(alloc, &case)
         } else {
-            meets_waiting(alloc, case)
+            meets_waiting(alloc, &case)
         };
         if !met {
-            return Some(case.0);
+            return Some(order.0);
         }
     }
     None
 }
 
+/// Returns the labels of the first modes and their order in which a node does not meet the case, likewise.
+fn first_not_met(alloc: Global, inside: bool) -> Option<(&'static str, &'static str)> {
+    for modes in PAIRS {
+        if let Some(order) = wrong_order(alloc, *modes, inside) {
+            return Some((modes.0, order));
+        }
+    }
+    None
+}
+
+/// Asserts that no case is wrong, where these are the labels of the first that is.
+fn assert_no_case_wrong(rt: &impl Abort, wrong: Option<(&str, &str)>) {
+    if let Some((modes, order)) = wrong {
+        panic!(rt; "{modes}, {order}");
+    }
+}
+
 #[test]
 fn a_waiting_node_defers_what_it_goes_before(rt: HostRuntime) {
-    assert_none_wrong(&rt, first_not_met(rt.alloc(), CASES, false));
+    assert_no_case_wrong(&rt, first_not_met(rt.alloc(), false));
 }
 
 #[test]
 fn a_node_inside_defers_what_it_goes_before(rt: HostRuntime) {
-    assert_none_wrong(&rt, first_not_met(rt.alloc(), CASES, true));
+    assert_no_case_wrong(&rt, first_not_met(rt.alloc(), true));
 }
 
 #[test]

@@ -1,6 +1,6 @@
 ghost use Rattle.ra_stamp.specs.NodeId.{IsNodeNumber};
 
-use crate::helpers::{assert_rows, node, printed, prints, r};
+use crate::helpers::{Modes, PAIRS, assert_rows, node, printed, prints, r};
 use ra_stamp::{
     Entry, Mark, Marks, Memory, Message, Messages, Mode, Name, NameError, NodeId, Stamp, conflicts,
 };
@@ -37,9 +37,9 @@ fn is_node(number: u16) -> bool {
 }
 
 #[test]
-fn nodes_are_numbered_from_one_to_sixteen(rt: HostRuntime) {
-    assert!(rt; is_node(1) && is_node(16));
-    assert!(rt; NodeId::new(0).is_none() && NodeId::new(17).is_none());
+fn nodes_are_numbered_from_one_to_sixty_four(rt: HostRuntime) {
+    assert!(rt; is_node(1) && is_node(64));
+    assert!(rt; NodeId::new(0).is_none() && NodeId::new(65).is_none());
 }
 
 /// Returns whether the bytes are those of a name.
@@ -127,26 +127,32 @@ fn names_are_ordered_by_their_bytes(rt: HostRuntime) {
     assert_rows(&rt, ordered(ROWS), ROWS.len());
 }
 
-/// Returns how many pairs of modes conflict or do not, as is said beside them, up to the first that does otherwise.
-fn conflicting(rows: &[(Mode, Mode, bool)]) -> usize {
-    for place in 0..rows.len() {
-        let (one, other, wanted) = rows[place];
-        if conflicts(one, other) != wanted {
+/// Returns how many pairs of modes go together or do not, as is said beside them, up to the first that does otherwise.
+fn going_together(pairs: &[Modes]) -> usize {
+    for place in 0..pairs.len() {
+        let Modes(_, own, wanted, together) = pairs[place];
+        if conflicts(own, wanted) == together {
             return place;
         }
     }
-    rows.len()
+    pairs.len()
 }
 
 #[test]
-fn only_two_shared_modes_go_together(rt: HostRuntime) {
-    const ROWS: &[(Mode, Mode, bool)] = &[
-        (Mode::Shared, Mode::Shared, false),
-        (Mode::Shared, Mode::Exclusive, true),
-        (Mode::Exclusive, Mode::Shared, true),
-        (Mode::Exclusive, Mode::Exclusive, true),
+fn nine_pairs_of_modes_go_together(rt: HostRuntime) {
+    assert_rows(&rt, going_together(PAIRS), PAIRS.len());
+}
+
+#[test]
+fn modes_print_their_words(rt: HostRuntime) {
+    const WORDS: &[(Mode, &str)] = &[
+        (Mode::Shared, "S"),
+        (Mode::Exclusive, "X"),
+        (Mode::IntentShared, "IS"),
+        (Mode::IntentExclusive, "IX"),
+        (Mode::SharedIntentExclusive, "SIX"),
     ];
-    assert_rows(&rt, conflicting(ROWS), ROWS.len());
+    assert_rows(&rt, printed(rt.alloc(), WORDS), WORDS.len());
 }
 
 /// The number and the node of two stamps, and how they are ordered.
@@ -179,8 +185,8 @@ fn ordered_stamps(pairs: &[Pair]) -> usize {
 fn equal_numbers_go_to_the_lower_node(rt: HostRuntime) {
     const PAIRS: &[Pair] = &[
         Pair(1, 1, 1, 2, Ordering::Less),
-        Pair(1, 16, 2, 1, Ordering::Less),
-        Pair(2, 1, 1, 16, Ordering::Greater),
+        Pair(1, 64, 2, 1, Ordering::Less),
+        Pair(2, 1, 1, 64, Ordering::Greater),
         Pair(7, 3, 7, 3, Ordering::Equal),
     ];
     assert_rows(&rt, ordered_stamps(PAIRS), PAIRS.len());
@@ -198,11 +204,11 @@ fn has_parts(message: &Message, from: u16, to: u16, name: Name, seq: u64) -> boo
 fn both_kinds_tell_their_parts(name: Name) -> bool {
     let reply = Message::Reply {
         from: node(3),
-        to: node(16),
+        to: node(64),
         name,
         seq: 9,
     };
-    has_parts(&request(name, 4), 1, 2, name, 4) && has_parts(&reply, 3, 16, name, 9)
+    has_parts(&request(name, 4), 1, 2, name, 4) && has_parts(&reply, 3, 64, name, 9)
 }
 
 #[test]

@@ -100,7 +100,7 @@ fn message(name: Name, wire: Wire) -> Option<Message>
 }
 
 /// Returns whether this message was sent at the place.
-fn has_sent(reaction: &Reaction, place: usize, name: Name, wire: Wire) -> bool {
+pub fn has_sent(reaction: &Reaction, place: usize, name: Name, wire: Wire) -> bool {
     match (reaction.sends.at(place as u64), message(name, wire)) {
         (Some(sent), Some(message)) => sent == message,
         _ => false,
@@ -132,7 +132,7 @@ fn asks(
 }
 
 /// Returns whether a node takes a message, and this comes of it.
-fn takes(
+pub fn takes(
     alloc: Global,
     automaton: &mut Automaton,
     wire: Wire,

@@ -8,6 +8,8 @@ mod growth;
 #[cfg(test)]
 mod helpers;
 #[cfg(test)]
+mod many_nodes;
+#[cfg(test)]
 mod names;
 #[cfg(test)]
 mod nodes;

@@ -18,7 +18,7 @@ fn makes_none(alloc: Global, me: u16, nodes: u16, fault: NewError) -> bool
 #[test]
 fn bad_counts_and_nodes_make_no_node(rt: HostRuntime) {
     assert!(rt; makes_none(rt.alloc(), 1, 0, NewError::BadCount));
-    assert!(rt; makes_none(rt.alloc(), 1, 17, NewError::BadCount));
+    assert!(rt; makes_none(rt.alloc(), 1, 65, NewError::BadCount));
     assert!(rt; makes_none(rt.alloc(), 4, 3, NewError::BadNode));
 }
 

@@ -1,7 +1,8 @@
 //! The lock table: what it answers, one call after the other.
 use crate::helpers::{assert_all, prints, r};
 use Call::{Asks, CanEnter, Enters, Leaves};
-use Key::{On, Reader, Writer};
+use Key::{In, On, Reader, Writer};
+use Mode::{Exclusive, IntentExclusive, IntentShared, Shared, SharedIntentExclusive};
 use ra_stamp::{Entry, Mode, Name, NodeId, Stamp};
 use ra_table::{EnterError, LeaveError, RequestError, Table};
 use std::alloc::Global;
@@ -14,6 +15,8 @@ enum Key {
     Writer(u16, u32, u64),
     /// Of a reader on `r`.
     Reader(u16, u32, u64),
+    /// In a mode, on `r`.
+    In(Mode, u16, u32, u64),
     /// Of a writer on the name of this one letter.
     On(u8, u16, u32, u64),
 }
@@ -34,15 +37,10 @@ enum Call {
 /// Returns the entry, or `None` where a number is that of no node, or a letter is no name.
 fn entry(key: Key) -> Option<Entry> {
     let (name, node, client, mode, seq) = match key {
-        Writer(node, client, seq) => (Some(r()), node, client, Mode::Exclusive, seq),
-        Reader(node, client, seq) => (Some(r()), node, client, Mode::Shared, seq),
-        On(letter, node, client, seq) => (
-            Name::new(&[letter]).ok(),
-            node,
-            client,
-            Mode::Exclusive,
-            seq,
-        ),
+        Writer(node, client, seq) => (Some(r()), node, client, Exclusive, seq),
+        Reader(node, client, seq) => (Some(r()), node, client, Shared, seq),
+        In(mode, node, client, seq) => (Some(r()), node, client, mode, seq),
+        On(letter, node, client, seq) => (Name::new(&[letter]).ok(), node, client, Exclusive, seq),
     };
     match (name, NodeId::new(node)) {
         (Some(name), Some(node)) => Some(Entry {
@@ -258,6 +256,80 @@ fn readers_hold_a_name_together(rt: HostRuntime) {
         Leaves(FIRST, Ok(())),
     ];
     check(&rt, CALLS);
+}
+
+/// Two modes: their label, that of the earlier request, that of the later one, and whether both can be held at once.
+struct Pair(&'static str, Mode, Mode, bool);
+
+/// The table of J. N. Gray, R. A. Lorie, G. R. Putzolu and I. L. Traiger (1976), row by row.
+const PAIRS: &[Pair] = &[
+    Pair("IS at IS", IntentShared, IntentShared, true),
+    Pair("IX at IS", IntentShared, IntentExclusive, true),
+    Pair("S at IS", IntentShared, Shared, true),
+    Pair("SIX at IS", IntentShared, SharedIntentExclusive, true),
+    Pair("X at IS", IntentShared, Exclusive, false),
+    Pair("IS at IX", IntentExclusive, IntentShared, true),
+    Pair("IX at IX", IntentExclusive, IntentExclusive, true),
+    Pair("S at IX", IntentExclusive, Shared, false),
+    Pair("SIX at IX", IntentExclusive, SharedIntentExclusive, false),
+    Pair("X at IX", IntentExclusive, Exclusive, false),
+    Pair("IS at S", Shared, IntentShared, true),
+    Pair("IX at S", Shared, IntentExclusive, false),
+    Pair("S at S", Shared, Shared, true),
+    Pair("SIX at S", Shared, SharedIntentExclusive, false),
+    Pair("X at S", Shared, Exclusive, false),
+    Pair("IS at SIX", SharedIntentExclusive, IntentShared, true),
+    Pair("IX at SIX", SharedIntentExclusive, IntentExclusive, false),
+    Pair("S at SIX", SharedIntentExclusive, Shared, false),
+    Pair(
+        "SIX at SIX",
+        SharedIntentExclusive,
+        SharedIntentExclusive,
+        false,
+    ),
+    Pair("X at SIX", SharedIntentExclusive, Exclusive, false),
+    Pair("IS at X", Exclusive, IntentShared, false),
+    Pair("IX at X", Exclusive, IntentExclusive, false),
+    Pair("S at X", Exclusive, Shared, false),
+    Pair("SIX at X", Exclusive, SharedIntentExclusive, false),
+    Pair("X at X", Exclusive, Exclusive, false),
+];
+
+/// Returns whether a later request goes beside an earlier one, waiting or held, or goes behind it, as a pair says.
+fn goes_as_said(alloc: Global, pair: &Pair) -> bool {
+    let (earlier, later) = (In(pair.1, 1, 1, 1), In(pair.2, 2, 2, 2));
+    let held = if pair.3 {
+        Ok(())
+    } else {
+        Err(EnterError::Held)
+    };
+    let calls = [
+        Asks(earlier, Ok(())),
+        Asks(later, Ok(())),
+        CanEnter(later, pair.3),
+        Enters(earlier, Ok(())),
+        CanEnter(later, pair.3),
+        Enters(later, held),
+        Leaves(earlier, Ok(())),
+    ];
+    answered_by_new(alloc, &calls) == Some(calls.len())
+}
+
+/// Returns the label of the first pair that does not go as it says, or `None` where all do.
+fn first_wrong(alloc: Global, pairs: &[Pair]) -> Option<&'static str> {
+    for pair in pairs {
+        if !goes_as_said(alloc, pair) {
+            return Some(pair.0);
+        }
+    }
+    None
+}
+
+#[test]
+fn nine_pairs_of_modes_are_held_at_once(rt: HostRuntime) {
+    if let Some(label) = first_wrong(rt.alloc(), PAIRS) {
+        panic!(rt; "{label}");
+    }
 }
 
 /// Returns whether a request's refusals print so.

@@ -1,6 +1,7 @@
 pub mod Apart
 mod Ranges
 mod WordLemmas
+mod Tables
 pub mod Opening
 mod Sent
 pub mod Consistent

@@ -1,5 +1,5 @@
 -- Words as sets of nodes, and words with numbers as maps from nodes.
-use Rattle.std.proofs.Common.{◌≡◌, ◌≢◌, ◌⊎◌, ℕ, ◌+◌, ◌-◌, ◌^◌, ◌<◌, ◌≤◌, Bool, true, false, cond, not, ◌||◌, ◌&&◌, eqb, List, length, get_or, set, map, filter, Option, Some, None, w64, refl, sym, ap, ◌∙◌, subst, arith, inl, inr, nat_eq}
+use Rattle.std.proofs.Common.{◌≡◌, ◌≢◌, ◌⊎◌, ℕ, suc, suc-mul, ◌+◌, ◌-◌, ◌*◌, ◌/◌, ◌^◌, ◌<◌, ◌≤◌, Bool, true, false, cond, not, ◌||◌, ◌&&◌, eqb, List, length, get_or, set, map, filter, Option, Some, None, w64, refl, sym, ap, ◌∙◌, subst, arith, inl, inr, nat_eq}
 use Rattle.std.specs.Prelude.{◌==◌}
 use Rattle.std.specs.Int.{bit_at, bit_not}
 use Rattle.std.specs.Int.RustNames.{bit_and, bit_or}
@@ -12,7 +12,8 @@ use Rattle.std.specs.FinMap.{nat_cmp-IsAntisymmetric}
 use Rattle.std.proofs.lemmas.Bool.{cases_lt}
 use Rattle.std.proofs.lemmas.Bool.Decides.{nat_tests}
 use Rattle.std.proofs.lemmas.List.{get_or-set_same, get_or-set_other}
-use Rattle.std.proofs.lemmas.Nat.{one_shl}
+use Rattle.std.proofs.lemmas.Nat.{one_shl, pow-add, shr_high}
+use Rattle.std.proofs.Math.Pow.{suc_ones, ones_lt}
 use Rattle.std.proofs.lemmas.Nat.Bits.{bit_at-zero, bit_at-lt, bit_at_set_same, bit_at_set_other, bit_at_clear_same, bit_at_clear_other, bit_at_ones, bit_at_ones_above, same_from_bits_below}
 use Rattle.ra_automaton.specs.Words.{bits_of_a_word, has_bit, nodes_of, set_of, map_of}
 use Rattle.ra_automaton.specs.Steps.{others_of}
@@ -56,7 +57,7 @@ contains_inside word q low high = finset.contains-from_list_nat (nodes_of word) 
 contains_outside : (word q : ℕ) → (q < 1) ⊎ (1 + bits_of_a_word ≤ q) → finset.contains (set_of word) q ≡ false
 contains_outside word q out = finset.contains-from_list_nat (nodes_of word) q ∙ any_outside (has_bit word) 1 bits_of_a_word q out
 
-pub contains-set_of : (word node : ℕ) → 1 ≤ node → node ≤ 16 → finset.contains (set_of word) node ≡ has_bit word node
+pub contains-set_of : (word node : ℕ) → 1 ≤ node → node ≤ 64 → finset.contains (set_of word) node ≡ has_bit word node
 contains-set_of word node low high = contains_inside word node low (omega (arith, width))
 
 same_set : (word : ℕ) (nodes : finset.FinSet nat_cmp)
@@ -79,7 +80,7 @@ set_of-zero =
     (λ q low high. ap (λ (bit : ℕ). eqb bit 1) (bit_at-zero (q - 1)) ∙ sym (finset.contains-empty nat_cmp q))
     (λ q out. sym (finset.contains-empty nat_cmp q))
 
-pub set_of-insert : (word node : ℕ) → 1 ≤ node → node ≤ 16 → set_of (bit_or word (2 ^ (node - 1))) ≡ finset.insert (set_of word) node
+pub set_of-insert : (word node : ℕ) → 1 ≤ node → node ≤ 64 → set_of (bit_or word (2 ^ (node - 1))) ≡ finset.insert (set_of word) node
 set_of-insert word node low high =
     same_set (bit_or word (2 ^ (node - 1))) (finset.insert (set_of word) node)
     (λ q from to.
@@ -95,7 +96,7 @@ set_of-insert word node low high =
     let apart : q ≢ node = λ same. elim out [ inl before ↦ absurd (omega arith) | inr past ↦ absurd (omega (arith, width)) ] in
     sym (finset.contains-insert nat_cmp_total (set_of word) node q ∙ (ap (λ b. b || finset.contains (set_of word) q) (untied q node apart) ∙ contains_outside word q out)))
 
-pub set_of-remove : (word node : ℕ) → 1 ≤ node → node ≤ 16 → set_of (bit_and word (bit_not w64 (2 ^ (node - 1)))) ≡ finset.remove (set_of word) node
+pub set_of-remove : (word node : ℕ) → 1 ≤ node → node ≤ 64 → set_of (bit_and word (bit_not w64 (2 ^ (node - 1)))) ≡ finset.remove (set_of word) node
 set_of-remove word node low high =
     same_set (bit_and word (bit_not w64 (2 ^ (node - 1)))) (finset.remove (set_of word) node)
     (λ q from to.
@@ -126,7 +127,7 @@ zero_from_empty word fits none =
     no_bit bit h e = grind (arith, nat_tests)
 
 -- the nodes of a word that has none above n
-pub nodes_of-within : (word n : ℕ) → n ≤ 16 → ((q : ℕ) → finset.contains (set_of word) q ≡ true → q ≤ n) → nodes_of word ≡ filter (has_bit word) (range_with_len 1 n)
+pub nodes_of-within : (word n : ℕ) → n ≤ 64 → ((q : ℕ) → finset.contains (set_of word) q ≡ true → q ≤ n) → nodes_of word ≡ filter (has_bit word) (range_with_len 1 n)
 nodes_of-within word n few within =
     filter-longer (has_bit word) 1 n bits_of_a_word (omega (arith, width)) (λ q low high.
     no_bit (has_bit word q) (λ there. absurd_at q low (within q (contains_inside word q (omega arith) high ∙ there))))
@@ -140,7 +141,17 @@ nodes_of-within word n few within =
 
 -- ---- The word of the nodes from 1 to n.
 
-ones_inside : (n q : ℕ) → n ≤ 16 → 1 ≤ q → q < 1 + n → finset.contains (set_of (2 ^ n - 1)) q ≡ true
+one_less : (a b c : ℕ) → b ≡ suc c → suc a * b - 1 ≡ a * b + c
+one_less a b c is = grind (arith, suc-mul)
+
+-- of a word in which all bits are set, shifted down, as many bits are set as are left
+pub shr_ones : (n m : ℕ) → (2 ^ (n + m) - 1) / 2 ^ m ≡ 2 ^ n - 1
+shr_ones n m =
+    ap (λ (power : ℕ). (power - 1) / 2 ^ m) (pow-add 2 n m ∙ ap (λ (power : ℕ). power * 2 ^ m) (sym (suc_ones n)))
+    ∙ ap (λ (word : ℕ). word / 2 ^ m) (one_less (2 ^ n - 1) (2 ^ m) (2 ^ m - 1) (sym (suc_ones m)))
+    ∙ shr_high (2 ^ n - 1) m (2 ^ m - 1) (ones_lt m)
+
+ones_inside : (n q : ℕ) → n ≤ 64 → 1 ≤ q → q < 1 + n → finset.contains (set_of (2 ^ n - 1)) q ≡ true
 ones_inside n q few low high =
     contains_inside (2 ^ n - 1) q low (omega (arith, width)) ∙ ap (λ (bit : ℕ). eqb bit 1) (bit_at_ones n (q - 1) (omega arith))
 
@@ -157,7 +168,7 @@ not_same : (q me : ℕ) → (not (eq_by_cmp nat_cmp q me) && true) ≡ not (q ==
 not_same q me = grind (arith, nat_tests)
 
 -- the nodes from 1 to n but one
-pub set_of-all_but : (me n : ℕ) → n ≤ 16 → finset.remove (set_of (2 ^ n - 1)) me ≡ finset.from_list (others_of me n)
+pub set_of-all_but : (me n : ℕ) → n ≤ 64 → finset.remove (set_of (2 ^ n - 1)) me ≡ finset.from_list (others_of me n)
 set_of-all_but me n few =
     finset.same_set nat_cmp_total nat_cmp-IsAntisymmetric _ _ (λ q.
     finset.contains-remove nat_cmp_total (set_of (2 ^ n - 1)) me q

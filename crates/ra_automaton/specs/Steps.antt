@@ -1,11 +1,11 @@
 -- The rules of the algorithm: what a node does when its client asks for the resource, when a message
 -- comes, and when its client leaves. Whatever a rule does not mention stays as it was.
 --
--- The rules are those of G. Ricart and A. K. Agrawala, CACM 24(1), 1981. This project's own are: that shared
--- requests do not exclude each other, that a request sets the number and the highest number at once, that a
--- REPLY carries the number of its request, so that strays are told apart, that a deferral keeps the greater
--- of two numbers, that messages go out in ascending order of the nodes with the REPLYs of a leave first, and
--- that no request comes after the greatest number.
+-- The rules are those of G. Ricart and A. K. Agrawala, CACM 24(1), 1981. This project's own are: that requests
+-- have modes, and exclude each other only where these conflict, that a request sets the number and the highest
+-- number at once, that a REPLY carries the number of its request, so that strays are told apart, that a deferral
+-- keeps the greater of two numbers, that messages go out in ascending order of the nodes with the REPLYs of a
+-- leave first, and that no request comes after the greatest number.
 use Rattle.std.specs.Prelude.{◌≡◌, ℕ, ◌+◌, ◌-◌, ◌<◌, ◌^◌, ◌⊎◌, max, Bool, true, false, not}
 use Rattle.std.specs.Prelude.{List, [], ◌∷◌, ◌++◌, filter, map, Option, Some, None, IsTrue, ◌==◌}
 use Rattle.std.specs.List.{range_with_len}

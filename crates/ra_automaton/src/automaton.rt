@@ -64,7 +64,7 @@ impl Automaton {
     ///
     /// The first that holds:
     ///
-    /// 1. `BadCount`: `nodes` is not 1 to 16.
+    /// 1. `BadCount`: `nodes` is not 1 to 64.
     /// 2. `BadNode`: `me` is above `nodes`.
     /// 3. `Memory`: memory ran out.
     pub fn new(
@@ -76,7 +76,7 @@ impl Automaton {
     ) -> Result<Automaton, NewError>
         ensures ok { IfOk result (λ automaton. automaton ≡ opening me nodes name start) }
         ensures consistent { IfOk result IsConsistent }
-        ensures bad_count { IsErrOf result NewError.BadCount ↔ ((nodes < 1) ⊎ (16 < nodes)) }
+        ensures bad_count { IsErrOf result NewError.BadCount ↔ ((nodes < 1) ⊎ (64 < nodes)) }
         ensures bad_node { IsErrOf result NewError.BadNode ↔ (IsNodeNumber nodes × (nodes < me)) }
     {
         if NodeId::new(nodes).is_none() {

@@ -1,17 +1,21 @@
 //! The cases of `Automaton::receive`, as tables: a row for each case, and what it leads to. They stay tables, and
 //! are not folded into a formula, since they are the cases by which the algorithm is specified: a reader can hold
-//! the two side by side, and each row is one case of the tests. What the rows come to is proved. The clauses of
-//! each function here say it in one fact. On those stand the contracts of `Automaton::answer` and
-//! `Automaton::effect`, and on these the clause `ok` of `Automaton::receive`: its `ReceiveStep` has the three
-//! rules, `Defers` and `RepliesAtOnce` for a REQUEST, and `TakesReply` for a REPLY.
-ghost use Rattle.std.specs.Prelude.{◌≡◌, ◌↔◌, true, false};
+//! the two side by side, and each row is one case of the tests. For a REQUEST there are 205, of which 5 are for an
+//! idle node and 20 for each phase and own mode of another; for a REPLY there are 6.
+//!
+//! What the rows come to is proved. Each row of a REQUEST is what `answer_of` computes from whether the modes
+//! conflict and how the stamps compare, and `IsAnswer` says what that tells. On it, and on the clauses on REPLYs,
+//! stand the contracts of `Automaton::answer` and `Automaton::effect`, and on these the clause `ok` of
+//! `Automaton::receive`: its `ReceiveStep` has the three rules, `Defers` and `RepliesAtOnce` for a REQUEST, and
+//! `TakesReply` for a REPLY.
+ghost use Rattle.std.specs.Prelude.{◌≡◌, ◌↔◌, true, false, IsTrue};
 ghost use Rattle.ra_stamp.specs.Stamp.{IsEarlier};
-ghost use Rattle.ra_automaton.specs.Cases.{IsLater, IsAnswer};
+ghost use Rattle.ra_automaton.specs.Cases.{is_later, answer_of, IsAnswer};
 
 use Answer::{Defer, Reply};
 use Comparison::{HigherNode, HigherNumber, LowerNode, LowerNumber};
 use Effect::{Enter, Stray, WaitOn};
-use Mode::{Exclusive, Shared};
+use Mode::{Exclusive, IntentExclusive, IntentShared, Shared, SharedIntentExclusive};
 use ra_stamp::{Mode, Stamp};
 
 /// What a REQUEST leads to.
@@ -57,7 +61,7 @@ macro_rules! table {
 
 /// Returns how the other stamp compares with the own one. The two are of different nodes.
 pub fn compare(other: Stamp, own: Stamp) -> Comparison
-    ensures { IsLater result ↔ IsEarlier own other }
+    ensures { IsTrue (is_later result) ↔ IsEarlier own other }
 {
     if other.seq < own.seq {
         LowerNumber
@@ -77,55 +81,328 @@ pub fn answer_when_idle(wanted: Mode) -> Answer
     table! { wanted;
         Shared => Reply;
         Exclusive => Reply;
+        IntentShared => Reply;
+        IntentExclusive => Reply;
+        SharedIntentExclusive => Reply;
     }
 }
 
 /// Returns what a REQUEST leads to at a node that waits, by its own mode, the mode that is wanted, and how the
 /// stamps compare.
+#[tactic(auto, using(crate::proofs::Tables::row_tells))]
 pub fn answer_when_waiting(own: Mode, wanted: Mode, comparison: Comparison) -> Answer
     ensures { IsAnswer own wanted comparison result }
 {
-    table! { (own, wanted, comparison);
-        (Shared, Shared, LowerNumber) => Reply;
-        (Shared, Shared, LowerNode) => Reply;
-        (Shared, Shared, HigherNode) => Reply;
-        (Shared, Shared, HigherNumber) => Reply;
-        (Shared, Exclusive, LowerNumber) => Reply;
-        (Shared, Exclusive, LowerNode) => Reply;
-        (Shared, Exclusive, HigherNode) => Defer;
-        (Shared, Exclusive, HigherNumber) => Defer;
-        (Exclusive, Shared, LowerNumber) => Reply;
-        (Exclusive, Shared, LowerNode) => Reply;
-        (Exclusive, Shared, HigherNode) => Defer;
-        (Exclusive, Shared, HigherNumber) => Defer;
-        (Exclusive, Exclusive, LowerNumber) => Reply;
-        (Exclusive, Exclusive, LowerNode) => Reply;
-        (Exclusive, Exclusive, HigherNode) => Defer;
-        (Exclusive, Exclusive, HigherNumber) => Defer;
+    match own {
+        Shared => answer_when_shared_waits(wanted, comparison),
+        Exclusive => answer_when_exclusive_waits(wanted, comparison),
+        IntentShared => answer_when_intent_shared_waits(wanted, comparison),
+        IntentExclusive => answer_when_intent_exclusive_waits(wanted, comparison),
+        SharedIntentExclusive => answer_when_shared_intent_exclusive_waits(wanted, comparison),
+    }
+}
+
+/// Returns what a REQUEST leads to at a node that waits with `S`.
+#[tactic(auto, unfolding(ra_stamp::specs::Mode::compatible))]
+fn answer_when_shared_waits(wanted: Mode, comparison: Comparison) -> Answer
+    ensures { result ≡ answer_of Mode.Shared wanted comparison }
+{
+    table! { (wanted, comparison);
+        (Shared, LowerNumber) => Reply;
+        (Shared, LowerNode) => Reply;
+        (Shared, HigherNode) => Reply;
+        (Shared, HigherNumber) => Reply;
+        (Exclusive, LowerNumber) => Reply;
+        (Exclusive, LowerNode) => Reply;
+        (Exclusive, HigherNode) => Defer;
+        (Exclusive, HigherNumber) => Defer;
+        (IntentShared, LowerNumber) => Reply;
+        (IntentShared, LowerNode) => Reply;
+        (IntentShared, HigherNode) => Reply;
+        (IntentShared, HigherNumber) => Reply;
+        (IntentExclusive, LowerNumber) => Reply;
+        (IntentExclusive, LowerNode) => Reply;
+        (IntentExclusive, HigherNode) => Defer;
+        (IntentExclusive, HigherNumber) => Defer;
+        (SharedIntentExclusive, LowerNumber) => Reply;
+        (SharedIntentExclusive, LowerNode) => Reply;
+        (SharedIntentExclusive, HigherNode) => Defer;
+        (SharedIntentExclusive, HigherNumber) => Defer;
+    }
+}
+
+/// Returns what a REQUEST leads to at a node that waits with `X`.
+#[tactic(auto, unfolding(ra_stamp::specs::Mode::compatible))]
+fn answer_when_exclusive_waits(wanted: Mode, comparison: Comparison) -> Answer
+    ensures { result ≡ answer_of Mode.Exclusive wanted comparison }
+{
+    table! { (wanted, comparison);
+        (Shared, LowerNumber) => Reply;
+        (Shared, LowerNode) => Reply;
+        (Shared, HigherNode) => Defer;
+        (Shared, HigherNumber) => Defer;
+        (Exclusive, LowerNumber) => Reply;
+        (Exclusive, LowerNode) => Reply;
+        (Exclusive, HigherNode) => Defer;
+        (Exclusive, HigherNumber) => Defer;
+        (IntentShared, LowerNumber) => Reply;
+        (IntentShared, LowerNode) => Reply;
+        (IntentShared, HigherNode) => Defer;
+        (IntentShared, HigherNumber) => Defer;
+        (IntentExclusive, LowerNumber) => Reply;
+        (IntentExclusive, LowerNode) => Reply;
+        (IntentExclusive, HigherNode) => Defer;
+        (IntentExclusive, HigherNumber) => Defer;
+        (SharedIntentExclusive, LowerNumber) => Reply;
+        (SharedIntentExclusive, LowerNode) => Reply;
+        (SharedIntentExclusive, HigherNode) => Defer;
+        (SharedIntentExclusive, HigherNumber) => Defer;
+    }
+}
+
+/// Returns what a REQUEST leads to at a node that waits with `IS`.
+#[tactic(auto, unfolding(ra_stamp::specs::Mode::compatible))]
+fn answer_when_intent_shared_waits(wanted: Mode, comparison: Comparison) -> Answer
+    ensures { result ≡ answer_of Mode.IntentShared wanted comparison }
+{
+    table! { (wanted, comparison);
+        (Shared, LowerNumber) => Reply;
+        (Shared, LowerNode) => Reply;
+        (Shared, HigherNode) => Reply;
+        (Shared, HigherNumber) => Reply;
+        (Exclusive, LowerNumber) => Reply;
+        (Exclusive, LowerNode) => Reply;
+        (Exclusive, HigherNode) => Defer;
+        (Exclusive, HigherNumber) => Defer;
+        (IntentShared, LowerNumber) => Reply;
+        (IntentShared, LowerNode) => Reply;
+        (IntentShared, HigherNode) => Reply;
+        (IntentShared, HigherNumber) => Reply;
+        (IntentExclusive, LowerNumber) => Reply;
+        (IntentExclusive, LowerNode) => Reply;
+        (IntentExclusive, HigherNode) => Reply;
+        (IntentExclusive, HigherNumber) => Reply;
+        (SharedIntentExclusive, LowerNumber) => Reply;
+        (SharedIntentExclusive, LowerNode) => Reply;
+        (SharedIntentExclusive, HigherNode) => Reply;
+        (SharedIntentExclusive, HigherNumber) => Reply;
+    }
+}
+
+/// Returns what a REQUEST leads to at a node that waits with `IX`.
+#[tactic(auto, unfolding(ra_stamp::specs::Mode::compatible))]
+fn answer_when_intent_exclusive_waits(wanted: Mode, comparison: Comparison) -> Answer
+    ensures { result ≡ answer_of Mode.IntentExclusive wanted comparison }
+{
+    table! { (wanted, comparison);
+        (Shared, LowerNumber) => Reply;
+        (Shared, LowerNode) => Reply;
+        (Shared, HigherNode) => Defer;
+        (Shared, HigherNumber) => Defer;
+        (Exclusive, LowerNumber) => Reply;
+        (Exclusive, LowerNode) => Reply;
+        (Exclusive, HigherNode) => Defer;
+        (Exclusive, HigherNumber) => Defer;
+        (IntentShared, LowerNumber) => Reply;
+        (IntentShared, LowerNode) => Reply;
+        (IntentShared, HigherNode) => Reply;
+        (IntentShared, HigherNumber) => Reply;
+        (IntentExclusive, LowerNumber) => Reply;
+        (IntentExclusive, LowerNode) => Reply;
+        (IntentExclusive, HigherNode) => Reply;
+        (IntentExclusive, HigherNumber) => Reply;
+        (SharedIntentExclusive, LowerNumber) => Reply;
+        (SharedIntentExclusive, LowerNode) => Reply;
+        (SharedIntentExclusive, HigherNode) => Defer;
+        (SharedIntentExclusive, HigherNumber) => Defer;
+    }
+}
+
+/// Returns what a REQUEST leads to at a node that waits with `SIX`.
+#[tactic(auto, unfolding(ra_stamp::specs::Mode::compatible))]
+fn answer_when_shared_intent_exclusive_waits(wanted: Mode, comparison: Comparison) -> Answer
+    ensures { result ≡ answer_of Mode.SharedIntentExclusive wanted comparison }
+{
+    table! { (wanted, comparison);
+        (Shared, LowerNumber) => Reply;
+        (Shared, LowerNode) => Reply;
+        (Shared, HigherNode) => Defer;
+        (Shared, HigherNumber) => Defer;
+        (Exclusive, LowerNumber) => Reply;
+        (Exclusive, LowerNode) => Reply;
+        (Exclusive, HigherNode) => Defer;
+        (Exclusive, HigherNumber) => Defer;
+        (IntentShared, LowerNumber) => Reply;
+        (IntentShared, LowerNode) => Reply;
+        (IntentShared, HigherNode) => Reply;
+        (IntentShared, HigherNumber) => Reply;
+        (IntentExclusive, LowerNumber) => Reply;
+        (IntentExclusive, LowerNode) => Reply;
+        (IntentExclusive, HigherNode) => Defer;
+        (IntentExclusive, HigherNumber) => Defer;
+        (SharedIntentExclusive, LowerNumber) => Reply;
+        (SharedIntentExclusive, LowerNode) => Reply;
+        (SharedIntentExclusive, HigherNode) => Defer;
+        (SharedIntentExclusive, HigherNumber) => Defer;
     }
 }
 
 /// Returns what a REQUEST leads to at a node that is inside, likewise.
+#[tactic(auto, using(crate::proofs::Tables::row_tells))]
 pub fn answer_when_inside(own: Mode, wanted: Mode, comparison: Comparison) -> Answer
     ensures { IsAnswer own wanted comparison result }
 {
-    table! { (own, wanted, comparison);
-        (Shared, Shared, LowerNumber) => Reply;
-        (Shared, Shared, LowerNode) => Reply;
-        (Shared, Shared, HigherNode) => Reply;
-        (Shared, Shared, HigherNumber) => Reply;
-        (Shared, Exclusive, LowerNumber) => Reply;
-        (Shared, Exclusive, LowerNode) => Reply;
-        (Shared, Exclusive, HigherNode) => Defer;
-        (Shared, Exclusive, HigherNumber) => Defer;
-        (Exclusive, Shared, LowerNumber) => Reply;
-        (Exclusive, Shared, LowerNode) => Reply;
-        (Exclusive, Shared, HigherNode) => Defer;
-        (Exclusive, Shared, HigherNumber) => Defer;
-        (Exclusive, Exclusive, LowerNumber) => Reply;
-        (Exclusive, Exclusive, LowerNode) => Reply;
-        (Exclusive, Exclusive, HigherNode) => Defer;
-        (Exclusive, Exclusive, HigherNumber) => Defer;
+    match own {
+        Shared => answer_when_shared_holds(wanted, comparison),
+        Exclusive => answer_when_exclusive_holds(wanted, comparison),
+        IntentShared => answer_when_intent_shared_holds(wanted, comparison),
+        IntentExclusive => answer_when_intent_exclusive_holds(wanted, comparison),
+        SharedIntentExclusive => answer_when_shared_intent_exclusive_holds(wanted, comparison),
+    }
+}
+
+/// Returns what a REQUEST leads to at a node that is inside with `S`.
+#[tactic(auto, unfolding(ra_stamp::specs::Mode::compatible))]
+fn answer_when_shared_holds(wanted: Mode, comparison: Comparison) -> Answer
+    ensures { result ≡ answer_of Mode.Shared wanted comparison }
+{
+    table! { (wanted, comparison);
+        (Shared, LowerNumber) => Reply;
+        (Shared, LowerNode) => Reply;
+        (Shared, HigherNode) => Reply;
+        (Shared, HigherNumber) => Reply;
+        (Exclusive, LowerNumber) => Reply;
+        (Exclusive, LowerNode) => Reply;
+        (Exclusive, HigherNode) => Defer;
+        (Exclusive, HigherNumber) => Defer;
+        (IntentShared, LowerNumber) => Reply;
+        (IntentShared, LowerNode) => Reply;
+        (IntentShared, HigherNode) => Reply;
+        (IntentShared, HigherNumber) => Reply;
+        (IntentExclusive, LowerNumber) => Reply;
+        (IntentExclusive, LowerNode) => Reply;
+        (IntentExclusive, HigherNode) => Defer;
+        (IntentExclusive, HigherNumber) => Defer;
+        (SharedIntentExclusive, LowerNumber) => Reply;
+        (SharedIntentExclusive, LowerNode) => Reply;
+        (SharedIntentExclusive, HigherNode) => Defer;
+        (SharedIntentExclusive, HigherNumber) => Defer;
+    }
+}
+
+/// Returns what a REQUEST leads to at a node that is inside with `X`.
+#[tactic(auto, unfolding(ra_stamp::specs::Mode::compatible))]
+fn answer_when_exclusive_holds(wanted: Mode, comparison: Comparison) -> Answer
+    ensures { result ≡ answer_of Mode.Exclusive wanted comparison }
+{
+    table! { (wanted, comparison);
+        (Shared, LowerNumber) => Reply;
+        (Shared, LowerNode) => Reply;
+        (Shared, HigherNode) => Defer;
+        (Shared, HigherNumber) => Defer;
+        (Exclusive, LowerNumber) => Reply;
+        (Exclusive, LowerNode) => Reply;
+        (Exclusive, HigherNode) => Defer;
+        (Exclusive, HigherNumber) => Defer;
+        (IntentShared, LowerNumber) => Reply;
+        (IntentShared, LowerNode) => Reply;
+        (IntentShared, HigherNode) => Defer;
+        (IntentShared, HigherNumber) => Defer;
+        (IntentExclusive, LowerNumber) => Reply;
+        (IntentExclusive, LowerNode) => Reply;
+        (IntentExclusive, HigherNode) => Defer;
+        (IntentExclusive, HigherNumber) => Defer;
+        (SharedIntentExclusive, LowerNumber) => Reply;
+        (SharedIntentExclusive, LowerNode) => Reply;
+        (SharedIntentExclusive, HigherNode) => Defer;
+        (SharedIntentExclusive, HigherNumber) => Defer;
+    }
+}
+
+/// Returns what a REQUEST leads to at a node that is inside with `IS`.
+#[tactic(auto, unfolding(ra_stamp::specs::Mode::compatible))]
+fn answer_when_intent_shared_holds(wanted: Mode, comparison: Comparison) -> Answer
+    ensures { result ≡ answer_of Mode.IntentShared wanted comparison }
+{
+    table! { (wanted, comparison);
+        (Shared, LowerNumber) => Reply;
+        (Shared, LowerNode) => Reply;
+        (Shared, HigherNode) => Reply;
+        (Shared, HigherNumber) => Reply;
+        (Exclusive, LowerNumber) => Reply;
+        (Exclusive, LowerNode) => Reply;
+        (Exclusive, HigherNode) => Defer;
+        (Exclusive, HigherNumber) => Defer;
+        (IntentShared, LowerNumber) => Reply;
+        (IntentShared, LowerNode) => Reply;
+        (IntentShared, HigherNode) => Reply;
+        (IntentShared, HigherNumber) => Reply;
+        (IntentExclusive, LowerNumber) => Reply;
+        (IntentExclusive, LowerNode) => Reply;
+        (IntentExclusive, HigherNode) => Reply;
+        (IntentExclusive, HigherNumber) => Reply;
+        (SharedIntentExclusive, LowerNumber) => Reply;
+        (SharedIntentExclusive, LowerNode) => Reply;
+        (SharedIntentExclusive, HigherNode) => Reply;
+        (SharedIntentExclusive, HigherNumber) => Reply;
+    }
+}
+
+/// Returns what a REQUEST leads to at a node that is inside with `IX`.
+#[tactic(auto, unfolding(ra_stamp::specs::Mode::compatible))]
+fn answer_when_intent_exclusive_holds(wanted: Mode, comparison: Comparison) -> Answer
+    ensures { result ≡ answer_of Mode.IntentExclusive wanted comparison }
+{
+    table! { (wanted, comparison);
+        (Shared, LowerNumber) => Reply;
+        (Shared, LowerNode) => Reply;
+        (Shared, HigherNode) => Defer;
+        (Shared, HigherNumber) => Defer;
+        (Exclusive, LowerNumber) => Reply;
+        (Exclusive, LowerNode) => Reply;
+        (Exclusive, HigherNode) => Defer;
+        (Exclusive, HigherNumber) => Defer;
+        (IntentShared, LowerNumber) => Reply;
+        (IntentShared, LowerNode) => Reply;
+        (IntentShared, HigherNode) => Reply;
+        (IntentShared, HigherNumber) => Reply;
+        (IntentExclusive, LowerNumber) => Reply;
+        (IntentExclusive, LowerNode) => Reply;
+        (IntentExclusive, HigherNode) => Reply;
+        (IntentExclusive, HigherNumber) => Reply;
+        (SharedIntentExclusive, LowerNumber) => Reply;
+        (SharedIntentExclusive, LowerNode) => Reply;
+        (SharedIntentExclusive, HigherNode) => Defer;
+        (SharedIntentExclusive, HigherNumber) => Defer;
+    }
+}
+
+/// Returns what a REQUEST leads to at a node that is inside with `SIX`.
+#[tactic(auto, unfolding(ra_stamp::specs::Mode::compatible))]
+fn answer_when_shared_intent_exclusive_holds(wanted: Mode, comparison: Comparison) -> Answer
+    ensures { result ≡ answer_of Mode.SharedIntentExclusive wanted comparison }
+{
+    table! { (wanted, comparison);
+        (Shared, LowerNumber) => Reply;
+        (Shared, LowerNode) => Reply;
+        (Shared, HigherNode) => Defer;
+        (Shared, HigherNumber) => Defer;
+        (Exclusive, LowerNumber) => Reply;
+        (Exclusive, LowerNode) => Reply;
+        (Exclusive, HigherNode) => Defer;
+        (Exclusive, HigherNumber) => Defer;
+        (IntentShared, LowerNumber) => Reply;
+        (IntentShared, LowerNode) => Reply;
+        (IntentShared, HigherNode) => Reply;
+        (IntentShared, HigherNumber) => Reply;
+        (IntentExclusive, LowerNumber) => Reply;
+        (IntentExclusive, LowerNode) => Reply;
+        (IntentExclusive, HigherNode) => Defer;
+        (IntentExclusive, HigherNumber) => Defer;
+        (SharedIntentExclusive, LowerNumber) => Reply;
+        (SharedIntentExclusive, LowerNode) => Reply;
+        (SharedIntentExclusive, HigherNode) => Defer;
+        (SharedIntentExclusive, HigherNumber) => Defer;
     }
 }
 

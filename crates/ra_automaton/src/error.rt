@@ -6,7 +6,7 @@ use thiserror::Error;
 /// Why no automaton was made, and no node that keeps some.
 #[derive(Clone, Copy, Debug, PartialEq, Eq, Error)]
 pub enum NewError {
-    /// The number of nodes is not 1 to 16.
+    /// The number of nodes is not 1 to 64.
     #[error("BadCount")]
     BadCount,
     /// The node's number is above the number of nodes.

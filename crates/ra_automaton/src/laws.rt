@@ -8,7 +8,7 @@ ghost use Rattle.ra_stamp.specs.NodeId.{IsNodeNumber};
 ghost use Rattle.ra_automaton.specs.State.{State, opening, IsOther, IsConsistent};
 ghost use Rattle.ra_automaton.specs.Steps.{RequestStep, ReceiveStep, LeaveStep, LeaveAndRequestStep};
 
-/// The state of one of 1 to 16 nodes that has met nothing is consistent; and each request, each leave, and each
+/// The state of one of 1 to 64 nodes that has met nothing is consistent; and each request, each leave, and each
 /// message from another node leads from a consistent state to one.
 pub fn steps_keep_a_state_consistent()
     ensures opening { (me nodes start : ℕ) (name : List ℕ)

@@ -26,7 +26,7 @@ pub fn push_requests(
     mode: Mode,
     seq: u64,
 ) -> Result<(), Memory>
-    requires { nodes ≤ 16 }
+    requires { nodes ≤ 64 }
     ensures { OnOk result (sends.new.items ≡ sends.old.items
         ++ map (λ other. Message.Request me other name mode seq) (others_of me nodes)) }
 {
@@ -54,7 +54,7 @@ pub fn push_replies(
     deferred: u64,
     numbers: &[u64],
 ) -> Result<(), Memory>
-    requires nodes { length numbers.now ≤ 16 }
+    requires nodes { length numbers.now ≤ 64 }
     requires numbered { (node : ℕ) → IsTrue (set.contains (set_of deferred) node)
         → node ≤ length numbers.now }
     ensures { OnOk result (sends.new.items ≡ sends.old.items

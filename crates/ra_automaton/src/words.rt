@@ -63,5 +63,6 @@ pub fn all_but(me: NodeId, nodes: u16) -> u64
     requires { IsNodeNumber nodes }
     ensures { set_of result ≡ set.from_list (others_of me nodes) }
 {
-    remove((1 << nodes) - 1, me)
+    // All bits are set at first, and none above the nodes is left: where there are 64 nodes, 1 could not be shifted up so far.
+    remove(u64::MAX >> (64 - nodes), me)
 }

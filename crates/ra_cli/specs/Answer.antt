@@ -5,7 +5,7 @@ use Rattle.ra_stamp.specs.declared.message.Message.{Message}
 use Rattle.ra_stamp.specs.Message.{from_of, to_of, name_of}
 use Rattle.ra_stamp.specs.NodeId.{IsNodeNumber}
 use Rattle.ra_frame.specs.declared.frame.Frame.{Frame}
-use Rattle.ra_frame.specs.FrameText.{IsFrameText}
+use Rattle.ra_frame.specs.FrameText.{IsFrameText, IsWrittenText}
 use Rattle.ra_frame.specs.Faults.{first_fault}
 use Rattle.ra_automaton.specs.State.{State, opening, IsForNode}
 use Rattle.ra_automaton.specs.Steps.{ReceiveStep}
@@ -17,11 +17,11 @@ use Rattle.ra_cli.specs.Line.{IsLine}
 abbrev pub Spells : List ℕ → List ℕ → Type 0
 Spells input bytes = (digits : List ℕ) × IsLine input digits × (decode_of digits ≡ Ok bytes)
 
--- the input is a line of the digits of this frame
+-- the input is a line of the digits of this frame, in a version that may be read
 abbrev pub Carries : List ℕ → Frame → Type 0
 Carries input frame = (bytes : List ℕ) × Spells input bytes × IsFrameText bytes frame
 
--- there are 1 to 16 nodes, and the node is one of them
+-- there are 1 to 64 nodes, and the node is one of them
 pub record IsMember (node nodes : ℕ) : Type 0 where
   pub count : IsNodeNumber nodes
   pub first : 1 ≤ node
@@ -46,11 +46,11 @@ IsUnwanted node nodes message why =
 abbrev pub clock_after : ℕ → ℕ → ℕ
 clock_after own received = max own received + 1
 
--- for each message, in order, the digits of its frame in lower case, and a line feed
+-- for each message, in order, the digits of its frame as it is written, in lower case, and a line feed
 abbrev pub AreLines : ℕ → List Message → List ℕ → Type 0
 AreLines clock [] output = output ≡ []
 AreLines clock (message ∷ messages) output =
-    (text : List ℕ) × (rest : List ℕ) × IsFrameText text (record { clock = clock; message = message })
+    (text : List ℕ) × (rest : List ℕ) × IsWrittenText text (record { clock = clock; message = message })
     × (output ≡ encode_lower text ++ 10 ∷ rest) × AreLines clock messages rest
 
 -- The output is the frames that an idle node sends when it receives the frame of the input. The node has met no

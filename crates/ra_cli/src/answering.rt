@@ -2,7 +2,7 @@ ghost use Rattle.std.specs.Prelude.{◌≡◌, ◌≢◌, ◌<◌, ◌≤◌, �
 ghost use Rattle.std.specs.Io.KnownBytes.{Consumes, Appends};
 ghost use Rattle.hex.specs.Hex.{decode_of, encode_lower};
 ghost use Rattle.ra_frame.specs.Fits.{Fits};
-ghost use Rattle.ra_frame.specs.FrameText.{IsFrameText};
+ghost use Rattle.ra_frame.specs.FrameText.{IsWrittenText};
 ghost use Rattle.ra_cli.specs.Answer.{Carries, IsMember, IsUnwanted, Reacts, AreLines, IsAnswered, Refuses};
 ghost use Rattle.ra_automaton.specs.State.{IsForNode};
 
@@ -22,7 +22,7 @@ use std::io::{Read, Write};
 ///
 /// The first that holds:
 ///
-/// 1. `BadCount`: there are not 1 to 16 nodes.
+/// 1. `BadCount`: there are not 1 to 64 nodes.
 /// 2. `BadNode`: the node is not 1 to `nodes`.
 fn member(node: u16, nodes: u16) -> Result<NodeId, AnswerError>
     ensures ok { IfOk result (λ me. (me ≡ node) × IsMember node nodes) }
@@ -90,7 +90,7 @@ fn frame_in(alloc: Global, input: &[u8]) -> Result<Frame, AnswerError>
 /// `Memory`: a front of the line may be there.
 fn push_line(alloc: Global, text: &mut Vec<u8>, frame: &Frame) -> Result<(), Memory>
     requires { Fits frame.now }
-    ensures ok { OnOk result ((bytes : List ℕ) × IsFrameText bytes frame.now
+    ensures ok { OnOk result ((bytes : List ℕ) × IsWrittenText bytes frame.now
         × (text.new.items ≡ text.old.items ++ (encode_lower bytes ++ 10 ∷ []))) }
 {
     let bytes = encode(alloc, frame)?;
@@ -168,15 +168,16 @@ fn answer_to(alloc: Global, me: NodeId, nodes: u16, input: &[u8]) -> Result<Vec<
     Ok(lines_of(alloc, frame.clock + 1, &reaction.sends)?)
 }
 
-/// Reads one line, a frame in hexadecimal digits, and writes the frames that an idle node sends when it receives that
-/// frame, in lower case, a line each. The node is number `node` of `nodes`, it has met no number before, and its clock
-/// was 0. It takes at most 258 bytes from the reader, and no read or write that failed is tried again.
+/// Reads one line, a frame of version 1 or 2 in hexadecimal digits, and writes the frames that an idle node sends when it
+/// receives that frame, in version 2, in lower case, a line each. The node is number `node` of `nodes`, it has met no
+/// number before, and its clock was 0. It takes at most 258 bytes from the reader, and no read or write that failed is
+/// tried again.
 ///
 /// # Errors
 ///
 /// The first that holds, but that `Memory` may come before any that stands behind `BadNode`:
 ///
-/// 1. `BadCount`: there are not 1 to 16 nodes.
+/// 1. `BadCount`: there are not 1 to 64 nodes.
 /// 2. `BadNode`: the node is not 1 to `nodes`.
 /// 3. `Read`: the reader failed, before its end and before it gave 258 bytes.
 /// 4. `Line`: more than 256 bytes stand before a line feed, or bytes behind it.

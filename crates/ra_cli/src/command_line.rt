@@ -11,18 +11,31 @@ const POLICIES: &[&str] = &["oldest", "newest", "seeded", "listed"];
 
 /// What is said of the command `answer` below its options.
 const ANSWER_HELP: &str = "\
-The node has met no number before, and its clock was 0. It prints the frames that it sends, a line each.
+The node has met no number before, and its clock was 0. A frame of version 1 or 2 is read, and the frames that the node sends are
+printed in version 2, a line each. The modes, and their bytes, of which version 1 has the first two:
+  S    00  shared
+  X    01  exclusive
+  IS   02  intent shared
+  IX   03  intent exclusive
+  SIX  04  shared and intent exclusive
 
-Example, a REQUEST of node 1 for the name r, answered by node 2 of 3:
+Example, a REQUEST of node 1 for the name r, in version 1, answered by node 2 of 3:
   echo 0101010201000000000000000100000000000000010172 | ra answer --node 2 --nodes 3";
 
 /// What is said of the command `sim` below its options.
 const SIM_HELP: &str = "\
-A script, read from standard input, is a TOML document: how many nodes there are, and for each client its node and what it
-does, in order. `X NAME` locks a name exclusively, `S NAME` locks it shared, and `U NAME` unlocks it.
+A script, read from standard input, is a TOML document: how many nodes there are, 1 to 64, and for each client its node and what
+it does, in order. A mode and a name, as `X r`, lock the name in that mode, and `U r` unlocks it.
   nodes = 2
   client = [{ node = 1, ops = [\"X r\", \"U r\"] },
             { node = 2, ops = [\"S r\", \"U r\"] }]
+
+Modes:
+  S    shared: to read it whole, beside S and IS
+  X    exclusive: to change it whole, beside none
+  IS   intent shared: to read parts of it, which are locked S each, beside all but X
+  IX   intent exclusive: to change parts of it, which are locked X each, beside IS and IX
+  SIX  shared and intent exclusive: to read it whole, and change parts of it, which are locked X each, beside IS
 
 Policies:
   oldest  the first client in the order of the script that can go on, and else the message that was sent first
@@ -41,14 +54,20 @@ Status 2: the words or the script are refused. Status 1: the input or the output
 /// What is said of the command `check` below its options.
 const CHECK_HELP: &str = "\
 A trace, read from standard input, is the steps of a run, each on a line with its marks on the lines below it:
-  trace 1 2 0
+  trace 2 2 0
   ask 1 1 r X
   request 1 1 r X 1
   deliver request 1 2 r X 1
   deliver reply 2 1 r 1
   enter 1 1 r X 1
   end
-The first line says how many nodes there are, and the number that each resource begins with.
+The first line says which version of traces it is, how many nodes there are, and the number that each resource begins with. In
+version 2, which `ra sim --trace` prints, there are 1 to 64 nodes and five modes; version 1 has 1 to 16 nodes and the modes S and X:
+  S    shared
+  X    exclusive
+  IS   intent shared
+  IX   intent exclusive
+  SIX  shared and intent exclusive
 
 It prints `valid`, and how many requests and messages there were; or `invalid`, the first line that is wrong, and why:
   Line         it is none, or stands where it may not
@@ -64,7 +83,14 @@ input or the output failed.";
 
 /// What is said of the command `cluster` below its options.
 const CLUSTER_HELP: &str = "\
-A script is read from standard input; `ra sim --help` says what it is. This one has two clients that want the same name:
+A script is read from standard input; `ra sim --help` says what it is. It has 1 to 64 nodes, and its modes are
+  S    shared
+  X    exclusive
+  IS   intent shared
+  IX   intent exclusive
+  SIX  shared and intent exclusive
+
+This one has two clients that want the same name:
   nodes = 3
   client = [{ node = 1, ops = [\"X r\", \"U r\"] },
             { node = 2, ops = [\"X r\", \"U r\"] }]
@@ -185,7 +211,7 @@ fn answer_command<'a>(alloc: Global) -> Result<Command<'a>, AllocError> {
         .about("Answer one frame, a line of hexadecimal digits, as an idle node does")
         .after_help(ANSWER_HELP)
         .arg(number(alloc, "node", "The number of the node that answers"))?
-        .arg(number(alloc, "nodes", "How many nodes there are, 1 to 16"))
+        .arg(number(alloc, "nodes", "How many nodes there are, 1 to 64"))
 }
 
 /// Makes the command `sim`.

@@ -14,7 +14,7 @@ use thiserror::Error;
 /// Why `answer` gave no answer, in the order in which the causes are looked for.
 #[derive(Clone, Copy, Debug, PartialEq, Eq, Error)]
 pub enum AnswerError {
-    /// The number of nodes is not 1 to 16.
+    /// The number of nodes is not 1 to 64.
     #[error("BadCount")]
     BadCount,
     /// The node is not 1 to the number of nodes.

@@ -1,11 +1,11 @@
 -- Keys are in a total order, in which different keys differ. Different requests and messages have different keys.
-use Rattle.std.proofs.Common.{◌≡◌, ℕ, List, Ordering, refl, sym, ap}
+use Rattle.std.proofs.Common.{◌≡◌, ℕ, zero, suc, List, Ordering, refl, sym, ap, ◌∙◌}
 use Rattle.std.specs.Ordering.{nat_cmp, ordering_then}
 use Rattle.std.specs.Cmp.{IsTotalOrder, nat_cmp_total, on_total, then_total}
 use Rattle.std.specs.Cmp.Lexicographic.{slice_cmp, nat_list_cmp_total}
 use Rattle.std.proofs.lemmas.Map.Lookups.{CmpEqualImpliesEq, exact_unsigned, exact_bytes, exact_pairs}
 use Rattle.ra_stamp.specs.declared.mode.Mode.{Mode}
-use Rattle.ra_stamp.specs.declared.mode.Mode.TheVariants.{Shared, Exclusive}
+use Rattle.ra_stamp.specs.declared.mode.Mode.TheVariants.{Shared, Exclusive, IntentShared, IntentExclusive, SharedIntentExclusive}
 use Rattle.ra_stamp.specs.declared.entry.Entry.{Entry}
 use Rattle.ra_stamp.specs.declared.message.Message.{Message}
 use Rattle.ra_stamp.specs.declared.message.Message.TheVariants.{Request, Reply}
@@ -48,11 +48,24 @@ entry_exact a b h =
     ap (λ (p : Five). record { seq = p.0; node = p.1.0; client = p.1.1.0; mode = p.1.1.1.0; name = p.1.1.1.1 })
     (exact_five (a.seq, (a.node, (a.client, (a.mode, a.name)))) (b.seq, (b.node, (b.client, (b.mode, b.name)))) h)
 
+-- the mode of a number
+abbrev mode_at : ℕ → Mode
+mode_at zero = Shared
+mode_at (suc zero) = Shared
+mode_at (suc (suc zero)) = Exclusive
+mode_at (suc (suc (suc zero))) = IntentShared
+mode_at (suc (suc (suc (suc zero)))) = IntentExclusive
+mode_at (suc (suc (suc (suc (suc number))))) = SharedIntentExclusive
+
+mode_back : (mode : Mode) → mode_at (mode_number mode) ≡ mode
+mode_back Shared = refl
+mode_back Exclusive = refl
+mode_back IntentShared = refl
+mode_back IntentExclusive = refl
+mode_back SharedIntentExclusive = refl
+
 one_mode : (a b : Mode) → mode_number a ≡ mode_number b → a ≡ b
-one_mode Shared Shared e = refl
-one_mode Shared Exclusive e = absurd cc
-one_mode Exclusive Shared e = absurd cc
-one_mode Exclusive Exclusive e = refl
+one_mode a b e = sym (mode_back a) ∙ (ap mode_at e ∙ mode_back b)
 
 pub one_entry : (a b : Entry) → entry_key a ≡ entry_key b → a ≡ b
 one_entry a b e =
@@ -88,6 +101,9 @@ message_exact a b h =
 no_reply : (mode : Mode) → mode_number mode ≡ 0 → ⊥
 no_reply Shared e = cc
 no_reply Exclusive e = cc
+no_reply IntentShared e = cc
+no_reply IntentExclusive e = cc
+no_reply SharedIntentExclusive e = cc
 
 pub one_message : (a b : Message) → message_key a ≡ message_key b → a ≡ b
 one_message (Request from to name mode seq) (Request from' to' name' mode' seq') e =

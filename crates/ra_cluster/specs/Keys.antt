@@ -3,7 +3,7 @@
 use Rattle.std.specs.Prelude.{◌↔◌, ◌≢◌, ℕ, List, [], ◌∷◌, map, AllPairs, Contains}
 use Rattle.std.specs.BTreeSet.{BTreeSet}
 use Rattle.ra_stamp.specs.declared.mode.Mode.{Mode}
-use Rattle.ra_stamp.specs.declared.mode.Mode.TheVariants.{Shared, Exclusive}
+use Rattle.ra_stamp.specs.declared.mode.Mode.TheVariants.{Shared, Exclusive, IntentShared, IntentExclusive, SharedIntentExclusive}
 use Rattle.ra_stamp.specs.declared.entry.Entry.{Entry}
 use Rattle.ra_stamp.specs.declared.entry.Mark.{Mark}
 use Rattle.ra_stamp.specs.declared.entry.Mark.TheVariants.{Requested, Entered, Left}
@@ -17,6 +17,9 @@ use Rattle.ra_cluster.specs.Settled.{received_among}
 abbrev pub mode_number : Mode → ℕ
 mode_number Shared = 1
 mode_number Exclusive = 2
+mode_number IntentShared = 3
+mode_number IntentExclusive = 4
+mode_number SharedIntentExclusive = 5
 
 abbrev pub entry_key : Entry → EntryKey
 entry_key entry = record {

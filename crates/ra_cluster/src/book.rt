@@ -65,7 +65,7 @@ impl Book {
     ///
     /// The first that holds:
     ///
-    /// 1. `BadCount`: `nodes` is not 1 to 16.
+    /// 1. `BadCount`: `nodes` is not 1 to 64.
     /// 2. `BadNode`: `me` is above `nodes`.
     pub fn new(alloc: Global, me: NodeId, nodes: u16, start: u64) -> Result<Book, NewError>
         ensures ok { IfOk result (λ book. book ≡ opening_book me nodes start) }
@@ -161,8 +161,8 @@ impl Book {
         self.add(alloc, clock, BookKind::Gave { client, name })
     }
 
-    /// The bytes of a frame come. The clock is one more than the greater of the clock before and the frame's, and the frames
-    /// and marks are those of the node's event, as [`Node::receive`] says.
+    /// The bytes of a frame come, in version 1 or 2. The clock is one more than the greater of the clock before and the
+    /// frame's, and the frames and marks are those of the node's event, as [`Node::receive`] says.
     ///
     /// # Errors
     ///
@@ -251,7 +251,7 @@ impl Book {
         self.me
     }
 
-    /// Returns how many nodes there are, 1 to 16. It does not allocate.
+    /// Returns how many nodes there are, 1 to 64. It does not allocate.
     pub fn nodes(&self) -> u16
         ensures value { result ≡ self.now.nodes }
         ensures history { HasHistory self.now }

@@ -145,7 +145,7 @@ fn run_at<R: Threads + Wait + Sync, G: Gate>(
     sites: &[Site],
     gate: &G,
 ) -> Result<Vec<Grant>, Memory> {
-    // The nodes of a script are 1 to 16, so only memory can be wanting.
+    // The nodes of a script are 1 to 64, so only memory can be wanting.
     let Ok((post, inboxes)) = Post::new(alloc, script.nodes()) else {
         return Err(Memory);
     };

@@ -61,5 +61,8 @@ fn mode_number(mode: Mode) -> u8
     match mode {
         Mode::Shared => 1,
         Mode::Exclusive => 2,
+        Mode::IntentShared => 3,
+        Mode::IntentExclusive => 4,
+        Mode::SharedIntentExclusive => 5,
     }
 }

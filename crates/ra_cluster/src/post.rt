@@ -13,7 +13,7 @@ use thiserror::Error;
 /// Why there is no post.
 #[derive(Clone, Copy, Debug, PartialEq, Eq, Error)]
 pub enum NewPostError {
-    /// The number of nodes is not 1 to 16.
+    /// The number of nodes is not 1 to 64.
     #[error("BadCount")]
     BadCount,
     /// Memory ran out.
@@ -73,7 +73,7 @@ impl Post {
     ///
     /// The first that holds:
     ///
-    /// 1. `BadCount`: the number of nodes is not 1 to 16.
+    /// 1. `BadCount`: the number of nodes is not 1 to 64.
     /// 2. `Memory`.
     pub fn new(alloc: Global, nodes: u16) -> Result<(Post, Vec<Inbox>), NewPostError>
         ensures inboxes { IfOk result (λ made. vec_len made.1 ≡ nodes) }
@@ -93,8 +93,8 @@ impl Post {
         Ok((Post { senders }, inboxes))
     }
 
-    /// Sends the bytes of a frame to the inbox of the node that it is for. It may wait for others who send to that node and for a
-    /// close, but for nobody who reads an inbox.
+    /// Sends the bytes of a frame, in version 2, to the inbox of the node that it is for. It may wait for others who send to
+    /// that node and for a close, but for nobody who reads an inbox.
     ///
     /// # Errors
     ///

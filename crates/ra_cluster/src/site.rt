@@ -63,7 +63,7 @@ impl Site {
     ///
     /// The first that holds:
     ///
-    /// 1. `BadCount`: `nodes` is not 1 to 16.
+    /// 1. `BadCount`: `nodes` is not 1 to 64.
     /// 2. `BadNode`: `me` is above `nodes`.
     pub fn new(alloc: Global, me: NodeId, nodes: u16, start: u64) -> Result<Site, NewError>
         ensures ok { IfOk result (λ site. site ≡ me) }

@@ -74,7 +74,7 @@ impl<G: Gate + Drop> Cluster<G> {
     ///
     /// The first that holds:
     ///
-    /// 1. `BadCount`: the number of nodes is not 1 to 16.
+    /// 1. `BadCount`: the number of nodes is not 1 to 64.
     /// 2. `Memory`.
     pub fn new(alloc: Global, nodes: u16, start: u64, gate: G) -> Result<Cluster<G>, NewPostError>
         ensures nodes { IfOk result (λ cluster. cluster.nodes ≡ nodes) }
@@ -99,7 +99,7 @@ impl<G: Gate + Drop> Cluster<G> {
         })
     }
 
-    /// Returns how many nodes there are, 1 to 16. It does not allocate.
+    /// Returns how many nodes there are, 1 to 64. It does not allocate.
     pub fn nodes(&self) -> u16
         ensures { result ≡ self.now.nodes }
     {

@@ -1,15 +1,18 @@
 -- What the checks of the fields say where none fails.
 use Rattle.std.proofs.Common.{◌≡◌, ℕ, ◌^◌, ◌≤◌, Bool, true, false, cond, not, List, [], ◌∷◌, ◌++◌, length, drop, Option, Some, None, refl, sym, ◌∙◌, arith}
-use Rattle.std.specs.Prelude.{◌||◌, ◌⊎◌, ◌==◌, nat_lt, nat_le}
+use Rattle.std.specs.Prelude.{◌||◌, ◌⊎◌, ◌==◌, nat_lt, nat_le, slice_index, Result, Ok, Err}
 use Rattle.std.specs.List.{list_all}
 use Rattle.std.proofs.lemmas.Bool.{ltb-false, le-ltb}
 use Rattle.std.proofs.lemmas.Bool.Decides.{nat_tests}
 use Rattle.std.proofs.lemmas.List.Sums.{AllPass-from_list_all, list_all-from_AllPass}
 use Rattle.ra_stamp.specs.Name.{IsName, is_name_byte}
 use Rattle.ra_frame.specs.declared.error.FrameError.{FrameError}
-use Rattle.ra_frame.specs.declared.error.FrameError.TheVariants.{Short}
-use Rattle.ra_frame.specs.Faults.{Check, first_failing, checks_of, first_fault, is_within, greatest_mode}
-use Rattle.ra_frame.specs.Checked.{IsChecked, kind_checks, nodes_checks, numbers_checks, name_checks}
+use Rattle.ra_frame.specs.declared.error.FrameError.TheVariants.{Short, Version}
+use Rattle.ra_frame.specs.declared.format.Format.{Format}
+use Rattle.ra_frame.specs.declared.format.Format.TheVariants.{V1, V2}
+use Rattle.ra_frame.specs.Format.{version_byte, greatest_node, greatest_mode}
+use Rattle.ra_frame.specs.Faults.{Check, first_failing, checks_of, first_fault_of, format_of, is_within, greatest_mode_of}
+use Rattle.ra_frame.specs.Checked.{IsChecked, head_checks, numbers_checks, name_checks}
 
 -- each check passes
 abbrev pub AllPassed : ℕ → List Check → Type 0
@@ -56,16 +59,28 @@ either_kind kind h = grind (arith, nat_tests)
 pub a_kind : (kind : ℕ) → (kind ≡ 1) ⊎ (kind ≡ 2) → (kind == 1 || kind == 2) ≡ true
 a_kind kind h = grind (arith, nat_tests)
 
-pub of_request : (kind : ℕ) → kind ≡ 1 → greatest_mode kind ≡ 1
-of_request kind e = rw e refl
+pub of_request : (format : Format) (kind : ℕ) → kind ≡ 1 → greatest_mode_of format kind ≡ greatest_mode format
+of_request format kind e = rw e refl
 
-pub of_reply : (kind : ℕ) → kind ≡ 2 → greatest_mode kind ≡ 0
-of_reply kind e = rw e refl
+pub of_reply : (format : Format) (kind : ℕ) → kind ≡ 2 → greatest_mode_of format kind ≡ 0
+of_reply format kind e = rw e refl
 
-pub checked : (bytes : List ℕ) → first_fault bytes ≡ None → IsChecked bytes
-checked bytes e =
-    let version = all_passed (length bytes) (checks_of bytes) e in
-    let kind = version.2 in
+-- the version that the first byte names
+version_by : (one two : Bool) (byte : ℕ) (format : Format) → (byte == 1) ≡ one → (byte == 2) ≡ two
+    → (let r : Result Format FrameError = cond one (Ok V1) (cond two (Ok V2) (Err Version)) in r ≡ Ok format) → byte ≡ version_byte format
+version_by true two byte V1 o t e = equal byte 1 o
+version_by true two byte V2 o t e = absurd cc
+version_by false true byte V1 o t e = absurd cc
+version_by false true byte V2 o t e = equal byte 2 t
+version_by false false byte format o t e = absurd cc
+
+version_is : (bytes : List ℕ) (format : Format) → format_of bytes ≡ Ok format → slice_index bytes 0 ≡ version_byte format
+version_is [] format e = absurd cc
+version_is (byte ∷ bytes) format e = version_by (byte == 1) (byte == 2) byte format refl refl e
+
+pub checked : (format : Format) (bytes : List ℕ) → format_of bytes ≡ Ok format → first_fault_of format bytes ≡ None → IsChecked format bytes
+checked format bytes v e =
+    let kind = all_passed (length bytes) (checks_of format bytes) e in
     let from = kind.2 in
     let to = from.2 in
     let apart = to.2 in
@@ -77,12 +92,12 @@ checked bytes e =
     let end = name.2 in
     record {
       long = equal _ _ end.1;
-      version = equal _ _ version.1;
+      version = version_is bytes format v;
       kind = either_kind _ kind.1;
-      from_low = within_low 1 16 _ from.1;
-      from_high = within_high 1 16 _ from.1;
-      to_low = within_low 1 16 _ to.1;
-      to_high = within_high 1 16 _ to.1;
+      from_low = within_low 1 (greatest_node format) _ from.1;
+      from_high = within_high 1 (greatest_node format) _ from.1;
+      to_low = within_low 1 (greatest_node format) _ to.1;
+      to_high = within_high 1 (greatest_node format) _ to.1;
       apart = not_equal _ _ apart.1;
       mode = at_most _ _ mode.1;
       seq = at_most _ _ seq.1;
@@ -137,24 +152,18 @@ fault_behind len [] behind e = refl
 fault_behind len (check ∷ checks) behind e =
     behind_by (nat_lt len check.end) check.is_right (first_failing len checks) (first_failing len (checks ++ behind)) (first_failing len behind) check (fault_behind len checks behind) e
 
-module _ (bytes : List ℕ) where
-  abbrev Fault : (List ℕ → List Check) → Option FrameError → Type 0
-  Fault checks fault = first_failing (length bytes) (checks bytes) ≡ fault
+module _ (format : Format) (bytes : List ℕ) where
+  abbrev Fault : (Format → List ℕ → List Check) → Option FrameError → Type 0
+  Fault checks fault = first_failing (length bytes) (checks format bytes) ≡ fault
 
-  pub by_kind : (fault : FrameError) → Fault kind_checks (Some fault) → first_fault bytes ≡ Some fault
-  by_kind fault e = fault_ahead (length bytes) (kind_checks bytes) (drop 2 (checks_of bytes)) fault e
+  pub by_head : (fault : FrameError) → Fault head_checks (Some fault) → first_fault_of format bytes ≡ Some fault
+  by_head fault e = fault_ahead (length bytes) (head_checks format bytes) (drop 4 (checks_of format bytes)) fault e
 
-  past_kind : Fault kind_checks None → first_fault bytes ≡ first_failing (length bytes) (drop 2 (checks_of bytes))
-  past_kind none = fault_behind (length bytes) (kind_checks bytes) (drop 2 (checks_of bytes)) none
+  past_head : Fault head_checks None → first_fault_of format bytes ≡ first_failing (length bytes) (drop 4 (checks_of format bytes))
+  past_head none = fault_behind (length bytes) (head_checks format bytes) (drop 4 (checks_of format bytes)) none
 
-  pub by_nodes : (fault : FrameError) → Fault kind_checks None → Fault nodes_checks (Some fault) → first_fault bytes ≡ Some fault
-  by_nodes fault none e = past_kind none ∙ fault_ahead (length bytes) (nodes_checks bytes) (drop 5 (checks_of bytes)) fault e
+  pub by_numbers : (fault : FrameError) → Fault head_checks None → Fault numbers_checks (Some fault) → first_fault_of format bytes ≡ Some fault
+  by_numbers fault none e = past_head none ∙ fault_ahead (length bytes) (numbers_checks format bytes) (drop 7 (checks_of format bytes)) fault e
 
-  past_nodes : Fault kind_checks None → Fault nodes_checks None → first_fault bytes ≡ first_failing (length bytes) (drop 5 (checks_of bytes))
-  past_nodes none nodes = past_kind none ∙ fault_behind (length bytes) (nodes_checks bytes) (drop 5 (checks_of bytes)) nodes
-
-  pub by_numbers : (fault : FrameError) → Fault kind_checks None → Fault nodes_checks None → Fault numbers_checks (Some fault) → first_fault bytes ≡ Some fault
-  by_numbers fault none nodes e = past_nodes none nodes ∙ fault_ahead (length bytes) (numbers_checks bytes) (drop 8 (checks_of bytes)) fault e
-
-  pub by_name : Fault kind_checks None → Fault nodes_checks None → Fault numbers_checks None → first_fault bytes ≡ first_failing (length bytes) (name_checks bytes)
-  by_name none nodes numbers = past_nodes none nodes ∙ fault_behind (length bytes) (numbers_checks bytes) (drop 8 (checks_of bytes)) numbers
+  pub by_name : Fault head_checks None → Fault numbers_checks None → first_fault_of format bytes ≡ first_failing (length bytes) (name_checks format bytes)
+  by_name none numbers = past_head none ∙ fault_behind (length bytes) (numbers_checks format bytes) (drop 7 (checks_of format bytes)) numbers

@@ -2,35 +2,42 @@
 use Rattle.std.specs.Prelude.{◌≡◌, ◌⊎◌, ℕ, ◌+◌, ◌^◌, ◌≤◌, true, List, length, take, drop, slice_index, slice_range}
 use Rattle.std.specs.List.{list_all}
 use Rattle.ra_stamp.specs.Name.{is_name_byte}
-use Rattle.ra_frame.specs.Faults.{Check, checks_of, number_at, greatest_mode}
+use Rattle.ra_frame.specs.declared.format.Format.{Format}
+use Rattle.ra_frame.specs.Format.{version_byte, to_place, mode_place, greatest_node}
+use Rattle.ra_frame.specs.Faults.{Check, checks_of, node_at, number_at, greatest_mode_of}
 
--- those of the version and the kind, of the two nodes, of the mode and the two numbers, and of the name
-abbrev pub kind_checks : List ℕ → List Check
-kind_checks bytes = take 2 (checks_of bytes)
+-- those of the kind and the two nodes, of the mode and the two numbers, and of the name
+abbrev pub head_checks : Format → List ℕ → List Check
+head_checks format bytes = take 4 (checks_of format bytes)
 
-abbrev pub nodes_checks : List ℕ → List Check
-nodes_checks bytes = take 3 (drop 2 (checks_of bytes))
+abbrev pub numbers_checks : Format → List ℕ → List Check
+numbers_checks format bytes = take 3 (drop 4 (checks_of format bytes))
 
-abbrev pub numbers_checks : List ℕ → List Check
-numbers_checks bytes = take 3 (drop 5 (checks_of bytes))
+abbrev pub name_checks : Format → List ℕ → List Check
+name_checks format bytes = drop 7 (checks_of format bytes)
 
-abbrev pub name_checks : List ℕ → List Check
-name_checks bytes = drop 8 (checks_of bytes)
+-- the clock and the name of bytes of a version
+abbrev pub clock_in : Format → List ℕ → ℕ
+clock_in format bytes = number_at bytes (mode_place format + 9)
 
--- what holds of bytes with no fault
-pub record IsChecked (bytes : List ℕ) : Type 0 where
-  pub long : length bytes ≡ 22 + slice_index bytes 21
-  pub version : slice_index bytes 0 ≡ 1
+abbrev pub name_in : Format → List ℕ → List ℕ
+name_in format bytes =
+    let name = mode_place format + 18 in slice_range bytes name (name + slice_index bytes (mode_place format + 17))
+
+-- what holds of bytes of a version that have no fault
+pub record IsChecked (format : Format) (bytes : List ℕ) : Type 0 where
+  pub long : length bytes ≡ mode_place format + 18 + slice_index bytes (mode_place format + 17)
+  pub version : slice_index bytes 0 ≡ version_byte format
   pub kind : (slice_index bytes 1 ≡ 1) ⊎ (slice_index bytes 1 ≡ 2)
-  pub from_low : 1 ≤ slice_index bytes 2
-  pub from_high : slice_index bytes 2 ≤ 16
-  pub to_low : 1 ≤ slice_index bytes 3
-  pub to_high : slice_index bytes 3 ≤ 16
-  pub apart : slice_index bytes 2 ≡ slice_index bytes 3 → ⊥
-  pub mode : slice_index bytes 4 ≤ greatest_mode (slice_index bytes 1)
-  pub seq : 1 ≤ number_at bytes 5
-  pub clock_low : 1 ≤ number_at bytes 13
-  pub clock_high : number_at bytes 13 ≤ 2 ^ 62
-  pub name_low : 1 ≤ slice_index bytes 21
-  pub name_high : slice_index bytes 21 ≤ 32
-  pub name : list_all is_name_byte (slice_range bytes 22 (22 + slice_index bytes 21)) ≡ true
+  pub from_low : 1 ≤ node_at format bytes 2
+  pub from_high : node_at format bytes 2 ≤ greatest_node format
+  pub to_low : 1 ≤ node_at format bytes (to_place format)
+  pub to_high : node_at format bytes (to_place format) ≤ greatest_node format
+  pub apart : node_at format bytes 2 ≡ node_at format bytes (to_place format) → ⊥
+  pub mode : slice_index bytes (mode_place format) ≤ greatest_mode_of format (slice_index bytes 1)
+  pub seq : 1 ≤ number_at bytes (mode_place format + 1)
+  pub clock_low : 1 ≤ clock_in format bytes
+  pub clock_high : clock_in format bytes ≤ 2 ^ 62
+  pub name_low : 1 ≤ slice_index bytes (mode_place format + 17)
+  pub name_high : slice_index bytes (mode_place format + 17) ≤ 32
+  pub name : list_all is_name_byte (name_in format bytes) ≡ true

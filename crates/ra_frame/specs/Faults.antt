@@ -1,10 +1,13 @@
 -- What is wrong with bytes that are no frame text.
-use Rattle.std.specs.Prelude.{ℕ, ◌+◌, ◌^◌, Bool, not, ◌&&◌, ◌||◌, List, [], ◌∷◌, length, slice_index, slice_range, Option, Some, None, ◌==◌, nat_lt, nat_le, if◌then◌else◌}
+use Rattle.std.specs.Prelude.{ℕ, ◌+◌, ◌^◌, Bool, not, ◌&&◌, ◌||◌, List, [], ◌∷◌, length, slice_index, slice_range, Option, Some, None, Result, Ok, Err, ◌==◌, nat_lt, nat_le, if◌then◌else◌}
 use Rattle.std.specs.List.{list_all}
-use Rattle.std.specs.Int.{w64, from_be_bytes}
+use Rattle.std.specs.Int.{w16, w64, from_be_bytes}
 use Rattle.ra_stamp.specs.Name.{is_name_byte}
+use Rattle.ra_frame.specs.declared.format.Format.{Format}
+use Rattle.ra_frame.specs.declared.format.Format.TheVariants.{V1, V2}
 use Rattle.ra_frame.specs.declared.error.FrameError.{FrameError}
 use Rattle.ra_frame.specs.declared.error.FrameError.TheVariants.{Short, Version, Kind, From, To, SameNode, Mode, Seq, Clock, NameLength, NameByte, Trailing}
+use Rattle.ra_frame.specs.Format.{to_place, mode_place, greatest_node, greatest_mode}
 
 -- a check of one field: how many bytes there must be for it, whether the field is right, and the fault if not
 pub record Check : Type 0 where
@@ -19,6 +22,11 @@ first_failing len (check ∷ checks) =
     if nat_lt len check.end then Some Short
     else if check.is_right then first_failing len checks else Some check.fault
 
+-- the number of a node from a place on, the highest byte first
+abbrev pub node_at : Format → List ℕ → ℕ → ℕ
+node_at V1 bytes place = slice_index bytes place
+node_at V2 bytes place = from_be_bytes w16 (slice_range bytes place (place + 2))
+
 -- eight bytes from a place on, the highest first
 abbrev pub number_at : List ℕ → ℕ → ℕ
 number_at bytes place = from_be_bytes w64 (slice_range bytes place (place + 8))
@@ -26,26 +34,43 @@ number_at bytes place = from_be_bytes w64 (slice_range bytes place (place + 8))
 abbrev pub is_within : ℕ → ℕ → ℕ → Bool
 is_within low high n = nat_le low n && nat_le n high
 
--- the greatest mode byte of a kind: a REQUEST is shared or exclusive, and a REPLY has no mode
-abbrev pub greatest_mode : ℕ → ℕ
-greatest_mode kind = if kind == 1 then 1 else 0
+-- the greatest mode byte of a kind: a REPLY has no mode
+abbrev pub greatest_mode_of : Format → ℕ → ℕ
+greatest_mode_of format kind = if kind == 1 then greatest_mode format else 0
 
-abbrev pub checks_of : List ℕ → List Check
-checks_of bytes =
+-- the checks of all fields but the version, in their order
+abbrev pub checks_of : Format → List ℕ → List Check
+checks_of format bytes =
     let byte = slice_index bytes in
-    let end = 22 + byte 21 in
-    record { end = 1; is_right = byte 0 == 1; fault = Version } ∷
+    let from = node_at format bytes 2 in
+    let to = node_at format bytes (to_place format) in
+    let mode = mode_place format in
+    let name = mode + 18 in
+    let end = name + byte (mode + 17) in
     record { end = 2; is_right = byte 1 == 1 || byte 1 == 2; fault = Kind } ∷
-    record { end = 3; is_right = is_within 1 16 (byte 2); fault = From } ∷
-    record { end = 4; is_right = is_within 1 16 (byte 3); fault = To } ∷
-    record { end = 4; is_right = not (byte 2 == byte 3); fault = SameNode } ∷
-    record { end = 5; is_right = nat_le (byte 4) (greatest_mode (byte 1)); fault = Mode } ∷
-    record { end = 13; is_right = nat_le 1 (number_at bytes 5); fault = Seq } ∷
-    record { end = 21; is_right = is_within 1 (2 ^ 62) (number_at bytes 13); fault = Clock } ∷
-    record { end = 22; is_right = is_within 1 32 (byte 21); fault = NameLength } ∷
-    record { end = end; is_right = list_all is_name_byte (slice_range bytes 22 end); fault = NameByte } ∷
+    record { end = to_place format; is_right = is_within 1 (greatest_node format) from; fault = From } ∷
+    record { end = mode; is_right = is_within 1 (greatest_node format) to; fault = To } ∷
+    record { end = mode; is_right = not (from == to); fault = SameNode } ∷
+    record { end = mode + 1; is_right = nat_le (byte mode) (greatest_mode_of format (byte 1)); fault = Mode } ∷
+    record { end = mode + 9; is_right = nat_le 1 (number_at bytes (mode + 1)); fault = Seq } ∷
+    record { end = mode + 17; is_right = is_within 1 (2 ^ 62) (number_at bytes (mode + 9)); fault = Clock } ∷
+    record { end = name; is_right = is_within 1 32 (byte (mode + 17)); fault = NameLength } ∷
+    record { end = end; is_right = list_all is_name_byte (slice_range bytes name end); fault = NameByte } ∷
     record { end = end; is_right = length bytes == end; fault = Trailing } ∷ []
 
--- the first field that is short or not right, in the order of the fields, or None where all are right
+-- the first field behind the version that is short or not right, in the order of the fields, or None where all are right
+abbrev pub first_fault_of : Format → List ℕ → Option FrameError
+first_fault_of format bytes = first_failing (length bytes) (checks_of format bytes)
+
+-- the version that the first byte names, or what is wrong with it
+abbrev pub format_of : List ℕ → Result Format FrameError
+format_of [] = Err Short
+format_of (byte ∷ bytes) = if byte == 1 then Ok V1 else if byte == 2 then Ok V2 else Err Version
+
+-- the first field that is short or not right: the version, or another one, which is looked at as in that version
+abbrev pub fault_by : Result Format FrameError → List ℕ → Option FrameError
+fault_by (Err fault) bytes = Some fault
+fault_by (Ok format) bytes = first_fault_of format bytes
+
 abbrev pub first_fault : List ℕ → Option FrameError
-first_fault bytes = first_failing (length bytes) (checks_of bytes)
+first_fault bytes = fault_by (format_of bytes) bytes

@@ -1,4 +1,5 @@
 pub mod Fits
+pub mod Format
 pub mod FrameText
 pub mod Faults
 pub mod Checked

@@ -6,22 +6,22 @@ pub enum FrameError {
     /// A byte of the field is missing.
     #[error("Short")]
     Short,
-    /// The version is not 1.
+    /// The version is neither 1 nor 2.
     #[error("Version")]
     Version,
     /// The kind is neither 1 nor 2.
     #[error("Kind")]
     Kind,
-    /// The sender is not 1 to 16.
+    /// The sender is not 1 to 16 in version 1, or not 1 to 64 in version 2.
     #[error("From")]
     From,
-    /// The receiver is not 1 to 16.
+    /// The receiver is not 1 to 16 in version 1, or not 1 to 64 in version 2.
     #[error("To")]
     To,
     /// The sender is the receiver.
     #[error("SameNode")]
     SameNode,
-    /// The mode is none that this kind may have.
+    /// The mode is none that this kind may have in this version.
     #[error("Mode")]
     Mode,
     /// The sequence number is 0.

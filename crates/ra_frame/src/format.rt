@@ -1,10 +1,69 @@
-ghost use Rattle.std.specs.Prelude.{◌≡◌};
-ghost use Rattle.ra_frame.specs.FrameText as spec;
+ghost use Rattle.std.specs.Prelude.{◌≡◌, ◌≤◌};
+ghost use Rattle.ra_frame.specs.FrameText as text;
 
+use Mode::{Exclusive, IntentExclusive, IntentShared, Shared, SharedIntentExclusive};
 use ra_stamp::Mode;
 
-/// The first byte of each frame.
-pub const VERSION: u8 = 1;
+/// The versions of frames, which differ in their nodes and modes.
+#[derive(Clone, Copy)]
+pub enum Format {
+    /// Nodes 1 to 16 in one byte each, and the modes shared and exclusive.
+    V1,
+    /// Nodes 1 to 64 in two bytes each, and all modes.
+    V2,
+}
+
+impl Format {
+    ghost use Rattle.ra_frame.specs.Format as spec;
+
+    /// Returns where the receiver stands. It does not allocate.
+    pub fn to_place(self) -> usize
+        ensures value { result ≡ spec.to_place self }
+        ensures small { result ≤ 4 }
+    {
+        match self {
+            Format::V1 => 3,
+            Format::V2 => 4,
+        }
+    }
+
+    /// Returns where the mode stands. It does not allocate.
+    pub fn mode_place(self) -> usize
+        ensures value { result ≡ spec.mode_place self }
+        ensures small { result ≤ 6 }
+    {
+        match self {
+            Format::V1 => 4,
+            Format::V2 => 6,
+        }
+    }
+
+    /// Returns the greatest number of a node. It does not allocate.
+    pub fn max_node(self) -> u64
+        ensures { result ≡ spec.greatest_node self }
+    {
+        match self {
+            Format::V1 => 16,
+            Format::V2 => 64,
+        }
+    }
+
+    /// Returns the greatest mode byte of a REQUEST. It does not allocate.
+    pub fn max_mode(self) -> u8
+        ensures { result ≡ spec.greatest_mode self }
+    {
+        match self {
+            Format::V1 => 1,
+            Format::V2 => 4,
+        }
+    }
+}
+
+/// The first byte of each frame of version 1.
+pub const VERSION_1: u8 = 1;
+
+/// The first byte of each frame of version 2.
+pub const VERSION_2: u8 = 2;
 
 /// The second byte of a REQUEST.
 pub const REQUEST: u8 = 1;
@@ -21,36 +80,44 @@ pub const KIND: usize = 1;
 /// Where the sender stands.
 pub const FROM: usize = 2;
 
-/// Where the receiver stands.
-pub const TO: usize = 3;
+/// How far behind the mode the sequence number begins.
+pub const SEQ: usize = 1;
 
-/// Where the mode stands.
-pub const MODE: usize = 4;
+/// How far behind the mode the clock begins.
+pub const CLOCK: usize = 9;
 
-/// Where the sequence number begins.
-pub const SEQ: usize = 5;
+/// How far behind the mode the length of the name stands.
+pub const NAME_LENGTH: usize = 17;
 
-/// Where the clock begins.
-pub const CLOCK: usize = 13;
-
-/// Where the length of the name stands.
-pub const NAME_LENGTH: usize = 21;
-
-/// Where the name begins.
-pub const NAME: usize = 22;
-
-/// The greatest number of a node.
-pub const MAX_NODE: u64 = 16;
+/// How far behind the mode the name begins.
+pub const NAME: usize = 18;
 
 /// The most bytes of a name.
 pub const MAX_NAME: u64 = 32;
 
 /// Returns the byte of the mode of a REQUEST. It does not allocate.
 pub fn mode_byte(mode: Mode) -> u8
-    ensures { result ≡ spec.mode_byte mode }
+    ensures { result ≡ text.mode_byte mode }
 {
     match mode {
-        Mode::Shared => 0,
-        Mode::Exclusive => 1,
+        Shared => 0,
+        Exclusive => 1,
+        IntentShared => 2,
+        IntentExclusive => 3,
+        SharedIntentExclusive => 4,
+    }
+}
+
+/// Returns the mode of a byte. It does not allocate.
+pub fn mode_of(byte: u8) -> Mode
+    requires { byte ≤ 4 }
+    ensures { text.mode_byte result ≡ byte }
+{
+    match byte {
+        0 => Shared,
+        1 => Exclusive,
+        2 => IntentShared,
+        3 => IntentExclusive,
+        _ => SharedIntentExclusive,
     }
 }

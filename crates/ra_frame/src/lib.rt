@@ -1,4 +1,4 @@
-//! Frames: messages with the clock at which they are sent, as bytes.
+//! Frames: messages with the clock at which they are sent, as bytes. Both versions of the format are read, and the second is written.
 #![tactic(auto)]
 
 mod decoding;
@@ -6,8 +6,10 @@ mod encoding;
 mod error;
 mod format;
 mod frame;
+mod laws;
 
-pub use decoding::{decode, one_spelling, round_trip};
+pub use decoding::decode;
 pub use encoding::encode;
 pub use error::FrameError;
 pub use frame::Frame;
+pub use laws::{one_spelling, round_trip};

@@ -104,12 +104,12 @@ impl Node {
     ///
     /// The first that holds:
     ///
-    /// 1. `BadCount`: `nodes` is not 1 to 16.
+    /// 1. `BadCount`: `nodes` is not 1 to 64.
     /// 2. `BadNode`: `me` is above `nodes`.
     pub fn new(alloc: Global, me: NodeId, nodes: u16, start: u64) -> Result<Node, NewError>
         ensures ok { IfOk result (λ node. node ≡ opening_node me nodes start) }
         ensures consistent { IfOk result IsConsistentNode }
-        ensures bad_count { IsErrOf result NewError.BadCount ↔ ((nodes < 1) ⊎ (16 < nodes)) }
+        ensures bad_count { IsErrOf result NewError.BadCount ↔ ((nodes < 1) ⊎ (64 < nodes)) }
         ensures bad_node { IsErrOf result NewError.BadNode ↔ (IsNodeNumber nodes × (nodes < me)) }
         ensures no_memory { IsErrOf result NewError.Memory → ⊥ }
     {

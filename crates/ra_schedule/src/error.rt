@@ -10,7 +10,7 @@ use thiserror::Error;
 /// Why there is no script.
 #[derive(Clone, Copy, Debug, PartialEq, Eq, Error)]
 pub enum NewScriptError {
-    /// The number of nodes is not 1 to 16.
+    /// The number of nodes is not 1 to 64.
     #[error("Nodes")]
     Nodes,
     /// Memory ran out.

@@ -91,7 +91,7 @@ impl Script {
     ///
     /// The first that holds:
     ///
-    /// 1. `Nodes`: the number of nodes is not 1 to 16.
+    /// 1. `Nodes`: the number of nodes is not 1 to 64.
     /// 2. `Memory`.
     pub fn new(alloc: Global, nodes: u16) -> Result<Script, NewScriptError>
         ensures ok { IfOk result (λ script. script ≡ record { nodes = nodes; clients = [] }) }
@@ -171,7 +171,7 @@ impl Script {
         last.add_op(op)
     }
 
-    /// Returns how many nodes there are, 1 to 16. It does not allocate.
+    /// Returns how many nodes there are, 1 to 64. It does not allocate.
     pub fn nodes(&self) -> u16
         ensures value { result ≡ self.now.nodes }
         ensures script { IsScript self.now }

@@ -1,3 +1,4 @@
+mod Cuts
 mod Names
 mod Trees
 mod Held

@@ -131,7 +131,7 @@ pub record IsWritten (document : Document) (script : ScriptState) : Type 0 where
   pub some : 1 ≤ length script.clients
   pub named : All IsNamed script.clients
 
-taken : (document : Document) (script : ScriptState) (clients : List ScriptClient) → is_up_to 16 document.nodes ≡ true → are_placed (natural document.nodes) document.clients ≡ true
+taken : (document : Document) (script : ScriptState) (clients : List ScriptClient) → is_up_to 64 document.nodes ≡ true → are_placed (natural document.nodes) document.clients ≡ true
     → clients_behind [] document.clients ≡ Ok clients → record { nodes = natural document.nodes; clients = clients } ≡ script → IsWritten document script
 taken document script clients within placed read same =
     let (counts, each) = and_parts (nat_le 1 (length document.clients) && nat_le (length document.clients) 64) (list_all (λ (t : ClientTable). is_up_to (natural document.nodes) t.node) document.clients) placed in
@@ -141,7 +141,7 @@ taken document script clients within placed read same =
     let tables : document.clients ≡ map written_client clients = h.tables_are ∙ ap (map written_client) (sym new) in
     let many : 1 ≤ length clients = omega (arith, leb-true 1 (length document.clients) some, ap length tables, length-map clients written_client) in
     let named : All IsNamed clients = rw new h.named in
-    let nodes = pos-natural 16 document.nodes within in
+    let nodes = pos-natural 64 document.nodes within in
     let both : document ≡ record { nodes = pos (natural document.nodes); clients = map written_client clients } =
     ap (λ (n : ℤ). record document { nodes = n }) nodes ∙ ap (λ (ts : List ClientTable). record { nodes = pos (natural document.nodes); clients = ts }) tables in
     record {
@@ -152,7 +152,7 @@ taken document script clients within placed read same =
 
 document_written : (document : Document) (script : ScriptState) → script_in document ≡ Ok script → IsWritten document script
 document_written document script e =
-    elim (cases_Bool (is_up_to 16 document.nodes)) [
+    elim (cases_Bool (is_up_to 64 document.nodes)) [
       | inr bad ↦ absurd (let clash : Err fault.Nodes ≡ Ok script = rw bad at e in cc)
       | inl within ↦
           elim (cases_Bool (are_placed (natural document.nodes) document.clients)) [
@@ -226,7 +226,7 @@ up_to_true most number first last = rw (le-leb 1 number first, le-leb number mos
 
 document_read : (script : ScriptState) → 1 ≤ length script.clients → All IsNamed script.clients → IsScript script → script_in (written script) ≡ Ok script
 document_read script some named valid =
-    let within = up_to_true 16 script.nodes valid.count.0 valid.count.1 in
+    let within = up_to_true 64 script.nodes valid.count.0 valid.count.1 in
     let each : list_all (λ (c : ScriptClient). is_up_to script.nodes (pos c.node)) script.clients ≡ true =
     list_all-from_AllPass (λ (c : ScriptClient). is_up_to script.nodes (pos c.node)) script.clients (λ k d lt. let at = valid.each k d lt in up_to_true script.nodes _ at.first at.last) in
     let placed : are_placed script.nodes (map written_client script.clients) ≡ true =

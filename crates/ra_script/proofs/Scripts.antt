@@ -94,14 +94,14 @@ pub IsScriptTo-all : (nodes : ℕ) (tables : List ClientTable) (place : ℕ) (sc
 IsScriptTo-all nodes tables place script past h = h.same ∙ rw (drop_all place tables past)
 
 -- the checks before the operations
-pub script_in-nodes : (document : Document) → is_up_to 16 document.nodes ≡ false → script_in document ≡ Err fault.Nodes
+pub script_in-nodes : (document : Document) → is_up_to 64 document.nodes ≡ false → script_in document ≡ Err fault.Nodes
 script_in-nodes document nodes = rw nodes
 
-pub script_in-clients : (document : Document) → is_up_to 16 document.nodes ≡ true → are_placed (natural document.nodes) document.clients ≡ false → script_in document ≡ Err fault.Clients
+pub script_in-clients : (document : Document) → is_up_to 64 document.nodes ≡ true → are_placed (natural document.nodes) document.clients ≡ false → script_in document ≡ Err fault.Clients
 script_in-clients document nodes clients = rw (nodes, clients)
 
 -- the script is what the clients make
-pub script_in-ok : (document : Document) (nodes : ℕ) (script : ScriptState) → is_up_to 16 document.nodes ≡ true → nodes ≡ natural document.nodes → are_placed nodes document.clients ≡ true
+pub script_in-ok : (document : Document) (nodes : ℕ) (script : ScriptState) → is_up_to 64 document.nodes ≡ true → nodes ≡ natural document.nodes → are_placed nodes document.clients ≡ true
     → IsScriptTo nodes document.clients (length document.clients) script → script_in document ≡ Ok script
 script_in-ok document nodes script within same placed h =
     let placed-too : are_placed (natural document.nodes) document.clients ≡ true = rw (← same) placed in
@@ -109,7 +109,7 @@ script_in-ok document nodes script within same placed h =
     let nodes-too : natural document.nodes ≡ script.nodes = sym (h.nodes_are ∙ same) in
     rw (within, placed-too, all, nodes-too)
 
-pub script_in-refused : (document : Document) (nodes : ℕ) (why : ScriptError) → is_up_to 16 document.nodes ≡ true → nodes ≡ natural document.nodes → are_placed nodes document.clients ≡ true
+pub script_in-refused : (document : Document) (nodes : ℕ) (why : ScriptError) → is_up_to 64 document.nodes ≡ true → nodes ≡ natural document.nodes → are_placed nodes document.clients ≡ true
     → IsRefusal (clients_behind [] document.clients) why → IsRefusal (script_in document) why
 script_in-refused document nodes why within same placed refusal =
     let placed-too : are_placed (natural document.nodes) document.clients ≡ true = rw (← same) placed in

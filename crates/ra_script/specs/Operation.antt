@@ -1,33 +1,44 @@
 -- How operations are written.
-use Rattle.std.specs.Prelude.{ℕ, nat_le, ◌==◌, ◌&&◌, Bool, List, [], ◌∷◌, length, Option, Some, None, if◌then◌else◌}
+use Rattle.std.specs.Prelude.{ℕ, nat_le, ◌==◌, ◌&&◌, Bool, List, [], ◌∷◌, ◌++◌, length, Option, Some, None, option_map, option_and_then, codes, if◌then◌else◌}
 use Rattle.std.specs.List.{list_all}
+use Rattle.std.specs.Str.{bytes_eq}
 use Rattle.ra_stamp.specs.Name.{is_name_byte}
-use Rattle.ra_stamp.specs.declared.mode.Mode.TheVariants.{Shared, Exclusive}
+use Rattle.ra_stamp.specs.declared.mode.Mode.TheVariants.{Shared, Exclusive, IntentShared, IntentExclusive, SharedIntentExclusive}
 use Rattle.ra_schedule.specs.declared.script.Op.{Op}
 use Rattle.ra_schedule.specs.declared.script.Op.TheVariants.{Lock, Unlock}
+use Rattle.ra_world.specs.Lines.{mode_word}
 
 -- the bytes are a name
 abbrev pub is_name : List ℕ → Bool
 is_name bytes = (nat_le 1 (length bytes) && nat_le (length bytes) 32) && list_all is_name_byte bytes
 
--- what a letter and a name say: `X` locks it exclusively, `S` locks it shared, and `U` unlocks it
-abbrev pub op_with : ℕ → List ℕ → Option Op
-op_with letter name =
-    if letter == 88 then Some (Lock name Exclusive)
-    else if letter == 83 then Some (Lock name Shared)
-    else if letter == 85 then Some (Unlock name)
+-- the name that the bytes are
+abbrev pub name_of : List ℕ → Option (List ℕ)
+name_of bytes = if is_name bytes then Some bytes else None
+
+-- what a word and a name say: the word of a mode locks it in that mode, and `U` unlocks it
+abbrev pub op_with : List ℕ → List ℕ → Option Op
+op_with word name =
+    if bytes_eq word (codes "X") then Some (Lock name Exclusive)
+    else if bytes_eq word (codes "S") then Some (Lock name Shared)
+    else if bytes_eq word (codes "IS") then Some (Lock name IntentShared)
+    else if bytes_eq word (codes "IX") then Some (Lock name IntentExclusive)
+    else if bytes_eq word (codes "SIX") then Some (Lock name SharedIntentExclusive)
+    else if bytes_eq word (codes "U") then Some (Unlock name)
     else None
 
--- the operation of a letter, a space and a name
+-- what stands before and behind the first space
+abbrev pub cut : List ℕ → Option (List ℕ × List ℕ)
+cut [] = None
+cut (b ∷ bs) = if b == 32 then Some ([], bs) else option_map (λ parts. (b ∷ parts.0, parts.1)) (cut bs)
+
+-- the operation of the word before the first space and the name behind it
 abbrev pub op_of : List ℕ → Option Op
-op_of [] = None
-op_of (letter ∷ []) = None
-op_of (letter ∷ space ∷ name) = if space == 32 && is_name name then op_with letter name else None
+op_of text = option_and_then (λ parts. option_and_then (op_with parts.0) (name_of parts.1)) (cut text)
 
 -- an operation as it is written
 abbrev pub spelling : Op → List ℕ
-spelling (Lock name Exclusive) = 88 ∷ 32 ∷ name
-spelling (Lock name Shared) = 83 ∷ 32 ∷ name
+spelling (Lock name mode) = mode_word mode ++ 32 ∷ name
 spelling (Unlock name) = 85 ∷ 32 ∷ name
 
 -- the name of an operation

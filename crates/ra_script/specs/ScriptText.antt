@@ -75,7 +75,7 @@ are_placed nodes clients =
 -- the script of a document
 abbrev pub script_in : Document → Result ScriptState ScriptError
 script_in document =
-    if not (is_up_to 16 document.nodes) then Err fault.Nodes
+    if not (is_up_to 64 document.nodes) then Err fault.Nodes
     else if not (are_placed (natural document.nodes) document.clients) then Err fault.Clients
     else result_and_then (λ clients. Ok (record { nodes = natural document.nodes; clients = clients })) (clients_behind [] document.clients)
 

@@ -20,7 +20,7 @@ pub enum ScriptError {
     /// A key is missing, unknown or of another type.
     #[error("Shape")]
     Shape,
-    /// The number of nodes is not 1 to 16.
+    /// The number of nodes is not 1 to 64.
     #[error("Nodes")]
     Nodes,
     /// There are not 1 to 64 clients, or one is at no node that there is.

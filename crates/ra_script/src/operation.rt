@@ -1,34 +1,57 @@
-ghost use Rattle.std.specs.Prelude.{◌≡◌, IfSome, IsSome};
+ghost use Rattle.std.specs.Prelude.{◌≡◌, Some, None, IfSome, IsSome, MatchOption};
 ghost use Rattle.ra_stamp.specs.Name.{IsName};
 ghost use Rattle.ra_schedule.specs.declared.script.Op.{Op};
-ghost use Rattle.ra_script.specs.Operation.{op_with, spelling, name_in};
+ghost use Rattle.ra_script.specs.Operation as spec;
+ghost use Rattle.ra_script.specs.Operation.{spelling, name_in};
 
 use ra_schedule::Op;
 use ra_stamp::{Mode, Name};
 
-/// Returns the operation that a string spells, or `None` where it spells none: a letter, one space and a name, where `X` locks
-/// the name exclusively, `S` locks it shared and `U` unlocks it. It does not allocate.
-pub fn operation(word: &str) -> Option<Op>
-    ensures spelled { IfSome result (λ op. (word.now ≡ spelling op) × IsName (name_in op)) }
-    ensures all { (op : Op) → word.now ≡ spelling op → IsName (name_in op) → IsSome result }
+/// Returns the operation that a string spells, or `None` where it spells none: a word, one space and a name, where the word of a
+/// mode, `X`, `S`, `IS`, `IX` or `SIX`, locks the name in that mode, and `U` unlocks it. It does not allocate.
+pub fn operation(string: &str) -> Option<Op>
+    ensures spelled { IfSome result (λ op. (string.now ≡ spelling op) × IsName (name_in op)) }
+    ensures all { (op : Op) → string.now ≡ spelling op → IsName (name_in op) → IsSome result }
 {
-    let [letter, b' ', name @ ..] = word.as_bytes() else {
-        return None;
-    };
-    let Ok(name) = Name::new(name) else {
-        return None;
-    };
-    operation_with(*letter, name)
+    operation_of(string.as_bytes())
 }
 
-/// Returns the operation of a letter and a name, or `None` where the letter is none of the three. It does not allocate.
-fn operation_with(letter: u8, name: Name) -> Option<Op>
-    ensures { result ≡ op_with letter name }
+/// Returns the operation of the word before the first space and the name behind it, or `None` where they say none. It does not
+/// allocate.
+fn operation_of(text: &[u8]) -> Option<Op>
+    ensures { result ≡ spec.op_of text.now }
 {
-    match letter {
-        b'X' => Some(Op::Lock(name, Mode::Exclusive)),
-        b'S' => Some(Op::Lock(name, Mode::Shared)),
-        b'U' => Some(Op::Unlock(name)),
+    let (word, name) = cut(text)?;
+    let name = name_of(name)?;
+    operation_with(word, name)
+}
+
+/// Returns what stands before and behind the first space, or `None` where there is none. It does not allocate.
+fn cut(text: &[u8]) -> Option<(&[u8], &[u8])>
+    ensures { MatchOption result (spec.cut text.now ≡ None) (λ parts. spec.cut text.now ≡ Some (parts.0.now, parts.1.now)) }
+{
+    let end = text.iter().position(|byte| *byte == b' ')?;
+    Some((&text[..end], &text[end + 1..]))
+}
+
+/// Returns the name that these bytes are, or `None` where they are none. It does not allocate.
+fn name_of(bytes: &[u8]) -> Option<Name>
+    ensures { result ≡ spec.name_of bytes.now }
+{
+    Name::new(bytes).ok()
+}
+
+/// Returns the operation of a word and a name, or `None` where the word is none of the six. It does not allocate.
+fn operation_with(word: &[u8], name: Name) -> Option<Op>
+    ensures { result ≡ spec.op_with word.now name }
+{
+    match word {
+        b"X" => Some(Op::Lock(name, Mode::Exclusive)),
+        b"S" => Some(Op::Lock(name, Mode::Shared)),
+        b"IS" => Some(Op::Lock(name, Mode::IntentShared)),
+        b"IX" => Some(Op::Lock(name, Mode::IntentExclusive)),
+        b"SIX" => Some(Op::Lock(name, Mode::SharedIntentExclusive)),
+        b"U" => Some(Op::Unlock(name)),
         _ => None,
     }
 }

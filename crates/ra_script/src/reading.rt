@@ -134,7 +134,7 @@ fn are_at_nodes(nodes: u16, clients: &[ClientRef<'_>]) -> bool
 ///
 /// The first that holds, but that `Memory` may come before any behind `Clients`:
 ///
-/// 1. `Nodes`: the number of nodes is not 1 to 16.
+/// 1. `Nodes`: the number of nodes is not 1 to 64.
 /// 2. `Clients`: there are not 1 to 64 clients, or one is at none of the nodes.
 /// 3. For the first client that is refused, `Limit`, `Op`, `NotHeld` or `AlreadyHeld`, as at `add_client`.
 /// 4. `Memory`.
@@ -177,9 +177,9 @@ fn script_with(alloc: Global, nodes: u16, clients: &[ClientRef<'_>]) -> Result<S
 }
 
 /// Reads the text of a script: a TOML document with the keys `nodes`, an integer, and `client`, an array of tables. Each of
-/// these has the keys `node`, an integer, and `ops`, an array of strings: `X NAME` locks the name exclusively, `S NAME` locks it
-/// shared, and `U NAME` unlocks it. Clients are numbered from 1 by place, and may have names at the end. The cost is that of the
-/// parser, and for each client at most the square of its operations.
+/// these has the keys `node`, an integer, and `ops`, an array of strings: the word of a mode (`X`, `S`, `IS`, `IX` or `SIX`), one
+/// space and a name lock the name in that mode, and `U NAME` unlocks it. Clients are numbered from 1 by place, and may have names at
+/// the end. The cost is that of the parser, and for each client at most the square of its operations.
 ///
 /// # Errors
 ///
@@ -188,10 +188,10 @@ fn script_with(alloc: Global, nodes: u16, clients: &[ClientRef<'_>]) -> Result<S
 /// 1. `Limit`: the text has more than 65,536 bytes.
 /// 2. `Toml`: it is not UTF-8, or no TOML document.
 /// 3. `Shape`: a key is missing, unknown or of another type, anywhere in the document.
-/// 4. `Nodes`: the number of nodes is not 1 to 16.
+/// 4. `Nodes`: the number of nodes is not 1 to 64.
 /// 5. `Clients`: there are not 1 to 64 clients, or one of them is at none of the nodes.
 /// 6. For the first client with a fault, `Limit` where it has more than 1,024 operations, and else for its first operation with
-///    one: `Op` where it has none of the three forms, `NotHeld` where it unlocks a name that the client does not have then, and
+///    one: `Op` where it has none of the six forms, `NotHeld` where it unlocks a name that the client does not have then, and
 ///    `AlreadyHeld` where it locks a name that the client has.
 /// 7. `Memory`: memory ran out.
 pub fn read_script(alloc: Global, text: &[u8]) -> Result<Script, ScriptError>

@@ -1,15 +1,42 @@
 -- Which modes exclude each other.
-use Rattle.std.specs.Prelude.{Bool, true, false, IsTrue}
+use Rattle.std.specs.Prelude.{Bool, true, false, not, IsTrue}
 use Rattle.ra_stamp.specs.declared.mode.Mode.{Mode}
 use Rattle.ra_stamp.specs.declared.mode.Mode.TheVariants.{Shared, Exclusive}
+use Rattle.ra_stamp.specs.declared.mode.Mode.TheVariants.{IntentShared, IntentExclusive, SharedIntentExclusive}
 
--- whether two modes conflict: unless both are shared
+-- Whether two modes can be held at once: the table of J. N. Gray, R. A. Lorie, G. R. Putzolu and I. L. Traiger, Granularity of locks and
+-- degrees of consistency in a shared data base (1976), row by row. It is kept shut, so that only proofs about the table go through its pairs.
+unfoldable pub compatible : Mode → Mode → Bool
+compatible IntentShared IntentShared = true
+compatible IntentShared IntentExclusive = true
+compatible IntentShared Shared = true
+compatible IntentShared SharedIntentExclusive = true
+compatible IntentShared Exclusive = false
+compatible IntentExclusive IntentShared = true
+compatible IntentExclusive IntentExclusive = true
+compatible IntentExclusive Shared = false
+compatible IntentExclusive SharedIntentExclusive = false
+compatible IntentExclusive Exclusive = false
+compatible Shared IntentShared = true
+compatible Shared IntentExclusive = false
+compatible Shared Shared = true
+compatible Shared SharedIntentExclusive = false
+compatible Shared Exclusive = false
+compatible SharedIntentExclusive IntentShared = true
+compatible SharedIntentExclusive IntentExclusive = false
+compatible SharedIntentExclusive Shared = false
+compatible SharedIntentExclusive SharedIntentExclusive = false
+compatible SharedIntentExclusive Exclusive = false
+compatible Exclusive IntentShared = false
+compatible Exclusive IntentExclusive = false
+compatible Exclusive Shared = false
+compatible Exclusive SharedIntentExclusive = false
+compatible Exclusive Exclusive = false
+
+-- two modes conflict: they cannot be held at once
 abbrev pub conflicts : Mode → Mode → Bool
-conflicts Shared Shared = false
-conflicts Shared Exclusive = true
-conflicts Exclusive Shared = true
-conflicts Exclusive Exclusive = true
+conflicts a b = not (compatible a b)
 
--- two modes conflict
+-- the same, as a fact
 abbrev pub Conflict : Mode → Mode → Type 0
 Conflict a b = IsTrue (conflicts a b)

@@ -23,6 +23,7 @@ pub fn stamps_are_totally_ordered()
 {}
 
 /// Conflict does not depend on the order of the two modes.
+#[tactic(auto, unfolding(crate::specs::Mode::compatible))]
 pub fn conflict_is_symmetric()
     ensures test { (a b : Mode) → conflicts a b ≡ conflicts b a }
     ensures fact { (a b : Mode) → Conflict a b → Conflict b a }

@@ -1,29 +1,50 @@
 ghost use Rattle.std.specs.Prelude.{◌≡◌};
 ghost use Rattle.ra_stamp.specs.Mode as spec;
 
+use Mode::{Exclusive, IntentExclusive, IntentShared, Shared, SharedIntentExclusive};
 use std::fmt;
 
-/// How a resource is locked. That there is a shared mode is this project's choice. It prints as its letter, `S` or `X`.
+/// How a resource is locked. The modes are those of J. N. Gray, R. A. Lorie, G. R. Putzolu and I. L. Traiger, Granularity of locks and
+/// degrees of consistency in a shared data base (1976). It prints as its word: `S`, `X`, `IS`, `IX` or `SIX`.
 #[derive(Clone, Copy, Debug, PartialEq, Eq, Hash)]
 pub enum Mode {
-    /// Beside others that lock it shared.
+    /// To read it whole.
     Shared,
-    /// By itself.
+    /// To change it whole, by itself.
     Exclusive,
+    /// To read parts of it, which are locked shared each.
+    IntentShared,
+    /// To change parts of it, which are locked exclusively each.
+    IntentExclusive,
+    /// To read it whole, and change parts of it, which are locked exclusively each.
+    SharedIntentExclusive,
 }
 
-/// Returns whether two modes exclude each other: all pairs do but two shared ones. It does not allocate.
+/// Returns whether two modes exclude each other. It does not allocate.
+///
+/// Of the 25 pairs nine do not: two of `IS`, two of `IX`, two of `S`, and `IS` beside each of `IX`, `S` and `SIX`, in either order.
+#[tactic(auto, unfolding(crate::specs::Mode::compatible))]
 pub fn conflicts(a: Mode, b: Mode) -> bool
     ensures { result ≡ spec.conflicts a b }
 {
-    !matches!((a, b), (Mode::Shared, Mode::Shared))
+    let compatible = match a {
+        IntentShared => !matches!(b, Exclusive),
+        IntentExclusive => matches!(b, IntentShared | IntentExclusive),
+        Shared => matches!(b, IntentShared | Shared),
+        SharedIntentExclusive => matches!(b, IntentShared),
+        Exclusive => false,
+    };
+    !compatible
 }
 
 impl fmt::Display for Mode {
     fn fmt<W: fmt::Write>(&self, f: &mut fmt::Formatter<W>) -> fmt::Result {
-        match self {
-            Mode::Shared => f.pad("S"),
-            Mode::Exclusive => f.pad("X"),
-        }
+        f.pad(match self {
+            Shared => "S",
+            Exclusive => "X",
+            IntentShared => "IS",
+            IntentExclusive => "IX",
+            SharedIntentExclusive => "SIX",
+        })
     }
 }

@@ -4,7 +4,7 @@ ghost use Rattle.ra_stamp.specs.NodeId.{IsNodeNumber};
 use std::fmt;
 use std::marker::Model;
 
-/// The number of a node, 1 to 16. Contracts see the number, and it prints as that.
+/// The number of a node, 1 to 64. Contracts see the number, and it prints as that.
 #[derive(Clone, Copy, Debug, PartialEq, Eq, PartialOrd, Ord, Hash)]
 pub struct NodeId {
     number: u16,
@@ -22,9 +22,9 @@ impl Model for NodeId {
 
 impl NodeId {
     /// The greatest number that a node may have.
-    pub const MAX: u16 = 16;
+    pub const MAX: u16 = 64;
 
-    /// Returns the node with this number, or `None` where it is not 1 to 16. It does not allocate.
+    /// Returns the node with this number, or `None` where it is not 1 to 64. It does not allocate.
     pub fn new(number: u16) -> Option<NodeId>
         ensures valid { IsSome result ↔ IsNodeNumber number }
         ensures value { IfSome result (λ node. node ≡ number) }
@@ -36,7 +36,7 @@ impl NodeId {
         }
     }
 
-    /// Returns the number, 1 to 16. It does not allocate.
+    /// Returns the number, 1 to 64. It does not allocate.
     pub fn get(self) -> u16
         ensures value { result ≡ self }
         ensures valid { IsNodeNumber result }

@@ -1,14 +1,13 @@
 -- What each table step keeps of entries that conflict, by laws of modes and stamps.
-use Rattle.std.proofs.Common.{◌≡◌, ◌<◌, List, [], ◌∷◌, ◌++◌, get_or, All, sym, ap, subst, inl, inr}
+use Rattle.std.proofs.Common.{◌≡◌, ◌<◌, List, [], ◌∷◌, ◌++◌, get_or, All, sym, ap, subst, arith, inl, inr}
 use Rattle.std.specs.Prelude.{◌⊎◌}
 use Rattle.std.proofs.lemmas.List.Elements.{All-nil, All-weaker}
 use Rattle.ra_stamp.specs.declared.entry.Entry.{Entry}
 use Rattle.ra_stamp.specs.declared.entry.Mark.{Mark}
 use Rattle.ra_stamp.specs.declared.entry.Mark.TheVariants.{Requested, Entered, Left}
 use Rattle.ra_stamp.specs.declared.mode.Mode.{Mode}
-use Rattle.ra_stamp.specs.declared.mode.Mode.TheVariants.{Shared, Exclusive}
 use Rattle.ra_stamp.specs.declared.stamp.Stamp.{Stamp}
-use Rattle.ra_stamp.specs.Mode.{Conflict}
+use Rattle.ra_stamp.specs.Mode.{compatible, Conflict}
 use Rattle.ra_stamp.specs.Stamp.{IsEarlier}
 use Rattle.ra_table.specs.Table.{LockTable, empty_table, Excludes, TableStep}
 use Rattle.ra_table.specs.Laws.{IsConflictFree}
@@ -48,10 +47,8 @@ step_conflict_free symmetric old new (Left e) step free =
 
 -- whether two modes conflict does not depend on their order
 conflict_flips : ConflictIsSymmetric
-conflict_flips Shared Shared conflict = conflict
-conflict_flips Shared Exclusive conflict = conflict
-conflict_flips Exclusive Shared conflict = conflict
-conflict_flips Exclusive Exclusive conflict = conflict
+unfolding compatible
+conflict_flips a b conflict = grind (arith, conflict)
 
 pub stays_conflict_free : (old new : LockTable) (mark : Mark) → TableStep old mark new → IsConflictFree old.holding → IsConflictFree new.holding
 stays_conflict_free old new mark step free =

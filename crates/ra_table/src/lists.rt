@@ -41,13 +41,20 @@ pub fn has_earlier(list: &[Entry], entry: &Entry) -> bool
     list.iter().any(|other| goes_before(other, entry))
 }
 
+/// Returns whether two entries are the same.
+fn is_same(a: &Entry, b: &Entry) -> bool
+    ensures { IsTrue result ↔ (a.now ≡ b.now) }
+{
+    a == b
+}
+
 /// Returns where the entry stands in the list.
 pub fn place_of(list: &[Entry], entry: &Entry) -> Option<usize>
     ensures absent { IsNone result ↔ ¬ (Contains list.now entry.now) }
     ensures found { IfSome result (λ place. (place < length list.now)
         × (slice_index_or list.now place entry.now ≡ entry.now)) }
 {
-    list.iter().position(|other| other == entry)
+    list.iter().position(|other| is_same(other, entry))
 }
 
 /// Puts the entry at the end of a list of few, in which no room is kept for more: there are as many such lists as

@@ -18,7 +18,9 @@ use Rattle.ra_trace.specs.declared.verdict.Cause.TheVariants as cause
 use Rattle.ra_trace.specs.declared.verdict.Verdict.{Verdict}
 use Rattle.ra_trace.specs.declared.verdict.Verdict.TheVariants.{Valid, Invalid}
 use Rattle.ra_trace.specs.declared.checker.Checker.{Checker}
-use Rattle.ra_trace.specs.TraceText.{IsLine, BeginsWith, line_text, trace_lines}
+use Rattle.ra_trace.specs.declared.version.Version.{Version}
+use Rattle.ra_trace.specs.Forms.{IsReadable, BeginsReadable}
+use Rattle.ra_trace.specs.TraceText.{IsLine, line_text, trace_lines}
 use Rattle.ra_trace.specs.Verdict.{IsFront, IsFirst, IsWrong}
 use Rattle.ra_trace.specs.Reading.{IsWhole, AreRight, IsOpenLine, IsOpen, IsOver, HasBegun, HasRead, Judges, StopsBehind, Answers}
 use Rattle.ra_trace.specs.NextLine.{EndsSo, TakesBytes, FailsWithin, IsOverLine, HasNone, EndsText}
@@ -26,6 +28,7 @@ use Rattle.ra_trace.specs.Checking.{due_of, StandsBehind, Takes, Refuses, Allows
 use Rattle.ra_trace.specs.Along.{IsBehind, IsAlong, IsDone, Opens, Judged, Turns, SomeTaken}
 use Rattle.ra_trace.specs.Below.{LawsBelow}
 use Rattle.ra_trace.proofs.Lines.{begins_once}
+use Rattle.ra_trace.proofs.Versions.{begins_readable}
 use Rattle.ra_trace.proofs.Fronts.{front_and_last, no_trace}
 use Rattle.ra_trace.proofs.Ends.{feed_is_over, some_bytes_at_feed}
 
@@ -100,7 +103,7 @@ nothing_read : (limit : ℕ) (old : Option (List ℕ)) → IsBehind limit limit 
 nothing_read limit old = record { taken = nothing_taken old; room = omega arith; right = inl refl }
 
 no_line_is_whole : IsWhole [] → ⊥
-no_line_is_whole (n, start, moves, trace, is) = let none : [] ≡ trace_lines n start moves = is in cc
+no_line_is_whole (version, n, start, moves, trace, is) = let none : [] ≡ trace_lines version n start moves = is in cc
 
 pub fails_first : (limit : ℕ) (old new : Option (List ℕ)) (bytes : List ℕ) (fault : TraceError) → FailsWithin limit old new bytes fault → Answers limit old new (Err fault)
 fails_first limit old new bytes fault failed =
@@ -111,21 +114,27 @@ pub none_first : (limit : ℕ) (old new : Option (List ℕ)) (bytes : List ℕ) 
     → HasNone bytes new → Judges limit old new (Invalid 1 cause.Line)
 none_first limit old new bytes taken none =
     none_behind limit limit old old new [] bytes 1 cause.Line (nothing_read limit old) no_line_is_whole taken none.1 refl
-    (inl (refl, λ line rest begins first. none.0 line rest begins))
+    (inl (refl, λ version line rest begins first. none.0 line rest (begins_readable version bytes line rest begins)))
 
--- another line than the first begins it
+-- another line than the first of a version begins it
 pub other_first : (limit : ℕ) (old new : Option (List ℕ)) (bytes : List ℕ) (line : Line) → TakesBytes limit old new bytes
-    → BeginsWith bytes line [] → EndsSo Feed bytes new → (IsFirst line → ⊥) → Judges limit old new (Invalid 1 cause.Line)
+    → BeginsReadable bytes line [] → EndsSo Feed bytes new → ((version : Version) → IsLine version line → IsFirst line → ⊥) → Judges limit old new (Invalid 1 cause.Line)
 other_first limit old new bytes line taken begins ended other =
     none_behind limit limit old old new [] bytes 1 cause.Line (nothing_read limit old) no_line_is_whole taken (inl (feed_is_over bytes new ended)) refl
-    (inl (refl, λ l r b first. other (subst IsFirst (begins_once bytes l line r [] b begins).0 first)))
+    (inl (
+      refl,
+      λ version l r b first.
+          let same = (begins_once bytes l line r [] (begins_readable version bytes l r b) begins).0 in
+          other version (subst (IsLine version) same b.0) (subst IsFirst same first),
+    ))
 
 -- ---- The lines that come next
 
 not_whole : LawsBelow → (limit left : ℕ) (old now : Option (List ℕ)) (checker : Checker) (number : ℕ)
     → (along : IsAlong limit left old now checker number) → IsWhole along.front → ⊥
-not_whole laws limit left old now checker number along (n, start, moves, trace, is) =
-    no_trace laws checker.world.count checker.world.start checker.world.moves (due_of checker) n start moves along.front along.stands.front is
+not_whole laws limit left old now checker number along (version, n, start, moves, trace, is) =
+    no_trace laws checker.version checker.world.count checker.world.start checker.world.moves (due_of checker) version n start moves along.front
+    along.stands.front is
 
 -- one line more
 one_more : (front : List Line) (line : Line) (bytes : List ℕ) → bytes ≡ line_text line ++ []
@@ -133,7 +142,7 @@ one_more : (front : List Line) (line : Line) (bytes : List ℕ) → bytes ≡ li
 one_more front line bytes is = ap (λ (xs : List ℕ). flat_map line_text front ++ xs) is ∙ sym (flat_map-append line_text front (line ∷ []))
 
 behind_one_more : (limit left : ℕ) (old now new : Option (List ℕ)) (front : List Line) (line : Line) (bytes : List ℕ)
-    → IsBehind limit left old now front → TakesBytes left now new bytes → BeginsWith bytes line [] → AreRight (front ++ line ∷ [])
+    → IsBehind limit left old now front → TakesBytes left now new bytes → BeginsReadable bytes line [] → AreRight (front ++ line ∷ [])
     → IsBehind limit (left - length bytes) old new (front ++ line ∷ [])
 behind_one_more limit left old now new front line bytes behind taken begins right =
     let is = one_more front line bytes begins.1 in
@@ -145,10 +154,10 @@ behind_one_more limit left old now new front line bytes behind taken begins righ
 
 stands_right : (checker : Checker) (front : List Line) → StandsBehind checker front → AreRight front
 stands_right checker front stands =
-    inr (inl (checker.world.count, checker.world.start, checker.world.moves, due_of checker, stands.front))
+    inr (inl (checker.version, checker.world.count, checker.world.start, checker.world.moves, due_of checker, stands.front))
 
 -- behind the first line
-pub along_first : (limit : ℕ) (old new : Option (List ℕ)) (bytes : List ℕ) (line : Line) (checker : Checker) → TakesBytes limit old new bytes → BeginsWith bytes line [] → (IsLine line → StandsBehind checker (line ∷ []))
+pub along_first : (limit : ℕ) (old new : Option (List ℕ)) (bytes : List ℕ) (line : Line) (checker : Checker) → TakesBytes limit old new bytes → BeginsReadable bytes line [] → (IsReadable line → StandsBehind checker (line ∷ []))
     → IsAlong limit (limit - length bytes) old new checker 2
 along_first limit old new bytes line checker taken begins stands = record {
   front = line ∷ [];
@@ -160,16 +169,17 @@ along_first limit old new bytes line checker taken begins stands = record {
 }
 
 no_memory_first : (limit : ℕ) (old new : Option (List ℕ)) (bytes : List ℕ) (line : Line) → TakesBytes limit old new bytes
-    → BeginsWith bytes line [] → HasBegun (line ∷ []) → StopsBehind limit old new
+    → BeginsReadable bytes line [] → HasBegun (line ∷ []) → StopsBehind limit old new
 no_memory_first limit old new bytes line taken begins begun =
     stops_behind limit (limit - length bytes) old new (line ∷ [])
     (behind_one_more limit limit old old new [] line bytes (nothing_read limit old) taken begins (inr (inl begun))) begun
 
 -- what the first line comes to
 pub opens_by : (limit : ℕ) (old new : Option (List ℕ)) (bytes : List ℕ) (line : Line) (result : Result (Option Checker) TraceError)
-    → TakesBytes limit old new bytes → BeginsWith bytes line [] → EndsSo Feed bytes new
-    → IfOk result (λ opened. IfSome opened (λ checker. IsLine line → StandsBehind checker (line ∷ [])))
-    → IfOk result (λ opened. IsNone opened → IsFirst line → ⊥) → IfErr result (λ fault. (fault ≡ Memory) × (IsLine line → HasBegun (line ∷ [])))
+    → TakesBytes limit old new bytes → BeginsReadable bytes line [] → EndsSo Feed bytes new
+    → IfOk result (λ opened. IfSome opened (λ checker. IsReadable line → StandsBehind checker (line ∷ [])))
+    → IfOk result (λ opened. IsNone opened → (version : Version) → IsLine version line → IsFirst line → ⊥)
+    → IfErr result (λ fault. (fault ≡ Memory) × (IsReadable line → HasBegun (line ∷ [])))
     → Opens limit old new bytes result
 opens_by limit old new bytes line (Ok (Some checker)) taken begins ended some none err = along_first limit old new bytes line checker taken begins some
 opens_by limit old new bytes line (Ok None) taken begins ended some none err = other_first limit old new bytes line taken begins ended (none refl)
@@ -178,7 +188,7 @@ opens_by limit old new bytes line (Err fault) taken begins ended some none err =
     (no_memory_first limit old new bytes line taken begins (err.1 begins.0))
 
 along_by : (limit left : ℕ) (old now new : Option (List ℕ)) (checker after : Checker) (number : ℕ) (line : Line) (bytes : List ℕ)
-    → (along : IsAlong limit left old now checker number) → TakesBytes left now new bytes → BeginsWith bytes line []
+    → (along : IsAlong limit left old now checker number) → TakesBytes left now new bytes → BeginsReadable bytes line []
     → StandsBehind after (along.front ++ line ∷ []) → IsAlong limit (left - length bytes) old new after (number + 1)
 along_by limit left old now new checker after number line bytes along taken begins stands = record {
   front = along.front ++ line ∷ [];
@@ -191,9 +201,9 @@ along_by limit left old now new checker after number line bytes along taken begi
 
 -- behind one more line, which was right and is not the last one
 pub along_more : (limit left : ℕ) (old now new : Option (List ℕ)) (checker after : Checker) (number : ℕ) (line : Line) (bytes : List ℕ)
-    → IsAlong limit left old now checker number → TakesBytes left now new bytes → BeginsWith bytes line [] → line ≢ Last
+    → IsAlong limit left old now checker number → TakesBytes left now new bytes → BeginsReadable bytes line [] → line ≢ Last
     → Takes checker line after → IsAlong limit (left - length bytes) old new after (number + 1)
-along_more limit left old now new checker after number (First nodes start) bytes along taken begins more takes = absurd takes
+along_more limit left old now new checker after number (First version nodes start) bytes along taken begins more takes = absurd takes
 along_more limit left old now new checker after number (Stepped step) bytes along taken begins more takes =
     along_by limit left old now new checker after number (Stepped step) bytes along taken begins (takes.on along.front begins.0 along.stands)
 along_more limit left old now new checker after number (Marked mark) bytes along taken begins more takes =
@@ -214,20 +224,25 @@ none_next laws limit left old now new checker number bytes along taken none =
     none_behind limit left old now new along.front bytes number cause.Line along.behind (not_whole laws limit left old now checker number along) taken
     none.1 along.number_is
     (inr (inl (
-      (checker.world.count, checker.world.start, checker.world.moves, due_of checker, along.stands.front),
-      λ line rest begins. absurd (none.0 line rest begins),
+      checker.version,
+      checker.world.count,
+      checker.world.start,
+      checker.world.moves,
+      due_of checker,
+      along.stands.front,
+      λ line rest begins. absurd (none.0 line rest (begins_readable checker.version bytes line rest begins)),
     )))
 
 -- the checker refuses the next line
 pub wrong_next : LawsBelow → (limit left : ℕ) (old now new : Option (List ℕ)) (checker : Checker) (number : ℕ) (line : Line) (bytes : List ℕ)
-    (why : Cause) → IsAlong limit left old now checker number → TakesBytes left now new bytes → BeginsWith bytes line []
+    (why : Cause) → IsAlong limit left old now checker number → TakesBytes left now new bytes → BeginsReadable bytes line []
     → EndsSo Feed bytes new → Refuses checker line why → Judges limit old new (Invalid number why)
 wrong_next laws limit left old now new checker number line bytes why along taken begins ended refused =
     none_behind limit left old now new along.front bytes number why along.behind (not_whole laws limit left old now checker number along) taken
     (inl (feed_is_over bytes new ended)) along.number_is (refused.wrong along.front bytes [] along.stands begins)
 
 no_memory_next : (limit left : ℕ) (old now new : Option (List ℕ)) (checker : Checker) (number : ℕ) (line : Line) (bytes : List ℕ)
-    → IsAlong limit left old now checker number → TakesBytes left now new bytes → BeginsWith bytes line [] → Allows checker line
+    → IsAlong limit left old now checker number → TakesBytes left now new bytes → BeginsReadable bytes line [] → Allows checker line
     → StopsBehind limit old new
 no_memory_next limit left old now new checker number line bytes along taken begins allows =
     let begun = allows.right along.front begins.0 along.stands in
@@ -237,28 +252,28 @@ no_memory_next limit left old now new checker number line bytes along taken begi
 -- ---- Behind the last line
 
 front_at_end : (checker : Checker) (front : List Line) → StandsBehind checker front → due_of checker ≡ []
-    → IsFront checker.world.count checker.world.start checker.world.moves [] front
+    → IsFront checker.version checker.world.count checker.world.start checker.world.moves [] front
 front_at_end checker front stands none =
-    subst (λ ms. IsFront checker.world.count checker.world.start checker.world.moves ms front) none stands.front
+    subst (λ ms. IsFront checker.version checker.world.count checker.world.start checker.world.moves ms front) none stands.front
 
 done_by : (limit left : ℕ) (old now new : Option (List ℕ)) (checker : Checker) (number : ℕ) (bytes : List ℕ)
-    → IsAlong limit left old now checker number → TakesBytes left now new bytes → BeginsWith bytes Last [] → due_of checker ≡ []
+    → IsAlong limit left old now checker number → TakesBytes left now new bytes → BeginsReadable bytes Last [] → due_of checker ≡ []
     → IsDone limit (left - length bytes) old new checker (number + 1)
 done_by limit left old now new checker number bytes along taken begins none =
     let w = checker.world in
-    let (lines, trace) = front_and_last w.count w.start w.moves along.front (front_at_end checker along.front along.stands none) in
+    let (lines, trace) = front_and_last checker.version w.count w.start w.moves along.front (front_at_end checker along.front along.stands none) in
     record {
       front = along.front ++ Last ∷ [];
       behind =
           behind_one_more limit left old now new along.front Last bytes along.behind taken begins
-          (inr (inr (w.count, w.start, w.moves, trace, lines)));
+          (inr (inr (checker.version, w.count, w.start, w.moves, trace, lines)));
       number_is = omega (arith, along.number_is, length-append along.front (Last ∷ []));
       trace = trace;
       lines = lines;
     }
 
 done_by_last : (limit left : ℕ) (old now new : Option (List ℕ)) (checker after : Checker) (number : ℕ) (bytes : List ℕ)
-    → IsAlong limit left old now checker number → TakesBytes left now new bytes → BeginsWith bytes Last [] → Takes checker Last after
+    → IsAlong limit left old now checker number → TakesBytes left now new bytes → BeginsReadable bytes Last [] → Takes checker Last after
     → IsDone limit (left - length bytes) old new after (number + 1)
 done_by_last limit left old now new checker after number bytes along taken begins takes =
     subst (λ (c : Checker). IsDone limit (left - length bytes) old new c (number + 1)) (sym takes.0)
@@ -266,12 +281,12 @@ done_by_last limit left old now new checker after number bytes along taken begin
 
 -- what the line comes to that was read
 pub turns_by : LawsBelow → (limit left : ℕ) (old now new : Option (List ℕ)) (checker after : Checker) (number : ℕ) (line : Line) (bytes : List ℕ)
-    (result : Result Next TraceError) → IsAlong limit left old now checker number → TakesBytes left now new bytes → BeginsWith bytes line []
+    (result : Result Next TraceError) → IsAlong limit left old now checker number → TakesBytes left now new bytes → BeginsReadable bytes line []
     → EndsSo Feed bytes new → Judged checker line after result → Turns limit left old new after number bytes result
 turns_by laws limit left old now new checker after number line bytes (Ok Next.Right) along taken begins ended is =
     along_more limit left old now new checker after number line bytes along taken begins is.0 is.1
 turns_by laws limit left old now new checker after number line bytes (Ok Next.Last) along taken begins ended is =
-    done_by_last limit left old now new checker after number bytes along taken (subst (λ (l : Line). BeginsWith bytes l []) is.0 begins)
+    done_by_last limit left old now new checker after number bytes along taken (subst (λ (l : Line). BeginsReadable bytes l []) is.0 begins)
     (subst (λ (l : Line). Takes checker l after) is.0 is.1)
 turns_by laws limit left old now new checker after number line bytes (Ok (Next.Wrong why)) along taken begins ended is =
     wrong_next laws limit left old now new checker number line bytes why along taken begins ended is
@@ -300,7 +315,7 @@ valid_at_end limit left old now new checker number done taken ended =
       [],
       has_read limit left old now new done.front [] done.behind taken (omega arith),
       inr (nothing_is_open done.front, ended),
-      (refl, (w.count, w.start, w.moves, done.trace, refl, refl)),
+      (refl, (checker.version, w.count, w.start, w.moves, done.trace, refl, refl)),
     )
 
 -- something does
@@ -308,13 +323,13 @@ wrong_behind_end : (limit left : ℕ) (old now new : Option (List ℕ)) (checker
     → IsDone limit left old now checker number → 1 ≤ left → Consumes now new (byte ∷ []) → Judges limit old new (Invalid number cause.Line)
 wrong_behind_end limit left old now new checker number byte done some taken =
     let w = checker.world in
-    let whole : IsWhole done.front = (w.count, w.start, w.moves, done.trace, done.lines) in
+    let whole : IsWhole done.front = (checker.version, w.count, w.start, w.moves, done.trace, done.lines) in
     let more : byte ∷ [] ≢ [] = λ e. cc in (
       done.front,
       byte ∷ [],
       has_read limit left old now new done.front (byte ∷ []) done.behind taken some,
       inl ([], byte, nothing_is_open done.front, refl, inr (inr whole)),
-      (done.number_is, inr (inr (whole, more))),
+      (done.number_is, inr (inr (checker.version, w.count, w.start, w.moves, done.trace, done.lines, more))),
     )
 
 fails_at_end : (limit left : ℕ) (old now new : Option (List ℕ)) (checker : Checker) (number : ℕ) (fault : TraceError)

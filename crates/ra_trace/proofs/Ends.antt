@@ -7,8 +7,7 @@ use Rattle.std.proofs.lemmas.List.Elements.{All-nil, All-cons, All-head, All-tai
 use Rattle.std.proofs.lemmas.Option.{some_pair_parts}
 use Rattle.ra_trace.specs.declared.line.Line.{Line}
 use Rattle.ra_trace.specs.declared.reading.LineEnd.TheVariants.{Feed, Length, Input}
-use Rattle.ra_trace.specs.Forms.{cut, line_in}
-use Rattle.ra_trace.specs.TraceText.{BeginsWith}
+use Rattle.ra_trace.specs.Forms.{BeginsReadable, cut, line_in}
 use Rattle.ra_trace.specs.NextLine.{EndsSo, TakesBytes, IsOverLine, HasNone, ReadsNext}
 use Rattle.ra_trace.proofs.Cuts.{IsFree, cut-append}
 use Rattle.ra_trace.proofs.Lines.{begins_read, read_begins, unread}
@@ -31,7 +30,7 @@ feed_is_late (b ∷ bytes) more (c ∷ before) rest h e =
     let late = feed_is_late bytes more before rest (All-tail (λ byte. byte ≢ 10) b bytes h) cc in omega (arith, late)
 
 -- a line has a line feed behind fewer than 127 bytes
-line_feeds : (text : List ℕ) (line : Line) (rest : List ℕ) → BeginsWith text line rest
+line_feeds : (text : List ℕ) (line : Line) (rest : List ℕ) → BeginsReadable text line rest
     → (text ≡ body line ++ 10 ∷ rest) × (length (body line) < 127)
 line_feeds text line rest h =
     let has = has_body line h.0 in
@@ -39,7 +38,7 @@ line_feeds text line rest h =
 
 -- no line begins where no line feed is within its length
 pub no_line_in : (bytes more : List ℕ) → NoFeed bytes → (more ≡ []) ⊎ (127 ≤ length bytes) → (line : Line) (rest : List ℕ)
-    → BeginsWith (bytes ++ more) line rest → ⊥
+    → BeginsReadable (bytes ++ more) line rest → ⊥
 no_line_in bytes more h where_ line rest begins =
     let (is, short) = line_feeds (bytes ++ more) line rest begins in
     let late = feed_is_late bytes more (body line) rest h is in
@@ -51,8 +50,8 @@ no_line_in bytes more h where_ line rest begins =
     ]
 
 -- where its line feed came, the line is there already
-begins_at_feed : (before more : List ℕ) (line : Line) (rest : List ℕ) → NoFeed before → BeginsWith ((before ++ 10 ∷ []) ++ more) line rest
-    → BeginsWith (before ++ 10 ∷ []) line []
+begins_at_feed : (before more : List ℕ) (line : Line) (rest : List ℕ) → NoFeed before → BeginsReadable ((before ++ 10 ∷ []) ++ more) line rest
+    → BeginsReadable (before ++ 10 ∷ []) line []
 begins_at_feed before more line rest h begins =
     let (cuts, reads) = begins_read ((before ++ 10 ∷ []) ++ more) line rest begins in
     let here : cut 10 ((before ++ 10 ∷ []) ++ more) ≡ Some (before, more) =
@@ -65,15 +64,15 @@ All-push P [] byte h p = All-cons P byte [] p (All-nil P)
 All-push P (b ∷ bytes) byte h p = All-cons P b (bytes ++ byte ∷ []) (All-head P b bytes h) (All-push P bytes byte (All-tail P b bytes h) p)
 
 -- a line that begins the bytes of one that is over, and more, begins them alone
-pub begins_before : (bytes more : List ℕ) (line : Line) (rest : List ℕ) → IsOverLine bytes → BeginsWith (bytes ++ more) line rest
-    → (others : List ℕ) × BeginsWith bytes line others
+pub begins_before : (bytes more : List ℕ) (line : Line) (rest : List ℕ) → IsOverLine bytes → BeginsReadable (bytes ++ more) line rest
+    → (others : List ℕ) × BeginsReadable bytes line others
 begins_before bytes more line rest (before, byte, opened, is, how) begins =
     elim (cases_Bool (byte == 10)) [
       | inl feed ↦
           let whole : bytes ≡ before ++ 10 ∷ [] = is ∙ ap (λ (b : ℕ). before ++ b ∷ []) (eqb-true byte 10 feed) in (
             [],
-            subst (λ (xs : List ℕ). BeginsWith xs line []) (sym whole)
-                (begins_at_feed before more line rest opened.0 (subst (λ (xs : List ℕ). BeginsWith (xs ++ more) line rest) whole begins)),
+            subst (λ (xs : List ℕ). BeginsReadable xs line []) (sym whole)
+                (begins_at_feed before more line rest opened.0 (subst (λ (xs : List ℕ). BeginsReadable (xs ++ more) line rest) whole begins)),
           )
       | inr other ↦
           elim how [
@@ -124,7 +123,7 @@ before_feed bytes before is =
     ∙ take_at before (10 ∷ []) (length bytes - 1) (omega (arith, ap length is, length-append before (10 ∷ [])))
 
 pub some_at_feed : (bytes front : List ℕ) (line : Line) (new : Option (List ℕ)) → EndsSo Feed bytes new → front ≡ take (length bytes - 1) bytes
-    → line_in front ≡ Some line → BeginsWith bytes line []
+    → line_in front ≡ Some line → BeginsReadable bytes line []
 some_at_feed bytes front line new (before, opened, is) cuts reads =
     let same : before ≡ front = sym (cuts ∙ before_feed bytes before is) in
     read_begins bytes before [] line (ap (cut 10) is ∙ cut-append 10 before [] (free before opened.0)) (ap line_in same ∙ reads)
@@ -140,13 +139,13 @@ none_at_feed bytes front new (before, opened, is) cuts none =
 
 pub none_at_length : (bytes : List ℕ) (new : Option (List ℕ)) → EndsSo Length bytes new → HasNone bytes new
 none_at_length bytes new (none, long) = (
-  λ line rest begins. no_line_in bytes [] none (inl refl) line rest (subst (λ (xs : List ℕ). BeginsWith xs line rest) (sym (append-nil bytes)) begins),
+  λ line rest begins. no_line_in bytes [] none (inl refl) line rest (subst (λ (xs : List ℕ). BeginsReadable xs line rest) (sym (append-nil bytes)) begins),
   inl (long_is_over bytes none long),
 )
 
 pub none_at_input : (bytes : List ℕ) (new : Option (List ℕ)) → EndsSo Input bytes new → HasNone bytes new
 none_at_input bytes new (opened, ended) = (
-  λ line rest begins. no_line_in bytes [] opened.0 (inl refl) line rest (subst (λ (xs : List ℕ). BeginsWith xs line rest) (sym (append-nil bytes)) begins),
+  λ line rest begins. no_line_in bytes [] opened.0 (inl refl) line rest (subst (λ (xs : List ℕ). BeginsReadable xs line rest) (sym (append-nil bytes)) begins),
   inr (opened, ended),
 )
 

@@ -13,18 +13,21 @@ use Rattle.ra_trace.specs.declared.verdict.Cause.{Cause}
 use Rattle.ra_trace.specs.declared.verdict.Cause.TheVariants as cause
 use Rattle.ra_trace.specs.declared.verdict.Verdict.{Verdict}
 use Rattle.ra_trace.specs.declared.verdict.Verdict.TheVariants.{Valid, Invalid}
-use Rattle.ra_trace.specs.TraceText.{IsTrace, BeginsWith, line_text, trace_lines}
+use Rattle.ra_trace.specs.declared.version.Version.{Version}
+use Rattle.ra_trace.specs.TraceText.{IsTraceIn, BeginsWith, line_text, trace_lines}
 use Rattle.ra_trace.specs.Verdict.{HasNoLine, IsWrong, IsVerdict, IsTraceOfTableRun}
 use Rattle.ra_trace.specs.Reading.{IsWhole, IsOver, Judges, Answers}
 use Rattle.ra_trace.specs.NextLine.{IsOverLine}
 use Rattle.ra_trace.specs.Below.{LawsBelow}
 use Rattle.ra_trace.proofs.Ends.{begins_before}
+use Rattle.ra_trace.proofs.Versions.{begins_readable}
 use Rattle.ra_trace.proofs.Fronts.{no_trace}
 
 -- ---- What is wrong stays wrong, whatever stands behind what was read
 
-begins_more : (text more : List ℕ) (line : Line) (rest : List ℕ) → BeginsWith text line rest → BeginsWith (text ++ more) line (rest ++ more)
-begins_more text more line rest begins =
+begins_more : (version : Version) (text more : List ℕ) (line : Line) (rest : List ℕ) → BeginsWith version text line rest
+    → BeginsWith version (text ++ more) line (rest ++ more)
+begins_more version text more line rest begins =
     (begins.0, ap (λ (bytes : List ℕ). bytes ++ more) begins.1 ∙ append_assoc (line_text line) rest more)
 
 over_line : (front : List Line) (rest : List ℕ) → IsOver front rest → (IsWhole front → ⊥) → IsOverLine rest
@@ -36,40 +39,52 @@ over_line front rest (before, byte, opened, is, how) more = (
   elim how [ inl feed ↦ inl feed | inr other ↦ elim other [ inl long ↦ inr long | inr whole ↦ absurd (more whole) ] ],
 )
 
+-- a line that begins what is over, and more, begins it alone
+begins_over : (version : Version) (rest more : List ℕ) (line : Line) (behind : List ℕ) → IsOverLine rest → BeginsWith version (rest ++ more) line behind
+    → (others : List ℕ) × BeginsWith version rest line others
+begins_over version rest more line behind over begins =
+    let b = begins_before rest more line behind over (begins_readable version (rest ++ more) line behind begins) in (b.0, (begins.0, b.1.1))
+
 some_bytes : (before : List ℕ) (byte : ℕ) (more : List ℕ) → (before ++ byte ∷ []) ++ more ≢ []
 some_bytes [] byte more e = absurd cc
 some_bytes (b ∷ before) byte more e = absurd cc
 
 no_line_goes_on : LawsBelow → (front : List Line) (rest more : List ℕ) → IsOver front rest → HasNoLine front rest → HasNoLine front (rest ++ more)
 no_line_goes_on laws front rest more over (inl (none, other)) =
-    let part : IsWhole front → ⊥ = λ whole. let clash : [] ≡ trace_lines whole.0 whole.1 whole.2 = sym none ∙ whole.4 in cc in
+    let part : IsWhole front → ⊥ = λ whole. let clash : [] ≡ trace_lines whole.0 whole.1 whole.2 whole.3 = sym none ∙ whole.5 in cc in
     inl (
       none,
-      λ line behind begins first.
-          let b = begins_before rest more line behind (over_line front rest over part) begins in other line b.0 b.1 first,
+      λ version line behind begins first.
+          let b = begins_over version rest more line behind (over_line front rest over part) begins in other version line b.0 b.1 first,
     )
-no_line_goes_on laws front rest more over (inr (inl (there, any))) =
+no_line_goes_on laws front rest more over (inr (inl (version, n, start, moves, due, stands, any))) =
     let part : IsWhole front → ⊥ = λ whole.
-    no_trace laws there.0 there.1 there.2 there.3 whole.0 whole.1 whole.2 front there.4 whole.4 in
+    no_trace laws version n start moves due whole.0 whole.1 whole.2 whole.3 front stands whole.5 in
     inr (inl (
-      there,
+      version,
+      n,
+      start,
+      moves,
+      due,
+      stands,
       λ line behind begins.
-          let b = begins_before rest more line behind (over_line front rest over part) begins in any line b.0 b.1,
+          let b = begins_over version rest more line behind (over_line front rest over part) begins in any line b.0 b.1,
     ))
-no_line_goes_on laws front rest more (before, byte, opened, is, how) (inr (inr (trace, some))) =
-    inr (inr (trace, λ none. some_bytes before byte more (ap (λ (bytes : List ℕ). bytes ++ more) (sym is) ∙ none)))
+no_line_goes_on laws front rest more (before, byte, opened, is, how) (inr (inr (version, n, start, moves, trace, whole, some))) =
+    let more_left = λ (none : rest ++ more ≡ []). some_bytes before byte more (ap (λ (bytes : List ℕ). bytes ++ more) (sym is) ∙ none) in
+    inr (inr (version, n, start, moves, trace, whole, more_left))
 
 pub wrong_goes_on : LawsBelow → (front : List Line) (rest more : List ℕ) (why : Cause) → IsOver front rest → IsWrong front rest why
     → IsWrong front (rest ++ more) why
 wrong_goes_on laws front rest more cause.Line over w = no_line_goes_on laws front rest more over w
-wrong_goes_on laws front rest more cause.Table over (n, start, moves, due, behind, mark, others, begins, refused) =
-    (n, start, moves, due, behind, mark, others ++ more, begins_more rest more (Marked mark) others begins, refused)
-wrong_goes_on laws front rest more cause.Marks over (n, start, moves, due, behind, line, others, begins, undue) =
-    (n, start, moves, due, behind, line, others ++ more, begins_more rest more line others begins, undue)
-wrong_goes_on laws front rest more cause.Refused over (n, start, moves, behind, step, others, begins, whose, stops) =
-    (n, start, moves, behind, step, others ++ more, begins_more rest more (Stepped step) others begins, whose, stops)
-wrong_goes_on laws front rest more cause.NotUnderWay over (n, start, moves, behind, step, others, begins, takes, stops) =
-    (n, start, moves, behind, step, others ++ more, begins_more rest more (Stepped step) others begins, takes, stops)
+wrong_goes_on laws front rest more cause.Table over (version, n, start, moves, due, behind, mark, others, begins, refused) =
+    (version, n, start, moves, due, behind, mark, others ++ more, begins_more version rest more (Marked mark) others begins, refused)
+wrong_goes_on laws front rest more cause.Marks over (version, n, start, moves, due, behind, line, others, begins, undue) =
+    (version, n, start, moves, due, behind, line, others ++ more, begins_more version rest more line others begins, undue)
+wrong_goes_on laws front rest more cause.Refused over (version, n, start, moves, behind, step, others, begins, whose, stops) =
+    (version, n, start, moves, behind, step, others ++ more, begins_more version rest more (Stepped step) others begins, whose, stops)
+wrong_goes_on laws front rest more cause.NotUnderWay over (version, n, start, moves, behind, step, others, begins, takes, stops) =
+    (version, n, start, moves, behind, step, others ++ more, begins_more version rest more (Stepped step) others begins, takes, stops)
 
 -- ---- The whole input
 
@@ -133,9 +148,9 @@ pub table_of_input : LawsBelow → (limit : ℕ) (old new : Option (List ℕ)) (
 table_of_input laws limit None new verdict j = tt
 table_of_input laws limit (Some input) new verdict j = λ requests messages is.
     let found = subst (IsVerdict input) is (verdict_of_bytes laws limit input new verdict j) in
-    let trace = found.3 in
-    let table = laws.has_table found.0 found.1 found.2 trace.count trace.run in
-    (found.0, found.1, found.2, trace, table.0, table.1)
+    let trace = found.4 in
+    let table = laws.has_table found.1 found.2 found.3 trace.count trace.run in
+    (found.0, found.1, found.2, found.3, trace, table.0, table.1)
 
 -- what was read has the verdict too
 pub alone : (limit : ℕ) (old new : Option (List ℕ)) (verdict : Verdict) → Judges limit old new verdict
@@ -158,12 +173,12 @@ only_verdict laws one limit (Some input) new verdict j = λ other.
 
 pub trace_of_input : LawsBelow → ((text : List ℕ) (a b : Verdict) → IsVerdict text a → IsVerdict text b → a ≡ b)
     → (limit : ℕ) (old new : Option (List ℕ)) (verdict : Verdict) → Judges limit old new verdict
-    → IfSome old (λ input. (n start : ℕ) (moves : List Move) → IsTrace n start moves input
+    → IfSome old (λ input. (version : Version) (n start : ℕ) (moves : List Move) → IsTraceIn version n start moves input
     → verdict ≡ Valid (requests_in (marks_of moves)) (length (sent_by moves)))
 trace_of_input laws one limit None new verdict j = tt
-trace_of_input laws one limit (Some input) new verdict j = λ n start moves trace.
+trace_of_input laws one limit (Some input) new verdict j = λ version n start moves trace.
     one input verdict (Valid (requests_in (marks_of moves)) (length (sent_by moves))) (verdict_of_bytes laws limit input new verdict j)
-    (n, start, moves, trace, refl, refl)
+    (version, n, start, moves, trace, refl, refl)
 
 -- ---- Answers
 

@@ -8,12 +8,14 @@ use Rattle.ra_stamp.specs.declared.entry.Entry.{Entry}
 use Rattle.ra_stamp.specs.declared.entry.Mark.TheVariants.{Requested, Entered, Left}
 use Rattle.ra_stamp.specs.declared.message.Message.TheVariants.{Request, Reply}
 use Rattle.ra_stamp.specs.declared.mode.Mode.{Mode}
-use Rattle.ra_stamp.specs.declared.mode.Mode.TheVariants.{Shared, Exclusive}
+use Rattle.ra_stamp.specs.declared.mode.Mode.TheVariants.{Shared, Exclusive, IntentShared, IntentExclusive, SharedIntentExclusive}
 use Rattle.ra_world.specs.declared.step.Step.TheVariants.{Ask, Leave, Deliver, Lose}
-use Rattle.ra_world.specs.Lines.{mode_letter}
+use Rattle.ra_world.specs.Lines.{mode_word}
 use Rattle.ra_trace.specs.declared.line.Line.{Line}
 use Rattle.ra_trace.specs.declared.line.Line.TheVariants.{First, Stepped, Marked, Last}
-use Rattle.ra_trace.specs.TraceText.{IsClientNumber, IsSeq, IsEntryLine, IsLine}
+use Rattle.ra_trace.specs.declared.version.Version.TheVariants.{One, Two}
+use Rattle.ra_trace.specs.Forms.{IsReadable}
+use Rattle.ra_trace.specs.TraceText.{IsClientNumber, IsSeq, IsEntryLine}
 use Rattle.ra_trace.proofs.Rows.{body, first_tail, leave_tail, ask_tail, reply_tail, full_tail}
 
 -- a node's number, a client's and any other have at most 20 digits
@@ -26,19 +28,22 @@ node_length n h = number_length n (let most = h.1 in omega arith)
 client_length : (n : ℕ) → IsClientNumber n → length (decimal n) ≤ 20
 client_length n h = number_length n (omega arith)
 
-mode_length : (mode : Mode) → length (mode_letter mode) ≤ 1
+mode_length : (mode : Mode) → length (mode_word mode) ≤ 3
 mode_length Shared = omega arith
 mode_length Exclusive = omega arith
+mode_length IntentShared = omega arith
+mode_length IntentExclusive = omega arith
+mode_length SharedIntentExclusive = omega arith
 
 two : (a b : List ℕ) (n m : ℕ) → length a ≤ n → length b ≤ m → length (a ++ 32 ∷ b) ≤ n + (m + 1)
 two a b n m first second = omega (arith, length-append a (32 ∷ b))
 
 full_length : (node client seq : ℕ) (name : List ℕ) (mode : Mode) → length (decimal node) ≤ 20 → length (decimal client) ≤ 20 → IsName name → IsSeq seq
-    → length (full_tail (node, (client, (name, (mode, seq))))) ≤ 97
+    → length (full_tail (node, (client, (name, (mode, seq))))) ≤ 99
 full_length node client seq name mode first second is last =
-    two (decimal node) _ 20 76 first
-    (two (decimal client) _ 20 55 second
-    (two name _ 32 22 is.not_long (two (mode_letter mode) (decimal seq) 1 20 (mode_length mode) (number_length seq last.1))))
+    two (decimal node) _ 20 78 first
+    (two (decimal client) _ 20 57 second
+    (two name _ 32 24 is.not_long (two (mode_word mode) (decimal seq) 3 20 (mode_length mode) (number_length seq last.1))))
 
 reply_length : (from to seq : ℕ) (name : List ℕ) → IsNodeNumber from → IsNodeNumber to → IsName name → IsSeq seq
     → length (reply_tail (from, (to, (name, seq)))) ≤ 95
@@ -46,40 +51,43 @@ reply_length from to seq name first second is last =
     two (decimal from) _ 20 74 (node_length from first)
     (two (decimal to) _ 20 53 (node_length to second) (two name (decimal seq) 32 20 is.not_long (number_length seq last.1)))
 
-entry_length : (entry : Entry) → IsEntryLine entry
-    → length (full_tail (entry.stamp.node, (entry.client, (entry.name, (entry.mode, entry.stamp.seq))))) ≤ 97
+entry_length : (entry : Entry) → IsEntryLine Two entry
+    → length (full_tail (entry.stamp.node, (entry.client, (entry.name, (entry.mode, entry.stamp.seq))))) ≤ 99
 entry_length entry h =
     full_length entry.stamp.node entry.client entry.stamp.seq entry.name entry.mode (node_length entry.stamp.node h.0)
-    (client_length entry.client h.1) h.2 h.3
+    (client_length entry.client h.1) h.2 h.4
 
 behind_words : (words tail : List ℕ) (n : ℕ) → length tail ≤ n → length words + n < 127 → length (words ++ tail) < 127
 behind_words words tail n short fits = omega (arith, length-append words tail)
 
 -- and one byte more, its line feed, is still not too much
-pub body_is_short : (line : Line) → IsLine line → length (body line) < 127
-body_is_short (First nodes start) h =
+pub body_is_short : (line : Line) → IsReadable line → length (body line) < 127
+body_is_short (First One nodes start) h =
     behind_words (codes "trace 1 ") (first_tail (nodes, start)) 41 (two (decimal nodes) (decimal start) 20 20 (node_length nodes h.0) (number_length start h.1))
     (omega arith)
+body_is_short (First Two nodes start) h =
+    behind_words (codes "trace 2 ") (first_tail (nodes, start)) 41 (two (decimal nodes) (decimal start) 20 20 (node_length nodes h.0) (number_length start h.1))
+    (omega arith)
 body_is_short (Stepped (Ask node client name mode)) h =
-    behind_words (codes "ask ") (ask_tail (node, (client, (name, mode)))) 76
-    (two (decimal node) _ 20 55 (node_length node h.0)
-    (two (decimal client) _ 20 34 (client_length client h.1) (two name (mode_letter mode) 32 1 h.2.not_long (mode_length mode))))
+    behind_words (codes "ask ") (ask_tail (node, (client, (name, mode)))) 78
+    (two (decimal node) _ 20 57 (node_length node h.0)
+    (two (decimal client) _ 20 36 (client_length client h.1) (two name (mode_word mode) 32 3 h.2.not_long (mode_length mode))))
     (omega arith)
 body_is_short (Stepped (Leave node client name)) h =
     behind_words (codes "release ") (leave_tail (node, (client, name))) 74
     (two (decimal node) _ 20 53 (node_length node h.0) (two (decimal client) name 20 32 (client_length client h.1) h.2.not_long))
     (omega arith)
 body_is_short (Stepped (Deliver (Request from to name mode seq))) h =
-    behind_words (codes "deliver request ") (full_tail (from, (to, (name, (mode, seq))))) 97
-    (full_length from to seq name mode (node_length from h.0) (node_length to h.1) h.2 h.3) (omega arith)
+    behind_words (codes "deliver request ") (full_tail (from, (to, (name, (mode, seq))))) 99
+    (full_length from to seq name mode (node_length from h.0) (node_length to h.1) h.2 h.4) (omega arith)
 body_is_short (Stepped (Deliver (Reply from to name seq))) h =
     behind_words (codes "deliver reply ") (reply_tail (from, (to, (name, seq)))) 95 (reply_length from to seq name h.0 h.1 h.2 h.3) (omega arith)
 body_is_short (Stepped (Lose (Request from to name mode seq))) h =
-    behind_words (codes "lose request ") (full_tail (from, (to, (name, (mode, seq))))) 97
-    (full_length from to seq name mode (node_length from h.0) (node_length to h.1) h.2 h.3) (omega arith)
+    behind_words (codes "lose request ") (full_tail (from, (to, (name, (mode, seq))))) 99
+    (full_length from to seq name mode (node_length from h.0) (node_length to h.1) h.2 h.4) (omega arith)
 body_is_short (Stepped (Lose (Reply from to name seq))) h =
     behind_words (codes "lose reply ") (reply_tail (from, (to, (name, seq)))) 95 (reply_length from to seq name h.0 h.1 h.2 h.3) (omega arith)
-body_is_short (Marked (Requested entry)) h = behind_words (codes "request ") _ 97 (entry_length entry h) (omega arith)
-body_is_short (Marked (Entered entry)) h = behind_words (codes "enter ") _ 97 (entry_length entry h) (omega arith)
-body_is_short (Marked (Left entry)) h = behind_words (codes "leave ") _ 97 (entry_length entry h) (omega arith)
+body_is_short (Marked (Requested entry)) h = behind_words (codes "request ") _ 99 (entry_length entry h) (omega arith)
+body_is_short (Marked (Entered entry)) h = behind_words (codes "enter ") _ 99 (entry_length entry h) (omega arith)
+body_is_short (Marked (Left entry)) h = behind_words (codes "leave ") _ 99 (entry_length entry h) (omega arith)
 body_is_short Last h = omega arith

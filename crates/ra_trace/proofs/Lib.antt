@@ -1,3 +1,4 @@
+pub mod Versions
 pub mod Cuts
 pub mod Decimals
 pub mod Lines

@@ -14,11 +14,13 @@ use Rattle.ra_stamp.specs.declared.message.Message.TheVariants.{Request, Reply}
 use Rattle.ra_stamp.specs.declared.mode.Mode.{Mode}
 use Rattle.ra_world.specs.declared.step.Step.{Step}
 use Rattle.ra_world.specs.declared.step.Step.TheVariants.{Ask, Leave, Deliver, Lose}
-use Rattle.ra_world.specs.Lines.{mode_letter, entry_fields}
+use Rattle.ra_world.specs.Lines.{mode_word, entry_fields}
 use Rattle.ra_trace.specs.declared.line.Line.{Line}
 use Rattle.ra_trace.specs.declared.line.Line.TheVariants.{First, Stepped, Marked, Last}
-use Rattle.ra_trace.specs.Forms.{Form, fields, node_of, client_of, start_of, seq_of, name_of, mode_of, first_in, ask_in, leave_in, request_in, reply_in, entry_in, last_in, forms, behind, line_by, line_in}
-use Rattle.ra_trace.specs.TraceText.{message_fields, step_line, line_text, IsClientNumber, IsSeq, IsEntryLine, IsMessageLine, IsStepLine, IsLine}
+use Rattle.ra_trace.specs.declared.version.Version.{Version}
+use Rattle.ra_trace.specs.declared.version.Version.TheVariants.{One, Two}
+use Rattle.ra_trace.specs.Forms.{Form, IsReadable, fields, node_of, client_of, start_of, seq_of, name_of, mode_of, first_in, ask_in, leave_in, request_in, reply_in, entry_in, last_in, forms, behind, line_by, line_in}
+use Rattle.ra_trace.specs.TraceText.{message_fields, step_line, line_text, IsClientNumber, IsSeq, IsEntryLine, IsMessageLine, IsStepLine}
 use Rattle.ra_trace.proofs.Cuts.{IsFree, mapped, cases_Option, behind-only}
 use Rattle.ra_trace.proofs.Spelled.{Reads, reads_fields, reads_node, reads_client, reads_start, reads_seq, reads_name, reads_mode}
 
@@ -58,13 +60,13 @@ abbrev pub leave_tail : ℕ × (ℕ × List ℕ) → List ℕ
 leave_tail f = decimal f.0 ++ 32 ∷ (decimal f.1.0 ++ 32 ∷ f.1.1)
 
 abbrev pub ask_tail : ℕ × (ℕ × (List ℕ × Mode)) → List ℕ
-ask_tail f = decimal f.0 ++ 32 ∷ (decimal f.1.0 ++ 32 ∷ (f.1.1.0 ++ 32 ∷ mode_letter f.1.1.1))
+ask_tail f = decimal f.0 ++ 32 ∷ (decimal f.1.0 ++ 32 ∷ (f.1.1.0 ++ 32 ∷ mode_word f.1.1.1))
 
 abbrev pub reply_tail : ℕ × (ℕ × (List ℕ × ℕ)) → List ℕ
 reply_tail f = decimal f.0 ++ 32 ∷ (decimal f.1.0 ++ 32 ∷ (f.1.1.0 ++ 32 ∷ decimal f.1.1.1))
 
 abbrev pub full_tail : ℕ × (ℕ × (List ℕ × (Mode × ℕ))) → List ℕ
-full_tail f = decimal f.0 ++ 32 ∷ (decimal f.1.0 ++ 32 ∷ (f.1.1.0 ++ 32 ∷ (mode_letter f.1.1.1.0 ++ 32 ∷ decimal f.1.1.1.1)))
+full_tail f = decimal f.0 ++ 32 ∷ (decimal f.1.0 ++ 32 ∷ (f.1.1.0 ++ 32 ∷ (mode_word f.1.1.1.0 ++ 32 ∷ decimal f.1.1.1.1)))
 
 pub reads_first : Reads (fields node_of start_of) (λ f. IsNodeNumber f.0 × (f.1 < 2 ^ 64)) first_tail
 reads_first = reads_fields _ _ _ _ _ _ reads_node reads_start.reads
@@ -99,26 +101,35 @@ only_made read Has make HasToo so only text y e =
     subst (λ z. HasToo z text) m.2 (so m.0 text (only text m.0 m.1))
 
 abbrev HasStep : List ℕ → Step → List ℕ → Type 0
-HasStep words step text = IsStepLine step × (words ++ (text ++ codes "\n") ≡ step_line step)
+HasStep words step text = IsStepLine Two step × (words ++ (text ++ codes "\n") ≡ step_line step)
 
 abbrev HasMessage : List ℕ → Message → List ℕ → Type 0
-HasMessage words message text = IsMessageLine message × (words ++ (text ++ codes "\n") ≡ message_fields message ++ codes "\n")
+HasMessage words message text = IsMessageLine Two message × (words ++ (text ++ codes "\n") ≡ message_fields message ++ codes "\n")
 
 abbrev HasEntry : Entry → List ℕ → Type 0
-HasEntry entry text = IsEntryLine entry × (codes " " ++ (text ++ codes "\n") ≡ entry_fields entry ++ codes "\n")
+HasEntry entry text = IsEntryLine Two entry × (codes " " ++ (text ++ codes "\n") ≡ entry_fields entry ++ codes "\n")
 
 abbrev HasLine : List ℕ → Line → List ℕ → Type 0
-HasLine words line text = IsLine line × (words ++ (text ++ codes "\n") ≡ line_text line)
+HasLine words line text = IsReadable line × (words ++ (text ++ codes "\n") ≡ line_text line)
 
-only_first : Only first_in (HasLine (codes "trace 1 "))
-only_first =
-    only_made (fields node_of start_of) _ (λ f. First f.0 f.1) (HasLine (codes "trace 1 "))
-    (λ f text h. ((h.0.0, h.0.1), rw h.1 (simp append_assoc))) reads_first.only
+-- the words of the first line
+abbrev first_words : Version → List ℕ
+first_words One = codes "trace 1 "
+first_words Two = codes "trace 2 "
+
+has_first : (version : Version) (f : ℕ × ℕ) (text : List ℕ) → (IsNodeNumber f.0 × (f.1 < 2 ^ 64)) × (text ≡ first_tail f)
+    → HasLine (first_words version) (First version f.0 f.1) text
+has_first One f text h = ((h.0.0, h.0.1), rw h.1 (simp append_assoc))
+has_first Two f text h = ((h.0.0, h.0.1), rw h.1 (simp append_assoc))
+
+only_first : (version : Version) → Only (first_in version) (HasLine (first_words version))
+only_first version =
+    only_made (fields node_of start_of) _ (λ f. First version f.0 f.1) (HasLine (first_words version)) (has_first version) reads_first.only
 
 only_ask : Only ask_in (HasStep (codes "ask "))
 only_ask =
     only_made (fields node_of (fields client_of (fields name_of mode_of))) _ (λ f. Ask f.0 f.1.0 f.1.1.0 f.1.1.1) (HasStep (codes "ask "))
-    (λ f text h. ((h.0.0, h.0.1.0, h.0.1.1.0), rw h.1 (joined4 (codes "ask ") (decimal f.0) (decimal f.1.0) f.1.1.0 (mode_letter f.1.1.1)))) reads_ask.only
+    (λ f text h. ((h.0.0, h.0.1.0, h.0.1.1.0, refl), rw h.1 (joined4 (codes "ask ") (decimal f.0) (decimal f.1.0) f.1.1.0 (mode_word f.1.1.1)))) reads_ask.only
 
 only_leave : Only leave_in (HasStep (codes "release "))
 only_leave =
@@ -128,7 +139,7 @@ only_leave =
 only_request : Only request_in (HasMessage (codes " request "))
 only_request =
     only_made (fields node_of (fields node_of (fields name_of (fields mode_of seq_of)))) _ (λ f. Request f.0 f.1.0 f.1.1.0 f.1.1.1.0 f.1.1.1.1) (HasMessage (codes " request "))
-    (λ f text h. ((h.0.0, h.0.1.0, h.0.1.1.0, h.0.1.1.1.1), rw h.1 (joined5 (codes " request ") (decimal f.0) (decimal f.1.0) f.1.1.0 (mode_letter f.1.1.1.0) (decimal f.1.1.1.1)))) reads_request.only
+    (λ f text h. ((h.0.0, h.0.1.0, h.0.1.1.0, refl, h.0.1.1.1.1), rw h.1 (joined5 (codes " request ") (decimal f.0) (decimal f.1.0) f.1.1.0 (mode_word f.1.1.1.0) (decimal f.1.1.1.1)))) reads_request.only
 
 only_reply : Only reply_in (HasMessage (codes " reply "))
 only_reply =
@@ -139,7 +150,7 @@ only_entry : Only entry_in HasEntry
 only_entry =
     only_made (fields node_of (fields client_of (fields name_of (fields mode_of seq_of)))) _
     (λ f. record { name = f.1.1.0; stamp = record { seq = f.1.1.1.1; node = f.0 }; client = f.1.0; mode = f.1.1.1.0 }) HasEntry
-    (λ f text h. ((h.0.0, h.0.1.0, h.0.1.1.0, h.0.1.1.1.1), rw h.1 (joined5 (codes " ") (decimal f.0) (decimal f.1.0) f.1.1.0 (mode_letter f.1.1.1.0) (decimal f.1.1.1.1)))) reads_entry.only
+    (λ f text h. ((h.0.0, h.0.1.0, h.0.1.1.0, refl, h.0.1.1.1.1), rw h.1 (joined5 (codes " ") (decimal f.0) (decimal f.1.0) f.1.1.0 (mode_word f.1.1.1.0) (decimal f.1.1.1.1)))) reads_entry.only
 
 only_last : Only last_in (HasLine (codes "end"))
 only_last [] line e = let same : Last ≡ line = same_Some _ _ e in subst (λ l. HasLine (codes "end") l []) same (tt, refl)
@@ -164,26 +175,29 @@ AllRead (form ∷ others) = Only form.read (HasLine form.words) × AllRead other
 
 only_forms : AllRead forms
 only_forms = (
-  only_first,
+  only_first One,
   (
-    only_made ask_in (HasStep (codes "ask ")) Stepped (HasLine (codes "ask ")) (λ step text h. h) only_ask,
+    only_first Two,
     (
-      only_made leave_in (HasStep (codes "release ")) Stepped (HasLine (codes "release ")) (λ step text h. h) only_leave,
+      only_made ask_in (HasStep (codes "ask ")) Stepped (HasLine (codes "ask ")) (λ step text h. h) only_ask,
       (
-        only_deliver (codes " request ") request_in only_request,
+        only_made leave_in (HasStep (codes "release ")) Stepped (HasLine (codes "release ")) (λ step text h. h) only_leave,
         (
-          only_deliver (codes " reply ") reply_in only_reply,
+          only_deliver (codes " request ") request_in only_request,
           (
-            only_lose (codes " request ") request_in only_request,
+            only_deliver (codes " reply ") reply_in only_reply,
             (
-              only_lose (codes " reply ") reply_in only_reply,
+              only_lose (codes " request ") request_in only_request,
               (
-                only_made entry_in HasEntry (λ entry. Marked (Requested entry)) (HasLine (codes "request ")) (λ entry text h. (h.0, ap (λ (bytes : List ℕ). codes "request" ++ bytes) h.1)) only_entry,
+                only_lose (codes " reply ") reply_in only_reply,
                 (
-                  only_made entry_in HasEntry (λ entry. Marked (Entered entry)) (HasLine (codes "enter ")) (λ entry text h. (h.0, ap (λ (bytes : List ℕ). codes "enter" ++ bytes) h.1)) only_entry,
+                  only_made entry_in HasEntry (λ entry. Marked (Requested entry)) (HasLine (codes "request ")) (λ entry text h. (h.0, ap (λ (bytes : List ℕ). codes "request" ++ bytes) h.1)) only_entry,
                   (
-                    only_made entry_in HasEntry (λ entry. Marked (Left entry)) (HasLine (codes "leave ")) (λ entry text h. (h.0, ap (λ (bytes : List ℕ). codes "leave" ++ bytes) h.1)) only_entry,
-                    (only_last, tt),
+                    only_made entry_in HasEntry (λ entry. Marked (Entered entry)) (HasLine (codes "enter ")) (λ entry text h. (h.0, ap (λ (bytes : List ℕ). codes "enter" ++ bytes) h.1)) only_entry,
+                    (
+                      only_made entry_in HasEntry (λ entry. Marked (Left entry)) (HasLine (codes "leave ")) (λ entry text h. (h.0, ap (λ (bytes : List ℕ). codes "leave" ++ bytes) h.1)) only_entry,
+                      (only_last, tt),
+                    ),
                   ),
                 ),
               ),
@@ -195,7 +209,7 @@ only_forms = (
   ),
 )
 
-only_by : (rows : List Form) → AllRead rows → (text : List ℕ) (line : Line) → line_by rows text ≡ Some line → IsLine line × (text ++ codes "\n" ≡ line_text line)
+only_by : (rows : List Form) → AllRead rows → (text : List ℕ) (line : Line) → line_by rows text ≡ Some line → IsReadable line × (text ++ codes "\n" ≡ line_text line)
 only_by [] h text line e = absurd cc
 only_by (form ∷ others) h text line e =
     elim (cases_Option (behind form.words text)) [
@@ -207,12 +221,13 @@ only_by (form ∷ others) h text line e =
     ]
 
 -- no more than this is a line
-pub line_in-only : (text : List ℕ) (line : Line) → line_in text ≡ Some line → IsLine line × (text ++ codes "\n" ≡ line_text line)
+pub line_in-only : (text : List ℕ) (line : Line) → line_in text ≡ Some line → IsReadable line × (text ++ codes "\n" ≡ line_text line)
 line_in-only text line e = only_by forms only_forms text line e
 
 -- a line without its line feed
 abbrev pub body : Line → List ℕ
-body (First nodes start) = codes "trace 1 " ++ first_tail (nodes, start)
+body (First One nodes start) = codes "trace 1 " ++ first_tail (nodes, start)
+body (First Two nodes start) = codes "trace 2 " ++ first_tail (nodes, start)
 body (Stepped (Ask node client name mode)) = codes "ask " ++ ask_tail (node, (client, (name, mode)))
 body (Stepped (Leave node client name)) = codes "release " ++ leave_tail (node, (client, name))
 body (Stepped (Deliver (Request from to name mode seq))) = codes "deliver request " ++ full_tail (from, (to, (name, (mode, seq))))
@@ -239,17 +254,22 @@ free_words (b ∷ words) tail h free =
     let (first, others) = and_parts (not (b == 10)) (list_all (λ b. not (b == 10)) words) h in
     All-cons (λ b. (b == 10) ≡ false) b (words ++ tail) (not_true b first) (free_words words tail others free)
 
-pub has_body : (line : Line) → IsLine line → HasBody line
-has_body (First nodes start) h = record {
+pub has_body : (line : Line) → IsReadable line → HasBody line
+has_body (First One nodes start) h = record {
   text_is = sym (simp append_assoc);
   no_feed = free_words (codes "trace 1 ") (first_tail (nodes, start)) refl (reads_first.no_feed (nodes, start) h);
+  read = rw (reads_first.each (nodes, start) h);
+}
+has_body (First Two nodes start) h = record {
+  text_is = sym (simp append_assoc);
+  no_feed = free_words (codes "trace 2 ") (first_tail (nodes, start)) refl (reads_first.no_feed (nodes, start) h);
   read = rw (reads_first.each (nodes, start) h);
 }
 has_body (Stepped (Ask node client name mode)) h =
     let f : ℕ × (ℕ × (List ℕ × Mode)) = (node, (client, (name, mode))) in
     let is : IsNodeNumber node × (IsClientNumber client × (IsName name × Unit {0})) = (h.0, (h.1, (h.2, tt))) in
     record {
-      text_is = sym (joined4 (codes "ask ") (decimal f.0) (decimal f.1.0) f.1.1.0 (mode_letter f.1.1.1));
+      text_is = sym (joined4 (codes "ask ") (decimal f.0) (decimal f.1.0) f.1.1.0 (mode_word f.1.1.1));
       no_feed = free_words (codes "ask ") (ask_tail f) refl (reads_ask.no_feed f is);
       read = rw (reads_ask.each f is);
     }
@@ -263,9 +283,9 @@ has_body (Stepped (Leave node client name)) h =
     }
 has_body (Stepped (Deliver (Request from to name mode seq))) h =
     let f : ℕ × (ℕ × (List ℕ × (Mode × ℕ))) = (from, (to, (name, (mode, seq)))) in
-    let is : IsNodeNumber from × (IsNodeNumber to × (IsName name × (Unit {0} × IsSeq seq))) = (h.0, (h.1, (h.2, (tt, h.3)))) in
+    let is : IsNodeNumber from × (IsNodeNumber to × (IsName name × (Unit {0} × IsSeq seq))) = (h.0, (h.1, (h.2, (tt, h.4)))) in
     record {
-      text_is = sym (joined5 (codes "deliver request ") (decimal f.0) (decimal f.1.0) f.1.1.0 (mode_letter f.1.1.1.0) (decimal f.1.1.1.1));
+      text_is = sym (joined5 (codes "deliver request ") (decimal f.0) (decimal f.1.0) f.1.1.0 (mode_word f.1.1.1.0) (decimal f.1.1.1.1));
       no_feed = free_words (codes "deliver request ") (full_tail f) refl (reads_request.no_feed f is);
       read = rw (reads_request.each f is);
     }
@@ -279,9 +299,9 @@ has_body (Stepped (Deliver (Reply from to name seq))) h =
     }
 has_body (Stepped (Lose (Request from to name mode seq))) h =
     let f : ℕ × (ℕ × (List ℕ × (Mode × ℕ))) = (from, (to, (name, (mode, seq)))) in
-    let is : IsNodeNumber from × (IsNodeNumber to × (IsName name × (Unit {0} × IsSeq seq))) = (h.0, (h.1, (h.2, (tt, h.3)))) in
+    let is : IsNodeNumber from × (IsNodeNumber to × (IsName name × (Unit {0} × IsSeq seq))) = (h.0, (h.1, (h.2, (tt, h.4)))) in
     record {
-      text_is = sym (joined5 (codes "lose request ") (decimal f.0) (decimal f.1.0) f.1.1.0 (mode_letter f.1.1.1.0) (decimal f.1.1.1.1));
+      text_is = sym (joined5 (codes "lose request ") (decimal f.0) (decimal f.1.0) f.1.1.0 (mode_word f.1.1.1.0) (decimal f.1.1.1.1));
       no_feed = free_words (codes "lose request ") (full_tail f) refl (reads_request.no_feed f is);
       read = rw (reads_request.each f is);
     }
@@ -295,25 +315,25 @@ has_body (Stepped (Lose (Reply from to name seq))) h =
     }
 has_body (Marked (Requested entry)) h =
     let f : ℕ × (ℕ × (List ℕ × (Mode × ℕ))) = (entry.stamp.node, (entry.client, (entry.name, (entry.mode, entry.stamp.seq)))) in
-    let is : IsNodeNumber entry.stamp.node × (IsClientNumber entry.client × (IsName entry.name × (Unit {0} × IsSeq entry.stamp.seq))) = (h.0, (h.1, (h.2, (tt, h.3)))) in
+    let is : IsNodeNumber entry.stamp.node × (IsClientNumber entry.client × (IsName entry.name × (Unit {0} × IsSeq entry.stamp.seq))) = (h.0, (h.1, (h.2, (tt, h.4)))) in
     record {
-      text_is = sym (joined5 (codes "request ") (decimal f.0) (decimal f.1.0) f.1.1.0 (mode_letter f.1.1.1.0) (decimal f.1.1.1.1));
+      text_is = sym (joined5 (codes "request ") (decimal f.0) (decimal f.1.0) f.1.1.0 (mode_word f.1.1.1.0) (decimal f.1.1.1.1));
       no_feed = free_words (codes "request ") (full_tail f) refl (reads_entry.no_feed f is);
       read = rw (reads_entry.each f is);
     }
 has_body (Marked (Entered entry)) h =
     let f : ℕ × (ℕ × (List ℕ × (Mode × ℕ))) = (entry.stamp.node, (entry.client, (entry.name, (entry.mode, entry.stamp.seq)))) in
-    let is : IsNodeNumber entry.stamp.node × (IsClientNumber entry.client × (IsName entry.name × (Unit {0} × IsSeq entry.stamp.seq))) = (h.0, (h.1, (h.2, (tt, h.3)))) in
+    let is : IsNodeNumber entry.stamp.node × (IsClientNumber entry.client × (IsName entry.name × (Unit {0} × IsSeq entry.stamp.seq))) = (h.0, (h.1, (h.2, (tt, h.4)))) in
     record {
-      text_is = sym (joined5 (codes "enter ") (decimal f.0) (decimal f.1.0) f.1.1.0 (mode_letter f.1.1.1.0) (decimal f.1.1.1.1));
+      text_is = sym (joined5 (codes "enter ") (decimal f.0) (decimal f.1.0) f.1.1.0 (mode_word f.1.1.1.0) (decimal f.1.1.1.1));
       no_feed = free_words (codes "enter ") (full_tail f) refl (reads_entry.no_feed f is);
       read = rw (reads_entry.each f is);
     }
 has_body (Marked (Left entry)) h =
     let f : ℕ × (ℕ × (List ℕ × (Mode × ℕ))) = (entry.stamp.node, (entry.client, (entry.name, (entry.mode, entry.stamp.seq)))) in
-    let is : IsNodeNumber entry.stamp.node × (IsClientNumber entry.client × (IsName entry.name × (Unit {0} × IsSeq entry.stamp.seq))) = (h.0, (h.1, (h.2, (tt, h.3)))) in
+    let is : IsNodeNumber entry.stamp.node × (IsClientNumber entry.client × (IsName entry.name × (Unit {0} × IsSeq entry.stamp.seq))) = (h.0, (h.1, (h.2, (tt, h.4)))) in
     record {
-      text_is = sym (joined5 (codes "leave ") (decimal f.0) (decimal f.1.0) f.1.1.0 (mode_letter f.1.1.1.0) (decimal f.1.1.1.1));
+      text_is = sym (joined5 (codes "leave ") (decimal f.0) (decimal f.1.0) f.1.1.0 (mode_word f.1.1.1.0) (decimal f.1.1.1.1));
       no_feed = free_words (codes "leave ") (full_tail f) refl (reads_entry.no_feed f is);
       read = rw (reads_entry.each f is);
     }

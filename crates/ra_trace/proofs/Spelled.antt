@@ -1,5 +1,5 @@
 -- What is read is how it is written.
-use Rattle.std.proofs.Common.{◌≡◌, ◌^◌, ◌<◌, ◌≤◌, ◌-◌, ℕ, ◌==◌, false, List, [], ◌∷◌, ◌++◌, Option, Some, None, option_map, refl, sym, ap, subst, ◌∙◌, inl, inr, arith, codes, lit<}
+use Rattle.std.proofs.Common.{◌≡◌, ◌⊎◌, ◌^◌, ◌<◌, ◌≤◌, ◌-◌, ℕ, ◌==◌, false, if◌then◌else◌, List, [], ◌∷◌, ◌++◌, Option, Some, None, option_map, refl, ap, subst, ◌∙◌, inl, inr, arith, codes, lit<}
 use Rattle.std.specs.Fmt.{decimal}
 use Rattle.std.specs.Str.{bytes_eq}
 use Rattle.std.proofs.lemmas.Bool.{cases_Bool, ne_eqb}
@@ -9,8 +9,8 @@ use Rattle.std.proofs.lemmas.Slice.Eq.{bytes_eq-Decides}
 use Rattle.ra_stamp.specs.Name.{IsName}
 use Rattle.ra_stamp.specs.NodeId.{IsNodeNumber}
 use Rattle.ra_stamp.specs.declared.mode.Mode.{Mode}
-use Rattle.ra_stamp.specs.declared.mode.Mode.TheVariants.{Shared, Exclusive}
-use Rattle.ra_world.specs.Lines.{mode_letter}
+use Rattle.ra_stamp.specs.declared.mode.Mode.TheVariants.{Shared, Exclusive, IntentShared, IntentExclusive, SharedIntentExclusive}
+use Rattle.ra_world.specs.Lines.{mode_word}
 use Rattle.ra_trace.specs.Forms.{cut, before, fields, number_within, node_of, client_of, start_of, seq_of, is_name, name_of, mode_of}
 use Rattle.ra_trace.specs.TraceText.{IsClientNumber, IsSeq}
 use Rattle.ra_trace.proofs.Cuts.{IsFree, mapped, cut-append, cut-only}
@@ -77,7 +77,7 @@ reads_number low high small = record {
 }
 
 pub reads_node : ReadsField node_of IsNodeNumber decimal
-reads_node = reads_number 1 16 (omega arith)
+reads_node = reads_number 1 64 (omega arith)
 
 pub reads_client : ReadsField client_of IsClientNumber decimal
 reads_client =
@@ -111,27 +111,63 @@ reads_name = record {
   no_space = λ name h. IsFree-name 32 name (lit< tt) h;
 }
 
-mode_only : (text : List ℕ) (mode : Mode) → mode_of text ≡ Some mode → Unit {0} × (text ≡ mode_letter mode)
-mode_only text mode e =
-    elim (cases_Bool (bytes_eq text (codes "X"))) [
-      | inl exclusive ↦ let same : Exclusive ≡ mode = same_Some _ _ (rw exclusive at e) in (tt, rw (sym same) ((bytes_eq-Decides text (codes "X")).0 exclusive))
-      | inr other ↦
-          elim (cases_Bool (bytes_eq text (codes "S"))) [
-            | inl shared ↦ let same : Shared ≡ mode = same_Some _ _ (rw (other, shared) at e) in (tt, rw (sym same) ((bytes_eq-Decides text (codes "S")).0 shared))
-            | inr neither ↦ absurd (let clash : None ≡ Some mode = rw (other, neither) at e in cc)
-          ]
+-- the word of one mode more
+mode_or_other : (text word : List ℕ) (mode one : Mode) (other : Option Mode) → word ≡ mode_word one
+    → (if bytes_eq text word then Some one else other) ≡ Some mode → (text ≡ mode_word mode) ⊎ (other ≡ Some mode)
+mode_or_other text word mode one other is e =
+    elim (cases_Bool (bytes_eq text word)) [
+      | inl is_so ↦
+          let same : one ≡ mode = same_Some _ _ (rw is_so at e) in
+          inl ((bytes_eq-Decides text word).0 is_so ∙ (is ∙ ap mode_word same))
+      | inr not_so ↦ inr (rw not_so at e)
     ]
 
-mode_each : (mode : Mode) → mode_of (mode_letter mode) ≡ Some mode
+mode_only : (text : List ℕ) (mode : Mode) → mode_of text ≡ Some mode → Unit {0} × (text ≡ mode_word mode)
+mode_only text mode e = (
+  tt,
+  elim (mode_or_other text (codes "X") mode Exclusive _ refl e) [
+    | inl is ↦ is
+    | inr e1 ↦ elim (mode_or_other text (codes "S") mode Shared _ refl e1) [
+      | inl is ↦ is
+      | inr e2 ↦ elim (mode_or_other text (codes "IS") mode IntentShared _ refl e2) [
+        | inl is ↦ is
+        | inr e3 ↦ elim (mode_or_other text (codes "IX") mode IntentExclusive _ refl e3) [
+          | inl is ↦ is
+          | inr e4 ↦ elim (mode_or_other text (codes "SIX") mode SharedIntentExclusive _ refl e4) [
+            | inl is ↦ is
+            | inr none ↦ absurd (let clash : None ≡ Some mode = none in cc)
+          ]
+        ]
+      ]
+    ]
+  ],
+)
+
+mode_each : (mode : Mode) → mode_of (mode_word mode) ≡ Some mode
 mode_each Shared = refl
 mode_each Exclusive = refl
+mode_each IntentShared = refl
+mode_each IntentExclusive = refl
+mode_each SharedIntentExclusive = refl
 
-letter_free : (byte : ℕ) → byte < 83 → (mode : Mode) → IsFree byte (mode_letter mode)
-letter_free byte low Shared = All-cons (λ b. (b == byte) ≡ false) 83 [] (ne_eqb 83 byte (omega arith)) (All-nil (λ b. (b == byte) ≡ false))
-letter_free byte low Exclusive = All-cons (λ b. (b == byte) ≡ false) 88 [] (ne_eqb 88 byte (omega arith)) (All-nil (λ b. (b == byte) ≡ false))
+-- no byte below that of `I` is in a mode's word
+one_more : (byte b : ℕ) (bytes : List ℕ) → byte < 73 → 73 ≤ b → IsFree byte bytes → IsFree byte (b ∷ bytes)
+one_more byte b bytes low high free = All-cons (λ b. (b == byte) ≡ false) b bytes (ne_eqb b byte (omega arith)) free
 
-pub reads_mode : ReadsField mode_of (λ mode. Unit {0}) mode_letter
+none : (byte : ℕ) → IsFree byte []
+none byte = All-nil (λ b. (b == byte) ≡ false)
+
+word_free : (byte : ℕ) → byte < 73 → (mode : Mode) → IsFree byte (mode_word mode)
+word_free byte low Shared = one_more byte 83 [] low (omega arith) (none byte)
+word_free byte low Exclusive = one_more byte 88 [] low (omega arith) (none byte)
+word_free byte low IntentShared = one_more byte 73 (83 ∷ []) low (omega arith) (one_more byte 83 [] low (omega arith) (none byte))
+word_free byte low IntentExclusive = one_more byte 73 (88 ∷ []) low (omega arith) (one_more byte 88 [] low (omega arith) (none byte))
+word_free byte low SharedIntentExclusive =
+    one_more byte 83 (73 ∷ 88 ∷ []) low (omega arith)
+    (one_more byte 73 (88 ∷ []) low (omega arith) (one_more byte 88 [] low (omega arith) (none byte)))
+
+pub reads_mode : ReadsField mode_of (λ mode. Unit {0}) mode_word
 reads_mode = record {
-  reads = record { only = mode_only; each = λ mode h. mode_each mode; no_feed = λ mode h. letter_free 10 (lit< tt) mode };
-  no_space = λ mode h. letter_free 32 (lit< tt) mode;
+  reads = record { only = mode_only; each = λ mode h. mode_each mode; no_feed = λ mode h. word_free 10 (lit< tt) mode };
+  no_space = λ mode h. word_free 32 (lit< tt) mode;
 }

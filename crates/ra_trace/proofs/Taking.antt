@@ -1,5 +1,5 @@
 -- A line that a checker takes, and why one is wrong.
-use Rattle.std.proofs.Common.{◌≡◌, ◌≢◌, ◌⊎◌, ℕ, ◌+◌, List, [], ◌∷◌, ◌++◌, drop, refl, sym, ap, ◌∙◌, subst, inl, inr}
+use Rattle.std.proofs.Common.{◌≡◌, ◌≢◌, ◌⊎◌, ℕ, ◌+◌, true, false, List, [], ◌∷◌, ◌++◌, drop, refl, sym, ap, ◌∙◌, subst, inl, inr}
 use Rattle.std.proofs.lemmas.List.{append-nil}
 use Rattle.std.proofs.lemmas.List.Elements.{All-nil, All-cons}
 use Rattle.std.proofs.lemmas.Grind.{flat_map-append}
@@ -20,38 +20,83 @@ use Rattle.ra_trace.specs.declared.line.Line.TheVariants.{First, Stepped, Marked
 use Rattle.ra_trace.specs.declared.verdict.Cause.{Cause}
 use Rattle.ra_trace.specs.declared.verdict.Cause.TheVariants as cause
 use Rattle.ra_trace.specs.declared.checker.Checker.{Checker}
-use Rattle.ra_trace.specs.TraceText.{IsLine}
-use Rattle.ra_trace.specs.Verdict.{IsFront, IsOfClient, TakesMessage, marks_in_line, marks_in}
+use Rattle.ra_trace.specs.declared.version.Version.{Version}
+use Rattle.ra_trace.specs.Version.{IsNodeIn}
+use Rattle.ra_trace.specs.Forms.{IsReadable, BeginsReadable, has_node, allows_step, allows_mark}
+use Rattle.ra_trace.specs.TraceText.{IsLine, BeginsWith}
+use Rattle.ra_trace.specs.Verdict.{IsFront, IsFirst, IsOfClient, TakesMessage, marks_in_line, marks_in}
 use Rattle.ra_trace.specs.Checking.{due_of, IsOpening, StandsBehind, TakesOn, Refuses, Allows}
 use Rattle.ra_trace.specs.Reading.{HasBegun}
 use Rattle.ra_trace.specs.Below.{LawsBelow}
 use Rattle.ra_trace.proofs.Fronts.{front_and_step, front_and_mark}
+use Rattle.ra_trace.proofs.Lines.{begins_once}
+use Rattle.ra_trace.proofs.Versions.{node_is, node_is_not, step_is, step_is_not, mark_is, mark_is_not, begins_readable}
 
 -- ---- The first line
 
-pub opens : LawsBelow → (nodes start : ℕ) (checker : Checker) → IsOpening nodes start checker → IsLine (First nodes start)
-    → StandsBehind checker (First nodes start ∷ [])
-opens laws nodes start checker is ranges =
-    let line = First nodes start ∷ [] in
+first_front : (version : Version) (nodes start : ℕ) → IsRun nodes start [] → IsReadable (First version nodes start) → has_node version nodes ≡ true
+    → IsFront version nodes start [] [] (First version nodes start ∷ [])
+first_front version nodes start run ranges has = record {
+  count = ranges.0;
+  run = run;
+  each = All-cons (IsLine version) (First version nodes start) [] (refl, node_is version nodes ranges.0 has, ranges.1) (All-nil (IsLine version));
+  lines_are = refl;
+}
+
+pub opens : LawsBelow → (version : Version) (nodes start : ℕ) (checker : Checker) → IsOpening version nodes start checker → has_node version nodes ≡ true
+    → IsReadable (First version nodes start) → StandsBehind checker (First version nodes start ∷ [])
+opens laws version nodes start checker is has ranges =
+    let line = First version nodes start ∷ [] in
     let run = subst (λ (w : WorldState). IsRun w.count w.start w.moves) is.world_is is.run in
+    let front = first_front version nodes start run ranges has in
     record {
-      front = subst (λ (due : List Mark). IsFront checker.world.count checker.world.start checker.world.moves due line) (sym is.none)
-          (subst (λ (w : WorldState). IsFront w.count w.start w.moves [] line) (sym is.world_is)
-          (record { count = ranges.0; run = run; each = All-cons IsLine (First nodes start) [] ranges (All-nil IsLine); lines_are = refl }));
+      front = subst (λ (v : Version). IsFront v checker.world.count checker.world.start checker.world.moves (due_of checker) line) (sym is.version_is)
+          (subst (λ (due : List Mark). IsFront version checker.world.count checker.world.start checker.world.moves due line) (sym is.none)
+          (subst (λ (w : WorldState). IsFront version w.count w.start w.moves [] line) (sym is.world_is) front));
       table = subst (TableRun []) (sym is.table_is) laws.empty;
     }
+
+-- so many nodes its version does not have
+pub opens_not : (version : Version) (nodes start : ℕ) → has_node version nodes ≡ false → (any : Version) → IsLine any (First version nodes start) → ⊥
+opens_not version nodes start not_so any is =
+    node_is_not version nodes not_so (subst (λ (v : Version). IsNodeIn v nodes) (sym is.0) is.1)
+
+-- ---- A line that the version does not allow
+
+not_of_version : (checker : Checker) (line : Line) → (IsLine checker.version line → ⊥) → Refuses checker line cause.Line
+not_of_version checker line not = record {
+  wrong = λ lines text rest stands begins.
+      let w = checker.world in
+      inr (inl (
+        checker.version,
+        w.count,
+        w.start,
+        w.moves,
+        due_of checker,
+        stands.front,
+        λ other behind there.
+            let same = (begins_once text other line behind rest (begins_readable checker.version text other behind there) begins).0 in
+            absurd (not (subst (IsLine checker.version) same there.0)),
+      ));
+}
+
+pub step_not_allowed : (checker : Checker) (step : Step) → allows_step checker.version step ≡ false → Refuses checker (Stepped step) cause.Line
+step_not_allowed checker step not_so = not_of_version checker (Stepped step) (step_is_not checker.version step not_so)
+
+pub mark_not_allowed : (checker : Checker) (mark : Mark) → allows_mark checker.version mark ≡ false → Refuses checker (Marked mark) cause.Line
+mark_not_allowed checker mark not_so = not_of_version checker (Marked mark) (mark_is_not checker.version mark not_so)
 
 -- ---- Steps
 
 front_of : (checker : Checker) (lines : List Line) (due : List Mark) → due_of checker ≡ due → StandsBehind checker lines
-    → IsFront checker.world.count checker.world.start checker.world.moves due lines
+    → IsFront checker.version checker.world.count checker.world.start checker.world.moves due lines
 front_of checker lines due is stands =
-    subst (λ (ms : List Mark). IsFront checker.world.count checker.world.start checker.world.moves ms lines) is stands.front
+    subst (λ (ms : List Mark). IsFront checker.version checker.world.count checker.world.start checker.world.moves ms lines) is stands.front
 
 stands_by_step : (old : Checker) (step : Step) (sends : List Message) (marks : Listed Mark) (world : WorldState) → due_of old ≡ []
     → world ≡ with_move old.world step sends marks.items → IsRun world.count world.start world.moves
-    → (lines : List Line) → IsLine (Stepped step) → StandsBehind old lines
-    → StandsBehind (record { world = world; table = old.table; marks = marks; come = 0 }) (lines ++ Stepped step ∷ [])
+    → (lines : List Line) → IsLine old.version (Stepped step) → StandsBehind old lines
+    → StandsBehind (record { version = old.version; world = world; table = old.table; marks = marks; come = 0 }) (lines ++ Stepped step ∷ [])
 stands_by_step old step sends marks world none is run lines ranges stands =
     let move : Move = record { step = step; sends = sends; marks = marks.items } in
     let moves : world.moves ≡ old.world.moves ++ move ∷ [] = ap (λ (w : WorldState). w.moves) is in
@@ -60,57 +105,78 @@ stands_by_step old step sends marks world none is run lines ranges stands =
     let goes : IsRun old.world.count old.world.start (old.world.moves ++ move ∷ []) =
     subst (λ (ms : List Move). IsRun old.world.count old.world.start ms) moves
     (subst (λ (s : ℕ). IsRun old.world.count s world.moves) start (subst (λ (n : ℕ). IsRun n world.start world.moves) count run)) in
-    let front = front_and_step old.world.count old.world.start old.world.moves lines move (front_of old lines [] none stands) goes ranges in
+    let front = front_and_step old.version old.world.count old.world.start old.world.moves lines move (front_of old lines [] none stands) goes ranges in
     let behind = lines ++ Stepped step ∷ [] in
     record {
       front =
-          subst (λ (ms : List Move). IsFront world.count world.start ms marks.items behind) (sym moves)
-          (subst (λ (s : ℕ). IsFront world.count s (old.world.moves ++ move ∷ []) marks.items behind) (sym start)
-          (subst (λ (n : ℕ). IsFront n old.world.start (old.world.moves ++ move ∷ []) marks.items behind) (sym count) front));
+          subst (λ (ms : List Move). IsFront old.version world.count world.start ms marks.items behind) (sym moves)
+          (subst (λ (s : ℕ). IsFront old.version world.count s (old.world.moves ++ move ∷ []) marks.items behind) (sym start)
+          (subst (λ (n : ℕ). IsFront old.version n old.world.start (old.world.moves ++ move ∷ []) marks.items behind) (sym count) front));
       table = subst (λ (ms : List Mark). TableRun ms old.table)
           (sym (flat_map-append marks_in_line lines (Stepped step ∷ []) ∙ append-nil (marks_in lines))) stands.table;
     }
 
 pub step_is_taken : (old : Checker) (step : Step) (sends : List Message) (marks : Listed Mark) (world : WorldState) → due_of old ≡ []
-    → world ≡ with_move old.world step sends marks.items → IsRun world.count world.start world.moves
-    → TakesOn old (Stepped step) (record { world = world; table = old.table; marks = marks; come = 0 })
-step_is_taken old step sends marks world none is run =
-    record { on = λ lines ranges stands. stands_by_step old step sends marks world none is run lines ranges stands }
+    → world ≡ with_move old.world step sends marks.items → IsRun world.count world.start world.moves → allows_step old.version step ≡ true
+    → TakesOn old (Stepped step) (record { version = old.version; world = world; table = old.table; marks = marks; come = 0 })
+step_is_taken old step sends marks world none is run allowed =
+    record { on = λ lines ranges stands. stands_by_step old step sends marks world none is run lines (step_is old.version step ranges allowed) stands }
+
+-- a step that the version allows begins the text
+step_begins : (checker : Checker) (step : Step) (text rest : List ℕ) → allows_step checker.version step ≡ true → BeginsReadable text (Stepped step) rest
+    → BeginsWith checker.version text (Stepped step) rest
+step_begins checker step text rest allowed begins = (step_is checker.version step begins.0 allowed, begins.1)
 
 -- a mark is due in front of the step
-pub step_comes_early : (checker : Checker) (step : Step) → due_of checker ≢ [] → Refuses checker (Stepped step) cause.Marks
-step_comes_early checker step some =
-    record { wrong = λ lines text rest stands begins. (checker.world.count, checker.world.start, checker.world.moves, due_of checker, stands.front, Stepped step, rest, begins, some) }
-
-pub step_is_refused : (checker : Checker) (step : Step) → due_of checker ≡ [] → IsOfClient step
-    → (GoesOn checker.world.count checker.world.start checker.world.moves step → ⊥) → Refuses checker (Stepped step) cause.Refused
-step_is_refused checker step none of_client stops =
+pub step_comes_early : (checker : Checker) (step : Step) → allows_step checker.version step ≡ true → due_of checker ≢ []
+    → Refuses checker (Stepped step) cause.Marks
+step_comes_early checker step allowed some =
     record {
       wrong = λ lines text rest stands begins. (
+        checker.version,
+        checker.world.count,
+        checker.world.start,
+        checker.world.moves,
+        due_of checker,
+        stands.front,
+        Stepped step,
+        rest,
+        step_begins checker step text rest allowed begins,
+        some,
+      );
+    }
+
+pub step_is_refused : (checker : Checker) (step : Step) → allows_step checker.version step ≡ true → due_of checker ≡ [] → IsOfClient step
+    → (GoesOn checker.world.count checker.world.start checker.world.moves step → ⊥) → Refuses checker (Stepped step) cause.Refused
+step_is_refused checker step allowed none of_client stops =
+    record {
+      wrong = λ lines text rest stands begins. (
+        checker.version,
         checker.world.count,
         checker.world.start,
         checker.world.moves,
         front_of checker lines [] none stands,
         step,
         rest,
-        begins,
+        step_begins checker step text rest allowed begins,
         of_client,
         stops,
       );
     }
 
-pub step_is_not_under_way : (checker : Checker) (step : Step) → due_of checker ≡ [] → TakesMessage step
+pub step_is_not_under_way : (checker : Checker) (step : Step) → allows_step checker.version step ≡ true → due_of checker ≡ [] → TakesMessage step
     → (GoesOn checker.world.count checker.world.start checker.world.moves step → ⊥) → Refuses checker (Stepped step) cause.NotUnderWay
-step_is_not_under_way checker step none takes stops =
+step_is_not_under_way checker step allowed none takes stops =
     record {
       wrong = λ lines text rest stands begins. (
+        checker.version,
         checker.world.count,
         checker.world.start,
         checker.world.moves,
         front_of checker lines [] none stands,
         step,
         rest,
-        begins,
+        step_begins checker step text rest allowed begins,
         takes,
         stops,
       );
@@ -137,27 +203,33 @@ not_under_way_takes n start moves (Lose message) h = tt
 
 -- ---- Marks
 
+mark_begins : (checker : Checker) (mark : Mark) (text rest : List ℕ) → allows_mark checker.version mark ≡ true → BeginsReadable text (Marked mark) rest
+    → BeginsWith checker.version text (Marked mark) rest
+mark_begins checker mark text rest allowed begins = (mark_is checker.version mark begins.0 allowed, begins.1)
+
 stands_by_mark : LawsBelow → (old : Checker) (mark : Mark) (table : LockTable) → TableStep old.table mark table
-    → due_of old ≡ mark ∷ drop (old.come + 1) old.marks.items → (lines : List Line) → IsLine (Marked mark) → StandsBehind old lines
-    → StandsBehind (record { world = old.world; table = table; marks = old.marks; come = old.come + 1 }) (lines ++ Marked mark ∷ [])
+    → due_of old ≡ mark ∷ drop (old.come + 1) old.marks.items → (lines : List Line) → IsLine old.version (Marked mark) → StandsBehind old lines
+    → StandsBehind (record { version = old.version; world = old.world; table = table; marks = old.marks; come = old.come + 1 }) (lines ++ Marked mark ∷ [])
 stands_by_mark laws old mark table step due lines ranges stands = record {
-  front = front_and_mark old.world.count old.world.start old.world.moves mark (drop (old.come + 1) old.marks.items) lines
+  front = front_and_mark old.version old.world.count old.world.start old.world.moves mark (drop (old.come + 1) old.marks.items) lines
       (front_of old lines (mark ∷ drop (old.come + 1) old.marks.items) due stands) ranges;
   table = subst (λ (ms : List Mark). TableRun ms table) (sym (flat_map-append marks_in_line lines (Marked mark ∷ [])))
       (laws.steps_on (marks_in lines) mark old.table table stands.table step);
 }
 
-pub mark_is_taken : LawsBelow → (old : Checker) (mark : Mark) (table : LockTable) → TableStep old.table mark table
+pub mark_is_taken : LawsBelow → (old : Checker) (mark : Mark) (table : LockTable) → allows_mark old.version mark ≡ true → TableStep old.table mark table
     → due_of old ≡ mark ∷ drop (old.come + 1) old.marks.items
-    → TakesOn old (Marked mark) (record { world = old.world; table = table; marks = old.marks; come = old.come + 1 })
-mark_is_taken laws old mark table step due =
-    record { on = λ lines ranges stands. stands_by_mark laws old mark table step due lines ranges stands }
+    → TakesOn old (Marked mark) (record { version = old.version; world = old.world; table = table; marks = old.marks; come = old.come + 1 })
+mark_is_taken laws old mark table allowed step due =
+    record { on = λ lines ranges stands. stands_by_mark laws old mark table step due lines (mark_is old.version mark ranges allowed) stands }
 
 -- the lock table refuses the mark
-pub table_refuses : LawsBelow → (checker : Checker) (mark : Mark) → (AllowsMark checker.table mark → ⊥) → Refuses checker (Marked mark) cause.Table
-table_refuses laws checker mark refused =
+pub table_refuses : LawsBelow → (checker : Checker) (mark : Mark) → allows_mark checker.version mark ≡ true → (AllowsMark checker.table mark → ⊥)
+    → Refuses checker (Marked mark) cause.Table
+table_refuses laws checker mark allowed refused =
     record {
       wrong = λ lines text rest stands begins. (
+        checker.version,
         checker.world.count,
         checker.world.start,
         checker.world.moves,
@@ -165,17 +237,18 @@ table_refuses laws checker mark refused =
         stands.front,
         mark,
         rest,
-        begins,
+        mark_begins checker mark text rest allowed begins,
         λ on. refused ((laws.goes_on (marks_in lines) mark checker.table stands.table).1 on),
       );
     }
 
 -- the lock table allows the mark, but another one is due, or none
-mark_is_not_due : LawsBelow → (checker : Checker) (mark : Mark) (table : LockTable) → TableStep checker.table mark table
-    → ((others : List Mark) → due_of checker ≢ mark ∷ others) → Refuses checker (Marked mark) cause.Marks
-mark_is_not_due laws checker mark table step other =
+mark_is_not_due : LawsBelow → (checker : Checker) (mark : Mark) (table : LockTable) → allows_mark checker.version mark ≡ true
+    → TableStep checker.table mark table → ((others : List Mark) → due_of checker ≢ mark ∷ others) → Refuses checker (Marked mark) cause.Marks
+mark_is_not_due laws checker mark table allowed step other =
     record {
       wrong = λ lines text rest stands begins. (
+        checker.version,
         checker.world.count,
         checker.world.start,
         checker.world.moves,
@@ -183,59 +256,57 @@ mark_is_not_due laws checker mark table step other =
         stands.front,
         Marked mark,
         rest,
-        begins,
+        mark_begins checker mark text rest allowed begins,
         ((table, laws.steps_on (marks_in lines) mark checker.table table stands.table step), other),
       );
     }
 
-pub wrong_mark : LawsBelow → (checker : Checker) (mark : Mark) (why : Cause) → ((others : List Mark) → due_of checker ≢ mark ∷ others)
+pub wrong_mark : LawsBelow → (checker : Checker) (mark : Mark) (why : Cause) → allows_mark checker.version mark ≡ true
+    → ((others : List Mark) → due_of checker ≢ mark ∷ others)
     → ((why ≡ cause.Marks) × AllowsMark checker.table mark) ⊎ ((why ≡ cause.Table) × (AllowsMark checker.table mark → ⊥))
     → Refuses checker (Marked mark) why
-wrong_mark laws checker mark why other (inl (is, (table, step))) =
-    subst (Refuses checker (Marked mark)) (sym is) (mark_is_not_due laws checker mark table step other)
-wrong_mark laws checker mark why other (inr (is, refused)) = subst (Refuses checker (Marked mark)) (sym is) (table_refuses laws checker mark refused)
+wrong_mark laws checker mark why allowed other (inl (is, (table, step))) =
+    subst (Refuses checker (Marked mark)) (sym is) (mark_is_not_due laws checker mark table allowed step other)
+wrong_mark laws checker mark why allowed other (inr (is, refused)) =
+    subst (Refuses checker (Marked mark)) (sym is) (table_refuses laws checker mark allowed refused)
 
 -- ---- Lines that are right, and for which there is no memory
 
-pub first_may_come : LawsBelow → (nodes start : ℕ) → IsLine (First nodes start) → HasBegun (First nodes start ∷ [])
-first_may_come laws nodes start ranges = (
-  nodes,
-  start,
-  [],
-  [],
-  record {
-    count = ranges.0;
-    run = laws.none nodes start;
-    each = All-cons IsLine (First nodes start) [] ranges (All-nil IsLine);
-    lines_are = refl;
-  },
-)
+pub first_may_come : LawsBelow → (version : Version) (nodes start : ℕ) → has_node version nodes ≡ true → IsReadable (First version nodes start)
+    → HasBegun (First version nodes start ∷ [])
+first_may_come laws version nodes start has ranges =
+    (version, nodes, start, [], [], first_front version nodes start (laws.none nodes start) ranges has)
 
-pub step_may_come : (checker : Checker) (step : Step) → due_of checker ≡ [] → GoesOn checker.world.count checker.world.start checker.world.moves step
-    → Allows checker (Stepped step)
-step_may_come checker step none (sends, marks, run) =
+pub step_may_come : (checker : Checker) (step : Step) → allows_step checker.version step ≡ true → due_of checker ≡ []
+    → GoesOn checker.world.count checker.world.start checker.world.moves step → Allows checker (Stepped step)
+step_may_come checker step allowed none (sends, marks, run) =
     let w = checker.world in
     let move : Move = record { step = step; sends = sends; marks = marks } in
     record {
       right = λ lines ranges stands. (
+        checker.version,
         w.count,
         w.start,
         w.moves ++ move ∷ [],
         marks,
-        front_and_step w.count w.start w.moves lines move (front_of checker lines [] none stands) run ranges,
+        front_and_step checker.version w.count w.start w.moves lines move (front_of checker lines [] none stands) run
+            (step_is checker.version step ranges allowed),
       );
     }
 
-pub mark_may_come : (checker : Checker) (mark : Mark) (others : List Mark) → due_of checker ≡ mark ∷ others → Allows checker (Marked mark)
-mark_may_come checker mark others due =
+pub mark_may_come : (checker : Checker) (mark : Mark) (others : List Mark) → allows_mark checker.version mark ≡ true
+    → due_of checker ≡ mark ∷ others → Allows checker (Marked mark)
+mark_may_come checker mark others allowed due =
     let w = checker.world in
     record {
       right = λ lines ranges stands. (
+        checker.version,
         w.count,
         w.start,
         w.moves,
         others,
-        front_and_mark w.count w.start w.moves mark others lines (front_of checker lines (mark ∷ others) due stands) ranges,
+        front_and_mark checker.version w.count w.start w.moves mark others lines (front_of checker lines (mark ∷ others) due stands)
+            (mark_is checker.version mark ranges allowed),
       );
     }
 
@@ -243,4 +314,36 @@ mark_may_come checker mark others due =
 
 pub last_comes_early : (checker : Checker) → due_of checker ≢ [] → Refuses checker Last cause.Marks
 last_comes_early checker some =
-    record { wrong = λ lines text rest stands begins. (checker.world.count, checker.world.start, checker.world.moves, due_of checker, stands.front, Last, rest, begins, some) }
+    record {
+      wrong = λ lines text rest stands begins. (
+        checker.version,
+        checker.world.count,
+        checker.world.start,
+        checker.world.moves,
+        due_of checker,
+        stands.front,
+        Last,
+        rest,
+        begins,
+        some,
+      );
+    }
+
+-- the first line may not come again
+pub first_comes_again : (checker : Checker) (version : Version) (nodes start : ℕ) → Refuses checker (First version nodes start) cause.Line
+first_comes_again checker version nodes start =
+    record {
+      wrong = λ lines text rest stands begins.
+          let w = checker.world in
+          inr (inl (
+            checker.version,
+            w.count,
+            w.start,
+            w.moves,
+            due_of checker,
+            stands.front,
+            λ other behind there.
+                let same = (begins_once text other (First version nodes start) behind rest (begins_readable checker.version text other behind there) begins).0 in
+                subst IsFirst (sym same) tt,
+          ));
+    }

@@ -22,6 +22,7 @@ use Rattle.ra_trace.specs.declared.error.WriteTraceError.{WriteTraceError}
 use Rattle.ra_trace.specs.declared.error.WriteTraceError.TheVariants.{Run, Memory}
 use Rattle.ra_trace.specs.declared.line.Line.{Line}
 use Rattle.ra_trace.specs.declared.line.Line.TheVariants.{First, Stepped, Marked, Last}
+use Rattle.ra_trace.specs.declared.version.Version.TheVariants.{Two}
 use Rattle.ra_trace.specs.Ranges.{StepFits, MarkFits}
 use Rattle.ra_trace.specs.Writing.{MoveFits, front_text, HasTraced, IsOpened, StopsIn}
 use Rattle.ra_trace.specs.TraceText.{step_line, line_text, move_lines, IsMarkLine, IsStepLine, IsLine, IsTrace}
@@ -30,7 +31,7 @@ made_of : (n start : ℕ) (steps : List Step) (world : WorldState) (text : List 
 made_of n start steps world text traced =
     record { number = traced.number; count = traced.count; start_is = traced.start_is; made = traced.made; run = traced.run }
 
-pub traced_none : (n start : ℕ) (world : WorldState) (text : List ℕ) → IsOpened n start world → text ≡ line_text (First n start) → HasTraced n start [] world text
+pub traced_none : (n start : ℕ) (world : WorldState) (text : List ℕ) → IsOpened n start world → text ≡ line_text (First Two n start) → HasTraced n start [] world text
 traced_none n start world text opened text_is =
     subst (λ w. HasTraced n start [] w text) (sym opened.is) (record {
       number = opened.number;
@@ -38,7 +39,7 @@ traced_none n start world text opened text_is =
       start_is = refl;
       made = refl;
       run = subst (λ (w : WorldState). IsRun w.count w.start w.moves) opened.is opened.run;
-      text_is = text_is ∙ sym (append-nil (line_text (First n start)));
+      text_is = text_is ∙ sym (append-nil (line_text (First Two n start)));
       fit = All-nil MoveFits;
     })
 
@@ -49,7 +50,7 @@ marked (mark ∷ marks) = ap (λ (xs : List ℕ). mark_line mark ++ xs) (marked 
 -- the lines of one more move
 front_more : (n start : ℕ) (moves : List Move) (move : Move) → front_text n start (moves ++ move ∷ []) ≡ (front_text n start moves ++ step_line move.step) ++ flat_map mark_line move.marks
 front_more n start moves move =
-    let first = line_text (First n start) in
+    let first = line_text (First Two n start) in
     let before = flat_map line_text (flat_map move_lines moves) in
     let lines : flat_map move_lines (moves ++ move ∷ []) ≡ flat_map move_lines moves ++ move_lines move =
     flat_map-append move_lines moves (move ∷ []) ∙ ap (λ (xs : List Line). flat_map move_lines moves ++ xs) (append-nil (move_lines move)) in
@@ -122,31 +123,31 @@ All-parts P (x ∷ xs) ys all =
     let rest = All-parts P xs ys (All-tail P x (xs ++ ys) all) in
     (All-cons P x xs (All-head P x (xs ++ ys) all) rest.0, rest.1)
 
-step_line_fits : (step : Step) → StepFits step → All IsNumbered (taken_in step) → IsStepLine step
+step_line_fits : (step : Step) → StepFits step → All IsNumbered (taken_in step) → IsStepLine Two step
 step_line_fits (Ask node client name mode) fits numbered = fits
 step_line_fits (Leave node client name) fits numbered = fits
 step_line_fits (Deliver message) fits numbered = fits (All-head IsNumbered message [] numbered)
 step_line_fits (Lose message) fits numbered = fits (All-head IsNumbered message [] numbered)
 
-mark_line_fits : (mark : Mark) → MarkFits mark → HasNumber mark → IsMarkLine mark
+mark_line_fits : (mark : Mark) → MarkFits mark → HasNumber mark → IsMarkLine Two mark
 mark_line_fits (Requested entry) fits number = fits number
 mark_line_fits (Entered entry) fits number = fits number
 mark_line_fits (Left entry) fits number = fits number
 
-marks_fit : (marks : List Mark) → All MarkFits marks → All HasNumber marks → All IsLine (map Marked marks)
-marks_fit [] fits numbers = All-nil IsLine
+marks_fit : (marks : List Mark) → All MarkFits marks → All HasNumber marks → All (IsLine Two) (map Marked marks)
+marks_fit [] fits numbers = All-nil (IsLine Two)
 marks_fit (mark ∷ marks) fits numbers =
-    All-cons IsLine (Marked mark) (map Marked marks) (mark_line_fits mark (All-head MarkFits mark marks fits) (All-head HasNumber mark marks numbers))
+    All-cons (IsLine Two) (Marked mark) (map Marked marks) (mark_line_fits mark (All-head MarkFits mark marks fits) (All-head HasNumber mark marks numbers))
     (marks_fit marks (All-tail MarkFits mark marks fits) (All-tail HasNumber mark marks numbers))
 
-lines_fit : (moves : List Move) → All MoveFits moves → All HasNumber (marks_of moves) → All IsNumbered (taken_by moves) → All IsLine (flat_map move_lines moves)
-lines_fit [] fits numbers numbered = All-nil IsLine
+lines_fit : (moves : List Move) → All MoveFits moves → All HasNumber (marks_of moves) → All IsNumbered (taken_by moves) → All (IsLine Two) (flat_map move_lines moves)
+lines_fit [] fits numbers numbered = All-nil (IsLine Two)
 lines_fit (move ∷ moves) fits numbers numbered =
     let here = All-head MoveFits move moves fits in
     let marks = All-parts HasNumber move.marks (marks_of moves) numbers in
     let taken = All-parts IsNumbered (taken_in move.step) (taken_by moves) numbered in
-    All-append IsLine (move_lines move) (flat_map move_lines moves)
-    (All-cons IsLine (Stepped move.step) (map Marked move.marks) (step_line_fits move.step here.0 taken.0) (marks_fit move.marks here.1 marks.0))
+    All-append (IsLine Two) (move_lines move) (flat_map move_lines moves)
+    (All-cons (IsLine Two) (Stepped move.step) (map Marked move.marks) (step_line_fits move.step here.0 taken.0) (marks_fit move.marks here.1 marks.0))
     (lines_fit moves (All-tail MoveFits move moves fits) marks.1 taken.1)
 
 pub traced_all : (n start : ℕ) (steps : List Step) (world : WorldState) (text : List ℕ) → HasTraced n start steps world text → start < 2 ^ 64
@@ -156,9 +157,9 @@ traced_all n start steps world text traced small numbers numbered =
     record {
       count = traced.number;
       run = traced.run;
-      lines = All-cons IsLine (First n start) (lines ++ Last ∷ []) (traced.number, small)
-          (All-append IsLine lines (Last ∷ []) (lines_fit world.moves traced.fit numbers numbered) (All-cons IsLine Last [] tt (All-nil IsLine)));
+      lines = All-cons (IsLine Two) (First Two n start) (lines ++ Last ∷ []) (refl, traced.number, small)
+          (All-append (IsLine Two) lines (Last ∷ []) (lines_fit world.moves traced.fit numbers numbered) (All-cons (IsLine Two) Last [] tt (All-nil (IsLine Two))));
       text_is = ap (λ (front : List ℕ). front ++ codes "end\n") traced.text_is
-          ∙ (append_assoc (line_text (First n start)) (flat_map line_text lines) (codes "end\n")
-          ∙ ap (λ (xs : List ℕ). line_text (First n start) ++ xs) (sym (flat_map-append line_text lines (Last ∷ []))));
+          ∙ (append_assoc (line_text (First Two n start)) (flat_map line_text lines) (codes "end\n")
+          ∙ ap (λ (xs : List ℕ). line_text (First Two n start) ++ xs) (sym (flat_map-append line_text lines (Last ∷ []))));
     }

@@ -2,7 +2,7 @@
 use Rattle.std.proofs.Common.{◌≡◌, ◌≢◌, ◌⊎◌, ℕ, ◌+◌, List, [], ◌∷◌, ◌++◌, length, refl, sym, ap, ◌∙◌, subst, inl, inr, append_assoc}
 use Rattle.std.specs.Prelude.{All, flat_map}
 use Rattle.std.proofs.lemmas.List.{append-nil}
-use Rattle.std.proofs.lemmas.List.Elements.{All-head, All-tail, All-nil}
+use Rattle.std.proofs.lemmas.List.Elements.{All-head, All-tail, All-nil, All-weaker}
 use Rattle.ra_stamp.specs.declared.entry.Mark.{Mark}
 use Rattle.ra_stamp.specs.declared.entry.Mark.TheVariants.{Requested, Entered, Left}
 use Rattle.ra_world.specs.Lines.{mark_line}
@@ -17,17 +17,20 @@ use Rattle.ra_trace.specs.declared.verdict.Cause.{Cause}
 use Rattle.ra_trace.specs.declared.verdict.Cause.TheVariants as cause
 use Rattle.ra_trace.specs.declared.verdict.Verdict.{Verdict}
 use Rattle.ra_trace.specs.declared.verdict.Verdict.TheVariants.{Valid, Invalid}
-use Rattle.ra_trace.specs.TraceText.{IsLine, IsTrace, BeginsWith, step_line, line_text, trace_lines}
+use Rattle.ra_trace.specs.declared.version.Version.{Version}
+use Rattle.ra_trace.specs.Forms.{IsReadable, BeginsReadable}
+use Rattle.ra_trace.specs.TraceText.{IsLine, IsTraceIn, BeginsWith, step_line, line_text, trace_lines}
 use Rattle.ra_trace.specs.Verdict.{IsFront, TableGoesOn, IsOfClient, TakesMessage, IsFirst, HasNoLine, IsUndue, IsWrong, IsVerdict, marks_in}
 use Rattle.ra_trace.specs.Below.{LawsBelow}
-use Rattle.ra_trace.proofs.Lines.{begins_once}
+use Rattle.ra_trace.proofs.Lines.{begins_once, begins_in_one}
+use Rattle.ra_trace.proofs.Versions.{readable}
 use Rattle.ra_trace.proofs.Fronts.{IsNext, not_empty, one_front, in_front, next_in_trace, no_trace, one_trace}
 
 -- ---- What is wrong with a line that is there
 
 -- the line has its form and its place, but is wrong for this cause
 abbrev pub Blame : ℕ → ℕ → List Move → List Mark → List Line → Line → Cause → Type 0
-Blame n start moves due front (First nodes from) why = ⊥
+Blame n start moves due front (First named nodes from) why = ⊥
 Blame n start moves due front (Stepped step) why =
     ((due ≢ []) × (why ≡ cause.Marks))
     ⊎ ((due ≡ []) × (GoesOn n start moves step → ⊥) × IsOfClient step × (why ≡ cause.Refused))
@@ -38,19 +41,20 @@ Blame n start moves due front (Marked mark) why =
 Blame n start moves due front Last why = (due ≢ []) × (why ≡ cause.Marks)
 
 record Blamed (front : List Line) (text : List ℕ) (why : Cause) : Type 0 where
+  version : Version
   n : ℕ
   start : ℕ
   moves : List Move
   due : List Mark
-  behind : IsFront n start moves due front
+  behind : IsFront version n start moves due front
   line : Line
   rest : List ℕ
-  begins : BeginsWith text line rest
+  begins : BeginsWith version text line rest
   blame : Blame n start moves due front line why
 
 undue : (n start : ℕ) (moves : List Move) (due : List Mark) (front : List Line) (line : Line) → IsUndue (marks_in front) due line
     → Blame n start moves due front line cause.Marks
-undue n start moves due front (First nodes from) u = u
+undue n start moves due front (First named nodes from) u = u
 undue n start moves due front (Stepped step) u = inl (u, refl)
 undue n start moves due front (Marked mark) u = inr (u.0, u.1, refl)
 undue n start moves due front Last u = (u, refl)
@@ -58,10 +62,11 @@ undue n start moves due front Last u = (u, refl)
 blamed : (front : List Line) (text : List ℕ) (why : Cause) → IsWrong front text why
     → ((why ≡ cause.Line) × HasNoLine front text) ⊎ Blamed front text why
 blamed front text cause.Line w = inl (refl, w)
-blamed front text cause.Table (n, start, moves, due, behind, mark, rest, begins, refused) =
-    inr (record { n = n; start = start; moves = moves; due = due; behind = behind; line = Marked mark; rest = rest; begins = begins; blame = inl (refused, refl) })
-blamed front text cause.Marks (n, start, moves, due, behind, line, rest, begins, u) =
+blamed front text cause.Table (version, n, start, moves, due, behind, mark, rest, begins, refused) =
+    inr (record { version = version; n = n; start = start; moves = moves; due = due; behind = behind; line = Marked mark; rest = rest; begins = begins; blame = inl (refused, refl) })
+blamed front text cause.Marks (version, n, start, moves, due, behind, line, rest, begins, u) =
     inr (record {
+      version = version;
       n = n;
       start = start;
       moves = moves;
@@ -72,8 +77,9 @@ blamed front text cause.Marks (n, start, moves, due, behind, line, rest, begins,
       begins = begins;
       blame = undue n start moves due front line u;
     })
-blamed front text cause.Refused (n, start, moves, behind, step, rest, begins, of_client, stops) =
+blamed front text cause.Refused (version, n, start, moves, behind, step, rest, begins, of_client, stops) =
     inr (record {
+      version = version;
       n = n;
       start = start;
       moves = moves;
@@ -84,8 +90,9 @@ blamed front text cause.Refused (n, start, moves, behind, step, rest, begins, of
       begins = begins;
       blame = inr (inl (refl, stops, of_client, refl));
     })
-blamed front text cause.NotUnderWay (n, start, moves, behind, step, rest, begins, takes, stops) =
+blamed front text cause.NotUnderWay (version, n, start, moves, behind, step, rest, begins, takes, stops) =
     inr (record {
+      version = version;
       n = n;
       start = start;
       moves = moves;
@@ -105,7 +112,7 @@ not_both (Lose message) a b = a
 
 first_is_not_blamed : (n start : ℕ) (moves : List Move) (due : List Mark) (front : List Line) (line : Line) (why : Cause) → IsFirst line
     → Blame n start moves due front line why → ⊥
-first_is_not_blamed n start moves due front (First nodes from) why first b = b
+first_is_not_blamed n start moves due front (First named nodes from) why first b = b
 first_is_not_blamed n start moves due front (Stepped step) why first b = first
 first_is_not_blamed n start moves due front (Marked mark) why first b = first
 first_is_not_blamed n start moves due front Last why first b = first
@@ -131,7 +138,7 @@ mark_blamed_once n start moves due front mark why other (inr a) (inr b) = a.2 �
 
 blamed_once : (n start : ℕ) (moves : List Move) (due : List Mark) (front : List Line) (line : Line) (why other : Cause)
     → Blame n start moves due front line why → Blame n start moves due front line other → why ≡ other
-blamed_once n start moves due front (First nodes from) why other a b = absurd a
+blamed_once n start moves due front (First named nodes from) why other a b = absurd a
 blamed_once n start moves due front (Stepped step) why other a b = step_blamed_once n start moves due front step why other a b
 blamed_once n start moves due front (Marked mark) why other a b = mark_blamed_once n start moves due front mark why other a b
 blamed_once n start moves due front Last why other a b = a.1 ∙ sym b.1
@@ -139,16 +146,18 @@ blamed_once n start moves due front Last why other a b = a.1 ∙ sym b.1
 -- ---- One cause
 
 no_line_is_not_blamed : LawsBelow → (front : List Line) (text : List ℕ) (why : Cause) → HasNoLine front text → Blamed front text why → ⊥
-no_line_is_not_blamed laws front text why (inl none) b = not_empty b.n b.start b.moves b.due front b.behind none.0
-no_line_is_not_blamed laws front text why (inr (inl any)) b =
-    first_is_not_blamed b.n b.start b.moves b.due front b.line why (any.1 b.line b.rest b.begins) b.blame
-no_line_is_not_blamed laws front text why (inr (inr ((n, start, moves, trace, whole), some))) b =
-    no_trace laws b.n b.start b.moves b.due n start moves front b.behind whole
+no_line_is_not_blamed laws front text why (inl none) b = not_empty b.version b.n b.start b.moves b.due front b.behind none.0
+no_line_is_not_blamed laws front text why (inr (inl (version, n, start, moves, due, behind, any))) b =
+    let same = one_front laws b.version b.n b.start b.moves b.due version n start moves due front b.behind behind in
+    let begins : BeginsWith version text b.line b.rest = subst (λ (v : Version). BeginsWith v text b.line b.rest) same.named b.begins in
+    first_is_not_blamed b.n b.start b.moves b.due front b.line why (any b.line b.rest begins) b.blame
+no_line_is_not_blamed laws front text why (inr (inr (version, n, start, moves, trace, whole, some))) b =
+    no_trace laws b.version b.n b.start b.moves b.due version n start moves front b.behind whole
 
 one_blame : LawsBelow → (front : List Line) (text : List ℕ) (why other : Cause) → Blamed front text why → Blamed front text other → why ≡ other
 one_blame laws front text why other a b =
-    let same = one_front laws b.n b.start b.moves b.due a.n a.start a.moves a.due front b.behind a.behind in
-    let line = (begins_once text b.line a.line b.rest a.rest b.begins a.begins).0 in
+    let same = one_front laws b.version b.n b.start b.moves b.due a.version a.n a.start a.moves a.due front b.behind a.behind in
+    let line = (begins_in_one b.version a.version text b.line a.line b.rest a.rest b.begins a.begins).0 in
     let there : Blame a.n a.start a.moves a.due front a.line other =
     subst (λ (l : Line). Blame a.n a.start a.moves a.due front l other) line
     (subst (λ (ms : List Mark). Blame a.n a.start a.moves ms front b.line other) same.left
@@ -173,66 +182,72 @@ one_cause laws front text why other p q =
 -- ---- A line that may come next is not wrong
 
 -- what is behind a line that may come next
-behind_next : (front : List Line) (line : Line) → IsNext front line
-    → (IsFirst line × (front ≡ [])) ⊎ ((n start : ℕ) × (moves : List Move) × (due : List Mark) × IsFront n start moves due front)
-behind_next front (First nodes from) next = inl (tt, next)
-behind_next front (Stepped step) (n, start, moves, behind, goes) = inr (n, start, moves, [], behind)
-behind_next front (Marked mark) (n, start, moves, others, behind, goes) = inr (n, start, moves, mark ∷ others, behind)
-behind_next front Last (n, start, moves, behind) = inr (n, start, moves, [], behind)
+behind_next : (version : Version) (front : List Line) (line : Line) → IsNext version front line
+    → (IsFirst line × (front ≡ [])) ⊎ ((n start : ℕ) × (moves : List Move) × (due : List Mark) × IsFront version n start moves due front)
+behind_next version front (First named nodes from) next = inl (tt, next)
+behind_next version front (Stepped step) (n, start, moves, behind, goes) = inr (n, start, moves, [], behind)
+behind_next version front (Marked mark) (n, start, moves, others, behind, goes) = inr (n, start, moves, mark ∷ others, behind)
+behind_next version front Last (n, start, moves, behind) = inr (n, start, moves, [], behind)
 
 -- a first line stands at the front only
-first_at_front : (front : List Line) (line : Line) → IsNext front line → IsFirst line → front ≡ []
-first_at_front front (First nodes from) next first = next
-first_at_front front (Stepped step) next first = absurd first
-first_at_front front (Marked mark) next first = absurd first
-first_at_front front Last next first = absurd first
+first_at_front : (version : Version) (front : List Line) (line : Line) → IsNext version front line → IsFirst line → front ≡ []
+first_at_front version front (First named nodes from) next first = next
+first_at_front version front (Stepped step) next first = absurd first
+first_at_front version front (Marked mark) next first = absurd first
+first_at_front version front Last next first = absurd first
 
 goes_on_too : (n start : ℕ) (moves : List Move) (n' start' : ℕ) (moves' : List Move) (step : Step) → n ≡ n' → start ≡ start' → moves ≡ moves'
     → GoesOn n start moves step → GoesOn n' start' moves' step
 goes_on_too n start moves n' start' moves' step p q r g =
     subst (λ (ms : List Move). GoesOn n' start' ms step) r (subst (λ (s : ℕ). GoesOn n' s moves step) q (subst (λ (m : ℕ). GoesOn m start moves step) p g))
 
-next_is_not_blamed : LawsBelow → (n start : ℕ) (moves : List Move) (due : List Mark) (front : List Line) (line : Line) (why : Cause)
-    → IsFront n start moves due front → IsNext front line → Blame n start moves due front line why → ⊥
-next_is_not_blamed laws n start moves due front (First nodes from) why behind next b = b
-next_is_not_blamed laws n start moves due front (Stepped step) why behind (n', start', moves', there, goes) b =
-    let same = one_front laws n' start' moves' [] n start moves due front there behind in
+next_is_not_blamed : LawsBelow → (version second : Version) (n start : ℕ) (moves : List Move) (due : List Mark) (front : List Line) (line : Line) (why : Cause)
+    → IsFront second n start moves due front → IsNext version front line → Blame n start moves due front line why → ⊥
+next_is_not_blamed laws version second n start moves due front (First named nodes from) why behind next b = b
+next_is_not_blamed laws version second n start moves due front (Stepped step) why behind (n', start', moves', there, goes) b =
+    let same = one_front laws version n' start' moves' [] second n start moves due front there behind in
     let on = goes_on_too n' start' moves' n start moves step same.count same.from same.run goes in
     elim b [
       | inl marks ↦ marks.0 (sym same.left)
       | inr other ↦ elim other [ inl refused ↦ refused.1 on | inr gone ↦ gone.1 on ]
     ]
-next_is_not_blamed laws n start moves due front (Marked mark) why behind (n', start', moves', others, there, goes) b =
+next_is_not_blamed laws version second n start moves due front (Marked mark) why behind (n', start', moves', others, there, goes) b =
     elim b [
       | inl table ↦ table.0 goes
-      | inr marks ↦ marks.1 others (sym (one_front laws n' start' moves' (mark ∷ others) n start moves due front there behind).left)
+      | inr marks ↦ marks.1 others (sym (one_front laws version n' start' moves' (mark ∷ others) second n start moves due front there behind).left)
     ]
-next_is_not_blamed laws n start moves due front Last why behind (n', start', moves', there) b =
-    b.0 (sym (one_front laws n' start' moves' [] n start moves due front there behind).left)
+next_is_not_blamed laws version second n start moves due front Last why behind (n', start', moves', there) b =
+    b.0 (sym (one_front laws version n' start' moves' [] second n start moves due front there behind).left)
 
-next_has_line : LawsBelow → (front : List Line) (line : Line) (text rest : List ℕ) → IsNext front line → BeginsWith text line rest
-    → HasNoLine front text → ⊥
-next_has_line laws front line text rest next begins (inl (none, no_first)) =
-    elim (behind_next front line next) [
-      | inl first ↦ no_first line rest begins first.0
-      | inr (n, start, moves, due, behind) ↦ not_empty n start moves due front behind none
+next_has_line : LawsBelow → (version : Version) (front : List Line) (line : Line) (text rest : List ℕ) → IsNext version front line
+    → BeginsWith version text line rest → HasNoLine front text → ⊥
+next_has_line laws version front line text rest next begins (inl (none, no_first)) =
+    elim (behind_next version front line next) [
+      | inl first ↦ no_first version line rest begins first.0
+      | inr (n, start, moves, due, behind) ↦ not_empty version n start moves due front behind none
     ]
-next_has_line laws front line text rest next begins (inr (inl ((n, start, moves, due, behind), any))) =
-    not_empty n start moves due front behind (first_at_front front line next (any line rest begins))
-next_has_line laws front line text rest next begins (inr (inr ((n, start, moves, trace, whole), some))) =
-    elim (behind_next front line next) [
-      | inl (first, none) ↦ let empty : [] ≡ trace_lines n start moves = sym none ∙ whole in cc
-      | inr (n', start', moves', due, behind) ↦ no_trace laws n' start' moves' due n start moves front behind whole
+next_has_line laws version front line text rest next begins (inr (inl (second, n, start, moves, due, behind, any))) =
+    elim (behind_next version front line next) [
+      | inl first ↦ not_empty second n start moves due front behind first.1
+      | inr (n', start', moves', due', there) ↦
+          let same = one_front laws version n' start' moves' due' second n start moves due front there behind in
+          let again = subst (λ (v : Version). BeginsWith v text line rest) same.named begins in
+          not_empty second n start moves due front behind (first_at_front version front line next (any line rest again))
+    ]
+next_has_line laws version front line text rest next begins (inr (inr (second, n, start, moves, trace, whole, some))) =
+    elim (behind_next version front line next) [
+      | inl (first, none) ↦ let empty : [] ≡ trace_lines second n start moves = sym none ∙ whole in cc
+      | inr (n', start', moves', due, behind) ↦ no_trace laws version n' start' moves' due second n start moves front behind whole
     ]
 
-next_is_not_wrong : LawsBelow → (front : List Line) (line : Line) (text rest : List ℕ) (why : Cause) → IsNext front line
-    → BeginsWith text line rest → IsWrong front text why → ⊥
-next_is_not_wrong laws front line text rest why next begins w =
+next_is_not_wrong : LawsBelow → (version : Version) (front : List Line) (line : Line) (text rest : List ℕ) (why : Cause) → IsNext version front line
+    → BeginsWith version text line rest → IsWrong front text why → ⊥
+next_is_not_wrong laws version front line text rest why next begins w =
     elim (blamed front text why w) [
-      | inl none ↦ next_has_line laws front line text rest next begins none.1
+      | inl none ↦ next_has_line laws version front line text rest next begins none.1
       | inr b ↦
-          let same = (begins_once text b.line line b.rest rest b.begins begins).0 in
-          next_is_not_blamed laws b.n b.start b.moves b.due front line why b.behind next
+          let same = (begins_in_one b.version version text b.line line b.rest rest b.begins begins).0 in
+          next_is_not_blamed laws version b.version b.n b.start b.moves b.due front line why b.behind next
           (subst (λ (l : Line). Blame b.n b.start b.moves b.due front l why) same b.blame)
     ]
 
@@ -242,33 +257,55 @@ next_is_not_wrong laws front line text rest why next begins w =
 abbrev pub AreRight : List Line → Type 0
 AreRight lines =
     (lines ≡ [])
-    ⊎ ((n start : ℕ) × (moves : List Move) × (due : List Mark) × IsFront n start moves due lines)
-    ⊎ ((n start : ℕ) × (moves : List Move) × (text : List ℕ) × IsTrace n start moves text × (lines ≡ trace_lines n start moves))
+    ⊎ ((version : Version) × (n start : ℕ) × (moves : List Move) × (due : List Mark) × IsFront version n start moves due lines)
+    ⊎ ((version : Version) × (n start : ℕ) × (moves : List Move) × (text : List ℕ) × IsTraceIn version n start moves text
+    × (lines ≡ trace_lines version n start moves))
 
 wrong_behind_right : (front : List Line) (text : List ℕ) (why : Cause) → IsWrong front text why → AreRight front
 wrong_behind_right front text cause.Line (inl none) = inl none.0
-wrong_behind_right front text cause.Line (inr (inl any)) = inr (inl any.0)
-wrong_behind_right front text cause.Line (inr (inr ((n, start, moves, trace, whole), some))) =
-    inr (inr (n, start, moves, flat_map line_text front, trace, whole))
-wrong_behind_right front text cause.Table w = inr (inl (w.0, w.1, w.2, w.3, w.4))
-wrong_behind_right front text cause.Marks w = inr (inl (w.0, w.1, w.2, w.3, w.4))
-wrong_behind_right front text cause.Refused w = inr (inl (w.0, w.1, w.2, [], w.3))
-wrong_behind_right front text cause.NotUnderWay w = inr (inl (w.0, w.1, w.2, [], w.3))
+wrong_behind_right front text cause.Line (inr (inl (version, n, start, moves, due, behind, any))) = inr (inl (version, n, start, moves, due, behind))
+wrong_behind_right front text cause.Line (inr (inr (version, n, start, moves, trace, whole, some))) =
+    inr (inr (version, n, start, moves, flat_map line_text front, trace, whole))
+wrong_behind_right front text cause.Table w = inr (inl (w.0, w.1, w.2, w.3, w.4, w.5))
+wrong_behind_right front text cause.Marks w = inr (inl (w.0, w.1, w.2, w.3, w.4, w.5))
+wrong_behind_right front text cause.Refused w = inr (inl (w.0, w.1, w.2, w.3, [], w.4))
+wrong_behind_right front text cause.NotUnderWay w = inr (inl (w.0, w.1, w.2, w.3, [], w.4))
 
-right_lines : (lines : List Line) → AreRight lines → All IsLine lines
-right_lines lines (inl none) = subst (All IsLine) (sym none) (All-nil IsLine)
-right_lines lines (inr (inl (n, start, moves, due, behind))) = behind.each
-right_lines lines (inr (inr (n, start, moves, text, trace, are))) = subst (All IsLine) (sym are) trace.lines
+all_readable : (version : Version) (lines : List Line) → All (IsLine version) lines → All IsReadable lines
+all_readable version lines each = All-weaker (IsLine version) IsReadable (readable version) lines each
 
-next_in_right : LawsBelow → (front : List Line) (line : Line) (rest : List Line) → AreRight (front ++ line ∷ rest) → IsNext front line
+right_lines : (lines : List Line) → AreRight lines → All IsReadable lines
+right_lines lines (inl none) = subst (All IsReadable) (sym none) (All-nil IsReadable)
+right_lines lines (inr (inl (version, n, start, moves, due, behind))) = all_readable version lines behind.each
+right_lines lines (inr (inr (version, n, start, moves, text, trace, are))) =
+    all_readable version lines (subst (All (IsLine version)) (sym are) trace.lines)
+
+-- a line among right ones may come next where it stands, and its version allows it
+record StandsThere (front : List Line) (line : Line) : Type 0 where
+  version : Version
+  next : IsNext version front line
+  ranges : IsLine version line
+
+All-at : (P : Line → Type 0) (front : List Line) (line : Line) (rest : List Line) → All P (front ++ line ∷ rest) → P line
+All-at P [] line rest h = All-head P line rest h
+All-at P (x ∷ front) line rest h = All-at P front line rest (All-tail P x (front ++ line ∷ rest) h)
+
+next_in_right : LawsBelow → (front : List Line) (line : Line) (rest : List Line) → AreRight (front ++ line ∷ rest) → StandsThere front line
 next_in_right laws front line rest (inl none) = absurd (something front none)
   where
     something : (front : List Line) → front ++ line ∷ rest ≡ [] → ⊥
     something [] e = cc
     something (x ∷ front) e = cc
-next_in_right laws front line rest (inr (inl (n, start, moves, due, behind))) = (in_front laws n start moves due front line rest behind).next
-next_in_right laws front line rest (inr (inr (n, start, moves, text, trace, are))) =
-    next_in_trace laws n start moves text front line rest trace are
+next_in_right laws front line rest (inr (inl (version, n, start, moves, due, behind))) = record {
+  version = version;
+  next = (in_front laws version n start moves due front line rest behind).next;
+  ranges = All-at (IsLine version) front line rest behind.each;
+}
+next_in_right laws front line rest (inr (inr (version, n, start, moves, text, trace, are))) = record {
+  version = version;
+  next = next_in_trace laws version n start moves text front line rest trace are;
+  ranges = All-at (IsLine version) front line rest (subst (All (IsLine version)) (sym are) trace.lines);
+}
 
 -- of two lists of lines that begin a text, one begins the other
 record Longer (shorter longer : List Line) (left right : List ℕ) : Type 0 where
@@ -276,25 +313,21 @@ record Longer (shorter longer : List Line) (left right : List ℕ) : Type 0 wher
   longer_is : longer ≡ shorter ++ more
   left_is : left ≡ flat_map line_text more ++ right
 
-longer_or_not : (a b : List Line) (r s : List ℕ) → All IsLine a → All IsLine b → flat_map line_text a ++ r ≡ flat_map line_text b ++ s
+longer_or_not : (a b : List Line) (r s : List ℕ) → All IsReadable a → All IsReadable b → flat_map line_text a ++ r ≡ flat_map line_text b ++ s
     → Longer a b r s ⊎ Longer b a s r
 longer_or_not [] b r s p q e = inl (record { more = b; longer_is = refl; left_is = e })
 longer_or_not (x ∷ a) [] r s p q e = inr (record { more = x ∷ a; longer_is = refl; left_is = sym e })
 longer_or_not (x ∷ a) (y ∷ b) r s p q e =
-    let here : BeginsWith (flat_map line_text (x ∷ a) ++ r) x (flat_map line_text a ++ r) =
-    (All-head IsLine x a p, append_assoc (line_text x) (flat_map line_text a) r) in
-    let there : BeginsWith (flat_map line_text (x ∷ a) ++ r) y (flat_map line_text b ++ s) =
-    (All-head IsLine y b q, e ∙ append_assoc (line_text y) (flat_map line_text b) s) in
+    let here : BeginsReadable (flat_map line_text (x ∷ a) ++ r) x (flat_map line_text a ++ r) =
+    (All-head IsReadable x a p, append_assoc (line_text x) (flat_map line_text a) r) in
+    let there : BeginsReadable (flat_map line_text (x ∷ a) ++ r) y (flat_map line_text b ++ s) =
+    (All-head IsReadable y b q, e ∙ append_assoc (line_text y) (flat_map line_text b) s) in
     let same = begins_once (flat_map line_text (x ∷ a) ++ r) x y (flat_map line_text a ++ r) (flat_map line_text b ++ s) here there in
     let first : x ≡ y = same.0 in
-    elim (longer_or_not a b r s (All-tail IsLine x a p) (All-tail IsLine y b q) same.1) [
+    elim (longer_or_not a b r s (All-tail IsReadable x a p) (All-tail IsReadable y b q) same.1) [
       | inl h ↦ inl (record { more = h.more; longer_is = let is = h.longer_is in cc; left_is = h.left_is })
       | inr h ↦ inr (record { more = h.more; longer_is = let is = h.longer_is in cc; left_is = h.left_is })
     ]
-
-All-back : (front : List Line) (rest : List Line) → All IsLine (front ++ rest) → All IsLine rest
-All-back [] rest h = h
-All-back (line ∷ front) rest h = All-back front rest (All-tail IsLine line (front ++ rest) h)
 
 -- right lines end where a line is wrong
 record SameEnd (a b : List Line) (r s : List ℕ) : Type 0 where
@@ -308,10 +341,9 @@ no_more laws front lines r s why w right h = at h.more h.longer_is h.left_is
     at : (more : List Line) → lines ≡ front ++ more → r ≡ flat_map line_text more ++ s → SameEnd front lines r s
     at [] is left = record { lines = sym (is ∙ append-nil front); rest = left }
     at (x ∷ more) is left =
-        let behind : AreRight (front ++ x ∷ more) = subst AreRight is right in
-        let within : All IsLine (x ∷ more) = All-back front (x ∷ more) (right_lines (front ++ x ∷ more) behind) in
-        absurd (next_is_not_wrong laws front x r (flat_map line_text more ++ s) why (next_in_right laws front x more behind)
-        (All-head IsLine x more within, left ∙ append_assoc (line_text x) (flat_map line_text more) s) w)
+        let there = next_in_right laws front x more (subst AreRight is right) in
+        absurd (next_is_not_wrong laws there.version front x r (flat_map line_text more ++ s) why there.next
+        (there.ranges, left ∙ append_assoc (line_text x) (flat_map line_text more) s) w)
 
 -- ---- A whole trace
 
@@ -327,7 +359,7 @@ step_has_bytes (Deliver message) rest e = cc
 step_has_bytes (Lose message) rest e = cc
 
 pub line_has_bytes : (line : Line) (rest : List ℕ) → [] ≡ line_text line ++ rest → ⊥
-line_has_bytes (First nodes start) rest e = cc
+line_has_bytes (First version nodes start) rest e = cc
 line_has_bytes (Stepped step) rest e = step_has_bytes step rest e
 line_has_bytes (Marked mark) rest e = mark_has_bytes mark rest e
 line_has_bytes Last rest e = cc
@@ -341,55 +373,57 @@ nothing_left front lines s h = at h.more h.longer_is h.left_is
     at (x ∷ more) is left =
         absurd (line_has_bytes x (flat_map line_text more ++ s) (left ∙ append_assoc (line_text x) (flat_map line_text more) s))
 
-trace_is_right : (n start : ℕ) (moves : List Move) (text : List ℕ) → IsTrace n start moves text → AreRight (trace_lines n start moves)
-trace_is_right n start moves text trace = inr (inr (n, start, moves, text, trace, refl))
+trace_is_right : (version : Version) (n start : ℕ) (moves : List Move) (text : List ℕ) → IsTraceIn version n start moves text
+    → AreRight (trace_lines version n start moves)
+trace_is_right version n start moves text trace = inr (inr (version, n, start, moves, text, trace, refl))
 
-trace_is_not_wrong : LawsBelow → (n start : ℕ) (moves : List Move) (rest : List ℕ) (why : Cause)
-    → rest ≡ [] → IsWrong (trace_lines n start moves) rest why → ⊥
-trace_is_not_wrong laws n start moves rest why nothing w =
-    elim (blamed (trace_lines n start moves) rest why w) [
+trace_is_not_wrong : LawsBelow → (version : Version) (n start : ℕ) (moves : List Move) (rest : List ℕ) (why : Cause)
+    → rest ≡ [] → IsWrong (trace_lines version n start moves) rest why → ⊥
+trace_is_not_wrong laws version n start moves rest why nothing w =
+    let lines = trace_lines version n start moves in
+    elim (blamed lines rest why w) [
       | inl (is, none) ↦ elim none [
         | inl (empty, no_first) ↦ cc
         | inr other ↦ elim other [
-          | inl ((m, from, others, due, behind), any) ↦ no_trace laws m from others due n start moves (trace_lines n start moves) behind refl
-          | inr (trace, some) ↦ some nothing
+          | inl (second, m, from, others, due, behind, any) ↦ no_trace laws second m from others due version n start moves lines behind refl
+          | inr (second, m, from, others, trace, whole, some) ↦ some nothing
         ]
       ]
-      | inr b ↦ no_trace laws b.n b.start b.moves b.due n start moves (trace_lines n start moves) b.behind refl
+      | inr b ↦ no_trace laws b.version b.n b.start b.moves b.due version n start moves lines b.behind refl
     ]
 
 -- ---- One verdict
 
 both_valid : LawsBelow → (text : List ℕ) (requests messages requests' messages' : ℕ) → IsVerdict text (Valid requests messages)
     → IsVerdict text (Valid requests' messages') → Valid requests messages ≡ Valid requests' messages'
-both_valid laws text requests messages requests' messages' (n, start, moves, a, r, m) (n', start', moves', b, r', m') =
-    let p = trace_lines n start moves in
-    let q = trace_lines n' start' moves' in
+both_valid laws text requests messages requests' messages' (version, n, start, moves, a, r, m) (version', n', start', moves', b, r', m') =
+    let p = trace_lines version n start moves in
+    let q = trace_lines version' n' start' moves' in
     let texts : flat_map line_text p ++ [] ≡ flat_map line_text q ++ [] =
     append-nil (flat_map line_text p) ∙ sym a.text_is ∙ b.text_is ∙ sym (append-nil (flat_map line_text q)) in
     let lines : p ≡ q =
-    elim (longer_or_not p q [] [] a.lines b.lines texts) [
+    elim (longer_or_not p q [] [] (all_readable version p a.lines) (all_readable version' q b.lines) texts) [
       | inl h ↦ (nothing_left p q [] h).lines
       | inr h ↦ sym (nothing_left q p [] h).lines
     ] in
-    let same = (one_trace laws n start moves text n' start' moves' text a b lines).run in
+    let same = (one_trace laws version n start moves text version' n' start' moves' text a b lines).run in
     let requests_are : requests ≡ requests' = r ∙ ap (λ (ms : List Move). requests_in (marks_of ms)) same ∙ sym r' in
     let messages_are : messages ≡ messages' = m ∙ ap (λ (ms : List Move). length (sent_by ms)) same ∙ sym m' in
     cc
 
 not_valid_and_invalid : LawsBelow → (text : List ℕ) (requests messages line : ℕ) (why : Cause) → IsVerdict text (Valid requests messages)
     → IsVerdict text (Invalid line why) → ⊥
-not_valid_and_invalid laws text requests messages line why (n, start, moves, a, r, m) (front, rest, is, at, w) =
-    let p = trace_lines n start moves in
+not_valid_and_invalid laws text requests messages line why (version, n, start, moves, a, r, m) (front, rest, is, at, w) =
+    let p = trace_lines version n start moves in
     let texts : flat_map line_text p ++ [] ≡ flat_map line_text front ++ rest = append-nil (flat_map line_text p) ∙ sym a.text_is ∙ is in
     let same : SameEnd p front [] rest =
-    elim (longer_or_not p front [] rest a.lines (right_lines front (wrong_behind_right front rest why w)) texts) [
+    elim (longer_or_not p front [] rest (all_readable version p a.lines) (right_lines front (wrong_behind_right front rest why w)) texts) [
       | inl h ↦ nothing_left p front rest h
       | inr h ↦
-          let end = no_more laws front p rest [] why w (trace_is_right n start moves text a) h in
+          let end = no_more laws front p rest [] why w (trace_is_right version n start moves text a) h in
           record { lines = sym end.lines; rest = sym end.rest }
     ] in
-    trace_is_not_wrong laws n start moves rest why (sym same.rest) (subst (λ (ls : List Line). IsWrong ls rest why) (sym same.lines) w)
+    trace_is_not_wrong laws version n start moves rest why (sym same.rest) (subst (λ (ls : List Line). IsWrong ls rest why) (sym same.lines) w)
 
 both_invalid : LawsBelow → (text : List ℕ) (line : ℕ) (why : Cause) (line' : ℕ) (why' : Cause) → IsVerdict text (Invalid line why)
     → IsVerdict text (Invalid line' why') → Invalid line why ≡ Invalid line' why'

@@ -10,7 +10,7 @@ use Rattle.ra_trace.specs.declared.line.Line.{Line}
 use Rattle.ra_trace.specs.declared.line.Line.TheVariants as line
 use Rattle.ra_trace.specs.declared.verdict.Cause.TheVariants as cause
 use Rattle.ra_trace.specs.declared.verdict.Verdict.TheVariants.{Invalid}
-use Rattle.ra_trace.specs.TraceText.{IsTrace, line_text, trace_lines}
+use Rattle.ra_trace.specs.TraceText.{IsTraceIn, line_text, trace_lines}
 use Rattle.ra_trace.specs.Reading.{AreRight, Judges, Answers}
 use Rattle.ra_trace.specs.Checking.{StandsBehind, Takes, Refuses, Allows}
 
@@ -32,8 +32,8 @@ pub record IsDone (limit left : ℕ) (old now : Option (List ℕ)) (checker : Ch
   pub front : List Line
   pub behind : IsBehind limit left old now front
   pub number_is : number ≡ length front + 1
-  pub trace : IsTrace checker.world.count checker.world.start checker.world.moves (flat_map line_text front)
-  pub lines : front ≡ trace_lines checker.world.count checker.world.start checker.world.moves
+  pub trace : IsTraceIn checker.version checker.world.count checker.world.start checker.world.moves (flat_map line_text front)
+  pub lines : front ≡ trace_lines checker.version checker.world.count checker.world.start checker.world.moves
 
 -- what comes of the first line: the checker stands behind it, or it is wrong, or a fault came
 abbrev pub Opens : ℕ → Option (List ℕ) → Option (List ℕ) → List ℕ → Result (Option Checker) TraceError → Type 0

@@ -9,7 +9,8 @@ use Rattle.ra_trace.specs.declared.line.Line.{Line}
 use Rattle.ra_trace.specs.declared.line.Line.TheVariants.{First, Stepped, Marked, Last}
 use Rattle.ra_trace.specs.declared.verdict.Cause.{Cause}
 use Rattle.ra_trace.specs.declared.checker.Checker.{Checker}
-use Rattle.ra_trace.specs.TraceText.{IsLine, BeginsWith}
+use Rattle.ra_trace.specs.declared.version.Version.{Version}
+use Rattle.ra_trace.specs.Forms.{IsReadable, BeginsReadable}
 use Rattle.ra_trace.specs.Verdict.{IsFront, marks_in, IsWrong}
 use Rattle.ra_trace.specs.Reading.{HasBegun}
 
@@ -19,11 +20,12 @@ due_of checker = drop checker.come checker.marks.items
 
 -- the lines are a front of a trace, the world has made its steps, and the lock table its marks
 pub record StandsBehind (checker : Checker) (lines : List Line) : Type 0 where
-  pub front : IsFront checker.world.count checker.world.start checker.world.moves (due_of checker) lines
+  pub front : IsFront checker.version checker.world.count checker.world.start checker.world.moves (due_of checker) lines
   pub table : TableRun (marks_in lines) checker.table
 
 -- nothing has happened yet in a cluster of so many nodes
-pub record IsOpening (nodes start : ℕ) (checker : Checker) : Type 0 where
+pub record IsOpening (version : Version) (nodes start : ℕ) (checker : Checker) : Type 0 where
+  pub version_is : checker.version ≡ version
   pub world_is : checker.world ≡ record { count = nodes; start = start; moves = [] }
   pub run : IsRun checker.world.count checker.world.start checker.world.moves
   pub table_is : checker.table ≡ empty_table
@@ -31,22 +33,22 @@ pub record IsOpening (nodes start : ℕ) (checker : Checker) : Type 0 where
 
 -- behind this line the checker stands where it was right
 pub record TakesOn (old : Checker) (line : Line) (new : Checker) : Type 0 where
-  pub on : (lines : List Line) → IsLine line → StandsBehind old lines → StandsBehind new (lines ++ line ∷ [])
+  pub on : (lines : List Line) → IsReadable line → StandsBehind old lines → StandsBehind new (lines ++ line ∷ [])
 
 -- a line that is right is the next one of the front, or the last one where no mark is due
 abbrev pub Takes : Checker → Line → Checker → Type 0
-Takes old (First nodes start) new = ⊥
+Takes old (First version nodes start) new = ⊥
 Takes old (Stepped step) new = TakesOn old (Stepped step) new
 Takes old (Marked mark) new = TakesOn old (Marked mark) new
 Takes old Last new = (new ≡ old) × (due_of old ≡ [])
 
 -- the line is wrong for this cause, behind any lines behind which the checker may stand
 pub record Refuses (checker : Checker) (line : Line) (why : Cause) : Type 0 where
-  pub wrong : (lines : List Line) (text rest : List ℕ) → StandsBehind checker lines → BeginsWith text line rest → IsWrong lines text why
+  pub wrong : (lines : List Line) (text rest : List ℕ) → StandsBehind checker lines → BeginsReadable text line rest → IsWrong lines text why
 
 -- the line is right behind any lines behind which the checker may stand, whether or not there is memory for it
 pub record Allows (checker : Checker) (line : Line) : Type 0 where
-  pub right : (lines : List Line) → IsLine line → StandsBehind checker lines → HasBegun (lines ++ line ∷ [])
+  pub right : (lines : List Line) → IsReadable line → StandsBehind checker lines → HasBegun (lines ++ line ∷ [])
 
 -- what a checker answers to a line: that it is right, or why it is wrong
 abbrev pub Tried : Checker → Line → Checker → Result (Option Cause) TraceError → Type 0

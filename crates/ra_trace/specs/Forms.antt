@@ -1,14 +1,16 @@
--- How a line is read: at a word or two that say which one it is, and then field by field. It is what the code computes; the
--- contract of `next_line` says what it comes to.
-use Rattle.std.specs.Prelude.{ℕ, ◌^◌, ◌-◌, Bool, not, ◌&&◌, ◌||◌, ◌==◌, nat_le, if◌then◌else◌, List, [], ◌∷◌, length, slice_index, Option, Some, None, option_map, option_and_then, codes}
+-- How a line is read: at a word or two that say which one it is, and then field by field, in the ranges of version 2. Whether the
+-- version of the trace allows it is asked then. It is what the code computes; the contracts of `next_line` and of `Checker::take` say
+-- what it comes to.
+use Rattle.std.specs.Prelude.{ℕ, ◌≡◌, ◌<◌, ◌^◌, ◌-◌, Bool, not, ◌&&◌, ◌||◌, ◌==◌, nat_le, if◌then◌else◌, List, [], ◌∷◌, ◌++◌, length, slice_index, Option, Some, None, option_map, option_and_then, codes}
 use Rattle.std.specs.Char.{is_ascii_digit}
 use Rattle.std.specs.List.{list_all}
 use Rattle.std.specs.Str.{bytes_eq}
 use Rattle.std.specs.Str.Parse.{digits_value}
 use Rattle.ra_stamp.specs.Name.{is_name_byte}
 use Rattle.ra_stamp.specs.declared.mode.Mode.{Mode}
-use Rattle.ra_stamp.specs.declared.mode.Mode.TheVariants.{Shared, Exclusive}
+use Rattle.ra_stamp.specs.declared.mode.Mode.TheVariants.{Shared, Exclusive, IntentShared, IntentExclusive, SharedIntentExclusive}
 use Rattle.ra_stamp.specs.declared.entry.Entry.{Entry}
+use Rattle.ra_stamp.specs.declared.entry.Mark.{Mark}
 use Rattle.ra_stamp.specs.declared.entry.Mark.TheVariants.{Requested, Entered, Left}
 use Rattle.ra_stamp.specs.declared.message.Message.{Message}
 use Rattle.ra_stamp.specs.declared.message.Message.TheVariants.{Request, Reply}
@@ -22,6 +24,10 @@ use Rattle.ra_trace.specs.declared.forms.Kind.{Kind}
 use Rattle.ra_trace.specs.declared.forms.Kind.TheVariants as kind
 use Rattle.ra_trace.specs.declared.line.Line.{Line}
 use Rattle.ra_trace.specs.declared.line.Line.TheVariants.{First, Stepped, Marked, Last}
+use Rattle.ra_trace.specs.declared.version.Version.{Version}
+use Rattle.ra_trace.specs.declared.version.Version.TheVariants.{One, Two}
+use Rattle.ra_trace.specs.Version.{last_node, has_mode, IsNodeIn}
+use Rattle.ra_trace.specs.TraceText.{line_text, IsMarkLine, IsStepLine}
 
 -- digits, of which the first of two or more is not `0`
 abbrev pub is_decimal : List ℕ → Bool
@@ -35,7 +41,7 @@ number_within low high digits =
     then Some (digits_value 10 digits) else None
 
 abbrev pub node_of : List ℕ → Option ℕ
-node_of = number_within 1 16
+node_of = number_within 1 64
 
 abbrev pub client_of : List ℕ → Option ℕ
 client_of = number_within 0 (2 ^ 32 - 1)
@@ -53,9 +59,12 @@ abbrev pub name_of : List ℕ → Option (List ℕ)
 name_of bytes = if is_name bytes then Some bytes else None
 
 abbrev pub mode_of : List ℕ → Option Mode
-mode_of letter =
-    if bytes_eq letter (codes "X") then Some Exclusive
-    else if bytes_eq letter (codes "S") then Some Shared
+mode_of word =
+    if bytes_eq word (codes "X") then Some Exclusive
+    else if bytes_eq word (codes "S") then Some Shared
+    else if bytes_eq word (codes "IS") then Some IntentShared
+    else if bytes_eq word (codes "IX") then Some IntentExclusive
+    else if bytes_eq word (codes "SIX") then Some SharedIntentExclusive
     else None
 
 -- what stands before and behind the first such byte
@@ -77,8 +86,8 @@ before read text = option_and_then (λ parts. option_map (λ field. (field, part
 abbrev pub fields : {A B : Type 0} → (List ℕ → Option A) → (List ℕ → Option B) → List ℕ → Option (A × B)
 fields read others text = option_and_then (λ front. option_map (λ rest. (front.0, rest)) (others front.1)) (before read text)
 
-abbrev pub first_in : List ℕ → Option Line
-first_in text = option_map (λ f. First f.0 f.1) (fields node_of start_of text)
+abbrev pub first_in : Version → List ℕ → Option Line
+first_in version text = option_map (λ f. First version f.0 f.1) (fields node_of start_of text)
 
 abbrev pub ask_in : List ℕ → Option Step
 ask_in text =
@@ -121,7 +130,7 @@ entry_line change.Left entry = Marked (Left entry)
 
 -- how what stands behind the first words of such a line is read
 abbrev pub read_as : Kind → List ℕ → Option Line
-read_as kind.First = first_in
+read_as (kind.First version) = first_in version
 read_as kind.Ask = λ rest. option_map Stepped (ask_in rest)
 read_as kind.Leave = λ rest. option_map Stepped (leave_in rest)
 read_as (kind.Request way) = λ rest. option_map (sent_line way) (request_in rest)
@@ -134,10 +143,11 @@ pub record Form : Type 0 where
   pub words : List ℕ
   pub read : List ℕ → Option Line
 
--- the eleven forms, no two of which begin alike
+-- the twelve forms, no two of which begin alike
 abbrev pub forms : List Form
 forms =
-    record { words = codes "trace 1 "; read = first_in } ∷
+    record { words = codes "trace 1 "; read = first_in One } ∷
+    record { words = codes "trace 2 "; read = first_in Two } ∷
     record { words = codes "ask "; read = λ rest. option_map Stepped (ask_in rest) } ∷
     record { words = codes "release "; read = λ rest. option_map Stepped (leave_in rest) } ∷
     record { words = codes "deliver request "; read = λ rest. option_map (λ message. Stepped (Deliver message)) (request_in rest) } ∷
@@ -160,3 +170,36 @@ line_by (form ∷ others) text = line_at (behind form.words text) form.read (lin
 
 abbrev pub line_in : List ℕ → Option Line
 line_in text = line_by forms text
+
+-- what is read as a line, whether or not its version allows it
+abbrev pub IsReadable : Line → Type 0
+IsReadable (First version nodes start) = IsNodeIn Two nodes × (start < 2 ^ 64)
+IsReadable (Stepped step) = IsStepLine Two step
+IsReadable (Marked mark) = IsMarkLine Two mark
+IsReadable Last = Unit {0}
+
+-- the text begins with such a line, and this stands behind it
+abbrev pub BeginsReadable : List ℕ → Line → List ℕ → Type 0
+BeginsReadable text line rest = IsReadable line × (text ≡ line_text line ++ rest)
+
+-- whether a version allows what was read
+abbrev pub has_node : Version → ℕ → Bool
+has_node version node = nat_le node (last_node version)
+
+abbrev pub allows_entry : Version → Entry → Bool
+allows_entry version entry = has_node version entry.stamp.node && has_mode version entry.mode
+
+abbrev pub allows_mark : Version → Mark → Bool
+allows_mark version (Requested entry) = allows_entry version entry
+allows_mark version (Entered entry) = allows_entry version entry
+allows_mark version (Left entry) = allows_entry version entry
+
+abbrev pub allows_message : Version → Message → Bool
+allows_message version (Request from to name mode seq) = (has_node version from && has_node version to) && has_mode version mode
+allows_message version (Reply from to name seq) = has_node version from && has_node version to
+
+abbrev pub allows_step : Version → Step → Bool
+allows_step version (Ask node client name mode) = has_node version node && has_mode version mode
+allows_step version (Leave node client name) = has_node version node
+allows_step version (Deliver message) = allows_message version message
+allows_step version (Lose message) = allows_message version message

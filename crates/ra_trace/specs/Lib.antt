@@ -1,3 +1,4 @@
+pub mod Version
 pub mod Forms
 pub mod Ranges
 pub mod TraceText

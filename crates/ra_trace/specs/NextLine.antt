@@ -13,7 +13,7 @@ use Rattle.ra_trace.specs.declared.verdict.Verdict.{Verdict}
 use Rattle.ra_trace.specs.declared.verdict.Verdict.TheVariants.{Valid, Invalid}
 use Rattle.ra_trace.specs.declared.reading.LineEnd.{LineEnd}
 use Rattle.ra_trace.specs.declared.reading.LineEnd.TheVariants.{Feed, Length, Input}
-use Rattle.ra_trace.specs.TraceText.{BeginsWith}
+use Rattle.ra_trace.specs.Forms.{BeginsReadable}
 use Rattle.ra_trace.specs.Reading.{IsOpenLine}
 
 -- the bytes end so
@@ -69,11 +69,11 @@ IsOverLine bytes =
 -- no line begins them, and none will whatever comes behind them
 abbrev pub HasNone : List ℕ → Option (List ℕ) → Type 0
 HasNone bytes new =
-    ((line : Line) (rest : List ℕ) → BeginsWith bytes line rest → ⊥) × (IsOverLine bytes ⊎ (IsOpenLine bytes × IsAtEnd new))
+    ((line : Line) (rest : List ℕ) → BeginsReadable bytes line rest → ⊥) × (IsOverLine bytes ⊎ (IsOpenLine bytes × IsAtEnd new))
 
 -- which line it is, or that it is none
 abbrev pub ReadsNext : ℕ → Option (List ℕ) → Option (List ℕ) → List ℕ → Result (Option Line) TraceError → Type 0
-ReadsNext left old new bytes (Ok (Some line)) = TakesBytes left old new bytes × BeginsWith bytes line [] × EndsSo Feed bytes new
+ReadsNext left old new bytes (Ok (Some line)) = TakesBytes left old new bytes × BeginsReadable bytes line [] × EndsSo Feed bytes new
 ReadsNext left old new bytes (Ok None) = TakesBytes left old new bytes × HasNone bytes new
 ReadsNext left old new bytes (Err fault) = FailsWithin left old new bytes fault
 

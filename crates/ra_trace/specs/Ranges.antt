@@ -1,4 +1,5 @@
--- What the types of messages, entries, marks and steps say of the ranges of their fields: all but that numbers are 1 or more.
+-- What the types of messages, entries, marks and steps say of the ranges of their fields in what is written: all but that numbers are 1
+-- or more.
 use Rattle.std.specs.Prelude.{◌≤◌}
 use Rattle.ra_stamp.specs.Message.{seq_of}
 use Rattle.ra_stamp.specs.declared.entry.Entry.{Entry}
@@ -7,10 +8,11 @@ use Rattle.ra_stamp.specs.declared.entry.Mark.TheVariants.{Requested, Entered, L
 use Rattle.ra_stamp.specs.declared.message.Message.{Message}
 use Rattle.ra_world.specs.declared.step.Step.{Step}
 use Rattle.ra_world.specs.declared.step.Step.TheVariants.{Ask, Leave, Deliver, Lose}
+use Rattle.ra_trace.specs.declared.version.Version.TheVariants.{Two}
 use Rattle.ra_trace.specs.TraceText.{IsEntryLine, IsMessageLine, IsStepLine}
 
 abbrev pub EntryFits : Entry → Type 0
-EntryFits entry = 1 ≤ entry.stamp.seq → IsEntryLine entry
+EntryFits entry = 1 ≤ entry.stamp.seq → IsEntryLine Two entry
 
 abbrev pub MarkFits : Mark → Type 0
 MarkFits (Requested entry) = EntryFits entry
@@ -18,10 +20,10 @@ MarkFits (Entered entry) = EntryFits entry
 MarkFits (Left entry) = EntryFits entry
 
 abbrev pub MessageFits : Message → Type 0
-MessageFits message = 1 ≤ seq_of message → IsMessageLine message
+MessageFits message = 1 ≤ seq_of message → IsMessageLine Two message
 
 abbrev pub StepFits : Step → Type 0
-StepFits (Ask node client name mode) = IsStepLine (Ask node client name mode)
-StepFits (Leave node client name) = IsStepLine (Leave node client name)
+StepFits (Ask node client name mode) = IsStepLine Two (Ask node client name mode)
+StepFits (Leave node client name) = IsStepLine Two (Leave node client name)
 StepFits (Deliver message) = MessageFits message
 StepFits (Lose message) = MessageFits message

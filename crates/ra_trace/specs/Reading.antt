@@ -8,17 +8,19 @@ use Rattle.ra_trace.specs.declared.error.TraceError.TheVariants.{Read, Limit, Me
 use Rattle.ra_trace.specs.declared.line.Line.{Line}
 use Rattle.ra_trace.specs.declared.verdict.Verdict.{Verdict}
 use Rattle.ra_trace.specs.declared.verdict.Verdict.TheVariants.{Valid, Invalid}
-use Rattle.ra_trace.specs.TraceText.{IsTrace, line_text, trace_lines}
+use Rattle.ra_trace.specs.declared.version.Version.{Version}
+use Rattle.ra_trace.specs.TraceText.{IsTraceIn, line_text, trace_lines}
 use Rattle.ra_trace.specs.Verdict.{IsFront, IsWrong, IsVerdict}
 
 -- the lines are those of a whole trace
 abbrev pub IsWhole : List Line → Type 0
 IsWhole front =
-    (n start : ℕ) × (moves : List Move) × IsTrace n start moves (flat_map line_text front) × (front ≡ trace_lines n start moves)
+    (version : Version) × (n start : ℕ) × (moves : List Move) × IsTraceIn version n start moves (flat_map line_text front)
+    × (front ≡ trace_lines version n start moves)
 
 -- the lines are those of a front of a trace: the last one has not come
 abbrev pub HasBegun : List Line → Type 0
-HasBegun front = (n start : ℕ) × (moves : List Move) × (due : List Mark) × IsFront n start moves due front
+HasBegun front = (version : Version) × (n start : ℕ) × (moves : List Move) × (due : List Mark) × IsFront version n start moves due front
 
 -- no line yet, or the lines of a front of a trace, or of a whole one
 abbrev pub AreRight : List Line → Type 0

@@ -1,5 +1,6 @@
 -- What a checker says of a text: that it is the trace of a run, or which line is the first wrong one and why. It goes line by
--- line. Behind each line it knows the run so far, and which marks of the last step have not come yet.
+-- line. Behind each line it knows the version, which the first line named, the run so far, and which marks of the last step have not
+-- come yet.
 use Rattle.std.specs.Prelude.{◌≡◌, ◌≢◌, ◌⊎◌, ℕ, ◌+◌, List, [], ◌∷◌, ◌++◌, All, map, flat_map, length}
 use Rattle.ra_stamp.specs.NodeId.{IsNodeNumber}
 use Rattle.ra_stamp.specs.declared.entry.Mark.{Mark}
@@ -15,18 +16,19 @@ use Rattle.ra_trace.specs.declared.verdict.Cause.{Cause}
 use Rattle.ra_trace.specs.declared.verdict.Cause.TheVariants as cause
 use Rattle.ra_trace.specs.declared.verdict.Verdict.{Verdict}
 use Rattle.ra_trace.specs.declared.verdict.Verdict.TheVariants.{Valid, Invalid}
-use Rattle.ra_trace.specs.TraceText.{IsLine, IsTrace, line_text, move_lines, trace_lines, BeginsWith}
+use Rattle.ra_trace.specs.declared.version.Version.{Version}
+use Rattle.ra_trace.specs.TraceText.{IsLine, IsTraceIn, line_text, move_lines, trace_lines, BeginsWith}
 
--- the lines so far are those of these moves, a run, but for the marks of the last one that are still due
-pub record IsFront (n start : ℕ) (moves : List Move) (due : List Mark) (lines : List Line) : Type 0 where
+-- the lines so far are those in this version of these moves, a run, but for the marks of the last one that are still due
+pub record IsFront (version : Version) (n start : ℕ) (moves : List Move) (due : List Mark) (lines : List Line) : Type 0 where
   pub count : IsNodeNumber n
   pub run : IsRun n start moves
-  pub each : All IsLine lines
-  pub lines_are : lines ++ map Marked due ≡ First n start ∷ flat_map move_lines moves
+  pub each : All (IsLine version) lines
+  pub lines_are : lines ++ map Marked due ≡ First version n start ∷ flat_map move_lines moves
 
 -- the marks that stand in these lines, in order
 abbrev pub marks_in_line : Line → List Mark
-marks_in_line (First nodes start) = []
+marks_in_line (First version nodes start) = []
 marks_in_line (Stepped step) = []
 marks_in_line (Marked mark) = mark ∷ []
 marks_in_line Last = []
@@ -53,24 +55,24 @@ TakesMessage (Lose message) = Unit {0}
 
 -- the line is the first of a trace
 abbrev pub IsFirst : Line → Type 0
-IsFirst (First nodes start) = Unit {0}
+IsFirst (First version nodes start) = Unit {0}
 IsFirst (Stepped step) = ⊥
 IsFirst (Marked mark) = ⊥
 IsFirst Last = ⊥
 
--- Behind these lines no line may stand that begins the text: none begins it, or the first line is no first one, or stands
--- again, or something is left behind the last.
+-- Behind these lines no line may stand that begins the text: the first line is no first one of any version, or behind it none of its
+-- version begins the text but the first, which may not stand again, or something is left behind the last.
 abbrev pub HasNoLine : List Line → List ℕ → Type 0
 HasNoLine front text =
-    ((front ≡ []) × ((line : Line) (rest : List ℕ) → BeginsWith text line rest → IsFirst line → ⊥))
-    ⊎ (((n start : ℕ) × (moves : List Move) × (due : List Mark) × IsFront n start moves due front)
-    × ((line : Line) (rest : List ℕ) → BeginsWith text line rest → IsFirst line))
-    ⊎ (((n start : ℕ) × (moves : List Move) × IsTrace n start moves (flat_map line_text front) × (front ≡ trace_lines n start moves))
-    × (text ≢ []))
+    ((front ≡ []) × ((version : Version) (line : Line) (rest : List ℕ) → BeginsWith version text line rest → IsFirst line → ⊥))
+    ⊎ ((version : Version) × (n start : ℕ) × (moves : List Move) × (due : List Mark) × IsFront version n start moves due front
+    × ((line : Line) (rest : List ℕ) → BeginsWith version text line rest → IsFirst line))
+    ⊎ ((version : Version) × (n start : ℕ) × (moves : List Move) × IsTraceIn version n start moves (flat_map line_text front)
+    × (front ≡ trace_lines version n start moves) × (text ≢ []))
 
 -- behind these marks, of which these are still due, the line is not the mark that comes next
 abbrev pub IsUndue : List Mark → List Mark → Line → Type 0
-IsUndue marks due (First nodes start) = ⊥
+IsUndue marks due (First version nodes start) = ⊥
 IsUndue marks due (Stepped step) = due ≢ []
 IsUndue marks due (Marked mark) = TableGoesOn marks mark × ((others : List Mark) → due ≢ mark ∷ others)
 IsUndue marks due Last = due ≢ []
@@ -80,28 +82,28 @@ abbrev pub IsWrong : List Line → List ℕ → Cause → Type 0
 IsWrong front text cause.Line = HasNoLine front text
 -- the lock table refuses the mark
 IsWrong front text cause.Table =
-    (n start : ℕ) × (moves : List Move) × (due : List Mark) × IsFront n start moves due front
-    × (mark : Mark) × (rest : List ℕ) × BeginsWith text (Marked mark) rest
+    (version : Version) × (n start : ℕ) × (moves : List Move) × (due : List Mark) × IsFront version n start moves due front
+    × (mark : Mark) × (rest : List ℕ) × BeginsWith version text (Marked mark) rest
     × (TableGoesOn (marks_in front) mark → ⊥)
 -- the lock table allows the mark, but it is not the next one that is due; or one is due, and what comes is no mark
 IsWrong front text cause.Marks =
-    (n start : ℕ) × (moves : List Move) × (due : List Mark) × IsFront n start moves due front
-    × (line : Line) × (rest : List ℕ) × BeginsWith text line rest
+    (version : Version) × (n start : ℕ) × (moves : List Move) × (due : List Mark) × IsFront version n start moves due front
+    × (line : Line) × (rest : List ℕ) × BeginsWith version text line rest
     × IsUndue (marks_in front) due line
 -- no mark is due, and the run does not go on with the step
 IsWrong front text cause.Refused =
-    (n start : ℕ) × (moves : List Move) × IsFront n start moves [] front
-    × (step : Step) × (rest : List ℕ) × BeginsWith text (Stepped step) rest
+    (version : Version) × (n start : ℕ) × (moves : List Move) × IsFront version n start moves [] front
+    × (step : Step) × (rest : List ℕ) × BeginsWith version text (Stepped step) rest
     × IsOfClient step × (GoesOn n start moves step → ⊥)
 IsWrong front text cause.NotUnderWay =
-    (n start : ℕ) × (moves : List Move) × IsFront n start moves [] front
-    × (step : Step) × (rest : List ℕ) × BeginsWith text (Stepped step) rest
+    (version : Version) × (n start : ℕ) × (moves : List Move) × IsFront version n start moves [] front
+    × (step : Step) × (rest : List ℕ) × BeginsWith version text (Stepped step) rest
     × TakesMessage step × (GoesOn n start moves step → ⊥)
 
 -- the text is the trace of a run, with so many requests and messages; or this line of it, counted from 1, is the first wrong one
 abbrev pub IsVerdict : List ℕ → Verdict → Type 0
 IsVerdict text (Valid requests messages) =
-    (n start : ℕ) × (moves : List Move) × IsTrace n start moves text
+    (version : Version) × (n start : ℕ) × (moves : List Move) × IsTraceIn version n start moves text
     × (requests ≡ requests_in (marks_of moves)) × (messages ≡ length (sent_by moves))
 IsVerdict text (Invalid line why) =
     (front : List Line) × (rest : List ℕ) × (text ≡ flat_map line_text front ++ rest)
@@ -110,5 +112,5 @@ IsVerdict text (Invalid line why) =
 -- the text is the trace of a run whose marks are a run of the lock table
 abbrev pub IsTraceOfTableRun : List ℕ → Type 0
 IsTraceOfTableRun text =
-    (n start : ℕ) × (moves : List Move) × IsTrace n start moves text
+    (version : Version) × (n start : ℕ) × (moves : List Move) × IsTraceIn version n start moves text
     × (table : LockTable) × TableRun (marks_of moves) table

@@ -10,6 +10,7 @@ use Rattle.ra_world.specs.World.{WorldState}
 use Rattle.ra_trace.specs.declared.error.WriteTraceError.{WriteTraceError}
 use Rattle.ra_trace.specs.declared.error.WriteTraceError.TheVariants.{Run, Memory, Write}
 use Rattle.ra_trace.specs.declared.line.Line.TheVariants.{First}
+use Rattle.ra_trace.specs.declared.version.Version.TheVariants.{Two}
 use Rattle.ra_trace.specs.Ranges.{StepFits, MarkFits}
 use Rattle.ra_trace.specs.TraceText.{line_text, move_lines, IsTrace}
 
@@ -18,7 +19,7 @@ MoveFits move = StepFits move.step × All MarkFits move.marks
 
 -- all lines but the last
 abbrev pub front_text : ℕ → ℕ → List Move → List ℕ
-front_text n start moves = line_text (First n start) ++ flat_map line_text (flat_map move_lines moves)
+front_text n start moves = line_text (First Two n start) ++ flat_map line_text (flat_map move_lines moves)
 
 -- the world of these nodes has made these steps and no others, and the text is that of its moves, but for the last line
 pub record HasTraced (n start : ℕ) (steps : List Step) (world : WorldState) (text : List ℕ) : Type 0 where

@@ -4,22 +4,26 @@ ghost use Rattle.ra_table.specs.Laws.{AllowsMark};
 ghost use Rattle.ra_world.specs.Quiet.{requests_in};
 ghost use Rattle.ra_world.specs.Run.{marks_of};
 ghost use Rattle.ra_world.specs.Traffic.{sent_by};
+ghost use Rattle.ra_trace.specs.declared.version.Version.{Version};
+ghost use Rattle.ra_trace.specs.Forms.{IsReadable};
 ghost use Rattle.ra_trace.specs.TraceText.{IsLine};
 ghost use Rattle.ra_trace.specs.Verdict.{IsFirst};
 
 use crate::laws::traces_rest_on_runs;
 use crate::line::Line;
 use crate::tables::{allows, step_table};
+use crate::version::Version;
 use crate::{Cause, TraceError, Verdict};
 use ra_stamp::{Mark, Marks, NodeId, equal_is_same};
 use ra_table::Table;
 use ra_world::{Step, StepError, World};
 use std::alloc::Global;
 
-/// What a checker knows behind the lines that it took: the world after their steps, the lock table after their marks, and
-/// which marks of the last step have not come yet. It keeps nothing of the text.
+/// What a checker knows behind the lines that it took: the version that the first one names, the world after their steps, the lock
+/// table after their marks, and which marks of the last step have not come yet. It keeps nothing of the text.
 #[derive(Drop)]
 pub struct Checker {
+    version: Version,
     world: World,
     table: Table,
     /// The marks of the last step.
@@ -32,22 +36,32 @@ impl Checker {
     ghost use Rattle.ra_trace.specs.Checking.{due_of, IsOpening, StandsBehind, Tried};
     ghost use Rattle.ra_trace.specs.Reading.{HasBegun};
 
-    /// Makes the checker that stands behind this line, or answers `None` where it is no first line.
+    /// Makes the checker that stands behind this line, or answers `None` where it is no first line of its version.
     ///
     /// # Errors
     ///
     /// `Memory`.
     pub fn behind_first(alloc: Global, line: &Line) -> Result<Option<Checker>, TraceError>
         ensures some { IfOk result (λ opened.
-            IfSome opened (λ checker. IsLine line.now → StandsBehind checker (line.now ∷ []))) }
-        ensures none { IfOk result (λ opened. IsNone opened → IsFirst line.now → ⊥) }
-        ensures err { IfErr result (λ fault. (fault ≡ TraceError.Memory) × (IsLine line.now → HasBegun (line.now ∷ []))) }
+            IfSome opened (λ checker. IsReadable line.now → StandsBehind checker (line.now ∷ []))) }
+        ensures none { IfOk result (λ opened. IsNone opened
+            → (version : Version) → IsLine version line.now → IsFirst line.now → ⊥) }
+        ensures err { IfErr result (λ fault. (fault ≡ TraceError.Memory)
+            × (IsReadable line.now → HasBegun (line.now ∷ []))) }
     {
         traces_rest_on_runs();
-        let Line::First { nodes, start } = line else {
+        let Line::First {
+            version,
+            nodes,
+            start,
+        } = line
+        else {
             return Ok(None);
         };
-        match Checker::opening(alloc, *nodes, *start) {
+        if !version.has_node(*nodes) {
+            return Ok(None);
+        }
+        match Checker::opening(alloc, *version, *nodes, *start) {
             Ok(checker) => Ok(Some(checker)),
             Err(fault) => Err(fault),
         }
@@ -58,16 +72,22 @@ impl Checker {
     /// # Errors
     ///
     /// `Memory`.
-    fn opening(alloc: Global, nodes: NodeId, start: u64) -> Result<Checker, TraceError>
-        ensures ok { IfOk result (IsOpening nodes start) }
+    fn opening(
+        alloc: Global,
+        version: Version,
+        nodes: NodeId,
+        start: u64,
+    ) -> Result<Checker, TraceError>
+        ensures ok { IfOk result (IsOpening version nodes start) }
         ensures err { IfErr result (λ fault. fault ≡ TraceError.Memory) }
     {
-        // There are 1 to 16 nodes, so only memory can be wanting.
+        // There are 1 to 64 nodes, so only memory can be wanting.
         let Ok(world) = World::new(alloc, nodes.get(), start) else {
             return Err(TraceError::Memory);
         };
         match Table::new(alloc) {
             Ok(table) => Ok(Checker {
+                version,
                 world,
                 table,
                 marks: Marks::new(alloc),
@@ -141,6 +161,9 @@ impl Checker {
     fn take_step(&mut self, alloc: Global, step: &Step) -> Result<Option<Cause>, TraceError>
         ensures { Tried self.old (Line.Stepped step.now) self.new result }
     {
+        if !self.version.allows_step(step) {
+            return Ok(Some(Cause::Line));
+        }
         if self.has_due() {
             return Ok(Some(Cause::Marks));
         }
@@ -166,6 +189,9 @@ impl Checker {
         ensures { Tried self.old (Line.Marked mark.now) self.new result }
     {
         traces_rest_on_runs();
+        if !self.version.allows_mark(mark) {
+            return Ok(Some(Cause::Line));
+        }
         if !self.is_due(mark) {
             return Ok(Some(cause_of(&self.table, mark)));
         }

@@ -7,7 +7,8 @@ ghost use Rattle.ra_trace.specs.declared.verdict.Verdict.{Verdict};
 ghost use Rattle.ra_trace.specs.Along.{IsAlong, Judged, Opens, SomeTaken, Turns};
 ghost use Rattle.ra_trace.specs.NextLine.{EndsText};
 ghost use Rattle.ra_trace.specs.Reading.{Answers, Judges, ReadsOn, PassesLimit, StopsBehind};
-ghost use Rattle.ra_trace.specs.TraceText.{IsTrace};
+ghost use Rattle.ra_trace.specs.declared.version.Version.{Version};
+ghost use Rattle.ra_trace.specs.TraceText.{IsTraceIn};
 ghost use Rattle.ra_trace.specs.Verdict.{IsTraceOfTableRun, IsVerdict};
 
 use crate::checker::Checker;
@@ -213,7 +214,7 @@ fn check_by<R: Read, S: LineSource<R>>(
     ensures exact { IfOk result (λ verdict. IfSome (R.remaining reader.old) (λ input. (other : Verdict)
         → IsVerdict input other ↔ (verdict ≡ other))) }
     ensures trace { IfOk result (λ verdict. IfSome (R.remaining reader.old) (λ input.
-        (n start : ℕ) (moves : List Move) → IsTrace n start moves input
+        (version : Version) (n start : ℕ) (moves : List Move) → IsTraceIn version n start moves input
         → verdict ≡ Verdict.Valid (requests_in (marks_of moves)) (length (sent_by moves)))) }
 
     // No verdict was reached in what was read; and where memory was wanting, what was read are right lines and nothing else.
@@ -228,7 +229,8 @@ fn check_by<R: Read, S: LineSource<R>>(
     verdict_of::<R, S>(alloc, reader, limit as usize)
 }
 
-/// Checks the text of a trace: says that it is the trace of a run, or which line is the first wrong one and why. It goes line by
+/// Checks the text of a trace of either version: says that it is the trace of a run, or which line is the first wrong one and why.
+/// In version 1 a node above 16 is wrong, and so is a mode other than `S` and `X`, at the line in which it stands. It goes line by
 /// line, makes each step in a world of its own and each mark in a lock table, and believes neither. The verdict is given at the
 /// first wrong line, and nothing behind that line is read: no byte behind its line feed, none behind its 128th byte, since each
 /// line is shorter, and where something stands behind the last line, one byte of it. Of the text it keeps no more than the present
@@ -268,7 +270,7 @@ pub fn check_within<R: Read>(
     ensures exact { IfOk result (λ verdict. IfSome (R.remaining reader.old) (λ input. (other : Verdict)
         → IsVerdict input other ↔ (verdict ≡ other))) }
     ensures trace { IfOk result (λ verdict. IfSome (R.remaining reader.old) (λ input.
-        (n start : ℕ) (moves : List Move) → IsTrace n start moves input
+        (version : Version) (n start : ℕ) (moves : List Move) → IsTraceIn version n start moves input
         → verdict ≡ Verdict.Valid (requests_in (marks_of moves)) (length (sent_by moves)))) }
 
     // No verdict was reached in what was read; and where memory was wanting, what was read are right lines and nothing else.
@@ -299,7 +301,7 @@ pub fn check<R: Read>(alloc: Global, reader: &mut R) -> Result<Verdict, TraceErr
     ensures exact { IfOk result (λ verdict. IfSome (R.remaining reader.old) (λ input. (other : Verdict)
         → IsVerdict input other ↔ (verdict ≡ other))) }
     ensures trace { IfOk result (λ verdict. IfSome (R.remaining reader.old) (λ input.
-        (n start : ℕ) (moves : List Move) → IsTrace n start moves input
+        (version : Version) (n start : ℕ) (moves : List Move) → IsTraceIn version n start moves input
         → verdict ≡ Verdict.Valid (requests_in (marks_of moves)) (length (sent_by moves)))) }
 
     ensures failed { IsErrOf result TraceError.Read → ReadsOn 16777216 (R.remaining reader.old) (R.remaining reader.new) }
@@ -331,7 +333,7 @@ pub fn check_buffered<B: BufRead>(alloc: Global, reader: &mut B) -> Result<Verdi
     ensures exact { IfOk result (λ verdict. IfSome (B.remaining reader.old) (λ input. (other : Verdict)
         → IsVerdict input other ↔ (verdict ≡ other))) }
     ensures trace { IfOk result (λ verdict. IfSome (B.remaining reader.old) (λ input.
-        (n start : ℕ) (moves : List Move) → IsTrace n start moves input
+        (version : Version) (n start : ℕ) (moves : List Move) → IsTraceIn version n start moves input
         → verdict ≡ Verdict.Valid (requests_in (marks_of moves)) (length (sent_by moves)))) }
 
     ensures failed { IsErrOf result TraceError.Read → ReadsOn 16777216 (B.remaining reader.old) (B.remaining reader.new) }

@@ -24,7 +24,7 @@ pub enum TraceError {
 /// Why a trace was not written.
 #[derive(Clone, Copy, Debug, PartialEq, Eq, Error)]
 pub enum WriteTraceError {
-    /// The steps are no run: the number of nodes is not 1 to 16, or a step is refused. Never want of memory.
+    /// The steps are no run: the number of nodes is not 1 to 64, or a step is refused. Never want of memory.
     #[error(transparent)]
     Run(RunError),
     /// Memory ran out.

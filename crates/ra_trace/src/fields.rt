@@ -48,11 +48,11 @@ fn number_within(low: u64, high: u64, digits: &[u8]) -> Option<u64>
     }
 }
 
-/// Returns the node of a field, 1 to 16. It does not allocate.
+/// Returns the node of a field, 1 to 64. It does not allocate.
 pub fn node_of(field: &[u8]) -> Option<NodeId>
     ensures { result ≡ spec.node_of field.now }
 {
-    let number = number_within(1, 16, field)?;
+    let number = number_within(1, 64, field)?;
     NodeId::new(number as u16)
 }
 
@@ -85,13 +85,16 @@ pub fn name_of(field: &[u8]) -> Option<Name>
     Name::new(field).ok()
 }
 
-/// Returns the mode of a field, `X` or `S`. It does not allocate.
+/// Returns the mode of a field, `X`, `S`, `IS`, `IX` or `SIX`. It does not allocate.
 pub fn mode_of(field: &[u8]) -> Option<Mode>
     ensures { result ≡ spec.mode_of field.now }
 {
     match field {
         b"X" => Some(Mode::Exclusive),
         b"S" => Some(Mode::Shared),
+        b"IS" => Some(Mode::IntentShared),
+        b"IX" => Some(Mode::IntentExclusive),
+        b"SIX" => Some(Mode::SharedIntentExclusive),
         _ => None,
     }
 }

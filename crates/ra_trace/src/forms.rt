@@ -4,6 +4,7 @@ ghost use Rattle.ra_trace.specs.Forms as spec;
 
 use crate::fields::{client_of, cut, mode_of, name_of, node_of, seq_of, start_of};
 use crate::line::Line;
+use crate::version::Version;
 use ra_stamp::{Entry, Mark, Message, Mode, Name, NodeId, Stamp};
 use ra_world::Step;
 
@@ -75,15 +76,19 @@ fn name_mode_and_seq_of(text: &[u8]) -> Option<(Name, (Mode, u64))>
     Some((name, rest))
 }
 
-/// Reads how many nodes there are, and the number that each resource begins with.
-fn first_of(text: &[u8]) -> Option<Line>
-    ensures { result ≡ spec.first_in text.now }
+/// Reads how many nodes there are, and the number that each resource begins with, in the first line of this version.
+fn first_of(version: Version, text: &[u8]) -> Option<Line>
+    ensures { result ≡ spec.first_in version text.now }
 {
     let Some((nodes, start)) = node_before(text) else {
         return None;
     };
     let start = start_of(start)?;
-    Some(Line::First { nodes, start })
+    Some(Line::First {
+        version,
+        nodes,
+        start,
+    })
 }
 
 /// Reads node, client, name and mode.
@@ -231,7 +236,7 @@ impl Change {
 /// What a line is, and so how it goes on behind its first words.
 #[derive(Clone, Copy)]
 enum Kind {
-    First,
+    First(Version),
     Ask,
     Leave,
     Request(Way),
@@ -270,7 +275,7 @@ impl Kind {
         ensures { result ≡ spec.read_as self rest.now }
     {
         match self {
-            Kind::First => first_of(rest),
+            Kind::First(version) => first_of(version, rest),
             Kind::Ask => ask_of(rest),
             Kind::Leave => leave_of(rest),
             Kind::Request(way) => request_line(way, rest),
@@ -282,8 +287,9 @@ impl Kind {
 }
 
 /// The forms of lines, no two of which begin alike: how each begins, and what it is.
-const FORMS: [(&[u8], Kind); 11] = [
-    (b"trace 1 ", Kind::First),
+const FORMS: [(&[u8], Kind); 12] = [
+    (b"trace 1 ", Kind::First(Version::One)),
+    (b"trace 2 ", Kind::First(Version::Two)),
     (b"ask ", Kind::Ask),
     (b"release ", Kind::Leave),
     (b"deliver request ", Kind::Request(Way::Delivered)),
@@ -296,8 +302,8 @@ const FORMS: [(&[u8], Kind); 11] = [
     (b"end", Kind::Last),
 ];
 
-/// Returns the line that a text with no line feed is, or `None` where it is none. It does not allocate, and the cost is
-/// linear in the text.
+/// Returns the line that a text with no line feed is, or `None` where it is none. Whether its version allows it is not asked. It does
+/// not allocate, and the cost is linear in the text.
 pub fn line_of(text: &[u8]) -> Option<Line>
     ensures { result ≡ spec.line_in text.now }
 {

@@ -3,7 +3,8 @@ ghost use Rattle.std.specs.Prelude.{◌≡◌, ℕ, List, All, map};
 ghost use Rattle.ra_world.specs.Traffic.{Move};
 ghost use Rattle.ra_trace.specs.declared.verdict.Verdict.{Verdict};
 ghost use Rattle.ra_trace.specs.Below.{LawsBelow};
-ghost use Rattle.ra_trace.specs.TraceText.{IsLine, IsTrace, trace_lines, trace_text};
+ghost use Rattle.ra_trace.specs.declared.version.Version.{Version};
+ghost use Rattle.ra_trace.specs.TraceText.{IsLine, IsTraceIn, trace_lines, trace_text};
 ghost use Rattle.ra_trace.specs.Verdict.{IsVerdict};
 
 use ra_table::runs_go_on_by_steps;
@@ -30,23 +31,23 @@ pub fn each_text_has_one_verdict()
     traces_rest_on_runs();
 }
 
-/// No two lists of moves whose fields are in their ranges have one text, whether they are runs or not: it tells how many nodes
-/// there are, the number that each resource begins with, each step and its marks.
+/// No two lists of moves whose fields are in the ranges of a version have one text, whether they are runs or not: it tells the version,
+/// how many nodes there are, the number that each resource begins with, each step and its marks.
 pub fn texts_tell_their_steps()
-    ensures { (n m start other : ℕ) (moves others : List Move)
-        → All IsLine (trace_lines n start moves) → All IsLine (trace_lines m other others)
-        → trace_text n start moves ≡ trace_text m other others
-        → (n ≡ m) × (start ≡ other)
+    ensures { (version second : Version) (n m start other : ℕ) (moves others : List Move)
+        → All (IsLine version) (trace_lines version n start moves) → All (IsLine second) (trace_lines second m other others)
+        → trace_text version n start moves ≡ trace_text second m other others
+        → (version ≡ second) × (n ≡ m) × (start ≡ other)
         × (map (λ move. move.step) moves ≡ map (λ move. move.step) others)
         × (map (λ move. move.marks) moves ≡ map (λ move. move.marks) others) }
 {}
 
-/// No text is the trace of two runs: it tells how many nodes there are, the number that each resource begins with, each step
-/// and what came of it.
+/// No text is the trace of two runs, nor of one in two versions: it tells the version, how many nodes there are, the number that each
+/// resource begins with, each step and what came of it.
 pub fn traces_tell_their_runs()
-    ensures { (n m start other : ℕ) (moves others : List Move) (text : List ℕ)
-        → IsTrace n start moves text → IsTrace m other others text
-        → (n ≡ m) × (start ≡ other) × (moves ≡ others) }
+    ensures { (version second : Version) (n m start other : ℕ) (moves others : List Move) (text : List ℕ)
+        → IsTraceIn version n start moves text → IsTraceIn second m other others text
+        → (version ≡ second) × (n ≡ m) × (start ≡ other) × (moves ≡ others) }
 {
     runs_are_determined();
 }

@@ -14,6 +14,7 @@ mod reading;
 mod source;
 mod tables;
 mod verdict;
+mod version;
 mod writing;
 
 pub use checking::{check, check_buffered, check_within};

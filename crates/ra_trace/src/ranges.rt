@@ -8,7 +8,7 @@ ghost use Rattle.ra_trace.specs.Ranges.{EntryFits, MarkFits, MessageFits, StepFi
 use ra_stamp::{Entry, Mark, Message, Name, NodeId};
 use ra_world::Step;
 
-/// A node has a number, 1 to 16.
+/// A node has a number, 1 to 64.
 fn node_fits(node: NodeId)
     ensures { IsNodeNumber node }
 {

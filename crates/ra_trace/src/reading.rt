@@ -11,7 +11,7 @@ use crate::source::LineSource;
 use arrayvec::ArrayVec;
 use std::io::Read;
 
-/// The most bytes of a line that are read. The longest line has 78, its line feed among them.
+/// The most bytes of a line that are read. The longest line has 80, its line feed among them.
 pub const MAX_LINE: usize = 128;
 
 /// The bytes of a line, as far as they were read.

@@ -6,6 +6,7 @@ ghost use Rattle.ra_world.specs.Run.{GoesOn, WorldRun};
 ghost use Rattle.ra_world.specs.Refused.{IsRefusedAt};
 ghost use Rattle.ra_world.specs.Lines.{field, mark_line};
 ghost use Rattle.ra_trace.specs.declared.line.Line.{Line};
+ghost use Rattle.ra_trace.specs.declared.version.Version.{Version};
 ghost use Rattle.ra_trace.specs.TraceText as spec;
 ghost use Rattle.ra_trace.specs.TraceText.{IsTrace};
 ghost use Rattle.ra_trace.specs.Ranges.{StepFits, MarkFits};
@@ -14,19 +15,21 @@ ghost use Rattle.ra_trace.specs.Writing.{HasTraced, IsOpened, Opens, Traces, Wri
 use crate::WriteTraceError;
 use crate::line::Line;
 use crate::ranges::{mark_fits, step_fits};
+use crate::version::Version;
 use ra_stamp::{Marks, Memory, Message, Name, NodeId};
 use ra_world::{
-    NewError, RunError, Step, StepError, Steps, World, fronts_of_runs_are_runs, letter_of,
-    marks_of_runs_are_numbered, push_field, push_mark_line, push_number, text_of, write_out,
+    NewError, RunError, Step, StepError, Steps, World, fronts_of_runs_are_runs,
+    marks_of_runs_are_numbered, mode_word, push_field, push_mark_line, push_number, text_of,
+    write_out,
 };
 use std::alloc::Global;
 use std::io::Write;
 
 /// Adds the first line of a trace.
 fn push_first_line(text: &mut String, nodes: u16, start: u64) -> Result<(), Memory>
-    ensures { OnOk result (string_bytes text.new ≡ string_bytes text.old ++ spec.line_text (Line.First nodes start)) }
+    ensures { OnOk result (string_bytes text.new ≡ string_bytes text.old ++ spec.line_text (Line.First Version.Two nodes start)) }
 {
-    text.push_str("trace 1")?;
+    text.push_str("trace 2")?;
     push_number(text, nodes)?;
     push_number(text, start)?;
     text.push_str("\n")?;
@@ -63,7 +66,7 @@ fn push_message(text: &mut String, message: &Message) -> Result<(), Memory>
             seq,
         } => {
             push_route(text, "request", *from, *to, name)?;
-            push_field(text, letter_of(*mode))?;
+            push_field(text, mode_word(*mode))?;
             push_number(text, *seq)
         }
         Message::Reply {
@@ -115,7 +118,7 @@ fn push_step(text: &mut String, step: &Step) -> Result<(), Memory>
             mode,
         } => {
             push_asker(text, "ask", *node, *client, name)?;
-            push_field(text, letter_of(*mode))
+            push_field(text, mode_word(*mode))
         }
         Step::Leave { node, client, name } => push_asker(text, "release", *node, *client, name),
         Step::Deliver(message) => push_taken(text, "deliver", message),
@@ -170,7 +173,7 @@ fn refused_at(place: u64, cause: StepError) -> WriteTraceError
 ///
 /// # Errors
 ///
-/// `Run`: the number of nodes is not 1 to 16. `Memory`.
+/// `Run`: the number of nodes is not 1 to 64. `Memory`.
 fn opening_world(alloc: Global, nodes: u16, start: u64) -> Result<World, WriteTraceError>
     ensures { Opens nodes start result }
 {
@@ -266,7 +269,7 @@ fn trace_run(
 ///
 /// The first that holds, but that `Memory` may come before a step is refused, where the steps before it stand:
 ///
-/// 1. `Run`: the number of nodes is not 1 to 16, or a step is refused, the first such one, with its place, counted from 1, and
+/// 1. `Run`: the number of nodes is not 1 to 64, or a step is refused, the first such one, with its place, counted from 1, and
 ///    the cause. It is never want of memory.
 /// 2. `Memory`: memory ran out.
 ///
@@ -305,7 +308,7 @@ pub fn trace_text(
 ///
 /// The first that holds, but that `Memory` may come before a step is refused, where the steps before it stand:
 ///
-/// 1. `Run`: the number of nodes is not 1 to 16, or a step is refused, the first such one, with its place, counted from 1, and
+/// 1. `Run`: the number of nodes is not 1 to 64, or a step is refused, the first such one, with its place, counted from 1, and
 ///    the cause. It is never want of memory.
 /// 2. `Memory`: memory ran out.
 /// 3. `Write`: the writer failed or took nothing, with bytes left to write. A front of the text was written.

@@ -2,15 +2,18 @@
 -- with no zero in front.
 use Rattle.std.specs.Prelude.{◌≡◌, ◌≢◌, ℕ, List, [], ◌++◌, codes, decimal, flat_map}
 use Rattle.ra_stamp.specs.declared.mode.Mode.{Mode}
-use Rattle.ra_stamp.specs.declared.mode.Mode.TheVariants.{Shared, Exclusive}
+use Rattle.ra_stamp.specs.declared.mode.Mode.TheVariants.{Shared, Exclusive, IntentShared, IntentExclusive, SharedIntentExclusive}
 use Rattle.ra_stamp.specs.declared.entry.Entry.{Entry}
 use Rattle.ra_stamp.specs.declared.entry.Mark.{Mark}
 use Rattle.ra_stamp.specs.declared.entry.Mark.TheVariants.{Requested, Entered, Left}
 use Rattle.ra_world.specs.declared.report.Report.{Report}
 
-abbrev pub mode_letter : Mode → List ℕ
-mode_letter Shared = codes "S"
-mode_letter Exclusive = codes "X"
+abbrev pub mode_word : Mode → List ℕ
+mode_word Shared = codes "S"
+mode_word Exclusive = codes "X"
+mode_word IntentShared = codes "IS"
+mode_word IntentExclusive = codes "IX"
+mode_word SharedIntentExclusive = codes "SIX"
 
 -- what stands behind the first word of a line, with the space before it
 abbrev pub field : List ℕ → List ℕ
@@ -19,7 +22,7 @@ field text = codes " " ++ text
 -- node, client, name, mode and number
 abbrev pub entry_fields : Entry → List ℕ
 entry_fields entry =
-    field (decimal entry.stamp.node) ++ field (decimal entry.client) ++ field entry.name ++ field (mode_letter entry.mode)
+    field (decimal entry.stamp.node) ++ field (decimal entry.client) ++ field entry.name ++ field (mode_word entry.mode)
     ++ field (decimal entry.stamp.seq)
 
 abbrev pub mark_line : Mark → List ℕ

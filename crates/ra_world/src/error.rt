@@ -12,7 +12,7 @@ use thiserror::Error;
 /// Why there is no world.
 #[derive(Clone, Copy, Debug, PartialEq, Eq, Error)]
 pub enum NewError {
-    /// The number of nodes is not 1 to 16.
+    /// The number of nodes is not 1 to 64.
     #[error("BadCount")]
     BadCount,
     /// Memory ran out.
@@ -54,7 +54,7 @@ pub enum StepError {
 /// Why a list of steps gave no report.
 #[derive(Clone, Copy, Debug, PartialEq, Eq, Error)]
 pub enum RunError {
-    /// The number of nodes is not 1 to 16.
+    /// The number of nodes is not 1 to 64.
     #[error("BadCount")]
     BadCount,
     /// A step was refused, the first one that is: its place in the list, counted from 1, and the cause.

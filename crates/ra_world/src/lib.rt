@@ -31,7 +31,7 @@ pub use laws::{
     waiting_requests_are_blocked_in_quiet_runs,
 };
 pub use lines::{
-    letter_of, mark_line, push_field, push_mark_line, push_number, report_text, text_of,
+    mark_line, mode_word, push_field, push_mark_line, push_number, report_text, text_of,
 };
 pub use output::write_out;
 pub use report::Report;

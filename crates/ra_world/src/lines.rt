@@ -14,13 +14,16 @@ pub fn text_of(name: &Name) -> &str
     str::from_utf8(name.bytes()).unwrap()
 }
 
-/// Returns the letter of a mode, `S` or `X`. It does not allocate.
-pub fn letter_of(mode: Mode) -> &'static str
-    ensures { result.now ≡ spec.mode_letter mode }
+/// Returns the word of a mode: `S`, `X`, `IS`, `IX` or `SIX`. It does not allocate.
+pub fn mode_word(mode: Mode) -> &'static str
+    ensures { result.now ≡ spec.mode_word mode }
 {
     match mode {
         Mode::Shared => "S",
         Mode::Exclusive => "X",
+        Mode::IntentShared => "IS",
+        Mode::IntentExclusive => "IX",
+        Mode::SharedIntentExclusive => "SIX",
     }
 }
 
@@ -58,7 +61,7 @@ fn push_entry(text: &mut String, entry: &Entry) -> Result<(), Memory>
     push_number(text, entry.stamp.node.get())?;
     push_number(text, entry.client)?;
     push_field(text, text_of(&entry.name))?;
-    push_field(text, letter_of(entry.mode))?;
+    push_field(text, mode_word(entry.mode))?;
     push_number(text, entry.stamp.seq)?;
     Ok(())
 }

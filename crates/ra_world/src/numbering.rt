@@ -53,7 +53,7 @@ pub fn is_held_by(node: &Node, client: u32, name: &Name) -> bool
 
 /// Returns how many requests wait at the nodes.
 pub fn waiting_at(nodes: &[Node]) -> u128
-    requires { length nodes.now ≤ 16 }
+    requires { length nodes.now ≤ 64 }
     ensures { result ≡ sum_by waiting_count nodes.now }
 {
     let mut waiting = 0;

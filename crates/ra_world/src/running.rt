@@ -16,7 +16,7 @@ use std::alloc::Global;
 ///
 /// The first that holds:
 ///
-/// 1. `BadCount`: the number of nodes is not 1 to 16.
+/// 1. `BadCount`: the number of nodes is not 1 to 64.
 /// 2. `Refused`: a step is refused; its place is the first such one, counted from 1, with the cause.
 /// 3. `Memory`, for the world before its first step, for a step as `World::step` says, which is at 2^64-1 steps too, or for the
 ///    report. It may come before a later step is refused, and tells nothing of the steps behind.

@@ -55,7 +55,7 @@ impl World {
     ///
     /// The first that holds:
     ///
-    /// 1. `BadCount`: the number of nodes is not 1 to 16.
+    /// 1. `BadCount`: the number of nodes is not 1 to 64.
     /// 2. `Memory`: there is no room for the nodes.
     pub fn new(alloc: Global, nodes: u16, start: u64) -> Result<World, NewError>
         ensures ok { IfOk result (λ world. world ≡ record { count = nodes; start = start; moves = [] }) }

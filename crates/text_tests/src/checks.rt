@@ -1,5 +1,7 @@
 //! What `check` finds wrong in a text.
-use crate::helpers::{Judged, ONE_LOCK, TWO_LOCKS, assert_judged, assert_rows, is_judged, printed};
+use crate::helpers::{
+    Judged, ONE_LOCK, TWO_LOCKS, assert_judged, assert_rows, in_version_1, is_judged, printed,
+};
 use Judged::{Invalid, Valid};
 use ra_trace::{Cause, TraceError, Verdict, check};
 use std::alloc::Global;
@@ -54,12 +56,22 @@ fn adds_case(new: &mut String, case: &Case) -> bool {
     }
 }
 
-/// Returns whether a changed text is wrong where the case says, and for this cause.
+/// Returns whether a text has this verdict in version 2, in which it is written, and in version 1.
+fn is_judged_in_both(alloc: Global, text: &str, wanted: &Verdict) -> bool {
+    match in_version_1(alloc, text) {
+        Some(old) => {
+            is_judged(alloc, text.as_bytes(), *wanted) && is_judged(alloc, &old, *wanted)
+        }
+        None => false,
+    }
+}
+
+/// Returns whether a changed text is wrong where the case says, and for this cause, in each version.
 fn is_wrong(alloc: Global, case: &Case, cause: Cause) -> bool {
     let line = case.2;
     let mut text = String::new(alloc);
     adds_case(&mut text, case)
-        && is_judged(alloc, text.as_bytes(), Verdict::Invalid { line, cause })
+        && is_judged_in_both(alloc, text.as_str(), &Verdict::Invalid { line, cause })
 }
 
 /// Returns how many of these changed texts are wrong where their cases say, and for this cause, up to the first that is not.
@@ -83,6 +95,7 @@ fn traces_of_runs_are_valid(rt: HostRuntime) {
         Valid(ONE_LOCK, 1, 2),
         Valid(TWO_LOCKS, 2, 8),
         Valid("trace 1 16 0\nend\n", 0, 0),
+        Valid("trace 2 64 0\nend\n", 0, 0),
         Valid(
             "trace 1 2 0\nask 1 1 r X\nrequest 1 1 r X 1\nlose request 1 2 r X 1\nend\n",
             1,
@@ -92,11 +105,71 @@ fn traces_of_runs_are_valid(rt: HostRuntime) {
     assert_judged(&rt, ROWS);
 }
 
+#[test]
+fn traces_of_version_1_stay_valid(rt: HostRuntime) {
+    let alloc = rt.alloc();
+    let one_lock = Verdict::Valid {
+        requests: 1,
+        messages: 2,
+    };
+    let two_locks = Verdict::Valid {
+        requests: 2,
+        messages: 8,
+    };
+    assert!(rt; is_judged_in_both(alloc, ONE_LOCK, &one_lock));
+    assert!(rt; is_judged_in_both(alloc, TWO_LOCKS, &two_locks));
+}
+
+/// What a client asks for at the first of two nodes, so that its second line is right in version 2.
+const ASKS_FOR_A_PART: &str = "trace 2 2 0
+ask 1 1 r IS
+request 1 1 r IS 1
+end
+";
+
+/// The same in version 1, which has no such mode.
+const ASKS_FOR_A_PART_IN_1: &str = "trace 1 2 0
+ask 1 1 r IS
+request 1 1 r IS 1
+end
+";
+
+#[test]
+fn each_line_is_judged_by_the_version_of_the_first(rt: HostRuntime) {
+    const ROWS: &[Judged] = &[
+        Valid(ASKS_FOR_A_PART, 1, 1),
+        Invalid(ASKS_FOR_A_PART_IN_1, 2, Cause::Line),
+        // The version is asked before the mark is, and before whether one is due.
+        Invalid(
+            "trace 1 2 0\nask 1 1 r X\nrequest 1 1 r IX 1\n",
+            3,
+            Cause::Line,
+        ),
+        Invalid("trace 1 2 0\nask 1 1 r X\nask 17 1 r X\n", 3, Cause::Line),
+        Invalid(
+            "trace 2 2 0\nask 1 1 r X\nrequest 1 1 r IX 1\n",
+            3,
+            Cause::Marks,
+        ),
+        Invalid("trace 2 2 0\nask 1 1 r X\nask 17 1 r X\n", 3, Cause::Marks),
+        Invalid("trace 2 2 0\nask 17 1 r X\n", 2, Cause::Refused),
+        Invalid(
+            "trace 2 2 0\ndeliver reply 17 1 r 1\n",
+            2,
+            Cause::NotUnderWay,
+        ),
+        Invalid("trace 2 2 0\nenter 17 1 r SIX 1\n", 2, Cause::Table),
+    ];
+    assert_judged(&rt, ROWS);
+}
+
 const ENDS: &[Case] = &[
     Case(ONE_LOCK, Replace(1, ""), 1),
     Case(ONE_LOCK, PutIn(2, "trace 1 2 0\n"), 2),
+    Case(ONE_LOCK, PutIn(2, "trace 2 2 0\n"), 2),
     // A mark is due here.
     Case(ONE_LOCK, PutIn(3, "trace 1 2 0\n"), 3),
+    Case(ONE_LOCK, PutIn(3, "trace 2 2 0\n"), 3),
     Case(TWO_LOCKS, Replace(20, ""), 20),
     Case(ONE_LOCK, Replace(9, "end\nx"), 10),
     Case(ONE_LOCK, Replace(9, "end\nend\n"), 10),
@@ -237,7 +310,7 @@ const NO_LINES: &[Case] = &[
     Case(ONE_LOCK, Replace(4, "deliver request 1 2 r\0 X 1\n"), 4),
     Case(ONE_LOCK, Replace(4, "deliver request 1 2 \u{e9} X 1\n"), 4),
     Case(ONE_LOCK, Replace(4, "deliver request 1 2 r X 01\n"), 4),
-    Case(ONE_LOCK, Replace(4, "deliver request 1 17 r X 1\n"), 4),
+    Case(ONE_LOCK, Replace(4, "deliver request 1 65 r X 1\n"), 4),
     Case(
         ONE_LOCK,
         Replace(4, "deliver request 1 2 r X 18446744073709551616\n"),

@@ -9,7 +9,7 @@ use std::process::Abort;
 use test_support::{FailingWriter, failing_writer};
 
 /// The trace of one client that locks and unlocks, at the first of two nodes.
-pub const ONE_LOCK: &str = "trace 1 2 0
+pub const ONE_LOCK: &str = "trace 2 2 0
 ask 1 1 r X
 request 1 1 r X 1
 deliver request 1 2 r X 1
@@ -32,7 +32,7 @@ ops = ["X r", "U r"]
 "#;
 
 /// The trace of two clients who ask for one name at once, at two of three nodes.
-pub const TWO_LOCKS: &str = "trace 1 3 0
+pub const TWO_LOCKS: &str = "trace 2 3 0
 ask 1 1 r X
 request 1 1 r X 1
 ask 2 2 r X
@@ -53,6 +53,14 @@ release 2 2 r
 leave 2 2 r X 1
 end
 ";
+
+/// Returns a trace of version 2 as one of version 1, and any other text as it is.
+pub fn in_version_1(alloc: Global, text: &str) -> Option<Vec<u8>> {
+    match text.strip_prefix("trace 2 ") {
+        Some(rest) => text_of(alloc, &[Part::Text("trace 1 "), Part::Text(rest)]),
+        None => text_of(alloc, &[Part::Text(text)]),
+    }
+}
 
 /// Returns a writer that looks for this text, and fails after so many writes, of a byte each.
 pub fn failing(text: &str, before_fault: usize, fault: Option<io::ErrorKind>) -> FailingWriter<'_> {

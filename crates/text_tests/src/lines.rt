@@ -27,7 +27,9 @@ const WORDS: &[&[u8]] = &[
     b"end\r\n",
     b"end\0\n",
     b"\xffend\n",
-    b"trace 2 2 0\n",
+    b"trace 3 2 0\n",
+    b"trace 0 2 0\n",
+    b"trace 12 2 0\n",
     b"trace 01 2 0\n",
     b"trace\t1 2 0\n",
     b"trace 2 0\n",
@@ -60,7 +62,7 @@ const FIELDS: &[&[u8]] = &[
 /// Numbers out of their ranges, or not as they are written.
 const NUMBERS: &[&[u8]] = &[
     b"ask 0 1 r X\n",
-    b"ask 17 1 r X\n",
+    b"ask 65 1 r X\n",
     b"ask 01 1 r X\n",
     b"ask +1 1 r X\n",
     b"ask -1 1 r X\n",
@@ -70,17 +72,21 @@ const NUMBERS: &[&[u8]] = &[
     b"ask 1 18446744073709551617 r X\n",
     b"trace 1 0 0\n",
     b"trace 1 17 0\n",
+    b"trace 1 64 0\n",
+    b"trace 2 0 0\n",
+    b"trace 2 65 0\n",
+    b"trace 2 016 0\n",
     b"trace 1 2 18446744073709551616\n",
     b"trace 1 2 36893488147419103232\n",
     b"deliver reply 2 0 r 1\n",
-    b"deliver reply 2 17 r 1\n",
+    b"deliver reply 2 65 r 1\n",
     b"deliver reply 2 1 r 0\n",
     b"deliver reply 2 1 r 18446744073709551616\n",
     b"enter 1 1 r X 0\n",
     b"enter 1 1 r X 18446744073709551616\n",
     b"trace 1 2 00\n",
     b"deliver request 0 1 r X 1\n",
-    b"deliver request 17 1 r X 1\n",
+    b"deliver request 65 1 r X 1\n",
     b"deliver reply 2 1 r 01\n",
 ];
 
@@ -91,16 +97,69 @@ const NAMES: &[&[u8]] = &[
     b"ask 1 1 \xc3\xa9 X\n",
     b"ask 1 1 abcdefghijklmnopqrstuvwxyz0123456 X\n",
     b"ask 1 1 r x\n",
-    b"ask 1 1 r IX\n",
     b"ask 1 1 r XS\n",
+    b"ask 1 1 r I\n",
+    b"ask 1 1 r SI\n",
+    b"ask 1 1 r XI\n",
+    b"ask 1 1 r SIXX\n",
+    b"ask 1 1 r six\n",
+    b"ask 1 1 r S IX\n",
 ];
 
-/// Returns whether no line begins this text, neither as the first one nor behind the first one.
-fn is_no_line(alloc: Global, text: &[u8]) -> bool {
-    match text_of(alloc, &[Text("trace 1 16 0\n"), Times(text, 1)]) {
-        Some(behind) => is_wrong_at(alloc, text, 1) && is_wrong_at(alloc, &behind, 2),
+/// Lines of version 2 that version 1 does not have.
+const NEWER: &[&[u8]] = &[
+    b"ask 17 1 r X\n",
+    b"ask 64 1 r X\n",
+    b"ask 1 1 r IS\n",
+    b"ask 1 1 r IX\n",
+    b"ask 1 1 r SIX\n",
+    b"release 17 1 r\n",
+    b"deliver request 17 1 r X 1\n",
+    b"deliver request 1 17 r X 1\n",
+    b"deliver request 1 2 r IX 1\n",
+    b"deliver reply 17 1 r 1\n",
+    b"lose request 1 2 r IS 1\n",
+    b"lose reply 1 17 r 1\n",
+    b"request 17 1 r X 1\n",
+    b"request 1 1 r SIX 1\n",
+    b"enter 17 1 r X 1\n",
+    b"leave 1 1 r IX 1\n",
+];
+
+/// Returns whether no line begins this text behind this one, the first.
+fn is_none_behind(alloc: Global, first: &str, text: &[u8]) -> bool {
+    match text_of(alloc, &[Text(first), Times(text, 1)]) {
+        Some(behind) => is_wrong_at(alloc, &behind, 2),
         None => false,
     }
+}
+
+/// The first line of a trace of each version, with as many nodes as there may be.
+const FIRST: &str = "trace 1 16 0\n";
+
+const SECOND: &str = "trace 2 64 0\n";
+
+/// Returns whether no line begins this text, neither as the first one nor behind the first one of each version.
+fn is_no_line(alloc: Global, text: &[u8]) -> bool {
+    is_wrong_at(alloc, text, 1)
+        && is_none_behind(alloc, FIRST, text)
+        && is_none_behind(alloc, SECOND, text)
+}
+
+/// Returns how many of these texts begin with a line of version 2 and with none of version 1, up to the first that does not.
+fn newer_lines(alloc: Global, texts: &[&[u8]]) -> usize {
+    for place in 0..texts.len() {
+        let text = texts[place];
+        if !is_none_behind(alloc, FIRST, text) || is_none_behind(alloc, SECOND, text) {
+            return place;
+        }
+    }
+    texts.len()
+}
+
+#[test]
+fn version_1_has_fewer_nodes_and_modes(rt: HostRuntime) {
+    assert_rows(&rt, newer_lines(rt.alloc(), NEWER), NEWER.len());
 }
 
 /// Returns how many of these texts begin with no line, up to the first that does.

@@ -357,14 +357,14 @@ const WRONG_NODES: &[&str] = &[
     // The nodes are looked at before the clients.
     "nodes = 0\nclient = []\n",
     "nodes = -1\nclient = []\n",
-    "nodes = 17\nclient = []\n",
+    "nodes = 65\nclient = []\n",
     "nodes = 65537\nclient = []\n",
 ];
 
 #[test]
-fn there_are_1_to_16_nodes(rt: HostRuntime) {
+fn there_are_1_to_64_nodes(rt: HostRuntime) {
     const FIRST: &str = "nodes = 1\nclient = [{node = 1, ops = []}]\n";
-    const LAST: &str = "nodes = 16\nclient = [{node = 16, ops = []}]\n";
+    const LAST: &str = "nodes = 64\nclient = [{node = 64, ops = []}]\n";
     const CASES: &[Case] = &[
         Case(&[Text(FIRST)], Accepted),
         Case(&[Text(LAST)], Accepted),
@@ -420,6 +420,21 @@ const NO_OPS: &[&str] = &[
     "\"X\\tr\"",
     "'Y r'",
     "'X r', 'X é'",
+    // Words that are nearly those of modes.
+    "'SI r'",
+    "'XI r'",
+    "'SX r'",
+    "'SIXX r'",
+    "'ISX r'",
+    "'I r'",
+    "'six r'",
+    "'US r'",
+    // A word with no space or more than one behind it.
+    "'SIX'",
+    "'SIX '",
+    "'SIXr'",
+    "'IS  r'",
+    "'S IX r'",
     // A name of 33 bytes.
     "'X 0123456789abcdef0123456789abcdefg'",
 ];
@@ -428,9 +443,55 @@ const NO_OPS: &[&str] = &[
 const LONGEST: &str = "'X 0123456789abcdef0123456789abcdef', 'X 0123456789abcdef0123456789abcdef'";
 
 #[test]
-fn an_operation_is_a_letter_a_space_and_a_name(rt: HostRuntime) {
+fn an_operation_is_a_word_a_space_and_a_name(rt: HostRuntime) {
     assert_ops_refused(&rt, NO_OPS, ScriptError::Op);
     assert_ops_refused(&rt, &[LONGEST], ScriptError::AlreadyHeld);
+}
+
+/// A client for each mode.
+const EACH_MODE: &str = r#"nodes = 1
+client = [
+    { node = 1, ops = ["S r", "U r"] },
+    { node = 1, ops = ["X r", "U r"] },
+    { node = 1, ops = ["IS r", "U r"] },
+    { node = 1, ops = ["IX r", "U r"] },
+    { node = 1, ops = ["SIX r", "U r"] },
+]
+"#;
+
+/// The modes of these clients, in their order.
+const MODES: &[Mode] = &[
+    Mode::Shared,
+    Mode::Exclusive,
+    Mode::IntentShared,
+    Mode::IntentExclusive,
+    Mode::SharedIntentExclusive,
+];
+
+/// Returns how many clients lock the name in their mode, and unlock it, up to the first that doesn't.
+fn modes_read(script: &Script) -> usize {
+    for place in 0..MODES.len() {
+        let client = (place as u32).wrapping_add(1);
+        let is_so = has_op(script, client, 0, Op::Lock(r(), MODES[place]))
+            && has_op(script, client, 1, Op::Unlock(r()));
+        if !is_so {
+            return place;
+        }
+    }
+    MODES.len()
+}
+
+/// Returns how many modes are read so in the script, up to the first that is not.
+fn modes_read_in_script(alloc: Global) -> usize {
+    match read_script(alloc, EACH_MODE.as_bytes()) {
+        Ok(script) => modes_read(&script),
+        Err(_) => 0,
+    }
+}
+
+#[test]
+fn each_mode_is_read_from_its_word(rt: HostRuntime) {
+    assert_rows(&rt, modes_read_in_script(rt.alloc()), MODES.len());
 }
 
 const NOT_HELD: &[&str] = &[

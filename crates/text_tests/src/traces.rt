@@ -2,7 +2,7 @@ use crate::helpers::{
     Judged, ONE_LOCK, ONE_LOCK_LENGTH, TWO_LOCKS, all_kinds, assert_judged, assert_rows, failing,
     printed, r,
 };
-use Act::{Ask, AskForAllKinds, Deliver, Leave, Lose};
+use Act::{Ask, AskForAllKinds, AskIn, Deliver, Leave, Lose};
 use Judged::{Invalid, Valid};
 use Wire::{Replies, Requests};
 use ra_stamp::{Message, Mode, Name, NodeId};
@@ -27,7 +27,9 @@ enum Act {
     Ask(u16, u32),
     /// At a node, a client leaves `r`.
     Leave(u16, u32),
-    /// At node 16, client 0 asks for a name with each kind of byte, shared.
+    /// Client 1 of node 1 asks for `r` in this mode.
+    AskIn(Mode),
+    /// At node 64, client 0 asks for a name with each kind of byte, shared.
     AskForAllKinds,
     Deliver(Wire),
     Lose(Wire),
@@ -104,8 +106,9 @@ fn lose(wire: Wire) -> Option<Step> {
 fn step(act: Act) -> Option<Step> {
     match act {
         Ask(node, client) => ask(node, client, r(), Mode::Exclusive),
+        AskIn(mode) => ask(1, 1, r(), mode),
         Leave(node, client) => leave(node, client),
-        AskForAllKinds => ask(16, 0, all_kinds(), Mode::Shared),
+        AskForAllKinds => ask(64, 0, all_kinds(), Mode::Shared),
         Deliver(wire) => deliver(wire),
         Lose(wire) => lose(wire),
     }
@@ -236,7 +239,7 @@ fn two_clients_ask_at_once(rt: HostRuntime) {
 }
 
 /// The reply to the first of two clients at one node is lost, and the second waits.
-const LOST_REPLY: &str = "trace 1 2 0
+const LOST_REPLY: &str = "trace 2 2 0
 ask 1 1 r X
 request 1 1 r X 1
 ask 1 2 r X
@@ -268,7 +271,7 @@ const NO_RUNS: &[Refused] = &[
             cause: StepError::NoNode,
         },
     ),
-    Refused(17, &[Ask(3, 1)], RunError::BadCount),
+    Refused(65, &[Ask(3, 1)], RunError::BadCount),
     Refused(0, &[], RunError::BadCount),
     // A message can't be delivered twice.
     Refused(
@@ -351,9 +354,15 @@ fn faults_are_printed_as_their_words(rt: HostRuntime) {
 fn the_first_line_and_the_last_are_read(rt: HostRuntime) {
     const ROWS: &[Judged] = &[
         Valid("trace 1 16 18446744073709551615\nend\n", 0, 0),
+        Valid("trace 2 64 18446744073709551615\nend\n", 0, 0),
         // No number is left behind the first line.
         Invalid(
             "trace 1 16 18446744073709551615\nask 16 1 r X\nrequest 16 1 r X 1\nend\n",
+            2,
+            Cause::Refused,
+        ),
+        Invalid(
+            "trace 2 64 18446744073709551615\nask 64 1 r X\nrequest 64 1 r X 1\nend\n",
             2,
             Cause::Refused,
         ),
@@ -365,31 +374,77 @@ fn the_first_line_and_the_last_are_read(rt: HostRuntime) {
 }
 
 /// The least client asks for a name with each kind of byte, at the last of the nodes.
-const ALL_KINDS: &str = "trace 1 16 0
-ask 16 0 a-B_9.z S
-request 16 0 a-B_9.z S 1
+const ALL_KINDS: &str = "trace 2 64 0
+ask 64 0 a-B_9.z S
+request 64 0 a-B_9.z S 1
 end
 ";
 
 /// The one request is lost.
-const LOST_REQUEST: &str = "trace 1 2 0
+const LOST_REQUEST: &str = "trace 2 2 0
 ask 1 1 r X
 request 1 1 r X 1
 lose request 1 2 r X 1
 end
 ";
 
+/// The one client of a single node locks in each mode, one after the other.
+const EACH_MODE: &str = "trace 2 1 0
+ask 1 1 r S
+request 1 1 r S 1
+enter 1 1 r S 1
+release 1 1 r
+leave 1 1 r S 1
+ask 1 1 r X
+request 1 1 r X 2
+enter 1 1 r X 2
+release 1 1 r
+leave 1 1 r X 2
+ask 1 1 r IS
+request 1 1 r IS 3
+enter 1 1 r IS 3
+release 1 1 r
+leave 1 1 r IS 3
+ask 1 1 r IX
+request 1 1 r IX 4
+enter 1 1 r IX 4
+release 1 1 r
+leave 1 1 r IX 4
+ask 1 1 r SIX
+request 1 1 r SIX 5
+enter 1 1 r SIX 5
+release 1 1 r
+leave 1 1 r SIX 5
+end
+";
+
+/// What happens in that trace.
+const LOCKS_IN_EACH_MODE: &[Act] = &[
+    AskIn(Mode::Shared),
+    Leave(1, 1),
+    AskIn(Mode::Exclusive),
+    Leave(1, 1),
+    AskIn(Mode::IntentShared),
+    Leave(1, 1),
+    AskIn(Mode::IntentExclusive),
+    Leave(1, 1),
+    AskIn(Mode::SharedIntentExclusive),
+    Leave(1, 1),
+];
+
 /// A text is the trace of one run at most. So where it is valid, its lines are read as the steps that it is written for.
 #[test]
 fn each_step_is_read(rt: HostRuntime) {
     const WRITTEN: &[Written] = &[
-        Written(16, &[AskForAllKinds], ALL_KINDS),
+        Written(64, &[AskForAllKinds], ALL_KINDS),
+        Written(1, LOCKS_IN_EACH_MODE, EACH_MODE),
         Written(2, ONE_LOCKS, ONE_LOCK),
         Written(2, &[Ask(1, 1), Lose(Requests(1, 2))], LOST_REQUEST),
         Written(2, LOSES_REPLY, LOST_REPLY),
     ];
     const READ: &[Judged] = &[
-        Valid(ALL_KINDS, 1, 15),
+        Valid(ALL_KINDS, 1, 63),
+        Valid(EACH_MODE, 5, 0),
         Valid(ONE_LOCK, 1, 2),
         Valid(LOST_REQUEST, 1, 1),
         Valid(LOST_REPLY, 1, 2),

@@ -58,7 +58,7 @@ fn run<R: Threads + Wait + Sync>(
 
 /// Returns the node with this number.
 fn node(number: u16) -> Result<NodeId> {
-    NodeId::new(number).context("a node's number is 1 to 16")
+    NodeId::new(number).context("a node's number is 1 to 64")
 }
 
 fn main(rt: HostRuntime) -> Result<()> {

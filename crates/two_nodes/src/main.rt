@@ -107,8 +107,8 @@ impl Host {
 
 fn main(rt: HostRuntime) -> Result<()> {
     let alloc = rt.alloc();
-    let one = NodeId::new(1).context("a node's number is 1 to 16")?;
-    let two = NodeId::new(2).context("a node's number is 1 to 16")?;
+    let one = NodeId::new(1).context("a node's number is 1 to 64")?;
+    let two = NodeId::new(2).context("a node's number is 1 to 64")?;
     let name = Name::new(b"disk")?;
     let mut host = Host {
         sites: [Site::new(alloc, one)?, Site::new(alloc, two)?],

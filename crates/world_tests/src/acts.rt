@@ -3,8 +3,8 @@ ghost use Rattle.ra_stamp.specs.NodeId.{IsNodeNumber};
 
 use crate::helpers::{assert_rows, is_quiet_after, prints, r};
 use Act::{
-    Accepts, Ask, Deliver, HasSteps, IsQuiet, Leave, LeavesWith, Lock, Lose, Refuses, Rejects,
-    Reports, UnderWay,
+    Accepts, Ask, AskIn, Deliver, HasSteps, IsQuiet, Leave, LeavesWith, Lock, Lose, Refuses,
+    Rejects, Reports, UnderWay,
 };
 use Wire::{Replies, Requests};
 use Wish::{Asks, Delivers, Leaves, Loses};
@@ -38,6 +38,8 @@ pub enum Wish {
 pub enum Act {
     /// At a node, a client asks for a name of one letter exclusively.
     Ask(u16, u32, u8),
+    /// At a node, a client asks for the name `r` in this mode.
+    AskIn(u16, u32, Mode),
     /// At a node, a client leaves a name of one letter.
     Leave(u16, u32, u8),
     /// So many times the message that was sent first of those under way is delivered.
@@ -98,8 +100,7 @@ fn message(wire: Wire) -> Option<Message> {
 }
 
 /// Returns the step by which a client asks, or `None` where there is no such node or name.
-fn ask(number: u16, client: u32, letter: u8) -> Option<Step> {
-    let mode = Mode::Exclusive;
+fn ask_in(number: u16, client: u32, letter: u8, mode: Mode) -> Option<Step> {
     match (NodeId::new(number), Name::new(&[letter])) {
         (Some(node), Ok(name)) => Some(Step::Ask {
             node,
@@ -109,6 +110,11 @@ fn ask(number: u16, client: u32, letter: u8) -> Option<Step> {
         }),
         _ => None,
     }
+}
+
+/// Returns the step by which a client asks for a name exclusively, or `None` where there is no such node or name.
+fn ask(number: u16, client: u32, letter: u8) -> Option<Step> {
+    ask_in(number, client, letter, Mode::Exclusive)
 }
 
 /// Returns the step by which a client leaves, or `None` where there is no such node or name.
@@ -300,6 +306,7 @@ fn shows(alloc: Global, world: &World, act: Act) -> bool {
 fn does(alloc: Global, world: &mut World, act: Act) -> bool {
     match act {
         Ask(number, client, letter) => makes(alloc, world, ask(number, client, letter)),
+        AskIn(number, client, mode) => makes(alloc, world, ask_in(number, client, b'r', mode)),
         Leave(number, client, letter) => makes(alloc, world, leave(number, client, letter)),
         Deliver(times) => delivers(alloc, world, times),
         Lose => loses(alloc, world),

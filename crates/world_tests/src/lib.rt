@@ -12,6 +12,8 @@ mod helpers;
 #[cfg(test)]
 mod messages;
 #[cfg(test)]
+mod modes;
+#[cfg(test)]
 mod numbers;
 #[cfg(test)]
 mod plans;

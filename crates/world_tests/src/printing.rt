@@ -72,27 +72,27 @@ queued 0
     follow(&rt, 2, 0, ACTS);
 }
 
-/// Returns whether the mark Requested of a reader with this name and the greatest numbers has this line.
+/// Returns whether the mark Requested with this name, the longest mode and the greatest numbers has this line.
 fn greatest_mark_has_line(alloc: Global, name: &[u8], line: &str) -> bool {
     let Ok(name) = Name::new(name) else {
         return false;
     };
     let stamp = Stamp {
         seq: 18446744073709551615,
-        node: node(16),
+        node: node(64),
     };
     let mark = Mark::Requested(Entry {
         name,
         stamp,
         client: 4294967295,
-        mode: Mode::Shared,
+        mode: Mode::SharedIntentExclusive,
     });
     is_text(mark_line(alloc, &mark), line)
 }
 
 #[test]
 fn the_greatest_numbers_are_printed(rt: HostRuntime) {
-    let line = "request 16 4294967295 abcdefghijklmnopqrstuvwxyzABCDEF S 18446744073709551615\n";
+    let line = "request 64 4294967295 abcdefghijklmnopqrstuvwxyzABCDEF SIX 18446744073709551615\n";
     let name = b"abcdefghijklmnopqrstuvwxyzABCDEF";
     assert!(rt; greatest_mark_has_line(rt.alloc(), name, line));
 }

@@ -120,15 +120,15 @@ queued 0
 ";
 
 #[test]
-fn a_cluster_has_one_to_sixteen_nodes(rt: HostRuntime) {
+fn a_cluster_has_one_to_sixty_four_nodes(rt: HostRuntime) {
     const CASES: &[Case] = &[
         Case(0, &[], Refused(RunError::BadCount)),
-        Case(17, &[], Refused(RunError::BadCount)),
+        Case(65, &[], Refused(RunError::BadCount)),
         Case(1, &[], Reported(NOTHING)),
-        Case(16, &[], Reported(NOTHING)),
+        Case(64, &[], Reported(NOTHING)),
     ];
     assert_cases(&rt, CASES);
-    assert!(rt; makes_no_world(rt.alloc(), 0) && makes_no_world(rt.alloc(), 17));
+    assert!(rt; makes_no_world(rt.alloc(), 0) && makes_no_world(rt.alloc(), 65));
 }
 
 #[test]

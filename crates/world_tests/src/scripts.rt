@@ -16,10 +16,10 @@ fn makes_no_script(alloc: Global, nodes: u16) -> bool {
 }
 
 #[test]
-fn nodes_are_one_to_sixteen(rt: HostRuntime) {
-    assert!(rt; makes_no_script(rt.alloc(), 0) && makes_no_script(rt.alloc(), 17));
+fn nodes_are_one_to_sixty_four(rt: HostRuntime) {
+    assert!(rt; makes_no_script(rt.alloc(), 0) && makes_no_script(rt.alloc(), 65));
     carry_out(&rt, 1, &[HasNodes(1)]);
-    carry_out(&rt, 16, &[HasNodes(16)]);
+    carry_out(&rt, 64, &[HasNodes(64)]);
 }
 
 #[test]

@@ -1,6 +1,6 @@
 //! How a world goes on: which steps it accepts, who enters or waits, and how far it comes.
 use crate::acts::{Act, Wire, Wish, follow};
-use Act::{Accepts, Ask, Deliver, HasSteps, IsQuiet, Lock, Rejects, Reports};
+use Act::{Accepts, Ask, Deliver, HasSteps, IsQuiet, Leave, Lock, Rejects, Reports};
 use Wire::{Replies, Requests};
 use Wish::{Asks, Delivers, Leaves, Loses};
 
@@ -37,6 +37,28 @@ queued 0
         ),
     ];
     follow(&rt, 16, 0, ACTS);
+}
+
+#[test]
+fn sixty_four_nodes_let_one_client_enter_and_leave(rt: HostRuntime) {
+    const ACTS: &[Act] = &[
+        Ask(1, 1, b'r'),
+        Deliver(126),
+        Leave(1, 1, b'r'),
+        Reports(
+            "request 1 1 r X 1
+enter 1 1 r X 1
+leave 1 1 r X 1
+requests 1
+messages 126
+under-way 0
+lost 0
+waiting 0
+queued 0
+",
+        ),
+    ];
+    follow(&rt, 64, 0, ACTS);
 }
 
 /// Clients 1 and 2 lock `a` and `b`, and then each asks for the other's name.

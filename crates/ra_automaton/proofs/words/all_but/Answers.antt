@@ -1,11 +1,12 @@
-use Rattle.std.proofs.Common.{ℕ, ◌-◌, ap, ◌∙◌, arith}
+use Rattle.std.proofs.Common.{◌≡◌, ℕ, ◌+◌, ◌-◌, ◌/◌, ◌^◌, ap, ◌∙◌, arith}
 use Rattle.std.specs.FinSet as set
-use Rattle.std.proofs.lemmas.Nat.{one_shl}
 use Rattle.ra_automaton.specs.Words.{set_of}
-use Rattle.ra_automaton.proofs.WordLemmas.{set_of-all_but}
+use Rattle.ra_automaton.proofs.WordLemmas.{shr_ones, set_of-all_but}
 use Rattle.ra_automaton.proofs.words.all_but.Goals as goal
 
 pub returns : goal.returns
 returns c =
-    c.remove.ensures
-    ∙ (ap (λ (power : ℕ). set.remove (set_of (power - 1)) c.args.me) (one_shl c.args.nodes 64 (omega arith)) ∙ set_of-all_but c.args.me c.args.nodes c.requires.1)
+    let n = c.args.nodes in
+    let width : 64 ≡ n + (64 - n) = omega arith in
+    let ones : (2 ^ 64 - 1) / 2 ^ (64 - n) ≡ 2 ^ n - 1 = ap (λ (k : ℕ). (2 ^ k - 1) / 2 ^ (64 - n)) width ∙ shr_ones n (64 - n) in
+    c.remove.ensures ∙ (ap (λ (word : ℕ). set.remove (set_of word) c.args.me) ones ∙ set_of-all_but c.args.me n c.requires.1)

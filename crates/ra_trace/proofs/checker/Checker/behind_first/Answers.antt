@@ -1,10 +1,22 @@
-use Rattle.ra_trace.proofs.Taking.{opens, first_may_come}
+use Rattle.std.proofs.Common.{◌≡◌, true, sym, ◌∙◌}
+use Rattle.ra_trace.specs.Forms.{has_node}
+use Rattle.ra_trace.proofs.Taking.{opens, opens_not, first_may_come}
 use Rattle.ra_trace.proofs.checker.Checker.behind_first.Goals as goal
+
+pub returns-then-not-has_node-clause-none : goal.returns-then-not-has_node-clause-none
+returns-then-not-has_node-clause-none c =
+    rw c.in-First.is (λ none version is first.
+    opens_not c.in-First.version c.in-First.nodes c.in-First.start (sym c.has_node.ensures ∙ c.if-not-has_node.true) version is)
 
 pub returns-in-Ok-clause-some : goal.returns-in-Ok-clause-some
 returns-in-Ok-clause-some c =
-    rw c.in-First.is (opens c.traces_rest_on_runs.ensures c.in-First.nodes c.in-First.start c.in-Ok.checker c.in-Ok.ensures.ok)
+    let has : has_node c.in-First.version c.in-First.nodes ≡ true = sym c.has_node.ensures ∙ c.if-not-has_node.false in
+    rw c.in-First.is
+    (opens c.traces_rest_on_runs.ensures c.in-First.version c.in-First.nodes c.in-First.start c.in-Ok.checker c.in-Ok.ensures.ok has)
 
 pub returns-in-Err-clause-err : goal.returns-in-Err-clause-err
 returns-in-Err-clause-err c =
-    (c.in-Err.ensures.err, rw c.in-First.is (first_may_come c.traces_rest_on_runs.ensures c.in-First.nodes c.in-First.start))
+    let has : has_node c.in-First.version c.in-First.nodes ≡ true = sym c.has_node.ensures ∙ c.if-not-has_node.false in (
+      c.in-Err.ensures.err,
+      rw c.in-First.is (first_may_come c.traces_rest_on_runs.ensures c.in-First.version c.in-First.nodes c.in-First.start has),
+    )

@@ -1,0 +1,11 @@
+use Rattle.ra_frame.proofs.Texts.{no_fault, has_frame, written_again}
+use Rattle.ra_frame.proofs.laws.round_trip.Goals as goal
+
+pub returns-clause-no_fault : goal.returns-clause-no_fault
+returns-clause-no_fault c = no_fault
+
+pub returns-clause-has_frame : goal.returns-clause-has_frame
+returns-clause-has_frame c = has_frame
+
+pub returns-clause-read_is_written : goal.returns-clause-read_is_written
+returns-clause-read_is_written c = written_again

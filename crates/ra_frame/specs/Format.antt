@@ -1,0 +1,37 @@
+-- In what the versions of the format differ.
+use Rattle.std.specs.Prelude.{ℕ, ◌+◌, List, [], ◌∷◌}
+use Rattle.std.specs.Int.{w16, to_be_bytes}
+use Rattle.ra_frame.specs.declared.format.Format.{Format}
+use Rattle.ra_frame.specs.declared.format.Format.TheVariants.{V1, V2}
+
+-- the first byte of each frame
+abbrev pub version_byte : Format → ℕ
+version_byte V1 = 1
+version_byte V2 = 2
+
+-- how many bytes the number of a node takes
+abbrev pub node_width : Format → ℕ
+node_width V1 = 1
+node_width V2 = 2
+
+-- the bytes of the number of a node, the highest first
+abbrev pub node_bytes : Format → ℕ → List ℕ
+node_bytes V1 node = node ∷ []
+node_bytes V2 node = to_be_bytes w16 node
+
+-- where the receiver and the mode stand: the sender stands behind the version and the kind
+abbrev pub to_place : Format → ℕ
+to_place format = 2 + node_width format
+
+abbrev pub mode_place : Format → ℕ
+mode_place format = 2 + node_width format + node_width format
+
+-- nodes are numbered from 1 to this
+abbrev pub greatest_node : Format → ℕ
+greatest_node V1 = 16
+greatest_node V2 = 64
+
+-- the greatest byte of a mode: version 1 has only the two modes shared and exclusive
+abbrev pub greatest_mode : Format → ℕ
+greatest_mode V1 = 1
+greatest_mode V2 = 4
