@@ -79,6 +79,11 @@ fn growth_of_an_answer(rt: HostRuntime) {
     end(&rt, again(try_answer(rt.alloc()), try_answer(rt.alloc())));
 }
 
+/// Returns whether this is what `ra` prints where memory was wanting: of threads, of which that may stop one, a fault too.
+fn is_refused(line: &str, page: &Page) -> bool {
+    page.has("refused Memory\n") || (line == "ra cluster" && page.has("refused Fault\n"))
+}
+
 /// Runs `ra` on the words of a line and an input. Where it does not print this text with status 0, returns whether it says that
 /// memory was wanting.
 fn try_line<T: AllocGlobal + Threads + Wait + Sync>(
@@ -93,7 +98,7 @@ fn try_line<T: AllocGlobal + Threads + Wait + Sync>(
     let (mut reader, mut page) = (input.as_bytes(), Page::new());
     match serve(rt, rt.alloc(), words.as_slice(), &mut reader, &mut page) {
         0 if page.has(output) => Ok(Tried::AtOnce),
-        2 => Err(page.has("refused Memory\n") || page.has("refused Fault\n")),
+        2 => Err(is_refused(line, &page)),
         _ => Ok(Tried::Wrong),
     }
 }
@@ -114,7 +119,7 @@ queued 0
 ";
 
 /// The trace of it.
-const TRACE: &str = "trace 1 2 0
+const TRACE: &str = "trace 2 2 0
 ask 1 1 r X
 request 1 1 r X 1
 deliver request 1 2 r X 1
