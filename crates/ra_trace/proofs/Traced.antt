@@ -10,7 +10,7 @@ use Rattle.ra_stamp.specs.declared.entry.Mark.TheVariants.{Requested, Entered, L
 use Rattle.ra_world.specs.declared.step.Step.{Step}
 use Rattle.ra_world.specs.declared.step.Step.TheVariants.{Ask, Leave, Deliver, Lose}
 use Rattle.ra_world.specs.Lines.{mark_line}
-use Rattle.ra_world.specs.Numbers.{HasNumber, IsNumbered}
+use Rattle.ra_world.specs.Numbers.{IsNumberedMark, IsNumberedMessage}
 use Rattle.ra_world.specs.declared.error.RunError.TheVariants.{Refused}
 use Rattle.ra_world.specs.declared.error.StepError.{StepError}
 use Rattle.ra_world.specs.declared.error.StepError.TheVariants as cause
@@ -123,35 +123,35 @@ All-parts P (x ∷ xs) ys all =
     let rest = All-parts P xs ys (All-tail P x (xs ++ ys) all) in
     (All-cons P x xs (All-head P x (xs ++ ys) all) rest.0, rest.1)
 
-step_line_fits : (step : Step) → StepFits step → All IsNumbered (taken_in step) → IsStepLine Two step
+step_line_fits : (step : Step) → StepFits step → All IsNumberedMessage (taken_in step) → IsStepLine Two step
 step_line_fits (Ask node client name mode) fits numbered = fits
 step_line_fits (Leave node client name) fits numbered = fits
-step_line_fits (Deliver message) fits numbered = fits (All-head IsNumbered message [] numbered)
-step_line_fits (Lose message) fits numbered = fits (All-head IsNumbered message [] numbered)
+step_line_fits (Deliver message) fits numbered = fits (All-head IsNumberedMessage message [] numbered)
+step_line_fits (Lose message) fits numbered = fits (All-head IsNumberedMessage message [] numbered)
 
-mark_line_fits : (mark : Mark) → MarkFits mark → HasNumber mark → IsMarkLine Two mark
+mark_line_fits : (mark : Mark) → MarkFits mark → IsNumberedMark mark → IsMarkLine Two mark
 mark_line_fits (Requested entry) fits number = fits number
 mark_line_fits (Entered entry) fits number = fits number
 mark_line_fits (Left entry) fits number = fits number
 
-marks_fit : (marks : List Mark) → All MarkFits marks → All HasNumber marks → All (IsLine Two) (map Marked marks)
+marks_fit : (marks : List Mark) → All MarkFits marks → All IsNumberedMark marks → All (IsLine Two) (map Marked marks)
 marks_fit [] fits numbers = All-nil (IsLine Two)
 marks_fit (mark ∷ marks) fits numbers =
-    All-cons (IsLine Two) (Marked mark) (map Marked marks) (mark_line_fits mark (All-head MarkFits mark marks fits) (All-head HasNumber mark marks numbers))
-    (marks_fit marks (All-tail MarkFits mark marks fits) (All-tail HasNumber mark marks numbers))
+    All-cons (IsLine Two) (Marked mark) (map Marked marks) (mark_line_fits mark (All-head MarkFits mark marks fits) (All-head IsNumberedMark mark marks numbers))
+    (marks_fit marks (All-tail MarkFits mark marks fits) (All-tail IsNumberedMark mark marks numbers))
 
-lines_fit : (moves : List Move) → All MoveFits moves → All HasNumber (marks_of moves) → All IsNumbered (taken_by moves) → All (IsLine Two) (flat_map move_lines moves)
+lines_fit : (moves : List Move) → All MoveFits moves → All IsNumberedMark (marks_of moves) → All IsNumberedMessage (taken_by moves) → All (IsLine Two) (flat_map move_lines moves)
 lines_fit [] fits numbers numbered = All-nil (IsLine Two)
 lines_fit (move ∷ moves) fits numbers numbered =
     let here = All-head MoveFits move moves fits in
-    let marks = All-parts HasNumber move.marks (marks_of moves) numbers in
-    let taken = All-parts IsNumbered (taken_in move.step) (taken_by moves) numbered in
+    let marks = All-parts IsNumberedMark move.marks (marks_of moves) numbers in
+    let taken = All-parts IsNumberedMessage (taken_in move.step) (taken_by moves) numbered in
     All-append (IsLine Two) (move_lines move) (flat_map move_lines moves)
     (All-cons (IsLine Two) (Stepped move.step) (map Marked move.marks) (step_line_fits move.step here.0 taken.0) (marks_fit move.marks here.1 marks.0))
     (lines_fit moves (All-tail MoveFits move moves fits) marks.1 taken.1)
 
 pub traced_all : (n start : ℕ) (steps : List Step) (world : WorldState) (text : List ℕ) → HasTraced n start steps world text → start < 2 ^ 64
-    → All HasNumber (marks_of world.moves) → All IsNumbered (taken_by world.moves) → IsTrace n start world.moves (text ++ codes "end\n")
+    → All IsNumberedMark (marks_of world.moves) → All IsNumberedMessage (taken_by world.moves) → IsTrace n start world.moves (text ++ codes "end\n")
 traced_all n start steps world text traced small numbers numbered =
     let lines = flat_map move_lines world.moves in
     record {

@@ -15,7 +15,7 @@ use Rattle.ra_world.specs.declared.step.Step.{Step}
 use Rattle.ra_world.specs.declared.step.Step.TheVariants.{Ask, Leave, Deliver, Lose}
 use Rattle.ra_world.specs.Below.{LawsBelow}
 use Rattle.ra_world.specs.Traffic.{Move, taken_in, taken_by}
-use Rattle.ra_world.specs.Numbers.{HasNumber, IsNumbered}
+use Rattle.ra_world.specs.Numbers.{IsNumberedMark, IsNumberedMessage}
 use Rattle.ra_world.specs.Run.{events_at, marks_of, IsFit, IsRun}
 use Rattle.ra_world.proofs.Moves.{may_lose_all, fits_split, at_node}
 use Rattle.ra_world.proofs.Nodes.{EndsAt}
@@ -23,7 +23,7 @@ use Rattle.ra_world.proofs.Protocol.{IsNode}
 use Rattle.ra_world.proofs.Reached.{Reached, was_under_way, event_happened}
 use Rattle.ra_world.proofs.Runs.{every_run, fronts}
 
-number_of : (me : ℕ) (name : List ℕ) (mark : Mark) → IsMark me name mark → HasNumber mark
+number_of : (me : ℕ) (name : List ℕ) (mark : Mark) → IsMark me name mark → IsNumberedMark mark
 number_of me name (Requested entry) is = is.numbered
 number_of me name (Entered entry) is = is.numbered
 number_of me name (Left entry) is = is.numbered
@@ -40,20 +40,20 @@ module _ (laws : LawsBelow) (marks_law : MarksOfNodes) (n start : ℕ) (count : 
     by step = record { step = step; sends = sends; marks = marks }
 
     by_event : (p : ℕ) (step : Step) (event : Event) → IsNode n p → events_at p step ≡ event ∷ [] → IsForThisNode (before.nodes p) event
-        → EndsAt n start (ms ++ by step ∷ []) p → All HasNumber marks
+        → EndsAt n start (ms ++ by step ∷ []) p → All IsNumberedMark marks
     by_event p step event within here for end =
         let happened = event_happened laws n start ms (by step) before p within event here end in
-        All-weaker (IsMark (before.nodes p).me (name_of_event event)) HasNumber (number_of (before.nodes p).me (name_of_event event)) marks
+        All-weaker (IsMark (before.nodes p).me (name_of_event event)) IsNumberedMark (number_of (before.nodes p).me (name_of_event event)) marks
         (marks_law (before.nodes p) happened.0 event sends marks (before.invariant.each p within).consistent for happened.1)
 
     by_step : (step : Step) → IsFit n ms step sends marks → ((p : ℕ) → IsNode n p → EndsAt n start (ms ++ by step ∷ []) p)
-        → All HasNumber marks × All IsNumbered (taken_in step)
+        → All IsNumberedMark marks × All IsNumberedMessage (taken_in step)
     by_step (Ask node client name mode) fit ends =
         let event = AskedFor client name mode in
-        (by_event node (Ask node client name mode) event fit (at_node node event) tt (ends node fit), All-nil IsNumbered)
+        (by_event node (Ask node client name mode) event fit (at_node node event) tt (ends node fit), All-nil IsNumberedMessage)
     by_step (Leave node client name) fit ends =
         let event = GivenBack client name in
-        (by_event node (Leave node client name) event fit (at_node node event) tt (ends node fit), All-nil IsNumbered)
+        (by_event node (Leave node client name) event fit (at_node node event) tt (ends node fit), All-nil IsNumberedMessage)
     by_step (Deliver message) fit ends =
         let was = was_under_way laws n start ms before message fit in
         let p = to_of message in
@@ -63,13 +63,13 @@ module _ (laws : LawsBelow) (marks_law : MarksOfNodes) (n start : ℕ) (count : 
         let for' : IsForNode p n message = record { to = refl; from = was.traffic.from } in
         let for : IsForThisNode (before.nodes p) event =
         subst (λ (k : ℕ). IsForNode k (before.nodes p).nodes message) (sym there.me_is) (subst (λ (k : ℕ). IsForNode p k message) (sym there.nodes_is) for') in
-        (by_event p (Deliver message) event within (at_node p event) for (ends p within), All-cons IsNumbered message [] was.traffic.numbered (All-nil IsNumbered))
+        (by_event p (Deliver message) event within (at_node p event) for (ends p within), All-cons IsNumberedMessage message [] was.traffic.numbered (All-nil IsNumberedMessage))
     by_step (Lose message) fit ends =
         let was = was_under_way laws n start ms before message fit.0 in
-        (All-same HasNumber marks [] fit.2 (All-nil HasNumber), All-cons IsNumbered message [] was.traffic.numbered (All-nil IsNumbered))
+        (All-same IsNumberedMark marks [] fit.2 (All-nil IsNumberedMark), All-cons IsNumberedMessage message [] was.traffic.numbered (All-nil IsNumberedMessage))
 
-  move_by_move : (back ms : List Move) → IsRun n start (ms ++ back) → All HasNumber (marks_of back) × All IsNumbered (taken_by back)
-  move_by_move [] ms run = (All-nil HasNumber, All-nil IsNumbered)
+  move_by_move : (back ms : List Move) → IsRun n start (ms ++ back) → All IsNumberedMark (marks_of back) × All IsNumberedMessage (taken_by back)
+  move_by_move [] ms run = (All-nil IsNumberedMark, All-nil IsNumberedMessage)
   move_by_move (m ∷ back) ms run =
       let longer = subst (IsRun n start) (sym (append_assoc ms (m ∷ []) back)) run in
       let after = fronts laws.splits n start back (ms ++ m ∷ []) longer in
@@ -77,7 +77,7 @@ module _ (laws : LawsBelow) (marks_law : MarksOfNodes) (n start : ℕ) (count : 
       let fit = (fits_split n [] ms (m ∷ back) run.each_fits).1.0 in
       let here = by_step ms m.sends m.marks before m.step fit (λ p at. (after.ends.0 p, after.ends.1 p at.0 at.1)) in
       let rest = move_by_move back (ms ++ m ∷ []) longer in
-      (All-append HasNumber m.marks (marks_of back) here.0 rest.0, All-append IsNumbered (taken_in m.step) (taken_by back) here.1 rest.1)
+      (All-append IsNumberedMark m.marks (marks_of back) here.0 rest.0, All-append IsNumberedMessage (taken_in m.step) (taken_by back) here.1 rest.1)
 
-  pub numbered : (moves : List Move) → IsRun n start moves → All HasNumber (marks_of moves) × All IsNumbered (taken_by moves)
+  pub numbered : (moves : List Move) → IsRun n start moves → All IsNumberedMark (marks_of moves) × All IsNumberedMessage (taken_by moves)
   numbered moves run = move_by_move moves [] run

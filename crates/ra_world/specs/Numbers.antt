@@ -5,10 +5,10 @@ use Rattle.ra_stamp.specs.declared.entry.Mark.TheVariants.{Requested, Entered, L
 use Rattle.ra_stamp.specs.declared.message.Message.{Message}
 use Rattle.ra_stamp.specs.Message.{seq_of}
 
-abbrev pub HasNumber : Mark → Type 0
-HasNumber (Requested entry) = 1 ≤ entry.stamp.seq
-HasNumber (Entered entry) = 1 ≤ entry.stamp.seq
-HasNumber (Left entry) = 1 ≤ entry.stamp.seq
+abbrev pub IsNumberedMark : Mark → Type 0
+IsNumberedMark (Requested entry) = 1 ≤ entry.stamp.seq
+IsNumberedMark (Entered entry) = 1 ≤ entry.stamp.seq
+IsNumberedMark (Left entry) = 1 ≤ entry.stamp.seq
 
-abbrev pub IsNumbered : Message → Type 0
-IsNumbered message = 1 ≤ seq_of message
+abbrev pub IsNumberedMessage : Message → Type 0
+IsNumberedMessage message = 1 ≤ seq_of message

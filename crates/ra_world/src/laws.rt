@@ -16,7 +16,7 @@ ghost use Rattle.ra_node.specs.Events.{Event, NodeEvent, NodeEvents};
 ghost use Rattle.ra_table.specs.Table.{LockTable, TableRun, MayEnter};
 ghost use Rattle.ra_world.specs.declared.step.Step.{Step};
 ghost use Rattle.ra_world.specs.Traffic.{Move, TakesEach, LeavesUnderWay, IsUnderWay, sent_by, taken_by, taken_in};
-ghost use Rattle.ra_world.specs.Numbers.{HasNumber, IsNumbered};
+ghost use Rattle.ra_world.specs.Numbers.{IsNumberedMark, IsNumberedMessage};
 ghost use Rattle.ra_world.specs.Quiet.{IsQuiet, IsBlocked, MeetsMessageCount};
 ghost use Rattle.ra_world.specs.Below.{LawsBelow};
 ghost use Rattle.ra_world.specs.Run.{IsRun, IsFit, GoesOn, WorldRun, EndsWith, events_at, marks_of, happened_at, waiting_at_all, with_node};
@@ -167,9 +167,9 @@ pub fn fronts_of_runs_are_runs()
 /// Each mark of a run has a number, 1 or more, and so has each message that is delivered or lost in it.
 pub fn marks_of_runs_are_numbered()
     ensures marks { (n start : ℕ) (moves : List Move) → IsNodeNumber n → IsRun n start moves
-        → All HasNumber (marks_of moves) }
+        → All IsNumberedMark (marks_of moves) }
     ensures taken { (n start : ℕ) (moves : List Move) → IsNodeNumber n → IsRun n start moves
-        → All IsNumbered (taken_by moves) }
+        → All IsNumberedMessage (taken_by moves) }
 {
     laws_below();
     events_keep_a_node_consistent();
