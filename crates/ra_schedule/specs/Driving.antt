@@ -1,5 +1,5 @@
 -- How far the driver has come with a script, and how it ends. No public contract speaks of it.
-use Rattle.std.specs.Prelude.{◌≡◌, ◌≢◌, ◌⊎◌, ◌↔◌, ℕ, ◌+◌, ◌≤◌, Bool, true, false, List, [], ◌∷◌, ◌++◌, length, Result, IsTrue, IfOk, IfErr, IsErrOf, IsOkUnless, IfSome}
+use Rattle.std.specs.Prelude.{◌≡◌, ◌≢◌, ◌⊎◌, ◌↔◌, ℕ, ◌+◌, ◌<◌, ◌≤◌, Bool, true, false, List, [], ◌∷◌, ◌++◌, length, Result, IsTrue, IfOk, IfErr, IsErrOf, IsOkUnless, IfSome}
 use Rattle.ra_stamp.specs.NodeId.{IsNodeNumber}
 use Rattle.ra_world.specs.Traffic.{Move}
 use Rattle.ra_world.specs.Run.{IsRun}
@@ -70,6 +70,21 @@ CannotBeMade script moves choice fault = (fault ≡ Memory) ⊎ HasFault script 
 -- behind these moves the choice of the policy cannot be made
 abbrev pub IsRefused : ScriptState → Policy → List Move → DriveError → Type 0
 IsRefused script policy moves fault = (choice : Choice) × Picks script policy moves choice × CannotBeMade script moves choice fault
+
+-- behind these moves the policy has a choice that can be made
+abbrev pub MayGoOn : ScriptState → Policy → List Move → Type 0
+MayGoOn script policy moves = (choice : Choice) × (step : Step) × Picks script policy moves choice × StandsFor script moves choice step
+
+-- the policy has come so far, a turn is left, and its choice can be made: what keeps it from going on is no refusal
+pub record IsHeldUp (script : ScriptState) (policy : Policy) (limit : ℕ) (moves : List Move) : Type 0 where
+  pub follows : Follows script policy moves
+  pub within : length moves < limit
+  pub goes_on : MayGoOn script policy moves
+
+-- where memory may be wanting: before the first turn, at a turn whose choice can be made, or for the report, where no choice is left
+abbrev pub MayWantMemory : ScriptState → Policy → ℕ → List Move → Type 0
+MayWantMemory script policy limit moves = (moves ≡ []) ⊎ IsHeldUp script policy limit moves
+    ⊎ (Follows script policy moves × Ends script policy moves × (length moves ≤ limit))
 
 -- want of memory stops the policy, or a cause that stands
 abbrev pub IsStopped : ScriptState → Policy → ℕ → DriveError → Type 0

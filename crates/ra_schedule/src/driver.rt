@@ -1,12 +1,13 @@
 //! How far a cluster was driven.
-ghost use Rattle.std.specs.Prelude.{◌≡◌, ◌+◌, ◌++◌, ◌∷◌, [], ◌<◌, ◌≤◌, ◌^◌, ◌⊎◌, ℕ, List, length, IfOk, IfErr, OnOk};
+ghost use Rattle.std.specs.Prelude.{◌≡◌, ◌+◌, ◌++◌, ◌∷◌, [], ◌<◌, ◌≤◌, ◌^◌, ◌⊎◌, ℕ, List, length, IfOk, IfErr, IsErrOf, OnOk, OnErr};
 ghost use Rattle.ra_world.specs.Traffic.{Move};
 ghost use Rattle.ra_world.specs.Run.{IsRun, GoesOn};
+ghost use Rattle.ra_world.specs.declared.step.Step.{Step};
 ghost use Rattle.ra_schedule.specs.declared.choice.Choice.{Choice};
 ghost use Rattle.ra_schedule.specs.declared.error.DriveError.{DriveError};
 ghost use Rattle.ra_schedule.specs.Schedule.{StandsFor};
 ghost use Rattle.ra_schedule.specs.Progress.{OfEach, IsProgressAfter, AreCountable, recorded};
-ghost use Rattle.ra_schedule.specs.Driving.{IsDriven, IsReady, IsAtEnd, IsMeaning, AfterTurn, HasMade, CannotBeMade, IsRefused, IsStopped};
+ghost use Rattle.ra_schedule.specs.Driving.{IsDriven, IsReady, IsAtEnd, IsMeaning, AfterTurn, HasMade, CannotBeMade, IsRefused, IsStopped, MayGoOn, IsHeldUp};
 
 use crate::draws::{Draws, note_step_in};
 use crate::laws::schedules_rest_on_runs;
@@ -81,6 +82,8 @@ impl Driver {
         ensures ok { OnOk result (IsAtEnd script.now policy.now world.new self.new × (length world.new.moves ≤ limit)) }
         ensures records { OnOk result (self.new.records ≡ self.old.records) }
         ensures err { IfErr result (IsStopped script.now policy.now limit) }
+        // Memory ran out at a turn within the limit whose choice can be made.
+        ensures memory { IsErrOf result DriveError.Memory → IsHeldUp script.now policy.now limit world.new.moves }
     {
         for _turn in 0..limit {
             if !self.turn(alloc, script, policy, world)? {
@@ -116,6 +119,9 @@ impl Driver {
         requires countable { length world.old.moves + 1 < 2 ^ 64 }
         ensures ok { IfOk result (AfterTurn script.now policy.now world.old self.old world.new self.new) }
         ensures err { IfErr result (IsRefused script.now policy.now world.old.moves) }
+        ensures same { OnErr result (world.new ≡ world.old) }
+        // Where the choice can't be made, that is the answer, and not want of memory.
+        ensures memory { IsErrOf result DriveError.Memory → MayGoOn script.now policy.now world.old.moves }
     {
         self.first = first_free(script, &self.clients, self.first);
         let Some(picked) = pick(
@@ -149,6 +155,10 @@ impl Driver {
         requires meaning { IsMeaning script.now world.old.moves picked.choice picked.meaning }
         ensures ok { OnOk result (HasMade script.now picked.choice world.old self.old world.new self.new) }
         ensures err { IfErr result (CannotBeMade script.now world.old.moves picked.choice) }
+        ensures same { OnErr result (world.new ≡ world.old) }
+        // Where the choice can't be made, that is the answer, and not want of memory.
+        ensures memory { IsErrOf result DriveError.Memory
+            → (step : Step) × StandsFor script.now world.old.moves picked.choice step }
     {
         let Picked { choice, meaning } = picked;
         match meaning {
@@ -157,11 +167,11 @@ impl Driver {
         }
     }
 
-    /// Makes the step that a choice stands for.
+    /// Makes the step that a choice stands for. It is recorded before it is made, so that there is memory for the record.
     ///
     /// # Errors
     ///
-    /// `Memory`.
+    /// `Memory`: no step was made.
     fn take_step(
         &mut self,
         alloc: Global,
@@ -175,10 +185,11 @@ impl Driver {
         requires means { StandsFor script.now world.old.moves choice step.now }
         ensures ok { OnOk result (HasMade script.now choice world.old self.old world.new self.new) }
         ensures err { IfErr result (CannotBeMade script.now world.old.moves choice) }
+        ensures same { OnErr result (world.new ≡ world.old) }
     {
         schedules_rest_on_runs();
-        let made = make(alloc, world, &mut self.clients, step, place_in(choice))?;
         keep_step(&mut self.steps, self.records, step)?;
+        let made = make(alloc, world, &mut self.clients, step, place_in(choice))?;
         let marks = made.as_slice();
         self.first = first_entered(marks, self.first);
         note_step_in(&mut self.draws, script, world, &self.clients, step, marks);
@@ -231,6 +242,7 @@ fn make(
         × OfEach (IsProgressAfter move) clients.old clients.new) }
     ensures run { OnOk result (IsRun world.new.count world.new.start world.new.moves) }
     ensures err { IfErr result (λ fault. fault ≡ DriveError.Memory) }
+    ensures same { OnErr result (world.new ≡ world.old) }
 {
     let Ok(outcome) = world.step_near(alloc, step, near) else {
         return Err(DriveError::Memory);

@@ -5,7 +5,7 @@ ghost use Rattle.ra_world.specs.World.{Reports};
 ghost use Rattle.ra_world.specs.MainTheorem.{MainTheorem};
 ghost use Rattle.ra_schedule.specs.Schedule.{steps_of, Follows, Ends, Stops, IsFinished};
 ghost use Rattle.ra_schedule.specs.Progress.{Tracks, AreDone};
-ghost use Rattle.ra_schedule.specs.Driving.{Answers, Records, IsStopped};
+ghost use Rattle.ra_schedule.specs.Driving.{Answers, Records, IsStopped, MayWantMemory};
 ghost use Rattle.ra_schedule.specs.declared.error.DriveError.{DriveError};
 
 use crate::driver::Driver;
@@ -147,6 +147,8 @@ fn drive_world(
     requires opened { world.old ≡ record { count = script.now.nodes; start = 0; moves = [] } }
     ensures ok { IfOk result (Records script.now policy.now limit records) }
     ensures err { IfErr result (IsStopped script.now policy.now limit) }
+    // So a turn's refusal is never passed over for want of memory at that turn.
+    ensures memory { IsErrOf result DriveError.Memory → MayWantMemory script.now policy.now limit world.new.moves }
 {
     let mut driver = Driver::open(alloc, script, policy, world, records)?;
     driver.finish(alloc, script, policy, world, limit)?;

@@ -9,8 +9,8 @@ use Rattle.ra_world.specs.declared.error.NodeRefusal.TheVariants.{Busy, Exhauste
 use Rattle.ra_world.specs.declared.error.StepError.{StepError}
 use Rattle.ra_world.specs.declared.error.StepError.TheVariants.{Node, Memory}
 use Rattle.ra_world.specs.Traffic.{Move}
-use Rattle.ra_world.specs.Run.{IsRun, WorldRun}
-use Rattle.ra_world.specs.World.{HasCause}
+use Rattle.ra_world.specs.Run.{IsRun, WorldRun, GoesOn}
+use Rattle.ra_world.specs.World.{WorldState, HasCause, HasMade}
 
 abbrev pub refusal_of_ask : AskError → StepError
 refusal_of_ask ask.Busy = Node Busy
@@ -31,3 +31,9 @@ pub record IsRefusedAt (n start : ℕ) (steps : List Step) (place : ℕ) (cause 
   pub step_is : slice_get steps (place - 1) ≡ Some step
   pub because : HasCause n start moves step cause
   pub no_run : WorldRun n start (take place steps) → ⊥
+
+-- a world has made the first of these steps, and where one is left, the next one can be made
+pub record GoesThrough (n start : ℕ) (steps : List Step) (world : WorldState) : Type 0 where
+  pub place : ℕ
+  pub made : HasMade n start (take place steps) world
+  pub goes_on : (step : Step) → slice_get steps place ≡ Some step → GoesOn n start world.moves step

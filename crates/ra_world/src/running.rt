@@ -4,7 +4,7 @@ ghost use Rattle.ra_world.specs.Traffic.{Move};
 ghost use Rattle.ra_world.specs.Run.{IsRun, WorldRun};
 ghost use Rattle.ra_world.specs.World.{HasMade, Reports};
 ghost use Rattle.ra_world.specs.MainTheorem.{MainTheorem};
-ghost use Rattle.ra_world.specs.Refused.{IsRefusedAt};
+ghost use Rattle.ra_world.specs.Refused.{IsRefusedAt, GoesThrough};
 
 use crate::{NewError, Report, RunError, Step, StepError, Steps, World, fronts_of_runs_are_runs};
 use std::alloc::Global;
@@ -70,6 +70,8 @@ fn report_after(alloc: Global, world: &mut World, steps: &[Step]) -> Result<Repo
     ensures refused { (place : ℕ) (cause : StepError) → IsErrOf result (RunError.Refused place cause)
         → IsRefusedAt world.old.count world.old.start steps.now place cause }
     ensures allowed { WorldRun world.old.count world.old.start steps.now → IsOkUnless result RunError.Memory }
+    // Memory ran out at a step that can be made, or for the report, behind all steps. So no refusal was passed over.
+    ensures memory { IsErrOf result RunError.Memory → GoesThrough world.old.count world.old.start steps.now world.new }
 {
     fronts_of_runs_are_runs();
     for (place, step) in steps.iter().enumerate() {

@@ -1,7 +1,7 @@
-use Rattle.std.proofs.Common.{◌≡◌, ◌+◌, ℕ, sym, subst, refl, inl, inr}
+use Rattle.std.proofs.Common.{◌≡◌, ◌+◌, ℕ, sym, subst, refl, inl, inr, arith}
 use Rattle.ra_world.specs.declared.error.StepError.{StepError}
 use Rattle.ra_world.specs.Refused.{IsRefusedAt}
-use Rattle.ra_world.proofs.Refusing.{memory_or_not, no_run, refused_there}
+use Rattle.ra_world.proofs.Refusing.{memory_or_not, no_run, refused_there, goes_on_there, goes_to_the_end}
 use Rattle.ra_world.proofs.running.report_after.Goals as goal
 
 pub returns-in-Err-clause-refused : goal.returns-in-Err-clause-refused
@@ -34,3 +34,16 @@ returns-in-Err-clause-allowed c run =
           absurd (no_run law.steps law.step c.args.world.now.count c.args.world.now.start c.loop-place.place all c.index-steps-place.result c.loop-place.world
           c.loop-place.invariant c.loop-place-test.true c.index-steps-place.is (λ on. other (c.in-Err.ensures.allowed.1 on)) run)
     ]
+
+pub returns-in-Err-clause-memory : goal.returns-in-Err-clause-memory
+returns-in-Err-clause-memory c is =
+    elim (memory_or_not c.in-Err.cause) [
+      | inl same ↦
+          goes_on_there c.args.world.now.count c.args.world.now.start c.loop-place.place c.args.steps.now c.index-steps-place.result c.loop-place.world c.step.new.self
+          c.loop-place.invariant c.loop-place-test.true c.index-steps-place.is (c.in-Err.ensures.allowed.0 same) c.in-Err.ensures.err
+      | inr other ↦ let ends = c.refused_at.ensures.refused other in absurd cc
+    ]
+
+pub returns-in_err-report-clause-memory : goal.returns-in_err-report-clause-memory
+returns-in_err-report-clause-memory c is =
+    goes_to_the_end c.args.world.now.count c.args.world.now.start c.loop-place.place c.args.steps.now c.loop-place.world c.loop-place.invariant (omega arith)

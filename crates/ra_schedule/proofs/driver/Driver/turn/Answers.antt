@@ -1,4 +1,6 @@
-use Rattle.std.proofs.Common.{List, refl, subst}
+use Rattle.std.proofs.Common.{◌≡◌, List, Err, ap, refl, subst}
+use Rattle.std.proofs.lemmas.Result.{err_from_is_err_and}
+use Rattle.ra_schedule.specs.declared.error.DriveError.TheVariants.{Memory}
 use Rattle.ra_schedule.specs.declared.progress.Progress.{Progress}
 use Rattle.ra_schedule.specs.Progress.{AreStuck}
 use Rattle.ra_schedule.proofs.Turns.{driven_with, ready_more, one_longer}
@@ -20,3 +22,11 @@ returns-clause-ok c =
       ready_more c.args.script.now c.args.policy.now c.args.world.now c.follow.new.world c.args.self.now _ c.follow.new.self c.in-Some.picked.choice
           c.requires.ready c.in-Some.ensures.some (c.in-Some.ensures.drawn refl) made,
     )
+
+pub returns-in_err-follow-clause-memory : goal.returns-in_err-follow-clause-memory
+returns-in_err-follow-clause-memory c is =
+    let p = err_from_is_err_and c.from_residual.result c.from_residual.ensures.1 in
+    let ends = rw (p.1, p.2) at is in
+    let why : c.in_err-follow.field-0.0 ≡ Memory = cc in
+    let (step, stands) = c.in_err-follow.ensures.memory (ap Err why) in
+    (c.in-Some.picked.choice, step, c.in-Some.ensures.some, stands)
