@@ -12,10 +12,11 @@ use ra_cluster::{
 };
 use ra_frame::Frame;
 use ra_schedule::Script;
-use ra_stamp::{Mode, Name, NodeId};
+use ra_stamp::{Entry, Mode, Name, NodeId};
 use std::alloc::Global;
 use std::process::Abort;
 use std::sync::Wait;
+use std::thread;
 use std::thread::Threads;
 use test_support::{Tried, again, both};
 
@@ -236,29 +237,75 @@ fn taken<T: Drop>(answer: Result<T, SiteError>) -> Result<(), bool> {
     }
 }
 
-/// Returns what became of a call that was made again where memory was wanting.
-fn made(first: Result<(), bool>, second: Result<(), bool>) -> Tried {
-    match (first, second) {
-        (Ok(()), _) => Tried::AtOnce,
-        (Err(memory), Ok(())) if memory => Tried::Again,
-        _ => Tried::Wrong,
+/// Returns whether a site is as it was where a call found no memory: so many events, this holder of the name, and nobody waits.
+fn is_as_before<R: Wait>(
+    rt: &R,
+    site: &Site,
+    name: &Name,
+    events: u64,
+    holder: &Option<Entry>,
+) -> bool {
+    site.events(rt) == events
+        && site.holder(rt, name) == *holder
+        && site.waiting(rt) == 0
+        && site.queued(rt) == 0
+        && site.fault(rt).is_none()
+}
+
+/// What client 1 does at a site.
+#[derive(Clone, Copy)]
+enum Act {
+    Locks,
+    Unlocks,
+}
+
+/// Makes a call of the one site.
+fn call_at<R: Wait>(
+    rt: &R,
+    alloc: Global,
+    act: Act,
+    name: &Name,
+    post: &Post,
+    sites: &[Site],
+) -> Result<(), bool> {
+    let [site] = sites else {
+        return Err(false);
+    };
+    let mode = Mode::Exclusive;
+    match act {
+        Act::Locks => taken(site.lock(rt, alloc, 1, *name, mode, post, sites, &OpenGate)),
+        Act::Unlocks => taken(site.unlock(rt, alloc, 1, *name, post, sites, &OpenGate)),
+    }
+}
+
+/// Makes a call of the one site, and again where memory was wanting and the site is as before.
+fn try_at<R: Wait>(
+    rt: &R,
+    alloc: Global,
+    act: Act,
+    name: &Name,
+    post: &Post,
+    sites: &[Site],
+) -> Tried {
+    let [site] = sites else {
+        return Tried::Wrong;
+    };
+    let (events, holder) = (site.events(rt), site.holder(rt, name));
+    match call_at(rt, alloc, act, name, post, sites) {
+        Ok(()) => Tried::AtOnce,
+        Err(is_memory)
+            if is_memory
+                && is_as_before(rt, site, name, events, &holder)
+                && call_at(rt, alloc, act, name, post, sites).is_ok() => { Tried::Again }
+        Err(_) => Tried::Wrong,
     }
 }
 
 /// A client locks `r` at the one site, and unlocks it.
-fn try_site<R: Wait>(rt: &R, alloc: Global, name: Name, post: &Post, sites: &[Site]) -> Tried {
-    let [site] = sites else {
-        return Tried::Wrong;
-    };
-    let mode = Mode::Exclusive;
-    let lock = || taken(site.lock(rt, alloc, 1, name, mode, post, sites, &OpenGate));
-    let first = lock();
-    let locked = made(first, if first.is_ok() { first } else { lock() });
-    let unlock = || taken(site.unlock(rt, alloc, 1, name, post, sites, &OpenGate));
-    let first = unlock();
+fn try_site<R: Wait>(rt: &R, alloc: Global, name: &Name, post: &Post, sites: &[Site]) -> Tried {
     both(
-        locked,
-        made(first, if first.is_ok() { first } else { unlock() }),
+        try_at(rt, alloc, Act::Locks, name, post, sites),
+        try_at(rt, alloc, Act::Unlocks, name, post, sites),
     )
 }
 
@@ -268,7 +315,7 @@ fn try_sites<R: Wait>(rt: &R, alloc: Global) -> Result<Tried, bool> {
         return Err(true);
     };
     match Post::new(alloc, 1) {
-        Ok((post, _inboxes)) => Ok(try_site(rt, alloc, name, &post, &sites)),
+        Ok((post, _inboxes)) => Ok(try_site(rt, alloc, &name, &post, &sites)),
         Err(fault) => Err(fault == NewPostError::Memory),
     }
 }
@@ -282,8 +329,20 @@ fn growth_of_a_site(rt: HostRuntime) {
 /// What a call answers that found no memory, and did nothing.
 const WANTING: SiteError = SiteError::Refused(BookError::Memory);
 
-/// A client of the one node of a cluster locks `r`, does nothing and unlocks it. Where it is not let in, returns whether memory was
-/// wanting.
+/// Returns whether a call of a cluster may answer so where a growth was refused: that of the caller, or one of a thread that carries
+/// frames, which then stops all nodes.
+fn is_wanting(fault: SiteError) -> bool {
+    matches!(
+        fault,
+        WANTING
+            | SiteError::Stopped(Stop::Memory)
+            | SiteError::Stopped(Stop::Send)
+            | SiteError::Refused(BookError::Failed)
+    )
+}
+
+/// A client of a node of a cluster locks `r`, does nothing and unlocks it. Where it is not let in, or the cluster was stopped, returns
+/// whether memory was wanting.
 fn try_work<R: Wait>(
     rt: &R,
     alloc: Global,
@@ -294,14 +353,15 @@ fn try_work<R: Wait>(
     let mode = Mode::Exclusive;
     let held = match cluster.with_lock(rt, alloc, node, 1, name, mode, |_grant: Grant| {}) {
         Ok(held) => held,
-        Err(fault) => return Err(fault == CallError::Site(WANTING)),
+        Err(CallError::Site(fault)) => return Err(is_wanting(fault)),
+        Err(CallError::NoNode) => return Ok(Tried::Wrong),
     };
     match held.unlocked {
         Ok(()) => Ok(Tried::AtOnce),
         Err(fault) if fault == WANTING && cluster.unlock(rt, alloc, node, 1, name) == Ok(()) => {
             Ok(Tried::Again)
         }
-        Err(_) => Ok(Tried::Wrong),
+        Err(fault) => Err(is_wanting(fault)),
     }
 }
 
@@ -330,6 +390,56 @@ fn try_whole<R: Wait>(rt: &R, alloc: Global) -> Result<Tried, bool> {
 fn growth_of_a_whole_cluster(rt: HostRuntime) {
     let alloc = rt.alloc();
     end(&rt, again(try_whole(&rt, alloc), try_whole(&rt, alloc)));
+}
+
+/// Has two threads carry the frames of a cluster of two nodes, while a client of node 1 works. Where it is not let in, or a thread is
+/// not started, returns whether memory was wanting.
+fn try_between<R: Threads + Wait + Sync>(
+    rt: &R,
+    alloc: Global,
+    cluster: &Cluster<OpenGate>,
+    nodes: &[NodeId; 2],
+    name: &Name,
+) -> Result<Tried, bool> {
+    let [one, two] = nodes;
+    thread::scope(thread::scope_env(), rt, move |scope| {
+        let mut are_started = true;
+        for node in [one, two] {
+            let pump = move || cluster.pump(rt, alloc, *node);
+            are_started = are_started && scope.spawn(pump).is_ok();
+        }
+        let tried = if are_started {
+            try_work(rt, alloc, cluster, *one, *name)
+        } else {
+            Err(true)
+        };
+        cluster.close_post(rt);
+        tried
+    })
+}
+
+/// Makes a cluster of two nodes, at the first of which a client works, and closes it. Where there is none, or it was stopped, returns
+/// whether memory was wanting.
+fn try_two<R: Threads + Wait + Sync>(rt: &R, alloc: Global) -> Result<Tried, bool> {
+    let (Some(one), Some(two), Some(name)) = (NodeId::new(1), NodeId::new(2), r()) else {
+        return Ok(Tried::Wrong);
+    };
+    let cluster = match Cluster::new(alloc, 2, 0, OpenGate) {
+        Ok(cluster) => cluster,
+        Err(fault) => return Err(fault == NewPostError::Memory),
+    };
+    let tried = try_between(rt, alloc, &cluster, &[one, two], &name);
+    if cluster.close(alloc).len() == 2 {
+        tried
+    } else {
+        Ok(Tried::Wrong)
+    }
+}
+
+#[test]
+fn growth_of_a_whole_cluster_of_two_nodes(rt: HostRuntime) {
+    let alloc = rt.alloc();
+    end(&rt, again(try_two(&rt, alloc), try_two(&rt, alloc)));
 }
 
 /// Returns whether a cluster of threads may answer so where a growth was refused.

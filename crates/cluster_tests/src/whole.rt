@@ -103,6 +103,50 @@ fn works<R: Wait>(
     )
 }
 
+/// Returns whether a watchdog comes to see this of a node, for which it looks many times. Each look waits for the lock of the node,
+/// so that there is no hurry.
+fn comes_to_see<R: Wait>(
+    rt: &R,
+    cluster: &Cluster<Counting>,
+    node: NodeId,
+    name: Name,
+    seen: Seen,
+) -> bool {
+    for _ in 0..1_000_000u32 {
+        if sees(rt, cluster, node, name, seen) {
+            return true;
+        }
+        thread::yield_now();
+    }
+    false
+}
+
+/// Returns whether node 3, which there is not, is refused, and client 9 of node 1, which holds nothing.
+fn refuses_others<R: Wait>(
+    rt: &R,
+    alloc: Global,
+    cluster: &Cluster<Counting>,
+    nodes: &[NodeId; 3],
+    name: &Name,
+) -> bool {
+    let [one, _two, three] = nodes;
+    let no_node = cluster.lock(rt, alloc, *three, 1, *name, Mode::Exclusive)
+        == Err(CallError::NoNode)
+        && cluster.unlock(rt, alloc, *three, 1, *name) == Err(CallError::NoNode)
+        && cluster.site(*three).is_none();
+    cluster.pump(rt, alloc, *three);
+    let not_held = SiteError::Refused(BookError::NotHeld);
+    no_node && cluster.unlock(rt, alloc, *one, 9, *name) == Err(CallError::Site(not_held))
+}
+
+/// Client 1 of node 1 of two holds the name, and client 2 is queued: both asked, and the REPLY came.
+const HELD: Seen = Seen {
+    holder: Some(1),
+    queued: 1,
+    events: 3,
+    ..QUIET
+};
+
 /// Has client 1 of node 1 of two hold the name while client 2 asks for it, which another thread does, and the frames go between the
 /// nodes. Returns whether a watchdog sees what there is to see, and the clients and the node that there are not are refused.
 fn holds_and_hands_over<R: Threads + Wait + Abort + Sync>(
@@ -113,7 +157,7 @@ fn holds_and_hands_over<R: Threads + Wait + Abort + Sync>(
     name: &Name,
     second: &Answer,
 ) -> bool {
-    let [one, two, three] = nodes;
+    let [one, two, _three] = nodes;
     let ended = AtomicU64::new(0);
     let ended = &ended;
     let x = Mode::Exclusive;
@@ -131,29 +175,8 @@ fn holds_and_hands_over<R: Threads + Wait + Abort + Sync>(
             *second.lock(rt) = Some(works(rt, alloc, cluster, *one, 2, *name));
             ended.fetch_add(1, Ordering::SeqCst);
         });
-        let held = Seen {
-            holder: Some(1),
-            queued: 1,
-            // Both asked, and the REPLY came.
-            events: 3,
-            ..QUIET
-        };
-        // Each look waits for the lock of node 1, so that there is no hurry.
-        let mut is_seen = false;
-        for _ in 0..1_000_000u32 {
-            if sees(rt, cluster, *one, *name, held) {
-                is_seen = true;
-                break;
-            }
-            thread::yield_now();
-        }
-        let is_other = cluster.lock(rt, alloc, *three, 1, *name, x) == Err(CallError::NoNode)
-            && cluster.unlock(rt, alloc, *three, 1, *name) == Err(CallError::NoNode)
-            && cluster.site(*three).is_none();
-        cluster.pump(rt, alloc, *three);
-        let not_held = SiteError::Refused(BookError::NotHeld);
-        let is_refused = cluster.unlock(rt, alloc, *one, 9, *name)
-            == Err(CallError::Site(not_held));
+        let is_seen = comes_to_see(rt, cluster, *one, *name, HELD);
+        let are_refused = refuses_others(rt, alloc, cluster, nodes, name);
         let has_left = cluster.unlock(rt, alloc, *one, 1, *name) == Ok(());
         let has_ended = waits.is_ok() && comes_to(ended, 1);
         // Where something went wrong nobody waits any more, and else nobody is there who could.
@@ -161,7 +184,7 @@ fn holds_and_hands_over<R: Threads + Wait + Abort + Sync>(
             cluster.stop(rt, Stop::Refused);
         }
         cluster.close_post(rt);
-        are_started && is_let_in && is_seen && is_other && is_refused && has_left && has_ended
+        are_started && is_let_in && is_seen && are_refused && has_left && has_ended
     })
 }
 
