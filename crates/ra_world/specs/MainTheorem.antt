@@ -1,4 +1,4 @@
--- The main theorem, of what a report says.
+-- The main theorem, of what a report says. docs/MODEL.md begins with a key to the notation.
 use Rattle.std.specs.Prelude.{◌≡◌, ◌<◌, ℕ, ◌*◌, ◌-◌, List, All, length}
 use Rattle.ra_stamp.specs.declared.entry.Entry.{Entry}
 use Rattle.ra_stamp.specs.declared.entry.Mark.{Mark}
