@@ -33,7 +33,7 @@ use Rattle.ra_trace.proofs.Fronts.{front_and_last, no_trace}
 use Rattle.ra_trace.proofs.Ends.{feed_is_over, some_bytes_at_feed}
 
 -- bytes that are taken after others are taken with them
-consumed_both : (old mid new : Option (List ℕ)) (first second : List ℕ) → Consumes old mid first → Consumes mid new second
+pub consumed_both : (old mid new : Option (List ℕ)) (first second : List ℕ) → Consumes old mid first → Consumes mid new second
     → Consumes old new (first ++ second)
 consumed_both None mid new first second a b = tt
 consumed_both (Some xs) None new first second a b = absurd a
@@ -95,7 +95,7 @@ stops_behind limit left old now front behind begun = (front, begun, behind.taken
 
 -- ---- The first line
 
-nothing_taken : (old : Option (List ℕ)) → Consumes old old []
+pub nothing_taken : (old : Option (List ℕ)) → Consumes old old []
 nothing_taken None = tt
 nothing_taken (Some bytes) = refl
 

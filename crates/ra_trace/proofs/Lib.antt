@@ -17,3 +17,7 @@ pub mod Ends
 pub mod Along
 pub mod Inputs
 pub mod Shown
+pub mod MarkRefusals
+pub mod MarkVerdicts
+pub mod MarkInputs
+pub mod MarksAlong

@@ -9,3 +9,6 @@ pub mod Reading
 pub mod NextLine
 pub mod Along
 pub mod Writing
+pub mod Marks
+pub mod MarksReading
+pub mod MarksAlong

@@ -1,4 +1,4 @@
--- What is read of the next line. No public contract speaks of it.
+-- What is read of the next line. Of it public contracts speak only of when a line is over.
 use Rattle.std.specs.Prelude.{◌≡◌, ◌≢◌, ◌⊎◌, ℕ, ◌≤◌, Bool, true, false, List, [], ◌∷◌, ◌++◌, All, Option, Some, None, Result, Ok, Err, length, take}
 use Rattle.std.specs.Io.KnownBytes.{Consumes, IsAtEnd}
 use Rattle.ra_world.specs.Quiet.{requests_in}

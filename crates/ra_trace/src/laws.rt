@@ -6,8 +6,11 @@ ghost use Rattle.ra_trace.specs.Below.{LawsBelow};
 ghost use Rattle.ra_trace.specs.declared.version.Version.{Version};
 ghost use Rattle.ra_trace.specs.TraceText.{IsLine, IsTraceIn, trace_lines, trace_text};
 ghost use Rattle.ra_trace.specs.Verdict.{IsVerdict};
+ghost use Rattle.ra_trace.specs.declared.marks_verdict.MarksVerdict.{MarksVerdict};
+ghost use Rattle.ra_trace.specs.Marks.{IsMarksVerdict};
+ghost use Rattle.ra_trace.specs.MarksAlong.{TableLaws};
 
-use ra_table::runs_go_on_by_steps;
+use ra_table::{runs_go_on_by_steps, tables_of_one_run_have_the_same_entries};
 use ra_world::{
     fronts_of_runs_are_runs, marks_of_runs_are_table_runs, runs_are_determined,
     runs_go_on_where_steps_are_allowed,
@@ -50,4 +53,19 @@ pub fn traces_tell_their_runs()
         → (version ≡ second) × (n ≡ m) × (start ≡ other) × (moves ≡ others) }
 {
     runs_are_determined();
+}
+
+/// What the proofs on mark logs take from those on the lock table, in one place.
+pub fn mark_logs_rest_on_tables()
+    ensures { TableLaws }
+{
+    runs_go_on_by_steps();
+    tables_of_one_run_have_the_same_entries();
+}
+
+/// No text has two verdicts as a mark log: its marks are a run of the lock table, or one line is the first wrong one, for one cause.
+pub fn each_mark_log_has_one_verdict()
+    ensures { (text : List ℕ) (a b : MarksVerdict) → IsMarksVerdict text a → IsMarksVerdict text b → a ≡ b }
+{
+    mark_logs_rest_on_tables();
 }

@@ -1,4 +1,5 @@
-//! Traces: a run of the cluster written down line by line, and a checker that says of any text whether it is one.
+//! Traces: a run of the cluster written down line by line, and a checker that says of any text whether it is one. And logs of marks
+//! alone, by which any lock service is checked against the lock table.
 #![tactic(auto)]
 
 mod buffered;
@@ -9,6 +10,9 @@ mod fields;
 mod forms;
 mod laws;
 mod line;
+mod marks;
+mod marks_table;
+mod marks_verdict;
 mod ranges;
 mod reading;
 mod source;
@@ -19,6 +23,11 @@ mod writing;
 
 pub use checking::{check, check_buffered, check_within};
 pub use error::{TraceError, WriteTraceError};
-pub use laws::{each_text_has_one_verdict, texts_tell_their_steps, traces_tell_their_runs};
+pub use laws::{
+    each_mark_log_has_one_verdict, each_text_has_one_verdict, texts_tell_their_steps,
+    traces_tell_their_runs,
+};
+pub use marks::{check_marks, check_marks_buffered, check_marks_within};
+pub use marks_verdict::{MarkCause, MarksVerdict};
 pub use verdict::{Cause, Verdict};
 pub use writing::{trace_text, write_trace};

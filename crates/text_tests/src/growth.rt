@@ -1,12 +1,15 @@
 //! Each growth refused: the call answers `Memory`, writes nothing, and does what it should when it is made again.
 use crate::helpers::{ONE_LOCK, ONE_LOCK_SCRIPT, failing};
+use crate::mark_logs::TWO_WRITERS;
 use crate::performing::ONE_LOCK_LINES;
 use crate::traces::one_lock;
 use ra_schedule::Policy;
 use ra_script::{
     ChoicesError, PerformError, ScriptError, perform, perform_trace, read_choices, read_script,
 };
-use ra_trace::{TraceError, Verdict, WriteTraceError, check, trace_text, write_trace};
+use ra_trace::{
+    MarksVerdict, TraceError, Verdict, WriteTraceError, check, check_marks, trace_text, write_trace,
+};
 use std::alloc::Global;
 use std::process::Abort;
 use test_support::{FailingWriter, Tried, again};
@@ -44,6 +47,24 @@ fn try_check(alloc: Global) -> Result<Tried, bool> {
 #[test]
 fn growth_of_a_checker(rt: HostRuntime) {
     end(&rt, again(try_check(rt.alloc()), try_check(rt.alloc())));
+}
+
+/// Checks a log of marks. Where that is refused, returns whether memory was wanting.
+fn try_log(alloc: Global) -> Result<Tried, bool> {
+    let mut reader = TWO_WRITERS.as_bytes();
+    let valid = MarksVerdict::Valid {
+        requests: 2,
+        grants: 2,
+    };
+    match check_marks(alloc, &mut reader) {
+        Ok(verdict) => Ok(tried_if(verdict == valid)),
+        Err(fault) => Err(fault == TraceError::Memory),
+    }
+}
+
+#[test]
+fn growth_of_a_checker_of_marks(rt: HostRuntime) {
+    end(&rt, again(try_log(rt.alloc()), try_log(rt.alloc())));
 }
 
 /// Reads a script of one client. Where that is refused, returns whether memory was wanting.

@@ -12,6 +12,10 @@ mod helpers;
 #[cfg(test)]
 mod lines;
 #[cfg(test)]
+mod log_readers;
+#[cfg(test)]
+mod mark_logs;
+#[cfg(test)]
 mod performing;
 #[cfg(test)]
 mod readers;

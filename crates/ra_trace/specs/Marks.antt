@@ -1,0 +1,64 @@
+-- Mark logs: what a lock service wrote down, a line for each request, grant and release, as traces of version 2 have the lines of marks;
+-- and what is said of such a text: that the marks are a run of the lock table, or which line is the first wrong one and why.
+use Rattle.std.specs.Prelude.{◌≡◌, ◌≢◌, ◌⊎◌, ℕ, ◌+◌, List, [], ◌∷◌, ◌++◌, All, Contains, flat_map, length}
+use Rattle.ra_stamp.specs.declared.entry.Mark.{Mark}
+use Rattle.ra_stamp.specs.declared.entry.Mark.TheVariants.{Requested, Entered, Left}
+use Rattle.ra_table.specs.Table.{LockTable, TableRun}
+use Rattle.ra_table.specs.Refusals.{IsNodeBusy, IsNotAbove, IsHeld, HasEarlier}
+use Rattle.ra_world.specs.Lines.{mark_line}
+use Rattle.ra_world.specs.Quiet.{requests_in}
+use Rattle.ra_trace.specs.declared.marks_verdict.MarkCause.{MarkCause}
+use Rattle.ra_trace.specs.declared.marks_verdict.MarkCause.TheVariants as cause
+use Rattle.ra_trace.specs.declared.marks_verdict.MarksVerdict.{MarksVerdict}
+use Rattle.ra_trace.specs.declared.marks_verdict.MarksVerdict.TheVariants.{Valid, Invalid}
+use Rattle.ra_trace.specs.declared.version.Version.TheVariants.{Two}
+use Rattle.ra_trace.specs.TraceText.{IsMarkLine}
+
+-- a line for each mark, in order
+abbrev pub marks_text : List Mark → List ℕ
+marks_text marks = flat_map mark_line marks
+
+-- the fields of each mark are in their ranges, and the marks are a run of the lock table
+pub record IsMarkRun (marks : List Mark) : Type 0 where
+  pub lines : All (IsMarkLine Two) marks
+  pub table : LockTable
+  pub run : TableRun marks table
+
+-- how many grants there were
+abbrev pub grants_in : List Mark → ℕ
+grants_in [] = 0
+grants_in (Requested e ∷ marks) = grants_in marks
+grants_in (Entered e ∷ marks) = grants_in marks + 1
+grants_in (Left e ∷ marks) = grants_in marks
+
+-- the text begins with the line of a mark, each field in its range, and this stands behind it
+abbrev pub BeginsWithMark : List ℕ → Mark → List ℕ → Type 0
+BeginsWithMark text mark rest = IsMarkLine Two mark × (text ≡ mark_line mark ++ rest)
+
+-- the first cause for which the lock table refuses a mark
+abbrev pub TableRefuses : LockTable → Mark → MarkCause → Type 0
+TableRefuses table (Requested e) why =
+    ((why ≡ cause.NodeBusy) × IsNodeBusy table e)
+    ⊎ ((why ≡ cause.NotAbove) × (IsNodeBusy table e → ⊥) × IsNotAbove table e)
+TableRefuses table (Entered e) why =
+    ((why ≡ cause.NotWaiting) × (Contains table.waiting e → ⊥))
+    ⊎ ((why ≡ cause.Held) × Contains table.waiting e × IsHeld table e)
+    ⊎ ((why ≡ cause.Earlier) × Contains table.waiting e × (IsHeld table e → ⊥) × HasEarlier table e)
+TableRefuses table (Left e) why = (why ≡ cause.NotHeld) × (Contains table.holding e → ⊥)
+
+-- why the text is wrong that stands behind these marks, a run of the lock table: it begins with the line of no mark, or with a mark that
+-- the table behind them refuses
+abbrev pub IsWrongMark : List Mark → List ℕ → MarkCause → Type 0
+IsWrongMark marks text why =
+    ((why ≡ cause.Line) × (text ≢ []) × ((mark : Mark) (rest : List ℕ) → BeginsWithMark text mark rest → ⊥))
+    ⊎ ((table : LockTable) × TableRun marks table × (mark : Mark) × (rest : List ℕ) × BeginsWithMark text mark rest
+    × TableRefuses table mark why)
+
+-- the text is the lines of a run of the lock table, with so many requests and grants; or this line of it, counted from 1, is the first
+-- wrong one
+abbrev pub IsMarksVerdict : List ℕ → MarksVerdict → Type 0
+IsMarksVerdict text (Valid requests grants) =
+    (marks : List Mark) × IsMarkRun marks × (text ≡ marks_text marks) × (requests ≡ requests_in marks) × (grants ≡ grants_in marks)
+IsMarksVerdict text (Invalid line why) =
+    (marks : List Mark) × (rest : List ℕ) × IsMarkRun marks × (text ≡ marks_text marks ++ rest) × (line ≡ length marks + 1)
+    × IsWrongMark marks rest why

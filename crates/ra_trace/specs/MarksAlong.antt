@@ -1,0 +1,105 @@
+-- How far a checker has come in a mark log. No public contract speaks of it.
+use Rattle.std.specs.Prelude.{◌≡◌, ◌≢◌, ◌↔◌, ℕ, ◌+◌, ◌-◌, ◌≤◌, List, [], ◌∷◌, ◌++◌, All, Option, Some, None, Result, Ok, Err, length}
+use Rattle.std.specs.Io.KnownBytes.{Consumes}
+use Rattle.ra_stamp.specs.declared.entry.Mark.{Mark}
+use Rattle.ra_table.specs.Table.{LockTable, empty_table, TableStep, TableSteps, TableRun}
+use Rattle.ra_table.specs.Laws.{AllowsMark, SameEntries}
+use Rattle.ra_world.specs.Quiet.{requests_in}
+use Rattle.ra_trace.specs.declared.error.TraceError.{TraceError}
+use Rattle.ra_trace.specs.declared.error.TraceError.TheVariants.{Memory}
+use Rattle.ra_trace.specs.declared.line.Line.{Line}
+use Rattle.ra_trace.specs.declared.line.Line.TheVariants as line
+use Rattle.ra_trace.specs.declared.marks.Log.{Log}
+use Rattle.ra_trace.specs.declared.marks.NextMark.{NextMark}
+use Rattle.ra_trace.specs.declared.marks.NextMark.TheVariants.{Right, End, Wrong}
+use Rattle.ra_trace.specs.declared.marks_verdict.MarkCause.{MarkCause}
+use Rattle.ra_trace.specs.declared.marks_verdict.MarkCause.TheVariants as cause
+use Rattle.ra_trace.specs.declared.marks_verdict.MarksVerdict.TheVariants.{Valid, Invalid}
+use Rattle.ra_trace.specs.declared.version.Version.TheVariants.{Two}
+use Rattle.ra_trace.specs.TraceText.{IsMarkLine}
+use Rattle.ra_trace.specs.Marks.{marks_text, grants_in, TableRefuses}
+use Rattle.ra_trace.specs.MarksReading.{JudgesMarks, AnswersMarks}
+
+-- what the lock table says of its runs, as far as mark logs rest on it
+pub record TableLaws : Type 0 where
+  pub empty : TableRun [] empty_table
+  pub splits : (front back : List Mark) (a c : LockTable) → TableSteps a (front ++ back) c
+      → (b : LockTable) × TableSteps a front b × TableSteps b back c
+  pub steps_on : (marks : List Mark) (mark : Mark) (table next : LockTable) → TableRun marks table
+      → TableStep table mark next → TableRun (marks ++ mark ∷ []) next
+  pub goes_on : (marks : List Mark) (mark : Mark) (table : LockTable) → TableRun marks table
+      → AllowsMark table mark ↔ ((next : LockTable) × TableRun (marks ++ mark ∷ []) next)
+  pub same : (marks : List Mark) (a b : LockTable) → TableRun marks a → TableRun marks b → SameEntries a b
+
+-- what a lock table answers to a mark: that its step was made, or why it refuses it
+abbrev pub TriesMark : LockTable → Mark → LockTable → Result (Option MarkCause) TraceError → Type 0
+TriesMark old mark new (Ok None) = TableStep old mark new
+TriesMark old mark new (Ok (Some why)) = TableRefuses old mark why
+TriesMark old mark new (Err fault) = (fault ≡ Memory) × AllowsMark old mark
+
+-- nothing was requested or granted yet
+pub record IsNewLog (log : Log) : Type 0 where
+  pub table_is : log.table ≡ empty_table
+  pub requests_is : log.requests ≡ 0
+  pub grants_is : log.grants ≡ 0
+
+-- the log behind one more mark
+pub record TakesMark (old : Log) (mark : Mark) (new : Log) : Type 0 where
+  pub step : TableStep old.table mark new.table
+  pub requests_is : new.requests ≡ old.requests + requests_in (mark ∷ [])
+  pub grants_is : new.grants ≡ old.grants + grants_in (mark ∷ [])
+
+-- the log stands behind these marks
+pub record IsLogOf (log : Log) (marks : List Mark) : Type 0 where
+  pub lines : All (IsMarkLine Two) marks
+  pub run : TableRun marks log.table
+  pub requests_is : log.requests ≡ requests_in marks
+  pub grants_is : log.grants ≡ grants_in marks
+
+-- the lines of these marks were taken, and the text may still have so many bytes
+pub record IsAlongMarks (limit left : ℕ) (old now : Option (List ℕ)) (log : Log) (number : ℕ) : Type 0 where
+  pub marks : List Mark
+  pub taken : Consumes old now (marks_text marks)
+  pub room : length (marks_text marks) + left ≡ limit
+  pub number_is : number ≡ length marks + 1
+  pub behind : IsLogOf log marks
+
+-- what is said of a mark
+abbrev pub JudgedMark : Log → Mark → Log → Result NextMark TraceError → Type 0
+JudgedMark old mark new (Ok Right) = TakesMark old mark new
+JudgedMark old mark new (Ok End) = ⊥
+JudgedMark old mark new (Ok (Wrong why)) = TableRefuses old.table mark why
+JudgedMark old mark new (Err fault) = (fault ≡ Memory) × AllowsMark old.table mark
+
+-- that a line is wrong which is none of a mark
+abbrev pub JudgedOther : Result NextMark TraceError → Type 0
+JudgedOther (Ok Right) = ⊥
+JudgedOther (Ok End) = ⊥
+JudgedOther (Ok (Wrong why)) = why ≡ cause.Line
+JudgedOther (Err fault) = ⊥
+
+-- what is said of a line
+abbrev pub JudgedLine : Log → Line → Log → Result NextMark TraceError → Type 0
+JudgedLine old (line.First version nodes start) new result = JudgedOther result
+JudgedLine old (line.Stepped step) new result = JudgedOther result
+JudgedLine old (line.Marked mark) new result = JudgedMark old mark new result
+JudgedLine old line.Last new result = JudgedOther result
+
+-- what bytes are that are no line: the text is at its end, or they are a wrong line
+abbrev pub IsMissing : List ℕ → NextMark → Type 0
+IsMissing bytes Right = ⊥
+IsMissing bytes End = bytes ≡ []
+IsMissing bytes (Wrong why) = (why ≡ cause.Line) × (bytes ≢ [])
+
+-- what comes of the line of this number: the log stands behind it, or there is none, or it is wrong, or a fault came
+abbrev pub TurnsMarks : ℕ → ℕ → Option (List ℕ) → Option (List ℕ) → Log → ℕ → List ℕ → Result NextMark TraceError → Type 0
+TurnsMarks limit left old new after number bytes (Ok Right) = IsAlongMarks limit (left - length bytes) old new after (number + 1)
+TurnsMarks limit left old new after number bytes (Ok End) = JudgesMarks limit old new (Valid after.requests after.grants)
+TurnsMarks limit left old new after number bytes (Ok (Wrong why)) = JudgesMarks limit old new (Invalid number why)
+TurnsMarks limit left old new after number bytes (Err fault) = AnswersMarks limit old new (Err fault)
+
+-- a line of a mark has some bytes, and no more than the text may still have
+abbrev pub SomeMarkTaken : ℕ → List ℕ → NextMark → Type 0
+SomeMarkTaken left bytes Right = (1 ≤ length bytes) × (length bytes ≤ left)
+SomeMarkTaken left bytes End = Unit {0}
+SomeMarkTaken left bytes (Wrong why) = Unit {0}

@@ -1,0 +1,46 @@
+use thiserror::Error;
+
+/// Why a line of a mark log is wrong. All but the first are the lock table's own.
+#[derive(Clone, Copy, Debug, PartialEq, Eq, Error)]
+pub enum MarkCause {
+    /// It is the line of no mark, or has no line feed.
+    #[error("Line")]
+    Line,
+    /// A request, and its node waits or holds on its name.
+    #[error("NodeBusy")]
+    NodeBusy,
+    /// A request, and its number is not above that of each entry granted so far on its name.
+    #[error("NotAbove")]
+    NotAbove,
+    /// A grant of an entry that does not wait.
+    #[error("NotWaiting")]
+    NotWaiting,
+    /// A grant, and a conflicting entry on its name holds.
+    #[error("Held")]
+    Held,
+    /// A grant, and a conflicting entry on its name with an earlier stamp waits.
+    #[error("Earlier")]
+    Earlier,
+    /// A release of an entry that does not hold.
+    #[error("NotHeld")]
+    NotHeld,
+}
+
+/// What is said of a mark log.
+#[derive(Clone, Copy, Debug, PartialEq, Eq)]
+pub enum MarksVerdict {
+    /// The marks are a run of the lock table.
+    Valid {
+        /// How many requests were made.
+        requests: u64,
+        /// How many of them were granted.
+        grants: u64,
+    },
+    /// A line is wrong, the first one that is.
+    Invalid {
+        /// Which, counted from 1.
+        line: u64,
+        /// Why.
+        cause: MarkCause,
+    },
+}

@@ -1,0 +1,174 @@
+//! How far `check_marks` and `check_marks_buffered` read, and what comes of readers that fail or give a log in pieces.
+use crate::helpers::{Part, assert_rows, text_of};
+use crate::mark_logs::{BOTH_INSIDE, TWO_WRITERS, TWO_WRITERS_LENGTH};
+use Part::{Text, Times};
+use Way::{Failing, InPieces, Within};
+use ra_trace::{
+    MarkCause, MarksVerdict, TraceError, check_marks, check_marks_buffered, check_marks_within,
+};
+use std::alloc::Global;
+use std::io;
+use std::process::Abort;
+use test_support::FailingReader;
+
+/// What comes of a log.
+type Checked = Result<MarksVerdict, TraceError>;
+
+/// How a log is read.
+#[derive(Clone, Copy)]
+enum Way {
+    /// In pieces of so many bytes.
+    InPieces(usize),
+    /// Byte by byte, from a reader that fails once it gave so many.
+    Failing(usize),
+    /// Within this limit.
+    Within(u8),
+}
+
+/// The parts of a log, how it is read, what comes of it, and how many of its bytes are taken.
+struct Case(&'static [Part<'static>], Way, Checked, usize);
+
+/// Returns a reader of a log.
+fn reader(log: &[u8], way: Way) -> FailingReader<'_> {
+    let (size, before_fault) = match way {
+        InPieces(size) => (size, None),
+        Failing(before_fault) => (1, Some(before_fault)),
+        Within(_) => (64, None),
+    };
+    FailingReader {
+        bytes: log,
+        size,
+        before_fault,
+        fault: io::ErrorKind::Interrupted,
+    }
+}
+
+/// Returns what comes of what a reader gives.
+fn checked(alloc: Global, reader: &mut FailingReader<'_>, way: Way) -> Checked {
+    match way {
+        Within(limit) => check_marks_within(alloc, reader, u64::from(limit)),
+        InPieces(_) | Failing(_) => check_marks(alloc, reader),
+    }
+}
+
+/// Returns what comes of what a reader shows in its buffer.
+fn checked_shown(alloc: Global, reader: &mut FailingReader<'_>, way: Way) -> Checked {
+    match way {
+        Within(limit) => check_marks_within(alloc, reader, u64::from(limit)),
+        InPieces(_) | Failing(_) => check_marks_buffered(alloc, reader),
+    }
+}
+
+/// Returns whether this comes of a log, of which so many bytes are taken, each by a read of its own or from a buffer.
+fn comes(alloc: Global, log: &[u8], way: Way, wanted: &Checked, taken: usize) -> bool {
+    let (mut given, mut shown) = (reader(log, way), reader(log, way));
+    checked(alloc, &mut given, way) == *wanted
+        && checked_shown(alloc, &mut shown, way) == *wanted
+        && log.len().checked_sub(given.bytes.len()) == Some(taken)
+        && shown.bytes == given.bytes
+}
+
+/// Returns whether a case is so.
+fn is_so(alloc: Global, case: &Case) -> bool {
+    match text_of(alloc, case.0) {
+        Some(log) => comes(alloc, &log, case.1, &case.2, case.3),
+        None => false,
+    }
+}
+
+/// Returns how many cases are so, up to the first that is not.
+fn are_so(alloc: Global, cases: &[Case]) -> usize {
+    for place in 0..cases.len() {
+        if !is_so(alloc, &cases[place]) {
+            return place;
+        }
+    }
+    cases.len()
+}
+
+/// Asserts that each case is so.
+fn assert_cases(rt: &(impl Abort + AllocGlobal), cases: &[Case]) {
+    assert_rows(rt, are_so(rt.alloc(), cases), cases.len());
+}
+
+/// What comes of two writers, one after the other.
+const TWO: Checked = Ok(MarksVerdict::Valid {
+    requests: 2,
+    grants: 2,
+});
+
+#[test]
+fn the_pieces_of_a_log_do_not_matter(rt: HostRuntime) {
+    const LOG: &[Part] = &[Text(TWO_WRITERS)];
+    const CASES: &[Case] = &[
+        Case(LOG, InPieces(1), TWO, TWO_WRITERS_LENGTH),
+        Case(LOG, InPieces(7), TWO, TWO_WRITERS_LENGTH),
+        Case(LOG, InPieces(64), TWO, TWO_WRITERS_LENGTH),
+    ];
+    assert_cases(&rt, CASES);
+}
+
+/// Returns behind how many bytes of a log the fault of a reader is named and it is not tried again, from 0 up to the first where it is
+/// not so.
+fn not_tried_again(alloc: Global) -> usize {
+    for taken in 0..=TWO_WRITERS_LENGTH {
+        let log = TWO_WRITERS.as_bytes();
+        if !comes(alloc, log, Failing(taken), &Err(TraceError::Read), taken) {
+            return taken;
+        }
+    }
+    TWO_WRITERS_LENGTH + 1
+}
+
+#[test]
+fn a_reader_of_a_log_that_failed_is_not_tried_again(rt: HostRuntime) {
+    assert_rows(&rt, not_tried_again(rt.alloc()), TWO_WRITERS.len() + 1);
+}
+
+#[test]
+fn nothing_behind_the_first_wrong_mark_is_read(rt: HostRuntime) {
+    const LOG: &[Part] = &[Text(BOTH_INSIDE)];
+    const HELD: Checked = Ok(MarksVerdict::Invalid {
+        line: 4,
+        cause: MarkCause::Held,
+    });
+    const CASES: &[Case] = &[
+        Case(LOG, Failing(68), HELD, 68),
+        Case(LOG, Failing(67), Err(TraceError::Read), 67),
+        Case(LOG, InPieces(64), HELD, 68),
+    ];
+    assert_cases(&rt, CASES);
+}
+
+/// 64 letters.
+const LETTERS: &[u8] = b"aaaaaaaaaaaaaaaaaaaaaaaaaaaaaaaaaaaaaaaaaaaaaaaaaaaaaaaaaaaaaaaa";
+
+#[test]
+fn at_most_128_bytes_of_a_line_of_a_log_are_read(rt: HostRuntime) {
+    const NONE: Checked = Ok(MarksVerdict::Invalid {
+        line: 1,
+        cause: MarkCause::Line,
+    });
+    const CASES: &[Case] = &[
+        Case(&[Times(LETTERS, 2), Text("\nx")], InPieces(64), NONE, 128),
+        Case(&[Times(LETTERS, 1), Text("\nx")], InPieces(64), NONE, 65),
+        Case(&[Times(LETTERS, 1)], InPieces(64), NONE, 64),
+    ];
+    assert_cases(&rt, CASES);
+}
+
+#[test]
+fn a_log_has_at_most_as_many_bytes_as_the_limit_says(rt: HostRuntime) {
+    const LOG: &[Part] = &[Text(TWO_WRITERS)];
+    const EMPTY: Checked = Ok(MarksVerdict::Valid {
+        requests: 0,
+        grants: 0,
+    });
+    const CASES: &[Case] = &[
+        Case(LOG, Within(100), TWO, 100),
+        Case(LOG, Within(99), Err(TraceError::Limit), 100),
+        Case(LOG, Within(0), Err(TraceError::Limit), 1),
+        Case(&[], Within(0), EMPTY, 0),
+    ];
+    assert_cases(&rt, CASES);
+}
