@@ -330,12 +330,13 @@ fn the_trace_of_a_deadlock_is_valid(rt: HostRuntime) {
     assert!(rt; is_valid(&rt, "ra sim --trace", A_DEADLOCK, 3, verdict));
 }
 
-const HELP: &str = "Check the trace of a run, line by line
+const HELP: &str = "Check the trace of a run, or the log of a lock service, line by line
 
-Usage: ra check
+Usage: ra check [OPTIONS]
 
 Options:
-  -h, --help  Print help
+      --marks  Check the log of any lock service, which has marks alone
+  -h, --help   Print help
 
 A trace, read from standard input, is the steps of a run, each on a line with its marks on the lines below it:
   trace 2 2 0
@@ -361,6 +362,23 @@ It prints `valid`, and how many requests and messages there were; or `invalid`, 
   Table        a lock table does not allow the mark
 
 Example: ra sim --trace < script.toml | ra check
+
+With --marks the text is a log of marks alone, a line for each request, grant and release of any lock service, with the number of
+a node, 1 to 64, a client, the name, the mode, and a number that is above each one granted on the name so far:
+  request 1 1 r X 1
+  enter 1 1 r X 1
+  leave 1 1 r X 1
+It prints `valid`, and how many requests and grants there were, where a lock table allows each mark; or `invalid`, the first line
+that is wrong, and why:
+  Line        it is no such line
+  NodeBusy    a request, and its node waits or holds on the name
+  NotAbove    a request, and its number is not above each one granted on the name
+  NotWaiting  a grant, and it was not requested, or was granted already
+  Held        a grant, and one that conflicts holds
+  Earlier     a grant, and one that conflicts waits with a lower number, or the same at a lower node
+  NotHeld     a release of what is not held
+
+Example: ra check --marks < service.log
 
 Status 0: it is a run. Status 3: it is not. Status 2: the words are refused, or it has more than 16777216 bytes. Status 1: the
 input or the output failed.

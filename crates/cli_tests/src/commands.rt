@@ -81,13 +81,13 @@ Commands:
   answer   Answer one frame, a line of hexadecimal digits, as an idle node does
   sim      Drive a cluster through a script, and print who asked, entered and left, and what it cost
   cluster  Run a script by threads, and print who asked, entered and left, and what it cost
-  check    Check the trace of a run, line by line
+  check    Check the trace of a run, or the log of a lock service, line by line
 
 Options:
   -h, --help  Print help
 
 Status 0: done. Status 1: the input or the output failed. Status 2: refused, by one line with the word that says why.
-Status 3: a run that ended with something left to do, or a trace that is none.
+Status 3: a run that ended with something left to do, or a trace or a log that is none.
 ";
 
 #[test]

@@ -158,6 +158,22 @@ fn growth_of_the_command_check(rt: HostRuntime) {
     end(&rt, again(first, try_line(&rt, "ra check", TRACE, verdict)));
 }
 
+/// The marks of the one client.
+const MARKS: &str = "request 1 1 r X 1
+enter 1 1 r X 1
+leave 1 1 r X 1
+";
+
+#[test]
+fn growth_of_the_command_check_of_marks(rt: HostRuntime) {
+    let verdict = "valid\nrequests 1\ngrants 1\n";
+    let first = try_line(&rt, "ra check --marks", MARKS, verdict);
+    end(
+        &rt,
+        again(first, try_line(&rt, "ra check --marks", MARKS, verdict)),
+    );
+}
+
 /// The one client that threads do: its marks have one order.
 #[test]
 fn growth_of_the_command_cluster(rt: HostRuntime) {

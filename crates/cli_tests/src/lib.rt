@@ -18,6 +18,8 @@ mod growth;
 #[cfg(test)]
 mod helpers;
 #[cfg(test)]
+mod mark_logs;
+#[cfg(test)]
 mod refused_frames;
 #[cfg(test)]
 mod refused_scripts;

@@ -1,8 +1,8 @@
--- A text of help is printed where a word asks for it.
-use Rattle.std.proofs.Common.{◌≡◌, ℕ, zero, suc, ◌<◌, Option, Some, None, List, [], ◌∷◌, length, map, slice_index_or, String, Global, string_bytes, ap, inr, arith}
+-- A text of help is printed where a word asks for it; and whether a word is `--marks`.
+use Rattle.std.proofs.Common.{◌≡◌, ◌↔◌, ℕ, zero, suc, ◌<◌, Option, Some, None, List, [], ◌∷◌, length, map, slice_index_or, String, Global, string_bytes, codes, refl, ap, ◌∙◌, inr, arith}
 use Rattle.std.specs.Prelude.{IfSome, Any}
 use Rattle.ra_cli.specs.Statuses.{IsPrinted}
-use Rattle.ra_cli.specs.Words.{IsHelpWord}
+use Rattle.ra_cli.specs.Words.{IsHelpWord, HasMarksWord}
 
 for_each : (old : Option (List ℕ)) (P : List ℕ → Type 0) → ((input : List ℕ) → P input) → IfSome old P
 for_each None P h = tt
@@ -22,3 +22,20 @@ pub of_help : (words : List (String Global)) (old : Option (List ℕ)) (text : L
     → IfSome old (λ input. IsPrinted (map string_bytes words) input text)
 of_help words old text help =
     for_each old (λ input. IsPrinted (map string_bytes words) input text) (λ input. inr (inr (inr (inr (inr (asks_for_help words help))))))
+
+-- the word of which these are the bytes
+word_of : (words : List (String Global)) (k : ℕ) (bytes : List ℕ) → k < length (map string_bytes words)
+    → slice_index_or (map string_bytes words) k bytes ≡ bytes
+    → (word : String Global) × (k < length words) × (slice_index_or words k word ≡ word) × (string_bytes word ≡ bytes)
+word_of [] k bytes less is = absurd (omega arith)
+word_of (x ∷ xs) zero bytes less is = (x, omega arith, refl, is)
+word_of (x ∷ xs) (suc k) bytes less is = let rest = word_of xs k bytes (omega arith) is in (rest.0, omega (arith, rest.1), rest.2, rest.3)
+
+pub marks_word : (words : List (String Global)) → Any (λ word. string_bytes word ≡ codes "--marks") words ↔ HasMarksWord (map string_bytes words)
+marks_word words = (there, back)
+  where
+    there : Any (λ word. string_bytes word ≡ codes "--marks") words → HasMarksWord (map string_bytes words)
+    there (k, word, less, is, marks) = let at = help_at words k word less is in (k, string_bytes word, at.0, at.1, marks)
+
+    back : HasMarksWord (map string_bytes words) → Any (λ word. string_bytes word ≡ codes "--marks") words
+    back (k, bytes, less, is, marks) = let at = word_of words k bytes less is in (k, at.0, at.1, at.2, at.3 ∙ marks)

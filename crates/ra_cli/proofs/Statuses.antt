@@ -9,6 +9,8 @@ use Rattle.ra_script.specs.declared.error.PerformError.TheVariants as perform
 use Rattle.ra_trace.specs.declared.error.TraceError.{TraceError}
 use Rattle.ra_trace.specs.declared.verdict.Verdict.{Verdict}
 use Rattle.ra_trace.specs.Verdict.{IsVerdict}
+use Rattle.ra_trace.specs.declared.marks_verdict.MarksVerdict.{MarksVerdict}
+use Rattle.ra_trace.specs.Marks.{IsMarksVerdict}
 use Rattle.ra_cli.specs.declared.command_line.CommandFault.{CommandFault}
 use Rattle.ra_cli.specs.declared.error.AnswerError.{AnswerError}
 use Rattle.ra_cli.specs.declared.error.AnswerError.TheVariants as answer
@@ -17,12 +19,12 @@ use Rattle.ra_cli.specs.declared.error.RunScriptError.TheVariants as run
 use Rattle.ra_cli.specs.declared.refusal.Refusal.{Refusal}
 use Rattle.ra_cli.specs.declared.refusal.Refusal.TheVariants.{Command, Answer, Choices, Perform, Check, Cluster}
 use Rattle.ra_cli.specs.Answer.{IsAnswered}
-use Rattle.ra_cli.specs.Checks.{verdict_text}
+use Rattle.ra_cli.specs.Checks.{verdict_text, marks_verdict_text}
 use Rattle.ra_cli.specs.ClusterRun.{IsClusterRun}
 use Rattle.ra_cli.specs.Performs.{Prints}
 use Rattle.ra_cli.specs.Refusals.{IsOfReader, IsOfWriter, refused_line, word_of}
 use Rattle.ra_cli.specs.Statuses.{IsRefused, IsSaid, IsBroken, IsPrinted, BreaksOff}
-use Rattle.ra_cli.specs.Words.{GivesNode}
+use Rattle.ra_cli.specs.Words.{GivesNode, HasMarksWord}
 use Rattle.ra_cli.proofs.ClusterRuns.{of_known}
 
 for_each : (old : Option (List ℕ)) (P : List ℕ → Type 0) → ((input : List ℕ) → P input) → IfSome old P
@@ -101,11 +103,17 @@ front_of words old before after text front back printed is left some =
 
 -- ---- What is printed
 
-pub of_verdict : (words : List (List ℕ)) (old : Option (List ℕ)) (verdict : Verdict) → IfSome old (λ input. IsVerdict input verdict)
-    → IfSome old (λ input. IsPrinted words input (verdict_text verdict))
-of_verdict words old verdict =
+pub of_verdict : (words : List (List ℕ)) (old : Option (List ℕ)) (verdict : Verdict) → (HasMarksWord words → ⊥)
+    → IfSome old (λ input. IsVerdict input verdict) → IfSome old (λ input. IsPrinted words input (verdict_text verdict))
+of_verdict words old verdict none =
     of_known old (λ input. IsVerdict input verdict) (λ input. IsPrinted words input (verdict_text verdict))
-    (λ input h. inr (inr (inr (inl (verdict, h, refl)))))
+    (λ input h. inr (inr (inr (inl (inl (none, verdict, h, refl))))))
+
+pub of_marks_verdict : (words : List (List ℕ)) (old : Option (List ℕ)) (verdict : MarksVerdict) → HasMarksWord words
+    → IfSome old (λ input. IsMarksVerdict input verdict) → IfSome old (λ input. IsPrinted words input (marks_verdict_text verdict))
+of_marks_verdict words old verdict some =
+    of_known old (λ input. IsMarksVerdict input verdict) (λ input. IsPrinted words input (marks_verdict_text verdict))
+    (λ input h. inr (inr (inr (inl (inr (some, verdict, h, refl))))))
 
 pub of_answered : (words : List (List ℕ)) (node nodes : ℕ) (old before after : Option (List ℕ)) → GivesNode words node nodes
     → IfSome old (λ input. (front back : List ℕ) × IsAnswered node nodes input (front ++ back) × (back ≢ []) × Appends before after front)

@@ -1,5 +1,5 @@
 -- What `ra check` does.
-use Rattle.std.specs.Prelude.{◌≡◌, ℕ, List, ◌++◌, Bool, true, false, Option, IfSome, codes, decimal}
+use Rattle.std.specs.Prelude.{◌≡◌, ◌⊎◌, ℕ, List, ◌++◌, Bool, true, false, Option, IfSome, codes, decimal}
 use Rattle.std.specs.Io.KnownBytes.{Consumes, Appends}
 use Rattle.ra_world.specs.Lines.{field, total_line}
 use Rattle.ra_trace.specs.declared.verdict.Cause.{Cause}
@@ -7,6 +7,12 @@ use Rattle.ra_trace.specs.declared.verdict.Cause.TheVariants.{Line, Refused, Not
 use Rattle.ra_trace.specs.declared.verdict.Verdict.{Verdict}
 use Rattle.ra_trace.specs.declared.verdict.Verdict.TheVariants.{Valid, Invalid}
 use Rattle.ra_trace.specs.Verdict.{IsVerdict}
+use Rattle.ra_trace.specs.declared.marks_verdict.MarkCause.{MarkCause}
+use Rattle.ra_trace.specs.declared.marks_verdict.MarkCause.TheVariants as mark
+use Rattle.ra_trace.specs.declared.marks_verdict.MarksVerdict.{MarksVerdict}
+use Rattle.ra_trace.specs.declared.marks_verdict.MarksVerdict.TheVariants as marks
+use Rattle.ra_trace.specs.Marks.{IsMarksVerdict}
+use Rattle.ra_cli.specs.Words.{HasMarksWord}
 
 abbrev pub cause_word : Cause → List ℕ
 cause_word Line = codes "Line"
@@ -35,3 +41,46 @@ Checks old new before after valid =
     × Appends before after (verdict_text verdict))
     × ((input : List ℕ) × (verdict : Verdict) × IsVerdict input verdict × (is_valid verdict ≡ valid)
     × Appends before after (verdict_text verdict))
+
+-- ---- Mark logs
+
+abbrev pub mark_cause_word : MarkCause → List ℕ
+mark_cause_word mark.Line = codes "Line"
+mark_cause_word mark.NodeBusy = codes "NodeBusy"
+mark_cause_word mark.NotAbove = codes "NotAbove"
+mark_cause_word mark.NotWaiting = codes "NotWaiting"
+mark_cause_word mark.Held = codes "Held"
+mark_cause_word mark.Earlier = codes "Earlier"
+mark_cause_word mark.NotHeld = codes "NotHeld"
+
+-- the lines of a verdict on a mark log
+abbrev pub marks_verdict_text : MarksVerdict → List ℕ
+marks_verdict_text (marks.Valid requests grants) =
+    codes "valid\n" ++ total_line (codes "requests") requests ++ total_line (codes "grants") grants
+marks_verdict_text (marks.Invalid line cause) =
+    codes "invalid" ++ field (decimal line) ++ field (mark_cause_word cause) ++ codes "\n"
+
+-- whether a verdict says that the marks are a run of the lock table
+abbrev pub is_run : MarksVerdict → Bool
+is_run (marks.Valid requests grants) = true
+is_run (marks.Invalid line cause) = false
+
+-- the same as `Checks`, of a mark log
+abbrev pub ChecksMarks : (old new before after : Option (List ℕ)) → Bool → Type 0
+ChecksMarks old new before after valid =
+    IfSome old (λ input. (verdict : MarksVerdict) × IsMarksVerdict input verdict × (is_run verdict ≡ valid)
+    × ((taken : List ℕ) × Consumes old new taken) × (valid ≡ true → Consumes old new input)
+    × Appends before after (marks_verdict_text verdict))
+    × ((input : List ℕ) × (verdict : MarksVerdict) × IsMarksVerdict input verdict × (is_run verdict ≡ valid)
+    × Appends before after (marks_verdict_text verdict))
+
+-- the input was checked as the words say: as a mark log where one of them is `--marks`, and else as a trace
+abbrev pub Judges : (words : List (List ℕ)) → (old new before after : Option (List ℕ)) → Bool → Type 0
+Judges words old new before after valid =
+    ((HasMarksWord words → ⊥) × Checks old new before after valid) ⊎ (HasMarksWord words × ChecksMarks old new before after valid)
+
+-- the text is the lines of the verdict on the input, checked as the words say
+abbrev pub IsJudged : (words : List (List ℕ)) → (input text : List ℕ) → Type 0
+IsJudged words input text =
+    ((HasMarksWord words → ⊥) × (verdict : Verdict) × IsVerdict input verdict × (text ≡ verdict_text verdict))
+    ⊎ (HasMarksWord words × (verdict : MarksVerdict) × IsMarksVerdict input verdict × (text ≡ marks_verdict_text verdict))

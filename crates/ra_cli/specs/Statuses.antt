@@ -2,13 +2,11 @@
 use Rattle.std.specs.Prelude.{◌≡◌, ◌≢◌, ℕ, ◌⊎◌, List, [], ◌++◌, Bool, true, false, Option, IfSome, Any, codes}
 use Rattle.std.specs.Io.KnownBytes.{Consumes, Appends}
 use Rattle.ra_schedule.specs.declared.choice.Policy.{Policy}
-use Rattle.ra_trace.specs.declared.verdict.Verdict.{Verdict}
-use Rattle.ra_trace.specs.Verdict.{IsVerdict}
 use Rattle.ra_cli.specs.declared.refusal.Refusal.{Refusal}
 use Rattle.ra_cli.specs.Answer.{IsAnswered}
 use Rattle.ra_cli.specs.Words.{IsHelpWord, GivesNode}
 use Rattle.ra_cli.specs.Performs.{Performs, Prints}
-use Rattle.ra_cli.specs.Checks.{Checks, verdict_text}
+use Rattle.ra_cli.specs.Checks.{Judges, IsJudged}
 use Rattle.ra_cli.specs.ClusterRun.{IsClusterRun}
 use Rattle.ra_cli.specs.Refusals.{IsOfReader, IsOfWriter, refused_line, word_of}
 
@@ -18,14 +16,14 @@ abbrev pub Answers : (words : List (List ℕ)) → (old new before after : Optio
 Answers words old new before after = (node : ℕ) × (nodes : ℕ) × GivesNode words node nodes × IfSome old (λ input. (output : List ℕ)
     × IsAnswered node nodes input output × Consumes old new input × Appends before after output)
 
--- status 0: the input was answered, or performed to its end, or is the trace of a run
+-- status 0: the input was answered, or performed to its end, or is the trace of a run, or the log of one of the lock table
 abbrev pub IsDone : (words : List (List ℕ)) → (old new before after : Option (List ℕ)) → Type 0
 IsDone words old new before after =
-    Answers words old new before after ⊎ Performs old new before after true ⊎ Checks old new before after true
+    Answers words old new before after ⊎ Performs old new before after true ⊎ Judges words old new before after true
 
--- status 3: the input was performed and something is left to do, or is the trace of no run
-abbrev pub IsUnfinished : (old new before after : Option (List ℕ)) → Type 0
-IsUnfinished old new before after = Performs old new before after false ⊎ Checks old new before after false
+-- status 3: the input was performed and something is left to do, or is the trace of no run, or the log of none of the lock table
+abbrev pub IsUnfinished : (words : List (List ℕ)) → (old new before after : Option (List ℕ)) → Type 0
+IsUnfinished words old new before after = Performs old new before after false ⊎ Judges words old new before after false
 
 -- status 2: the line of a refusal was written and nothing else, and neither the reader nor the writer failed
 abbrev pub IsRefused : (before after : Option (List ℕ)) → Type 0
@@ -43,7 +41,7 @@ IsPrinted words input text =
     ((refusal : Refusal) × (text ≡ refused_line (word_of refusal)))
     ⊎ ((node nodes : ℕ) × GivesNode words node nodes × IsAnswered node nodes input text)
     ⊎ ((policy : Policy) × (trace finished : Bool) × Prints trace policy input text finished)
-    ⊎ ((verdict : Verdict) × IsVerdict input verdict × (text ≡ verdict_text verdict))
+    ⊎ IsJudged words input text
     ⊎ IsClusterRun input text
     ⊎ Any IsHelpWord words
 

@@ -1,10 +1,10 @@
 -- What the words of a command line ask for.
-use Rattle.std.specs.Prelude.{◌≡◌, ℕ, ◌+◌, ◌≤◌, ◌⊎◌, ⊤, List, ◌∷◌, ◌++◌, Some, slice_get, codes}
+use Rattle.std.specs.Prelude.{◌≡◌, ℕ, ◌+◌, ◌≤◌, ◌⊎◌, ⊤, List, ◌∷◌, ◌++◌, Any, Some, slice_get, codes}
 use Rattle.std.specs.Str.Parse.{IsNumeral, digits_value, without_leading_plus}
 use Rattle.ra_cli.specs.declared.command_line.CommandFault.{CommandFault}
 use Rattle.ra_cli.specs.declared.command_line.CommandFault.TheVariants.{Usage, Memory}
 use Rattle.ra_cli.specs.declared.command_line.Task.{Task}
-use Rattle.ra_cli.specs.declared.command_line.Task.TheVariants.{Answer, Sim, Check, Cluster, Help}
+use Rattle.ra_cli.specs.declared.command_line.Task.TheVariants.{Answer, Sim, Check, CheckMarks, Cluster, Help}
 
 -- the word is `--help` or `-h`
 abbrev pub IsHelpWord : List ℕ → Type 0
@@ -29,6 +29,7 @@ abbrev pub OnAnswer : Task → (ℕ → ℕ → Type 0) → Type 0
 OnAnswer (Answer node nodes) P = P node nodes
 OnAnswer (Sim policy choices trace) P = ⊤
 OnAnswer Check P = ⊤
+OnAnswer CheckMarks P = ⊤
 OnAnswer Cluster P = ⊤
 OnAnswer (Help text) P = ⊤
 
@@ -37,8 +38,22 @@ abbrev pub OnHelp : Task → Type 0 → Type 0
 OnHelp (Answer node nodes) P = ⊤
 OnHelp (Sim policy choices trace) P = ⊤
 OnHelp Check P = ⊤
+OnHelp CheckMarks P = ⊤
 OnHelp Cluster P = ⊤
 OnHelp (Help text) P = P
+
+-- a word is `--marks`
+abbrev pub HasMarksWord : (words : List (List ℕ)) → Type 0
+HasMarksWord words = Any (λ word. word ≡ codes "--marks") words
+
+-- the command `check` is that of mark logs exactly where a word says so
+abbrev pub ChecksBy : (words : List (List ℕ)) → Task → Type 0
+ChecksBy words (Answer node nodes) = ⊤
+ChecksBy words (Sim policy choices trace) = ⊤
+ChecksBy words Check = HasMarksWord words → ⊥
+ChecksBy words CheckMarks = HasMarksWord words
+ChecksBy words Cluster = ⊤
+ChecksBy words (Help text) = ⊤
 
 -- what is printed where the words are refused
 abbrev pub refusal_line : CommandFault → List ℕ

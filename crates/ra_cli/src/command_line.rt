@@ -1,5 +1,5 @@
-ghost use Rattle.std.specs.Prelude.{◌≡◌, ◌∷◌, ◌++◌, Any, map, IsTrue, IfOk, IfSome, string_bytes};
-ghost use Rattle.ra_cli.specs.Words.{Gives, GivesNode, GivesText, IsHelpWord, OnAnswer, OnHelp};
+ghost use Rattle.std.specs.Prelude.{◌≡◌, ◌↔◌, ◌∷◌, ◌++◌, ℕ, List, Any, map, IsTrue, IfOk, IfSome, string_bytes};
+ghost use Rattle.ra_cli.specs.Words.{ChecksBy, Gives, GivesNode, GivesText, IsHelpWord, OnAnswer, OnHelp};
 
 use clap::error::ErrorKind;
 use clap::{Arg, ArgAction, ArgMatches, Command, Error as ParseError, value_parser};
@@ -78,6 +78,23 @@ It prints `valid`, and how many requests and messages there were; or `invalid`, 
 
 Example: ra sim --trace < script.toml | ra check
 
+With --marks the text is a log of marks alone, a line for each request, grant and release of any lock service, with the number of
+a node, 1 to 64, a client, the name, the mode, and a number that is above each one granted on the name so far:
+  request 1 1 r X 1
+  enter 1 1 r X 1
+  leave 1 1 r X 1
+It prints `valid`, and how many requests and grants there were, where a lock table allows each mark; or `invalid`, the first line
+that is wrong, and why:
+  Line        it is no such line
+  NodeBusy    a request, and its node waits or holds on the name
+  NotAbove    a request, and its number is not above each one granted on the name
+  NotWaiting  a grant, and it was not requested, or was granted already
+  Held        a grant, and one that conflicts holds
+  Earlier     a grant, and one that conflicts waits with a lower number, or the same at a lower node
+  NotHeld     a release of what is not held
+
+Example: ra check --marks < service.log
+
 Status 0: it is a run. Status 3: it is not. Status 2: the words are refused, or it has more than 16777216 bytes. Status 1: the
 input or the output failed.";
 
@@ -116,7 +133,7 @@ threads, and Settle, PlanUnmet, Lost or UnderWay where what the nodes wrote down
 /// What is said of the program below its commands.
 const STATUS_HELP: &str = "\
 Status 0: done. Status 1: the input or the output failed. Status 2: refused, by one line with the word that says why.
-Status 3: a run that ended with something left to do, or a trace that is none.";
+Status 3: a run that ended with something left to do, or a trace or a log that is none.";
 
 /// Which policy the words name.
 #[derive(Clone, Copy, Debug)]
@@ -144,6 +161,8 @@ pub enum Task<'a> {
     },
     /// The command `check`.
     Check,
+    /// The command `check --marks`.
+    CheckMarks,
     /// The command `cluster`.
     Cluster,
     /// A text of help.
@@ -227,11 +246,20 @@ fn sim_command<'a>(alloc: Global) -> Result<Command<'a>, AllocError> {
         .arg(trace_option(alloc))
 }
 
+/// Makes the option `--marks`.
+fn marks_option<'a>(alloc: Global) -> Arg<'a> {
+    Arg::new(alloc, "marks")
+        .long("marks")
+        .help("Check the log of any lock service, which has marks alone")
+        .action(ArgAction::SetTrue)
+}
+
 /// Makes the command `check`.
-fn check_command<'a>(alloc: Global) -> Command<'a> {
+fn check_command<'a>(alloc: Global) -> Result<Command<'a>, AllocError> {
     Command::new(alloc, "check")
-        .about("Check the trace of a run, line by line")
+        .about("Check the trace of a run, or the log of a lock service, line by line")
         .after_help(CHECK_HELP)
+        .arg(marks_option(alloc))
 }
 
 /// Makes the command `cluster`.
@@ -263,7 +291,7 @@ fn command<'a>(alloc: Global) -> Result<Command<'a>, AllocError> {
     let ra = with_command(program(alloc), answer_command(alloc))?;
     let ra = with_command(ra, sim_command(alloc))?;
     let ra = with_command(ra, Ok(cluster_command(alloc)))?;
-    with_command(ra, Ok(check_command(alloc)))
+    with_command(ra, check_command(alloc))
 }
 
 /// Returns the text behind an option and `=` in a word, or `None` where it is no such word. It does not allocate.
@@ -304,6 +332,7 @@ fn number_of(words: &[String], option: &str) -> Option<u16>
 fn answer_task<'a>(words: &[String]) -> Option<Task<'a>>
     ensures help { IfSome result (λ task. OnHelp task ⊥) }
     ensures numbers { IfSome result (λ task. OnAnswer task (GivesNode (map string_bytes words.now))) }
+    ensures marks { IfSome result (λ task. (any : List (List ℕ)) → ChecksBy any task) }
 {
     let node = number_of(words, "--node")?;
     let nodes = number_of(words, "--nodes")?;
@@ -324,6 +353,7 @@ fn policy_name(sim: &ArgMatches) -> Option<PolicyName> {
 fn sim_task<'a>(sim: &ArgMatches<'a>) -> Option<Task<'a>>
     ensures help { IfSome result (λ task. OnHelp task ⊥) }
     ensures numbers { IfSome result (λ task. OnAnswer task (λ _ _. ⊥)) }
+    ensures marks { IfSome result (λ task. (any : List (List ℕ)) → ChecksBy any task) }
 {
     let policy = policy_name(sim)?;
     let choices = sim.get_str("choices")?;
@@ -335,17 +365,44 @@ fn sim_task<'a>(sim: &ArgMatches<'a>) -> Option<Task<'a>>
     })
 }
 
+/// Returns whether one of the words is this one. It does not allocate.
+fn has_word(words: &[String], sought: &str) -> bool
+    ensures { IsTrue result ↔ Any (λ word. string_bytes word ≡ sought.now) words.now }
+{
+    for word in words {
+        if word.as_str() == sought {
+            return true;
+        }
+    }
+    false
+}
+
+/// Returns the task of the command `check`: that of mark logs where a word says so. The parser has found that it is an option then, and
+/// tells less of it in its contract than the words do.
+fn check_task<'a>(words: &[String]) -> Task<'a>
+    ensures help { OnHelp result ⊥ }
+    ensures numbers { OnAnswer result (λ _ _. ⊥) }
+    ensures marks { ChecksBy (map string_bytes words.now) result }
+{
+    if has_word(words, "--marks") {
+        Task::CheckMarks
+    } else {
+        Task::Check
+    }
+}
+
 /// Returns the task of a command line that was understood, or `None` where it has no command.
 fn task_of<'a>(words: &[String], matches: &ArgMatches<'a>) -> Option<Task<'a>>
     ensures help { IfSome result (λ task. OnHelp task ⊥) }
     ensures numbers { IfSome result (λ task. OnAnswer task (GivesNode (map string_bytes words.now))) }
+    ensures marks { IfSome result (ChecksBy (map string_bytes words.now)) }
 {
     let (name, given) = matches.subcommand()?;
     match name {
         "answer" => answer_task(words),
         "sim" => sim_task(given),
         "cluster" => Some(Task::Cluster),
-        "check" => Some(Task::Check),
+        "check" => Some(check_task(words)),
         _ => None,
     }
 }
@@ -372,6 +429,7 @@ pub fn parse<'a>(alloc: Global, words: &'a [String]) -> Result<Task<'a>, Command
     ensures help { IfOk result (λ task.
         OnHelp task (Any (λ word. IsHelpWord (string_bytes word)) words.now)) }
     ensures numbers { IfOk result (λ task. OnAnswer task (GivesNode (map string_bytes words.now))) }
+    ensures marks { IfOk result (ChecksBy (map string_bytes words.now)) }
 {
     let Ok(command) = command(alloc) else {
         return Err(CommandFault::Memory);
@@ -395,6 +453,7 @@ fn help_of<'a>(
     ensures help { IfOk result (λ task.
         OnHelp task (Any (λ word. IsHelpWord (string_bytes word)) words.now)) }
     ensures numbers { IfOk result (λ task. OnAnswer task (λ _ _. ⊥)) }
+    ensures marks { IfOk result (ChecksBy (map string_bytes words.now)) }
 {
     match error.kind() {
         // No contract of the parser's says that it gives help only to those who ask.

@@ -5,6 +5,7 @@ mod answering;
 mod command_line;
 mod error;
 mod input;
+mod marks_verdict;
 mod refusal;
 mod running;
 mod serving;

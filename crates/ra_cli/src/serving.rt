@@ -1,9 +1,9 @@
 ghost use Rattle.std.specs.Prelude.{true, false, [], ◌++◌, None, ◌≢◌, ◌↔◌, Bool, IsErr, IsErrOf, IsTrue, IfOk, IfErr, IfNone, ◌≡◌, ◌≤◌, ◌⊎◌, List, ℕ, Any, map, IfSome, string_bytes};
 ghost use Rattle.std.specs.Io.KnownBytes.{Consumes, Appends};
-ghost use Rattle.ra_cli.specs.Words.{IsHelpWord};
+ghost use Rattle.ra_cli.specs.Words.{HasMarksWord, IsHelpWord};
 ghost use Rattle.ra_cli.specs.Words as spec;
 ghost use Rattle.ra_cli.specs.Performs.{IsNamed, PerformsBy, Prints};
-ghost use Rattle.ra_cli.specs.Checks.{Checks, is_valid};
+ghost use Rattle.ra_cli.specs.Checks.{Checks, ChecksMarks, is_run, is_valid};
 ghost use Rattle.ra_cli.specs.Statuses.{IsBroken, IsDone, IsRefused, IsSaid, IsUnfinished};
 ghost use Rattle.ra_cli.specs.ClusterRun.{RunsCluster};
 ghost use Rattle.ra_script.specs.ChoicesText.{choices_of};
@@ -13,13 +13,14 @@ ghost use Rattle.ra_cli.specs.Refusals.{IsOfReader, IsOfWriter, refused_line, wo
 
 use crate::command_line::{PolicyName, Task, parse};
 use crate::error::RunScriptError;
+use crate::marks_verdict::marks_verdict_text;
 use crate::refusal::{Refusal, line_of};
 use crate::running::run_script;
 use crate::verdict::verdict_text;
 use crate::{AnswerError, CommandFault, answer};
 use ra_schedule::Policy;
 use ra_script::{ChoicesError, PerformError, perform, perform_trace, read_choices};
-use ra_trace::{TraceError, Verdict, check_buffered};
+use ra_trace::{MarksVerdict, TraceError, Verdict, check_buffered, check_marks_buffered};
 use ra_world::write_out;
 use std::alloc::Global;
 use std::io::{BufRead, Read, Write};
@@ -35,7 +36,7 @@ const BROKEN: u8 = 1;
 /// The words or the input were refused, memory ran out, or threads did not bring a script to its end.
 const REFUSED: u8 = 2;
 
-/// The run ended with something left to do, or the trace is none.
+/// The run ended with something left to do, or the trace or the log is none.
 const UNFINISHED: u8 = 3;
 
 /// Writes a text and returns the status, or that of a fault where the writer fails. It does not allocate.
@@ -220,7 +221,7 @@ fn judge<R: BufRead, W: Write>(alloc: Global, reader: &mut R, writer: &mut W) ->
     ensures invalid { result ≡ 3 → Checks (R.remaining reader.old) (R.remaining reader.new)
         (W.contents writer.old) (W.contents writer.new) false }
     ensures refused { result ≡ 2 → IsRefused (W.contents writer.old) (W.contents writer.new) }
-    ensures broken { (words : List (List ℕ)) → result ≡ 1
+    ensures broken { (words : List (List ℕ)) → (HasMarksWord words → ⊥) → result ≡ 1
         → IsBroken words (R.remaining reader.old) (W.contents writer.old) (W.contents writer.new) }
 {
     let verdict = match check_buffered(alloc, reader) {
@@ -229,6 +230,37 @@ fn judge<R: BufRead, W: Write>(alloc: Global, reader: &mut R, writer: &mut W) ->
     };
     match verdict_text(alloc, &verdict) {
         Ok(text) => written(writer, text.as_bytes(), status_of(&verdict)),
+        Err(_) => refuse(writer, Refusal::Check(TraceError::Memory)),
+    }
+}
+
+/// Returns the status of a verdict on a mark log.
+fn marks_status_of(verdict: &MarksVerdict) -> u8
+    ensures { ((result ≡ 0) × (is_run verdict.now ≡ true)) ⊎ ((result ≡ 3) × (is_run verdict.now ≡ false)) }
+{
+    match verdict {
+        MarksVerdict::Valid { .. } => DONE,
+        MarksVerdict::Invalid { .. } => UNFINISHED,
+    }
+}
+
+/// Checks the mark log of the reader, and writes the lines of its verdict.
+fn judge_marks<R: BufRead, W: Write>(alloc: Global, reader: &mut R, writer: &mut W) -> u8
+    ensures range { result ≤ 3 }
+    ensures valid { result ≡ 0 → ChecksMarks (R.remaining reader.old) (R.remaining reader.new)
+        (W.contents writer.old) (W.contents writer.new) true }
+    ensures invalid { result ≡ 3 → ChecksMarks (R.remaining reader.old) (R.remaining reader.new)
+        (W.contents writer.old) (W.contents writer.new) false }
+    ensures refused { result ≡ 2 → IsRefused (W.contents writer.old) (W.contents writer.new) }
+    ensures broken { (words : List (List ℕ)) → HasMarksWord words → result ≡ 1
+        → IsBroken words (R.remaining reader.old) (W.contents writer.old) (W.contents writer.new) }
+{
+    let verdict = match check_marks_buffered(alloc, reader) {
+        Ok(verdict) => verdict,
+        Err(fault) => return refuse(writer, Refusal::Check(fault)),
+    };
+    match marks_verdict_text(alloc, &verdict) {
+        Ok(text) => written(writer, text.as_bytes(), marks_status_of(&verdict)),
         Err(_) => refuse(writer, Refusal::Check(TraceError::Memory)),
     }
 }
@@ -247,7 +279,8 @@ fn serve_alone<R: BufRead, W: Write>(
         ⊎ IsDone (map string_bytes words.now) (R.remaining reader.old) (R.remaining reader.new)
         (W.contents writer.old) (W.contents writer.new)) }
     ensures unfinished { IfSome result (λ status. status ≡ 3
-        → IsUnfinished (R.remaining reader.old) (R.remaining reader.new) (W.contents writer.old) (W.contents writer.new)) }
+        → IsUnfinished (map string_bytes words.now) (R.remaining reader.old) (R.remaining reader.new)
+        (W.contents writer.old) (W.contents writer.new)) }
     ensures refused { IfSome result (λ status. status ≡ 2 → IsRefused (W.contents writer.old) (W.contents writer.new)) }
     ensures broken { IfSome result (λ status. status ≡ 1
         → IsBroken (map string_bytes words.now) (R.remaining reader.old) (W.contents writer.old) (W.contents writer.new)) }
@@ -266,6 +299,7 @@ fn serve_alone<R: BufRead, W: Write>(
             },
         ) => simulate(alloc, policy, choices, trace, reader, writer),
         Ok(Task::Check) => judge(alloc, reader, writer),
+        Ok(Task::CheckMarks) => judge_marks(alloc, reader, writer),
         Ok(Task::Cluster) => return None,
         Ok(Task::Help(text)) => written(writer, text.as_bytes(), DONE),
         Err(fault) => refuse(writer, Refusal::Command(fault)),
@@ -274,7 +308,7 @@ fn serve_alone<R: BufRead, W: Write>(
 }
 
 /// Does what the words ask for, of which the first is the program's name, and returns the exit status: 0 done, 1 a fault of
-/// the input or the output, 2 refused, 3 a run that ended with something left to do, or a trace that is none. A refusal is
+/// the input or the output, 2 refused, 3 a run that ended with something left to do, or a trace or a log that is none. A refusal is
 /// printed as one line, `refused` and its word. No read or write that failed is tried again, and after a fault of the output
 /// nothing more is written. It waits for nobody but the reader and the writer, and with the command `cluster` for the threads
 /// that it starts.
@@ -286,16 +320,17 @@ pub fn serve<T: Threads + Wait + Sync, R: BufRead, W: Write>(
     writer: &mut W,
 ) -> u8
     ensures range { result ≤ 3 }
-    // Status 0 comes only where the input was answered, or performed or run by threads to its end, or is the trace of a run, or where a
-    // word asks for a text of help and nothing was read; and status 3 only where the input was performed and something is left to do, or
-    // is the trace of no run.
+    // Status 0 comes only where the input was answered, or performed or run by threads to its end, or is the trace of a run, or with the
+    // word `--marks` the log of one of the lock table, or where a word asks for a text of help and nothing was read; and status 3 only
+    // where the input was performed and something is left to do, or is the trace or the log of no run.
     ensures done { result ≡ 0
         → ((reader.new ≡ reader.old) × Any (λ word. IsHelpWord (string_bytes word)) words.now)
         ⊎ IsDone (map string_bytes words.now) (R.remaining reader.old) (R.remaining reader.new)
         (W.contents writer.old) (W.contents writer.new)
         ⊎ RunsCluster (R.remaining reader.old) (R.remaining reader.new) (W.contents writer.old) (W.contents writer.new) }
     ensures unfinished { result ≡ 3
-        → IsUnfinished (R.remaining reader.old) (R.remaining reader.new) (W.contents writer.old) (W.contents writer.new) }
+        → IsUnfinished (map string_bytes words.now) (R.remaining reader.old) (R.remaining reader.new)
+        (W.contents writer.old) (W.contents writer.new) }
     // Status 2 comes only with the line of a refusal that is none of the reader and none of the writer; and status 1 only where one of
     // these failed: with the line that says so of the reader, or a front of what is printed.
     ensures refused { result ≡ 2 → IsRefused (W.contents writer.old) (W.contents writer.new) }

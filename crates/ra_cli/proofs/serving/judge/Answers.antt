@@ -60,7 +60,7 @@ returns-in-Err-clause-refused g c two =
     refused (Check c.in-Err.fault) before before (g.W.Write.contents c.refuse.new.writer) (λ other. refl) (c.refuse.ensures.refused two)
 
 pub returns-in-Err-clause-broken : goal.returns-in-Err-clause-broken
-returns-in-Err-clause-broken g c words one =
+returns-in-Err-clause-broken g c words trace one =
     let before = g.W.Write.contents c.args.writer.now in
     let never = none_of_check c.in-Err.fault in
     broken words (g.R.Read.remaining c.args.reader.now) before before (g.W.Write.contents c.refuse.new.writer) (Check c.in-Err.fault)
@@ -73,7 +73,7 @@ returns-in-Err-verdict_text-clause-refused g c two =
     (c.refuse-in-Err-verdict_text.ensures.refused two)
 
 pub returns-in-Err-verdict_text-clause-broken : goal.returns-in-Err-verdict_text-clause-broken
-returns-in-Err-verdict_text-clause-broken g c words one =
+returns-in-Err-verdict_text-clause-broken g c words trace one =
     let before = g.W.Write.contents c.args.writer.now in
     let never = none_of_check Memory in
     broken words (g.R.Read.remaining c.args.reader.now) before before (g.W.Write.contents c.refuse-in-Err-verdict_text.new.writer) (Check Memory)
@@ -90,7 +90,7 @@ returns-in-Ok-verdict_text-clause-refused g c two =
     ]
 
 pub returns-in-Ok-verdict_text-clause-broken : goal.returns-in-Ok-verdict_text-clause-broken
-returns-in-Ok-verdict_text-clause-broken g c words one =
+returns-in-Ok-verdict_text-clause-broken g c words trace one =
     let old = g.R.Read.remaining c.args.reader.now in
     elim c.written.ensures.value [
       | inl all ↦ elim c.status_of.ensures [
@@ -100,5 +100,5 @@ returns-in-Ok-verdict_text-clause-broken g c words one =
       | inr part ↦
           let (is_one, front, back, is, left, some) = part in
           front_of words old (g.W.Write.contents c.args.writer.now) (g.W.Write.contents c.written.new.writer) (verdict_text c.in-Ok.verdict) front back
-          (of_verdict words old c.in-Ok.verdict c.in-Ok.ensures.ok) (sym (c.as_bytes.ensures.value ∙ c.in-Ok-verdict_text.ensures) ∙ is) left some
+          (of_verdict words old c.in-Ok.verdict trace c.in-Ok.ensures.ok) (sym (c.as_bytes.ensures.value ∙ c.in-Ok-verdict_text.ensures) ∙ is) left some
     ]

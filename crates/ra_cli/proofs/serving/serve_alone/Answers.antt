@@ -53,3 +53,30 @@ returns-in-Err-clause-broken g c one =
     let never = none_of_command c.in-Err.fault in
     broken (map string_bytes c.args.words.now) (g.R.Read.remaining c.args.reader.now) before before (g.W.Write.contents c.refuse-status.new.writer)
     (Command c.in-Err.fault) (λ is. absurd (never is)) (λ is. absurd (never is)) (λ other. refl) (c.refuse-status.ensures.broken one)
+
+pub returns-in-Ok-Check-clause-done : goal.returns-in-Ok-Check-clause-done
+returns-in-Ok-Check-clause-done g c is =
+    let trace = rw c.in-Ok-Check.field-0-is at c.in-Ok-Check.ensures.marks in inr (inr (inr (inl (trace, c.judge-status.ensures.valid is))))
+
+pub returns-in-Ok-Check-clause-unfinished : goal.returns-in-Ok-Check-clause-unfinished
+returns-in-Ok-Check-clause-unfinished g c is =
+    let trace = rw c.in-Ok-Check.field-0-is at c.in-Ok-Check.ensures.marks in inr (inl (trace, c.judge-status.ensures.invalid is))
+
+pub returns-in-Ok-Check-clause-broken : goal.returns-in-Ok-Check-clause-broken
+returns-in-Ok-Check-clause-broken g c is =
+    let trace = rw c.in-Ok-Check.field-0-is at c.in-Ok-Check.ensures.marks in
+    c.judge-status.ensures.broken (map string_bytes c.args.words.now) trace is
+
+pub returns-in-Ok-CheckMarks-clause-done : goal.returns-in-Ok-CheckMarks-clause-done
+returns-in-Ok-CheckMarks-clause-done g c is =
+    let marks = rw c.in-Ok-CheckMarks.field-0-is at c.in-Ok-CheckMarks.ensures.marks in
+    inr (inr (inr (inr (marks, c.judge_marks-status.ensures.valid is))))
+
+pub returns-in-Ok-CheckMarks-clause-unfinished : goal.returns-in-Ok-CheckMarks-clause-unfinished
+returns-in-Ok-CheckMarks-clause-unfinished g c is =
+    let marks = rw c.in-Ok-CheckMarks.field-0-is at c.in-Ok-CheckMarks.ensures.marks in inr (inr (marks, c.judge_marks-status.ensures.invalid is))
+
+pub returns-in-Ok-CheckMarks-clause-broken : goal.returns-in-Ok-CheckMarks-clause-broken
+returns-in-Ok-CheckMarks-clause-broken g c is =
+    let marks = rw c.in-Ok-CheckMarks.field-0-is at c.in-Ok-CheckMarks.ensures.marks in
+    c.judge_marks-status.ensures.broken (map string_bytes c.args.words.now) marks is
