@@ -16,7 +16,7 @@ use crate::version::Version;
 use crate::{Cause, TraceError, Verdict};
 use ra_stamp::{Mark, Marks, NodeId, equal_is_same};
 use ra_table::Table;
-use ra_world::{Step, StepError, World};
+use ra_world::{MarklessWorld, Step, StepError};
 use std::alloc::Global;
 
 /// What a checker knows behind the lines that it took: the version that the first one names, the world after their steps, the lock
@@ -24,7 +24,8 @@ use std::alloc::Global;
 #[derive(Drop)]
 pub struct Checker {
     version: Version,
-    world: World,
+    /// It keeps no marks, since those of the last step are all that is looked at.
+    world: MarklessWorld,
     table: Table,
     /// The marks of the last step.
     marks: Marks,
@@ -82,7 +83,7 @@ impl Checker {
         ensures err { IfErr result (λ fault. fault ≡ TraceError.Memory) }
     {
         // There are 1 to 64 nodes, so only memory can be wanting.
-        let Ok(world) = World::new(alloc, nodes.get(), start) else {
+        let Ok(world) = MarklessWorld::new(alloc, nodes.get(), start) else {
             return Err(TraceError::Memory);
         };
         match Table::new(alloc) {
@@ -126,7 +127,7 @@ impl Checker {
             ≡ Verdict.Valid (requests_in (marks_of self.now.world.moves)) (length (sent_by self.now.world.moves)) }
     {
         Verdict::Valid {
-            requests: u128::from(self.world.requests()),
+            requests: self.world.requests(),
             messages: self.world.sent(),
         }
     }

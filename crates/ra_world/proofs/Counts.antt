@@ -7,6 +7,7 @@ use Rattle.ra_node.specs.declared.outcome.Outcome.{Outcome}
 use Rattle.ra_world.specs.declared.step.Step.{Step}
 use Rattle.ra_world.specs.declared.step.Step.TheVariants.{Ask, Leave, Deliver, Lose}
 use Rattle.ra_world.specs.Traffic.{Move, sent_by, lost_by, lost_in}
+use Rattle.ra_world.specs.Run.{marks_of}
 use Rattle.ra_world.specs.Quiet.{requests_in}
 use Rattle.ra_world.specs.Log.{AreCounted, move_of, moves_of}
 use Rattle.ra_world.proofs.Moves.{marks_more, sent_more}
@@ -51,32 +52,31 @@ requests_in-take marks i mark low is =
 pub requests_in-take-le : (marks : List Mark) (i : ℕ) → requests_in (take i marks) ≤ length marks
 requests_in-take-le marks i = omega (arith, requests_in_le (take i marks), length-take i marks)
 
--- no more requests than marks, and no more losses than steps
-pub requests-le : (moves : List Move) (steps : ℕ) (marks : List Mark) (sent requests lost : ℕ)
-    → AreCounted moves steps marks sent requests lost → requests ≤ length marks
-requests-le moves steps marks sent requests lost h = omega (arith, h.requests_are, requests_in_le marks)
-
-pub lost-le : (moves : List Move) (steps : ℕ) (marks : List Mark) (sent requests lost : ℕ)
-    → AreCounted moves steps marks sent requests lost → lost ≤ steps
-lost-le moves steps marks sent requests lost h = omega (arith, h.lost_are, lost_by_le moves, h.steps_are)
+-- no more losses than steps
+pub lost-le : (keeps : ℕ) (moves : List Move) (steps : ℕ) (marks : List Mark) (sent requests lost : ℕ)
+    → AreCounted keeps moves steps marks sent requests lost → lost ≤ steps
+lost-le keeps moves steps marks sent requests lost h = omega (arith, h.lost_are, lost_by_le moves, h.steps_are)
 
 -- one more step with what came of it
 pub made_more : (made : List (Step × Outcome)) (one : Step × Outcome) → moves_of (made ++ one ∷ []) ≡ moves_of made ++ move_of one ∷ []
 made_more [] one = refl
 made_more (x ∷ made) one = ap (λ (ms : List Move). move_of x ∷ ms) (made_more made one)
 
-pub counted_more : (moves : List Move) (steps : ℕ) (marks : List Mark) (sent requests lost : ℕ) (move : Move)
-    → AreCounted moves steps marks sent requests lost → length move.sends ≤ 18446744073709551615
-    → AreCounted (moves ++ move ∷ []) (steps + 1) (marks ++ move.marks) (sent + length move.sends) (requests + requests_in move.marks)
+pub counted_more : (keeps : ℕ) (moves : List Move) (steps : ℕ) (marks marks' : List Mark) (sent requests lost : ℕ) (move : Move)
+    → AreCounted keeps moves steps marks sent requests lost → length move.sends ≤ 18446744073709551615
+    → requests_in move.marks ≤ 18446744073709551615 → (keeps ≡ 1 → marks' ≡ marks ++ move.marks)
+    → AreCounted keeps (moves ++ move ∷ []) (steps + 1) marks' (sent + length move.sends) (requests + requests_in move.marks)
     (lost + length (lost_in move.step))
-counted_more moves steps marks sent requests lost move h few =
+counted_more keeps moves steps marks marks' sent requests lost move h few fewer added =
     let one : List Move = move ∷ [] in
     record {
       steps_are = omega (arith, h.steps_are, length-append moves one);
-      marks_are = ap (λ (ms : List Mark). ms ++ move.marks) h.marks_are ∙ sym (marks_more moves move);
+      marks_are = λ kept. added kept ∙ ap (λ (ms : List Mark). ms ++ move.marks) (h.marks_are kept) ∙ sym (marks_more moves move);
       sent_is = ap (λ n. n + length move.sends) h.sent_is ∙ sym (length-append (sent_by moves) move.sends) ∙ ap length (sym (sent_more moves move));
       sent_fits = omega (arith, h.sent_fits, few);
-      requests_are = ap (λ n. n + requests_in move.marks) h.requests_are ∙ sym (requests_in-append marks move.marks);
+      requests_are =
+          ap (λ n. n + requests_in move.marks) h.requests_are ∙ sym (requests_in-append (marks_of moves) move.marks) ∙ ap requests_in (sym (marks_more moves move));
+      requests_fit = omega (arith, h.requests_fit, fewer);
       lost_are =
           ap (λ n. n + length (lost_in move.step)) h.lost_are
           ∙ ap (λ xs. length (lost_by moves) + length xs) (sym (append-nil (lost_in move.step)))
@@ -85,17 +85,17 @@ counted_more moves steps marks sent requests lost move h few =
     }
 
 -- the same, of what is equal to it
-pub pushed : (made made' : List (Step × Outcome)) (steps steps' : ℕ) (marks marks' : List Mark) (sent s requests r lost k : ℕ) (step : Step) (outcome : Outcome)
-    → AreCounted (moves_of made) steps marks sent requests lost → length outcome.sends.items ≤ 18446744073709551615
-    → made' ≡ made ++ (step, outcome) ∷ [] → steps' ≡ steps + 1 → marks' ≡ marks ++ outcome.marks.items
+pub pushed : (keeps : ℕ) (made made' : List (Step × Outcome)) (steps steps' : ℕ) (marks marks' : List Mark) (sent s requests r lost k : ℕ) (step : Step)
+    (outcome : Outcome) → AreCounted keeps (moves_of made) steps marks sent requests lost
+    → length outcome.sends.items ≤ 18446744073709551615 → requests_in outcome.marks.items ≤ 18446744073709551615
+    → made' ≡ made ++ (step, outcome) ∷ [] → steps' ≡ steps + 1 → (keeps ≡ 1 → marks' ≡ marks ++ outcome.marks.items)
     → s ≡ length outcome.sends.items → r ≡ requests_in outcome.marks.items → k ≡ length (lost_in step)
-    → AreCounted (moves_of made') steps' marks' (sent + s) (requests + r) (lost + k)
-pushed made made' steps steps' marks marks' sent s requests r lost k step outcome h few em es ek is ir il =
+    → AreCounted keeps (moves_of made') steps' marks' (sent + s) (requests + r) (lost + k)
+pushed keeps made made' steps steps' marks marks' sent s requests r lost k step outcome h few fewer em es ek is ir il =
     let moves : moves_of made' ≡ moves_of made ++ move_of (step, outcome) ∷ [] = ap moves_of em ∙ made_more made (step, outcome) in
-    let more = counted_more (moves_of made) steps marks sent requests lost (move_of (step, outcome)) h few in
-    subst (λ (ms : List Move). AreCounted ms steps' marks' (sent + s) (requests + r) (lost + k)) (sym moves)
-    (subst (λ (n : ℕ). AreCounted (moves_of made ++ move_of (step, outcome) ∷ []) n marks' (sent + s) (requests + r) (lost + k)) (sym es)
-    (subst (λ (xs : List Mark). AreCounted (moves_of made ++ move_of (step, outcome) ∷ []) (steps + 1) xs (sent + s) (requests + r) (lost + k)) (sym ek)
-    (subst (λ (n : ℕ). AreCounted (moves_of made ++ move_of (step, outcome) ∷ []) (steps + 1) (marks ++ outcome.marks.items) (sent + n) (requests + r) (lost + k)) (sym is)
-    (subst (λ (n : ℕ). AreCounted (moves_of made ++ move_of (step, outcome) ∷ []) (steps + 1) (marks ++ outcome.marks.items) (sent + length outcome.sends.items) (requests + n) (lost + k)) (sym ir)
-    (subst (λ (n : ℕ). AreCounted (moves_of made ++ move_of (step, outcome) ∷ []) (steps + 1) (marks ++ outcome.marks.items) (sent + length outcome.sends.items) (requests + requests_in outcome.marks.items) (lost + n)) (sym il) more)))))
+    let more = counted_more keeps (moves_of made) steps marks marks' sent requests lost (move_of (step, outcome)) h few fewer ek in
+    subst (λ (ms : List Move). AreCounted keeps ms steps' marks' (sent + s) (requests + r) (lost + k)) (sym moves)
+    (subst (λ (n : ℕ). AreCounted keeps (moves_of made ++ move_of (step, outcome) ∷ []) n marks' (sent + s) (requests + r) (lost + k)) (sym es)
+    (subst (λ (n : ℕ). AreCounted keeps (moves_of made ++ move_of (step, outcome) ∷ []) (steps + 1) marks' (sent + n) (requests + r) (lost + k)) (sym is)
+    (subst (λ (n : ℕ). AreCounted keeps (moves_of made ++ move_of (step, outcome) ∷ []) (steps + 1) marks' (sent + length outcome.sends.items) (requests + n) (lost + k)) (sym ir)
+    (subst (λ (n : ℕ). AreCounted keeps (moves_of made ++ move_of (step, outcome) ∷ []) (steps + 1) marks' (sent + length outcome.sends.items) (requests + requests_in outcome.marks.items) (lost + n)) (sym il) more))))

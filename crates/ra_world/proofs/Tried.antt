@@ -1,6 +1,6 @@
 -- What comes of a step that is tried, said exactly.
 use Rattle.std.proofs.Common.{◌≡◌, ◌≢◌, ◌↔◌, ◌⊎◌, ℕ, List, Result, Ok, Err, sym, ap, ◌∙◌, subst, inl, inr}
-use Rattle.std.specs.Prelude.{IsErrOf, IsOkUnless}
+use Rattle.std.specs.Prelude.{IfOk, IsErrOf, IsOkUnless, OnErr}
 use Rattle.ra_stamp.specs.declared.message.Message.{Message}
 use Rattle.ra_stamp.specs.NodeId.{IsNodeNumber}
 use Rattle.ra_node.specs.declared.outcome.Outcome.{Outcome}
@@ -11,7 +11,7 @@ use Rattle.ra_world.specs.declared.error.StepError.{StepError}
 use Rattle.ra_world.specs.declared.error.StepError.TheVariants.{Memory}
 use Rattle.ra_world.specs.Traffic.{Move}
 use Rattle.ra_world.specs.Run.{IsRun, GoesOn}
-use Rattle.ra_world.specs.World.{WorldState, HasCause, MayNeedMemory, IsFull}
+use Rattle.ra_world.specs.World.{WorldState, with_move, HasCause, MayNeedMemory, IsFull, AnswersStep}
 use Rattle.ra_world.specs.Keeping.{Keeps, Tries}
 use Rattle.ra_world.proofs.Trying.{shown}
 
@@ -38,7 +38,7 @@ module _
     made : (outcome : Outcome) → Tries w step (Ok outcome) new → GoesOn w.count w.start w.moves step
     made outcome tried = (outcome.sends.items, outcome.marks.items, subst (λ (v : WorldState). IsRun v.count v.start v.moves) tried run)
 
-    pub refused : (r : Result Outcome StepError) → Tries w step r new → (cause : StepError) → cause ≢ Memory
+    refused : (r : Result Outcome StepError) → Tries w step r new → (cause : StepError) → cause ≢ Memory
         → IsErrOf r cause ↔ HasCause w.count w.start w.moves step cause
     refused (Ok outcome) tried cause known =
         (λ is. absurd (not_ok is), λ why. absurd (no_step w.count w.start w.moves step cause was.0 was.1 why (made outcome tried)))
@@ -59,7 +59,7 @@ module _
         same : IsErrOf {T = Outcome} (Err e) cause → e ≡ cause
         same is = cc
 
-    pub allowed : (r : Result Outcome StepError) → Tries w step r new → IsOkUnless r Memory ↔ GoesOn w.count w.start w.moves step
+    allowed : (r : Result Outcome StepError) → Tries w step r new → IsOkUnless r Memory ↔ GoesOn w.count w.start w.moves step
     allowed (Ok outcome) tried = (λ _. made outcome tried, λ _. tt)
     allowed (Err e) tried = (
       λ is. elim tried.1 [
@@ -73,7 +73,7 @@ module _
     )
 
     -- where memory is short, the step is one that can want it
-    pub wanted : (r : Result Outcome StepError) → Tries w step r new → IsErrOf r Memory → MayNeedMemory w.count w.start w.moves step ⊎ IsFull w.moves
+    wanted : (r : Result Outcome StepError) → Tries w step r new → IsErrOf r Memory → MayNeedMemory w.count w.start w.moves step ⊎ IsFull w.moves
     wanted (Ok outcome) tried is = absurd (not_ok is)
       where
         not_ok : IsErrOf {T = Outcome} (Ok outcome) Memory → ⊥
@@ -86,3 +86,22 @@ module _
       where
         same : IsErrOf {T = Outcome} (Err e) Memory → e ≡ Memory
         same is = cc
+
+    when_ok : (r : Result Outcome StepError) → Tries w step r new → IfOk r (λ outcome. new ≡ with_move w step outcome.sends.items outcome.marks.items)
+    when_ok (Ok outcome) tried = tried
+    when_ok (Err e) tried = tt
+
+    when_err : (r : Result Outcome StepError) → Tries w step r new → OnErr r (new ≡ w)
+    when_err (Ok outcome) tried = tt
+    when_err (Err e) tried = tried.0
+
+    pub answers : (r : Result Outcome StepError) → Tries w step r new → IsNodeNumber new.count → AnswersStep w step r new
+    answers r tried count = record {
+      ok = when_ok r tried;
+      run = run;
+      count = count;
+      refused = refused r tried;
+      allowed = allowed r tried;
+      err = when_err r tried;
+      memory = wanted r tried;
+    }

@@ -10,7 +10,7 @@ use Rattle.ra_node.specs.declared.outcome.Outcome.{Outcome}
 use Rattle.ra_world.specs.declared.step.Step.{Step}
 use Rattle.ra_world.specs.declared.error.StepError.{StepError}
 use Rattle.ra_world.specs.declared.error.StepError.TheVariants.{Memory}
-use Rattle.ra_world.specs.declared.world.World.TheInside.{Inside}
+use Rattle.ra_world.specs.declared.world.WorldOf.TheInside.{Inside}
 
 -- the nodes by their numbers, from 1; of another number nothing is said
 abbrev pub nodes_of : List NodeState → ℕ → NodeState
@@ -23,11 +23,11 @@ pub record Keeps (start : ℕ) (nodes : List NodeState) (left : List Message) (m
   pub ends : EndsWith (length nodes) start moves (nodes_of nodes)
   pub under_way : LeavesUnderWay moves left
 
-abbrev pub world_of : Inside → WorldState
-world_of w = record { count = length w.nodes.items; start = w.start; moves = w.log.moves }
+abbrev pub world_of : {keeps : ℕ} → Inside keeps → WorldState
+world_of {keeps} w = record { count = length w.nodes.items; start = w.start; moves = w.log.moves }
 
-abbrev pub IsKept : Inside → Type 0
-IsKept w = Keeps w.start w.nodes.items w.under_way.items w.log.moves
+abbrev pub IsKept : {keeps : ℕ} → Inside keeps → Type 0
+IsKept {keeps} w = Keeps w.start w.nodes.items w.under_way.items w.log.moves
 
 -- a step could be made but for want of memory, and it is one that can want it, or no further step is counted
 pub record IsShort (w : WorldState) (step : Step) (cause : StepError) : Type 0 where

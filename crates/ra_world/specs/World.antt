@@ -1,5 +1,5 @@
 -- A world as contracts see it, why it refuses a step, and what it reports.
-use Rattle.std.specs.Prelude.{◌≡◌, ℕ, ◌<◌, ◌≤◌, List, [], ◌∷◌, ◌++◌, length, map}
+use Rattle.std.specs.Prelude.{◌≡◌, ◌≢◌, ◌↔◌, ◌⊎◌, ℕ, ◌<◌, ◌≤◌, List, [], ◌∷◌, ◌++◌, length, map, Result, IfOk, IsErrOf, IsOkUnless, OnErr}
 use Rattle.ra_stamp.specs.NodeId.{IsNodeNumber}
 use Rattle.ra_stamp.specs.declared.entry.Entry.{Entry}
 use Rattle.ra_stamp.specs.declared.entry.Mark.{Mark}
@@ -9,6 +9,7 @@ use Rattle.ra_automaton.specs.Steps.{greatest_number}
 use Rattle.ra_node.specs.Resource.{Holds, IsBusy}
 use Rattle.ra_node.specs.Node.{NodeState, resource_at}
 use Rattle.ra_node.specs.Memory.{BringsNothing}
+use Rattle.ra_node.specs.declared.outcome.Outcome.{Outcome}
 use Rattle.ra_world.specs.declared.step.Step.{Step}
 use Rattle.ra_world.specs.declared.step.Step.TheVariants.{Ask, Leave, Deliver, Lose}
 use Rattle.ra_world.specs.declared.error.NodeRefusal.TheVariants.{Busy, Exhausted, NotHeld}
@@ -16,7 +17,7 @@ use Rattle.ra_world.specs.declared.error.StepError.{StepError}
 use Rattle.ra_world.specs.declared.error.StepError.TheVariants.{NoNode, NotUnderWay, Node, Memory}
 use Rattle.ra_world.specs.declared.report.Report.{Report}
 use Rattle.ra_world.specs.Traffic.{Move, LeavesUnderWay, IsUnderWay, sent_by, lost_by}
-use Rattle.ra_world.specs.Run.{IsRun, EndsWith, marks_of, waiting_at_all, queued_at_all}
+use Rattle.ra_world.specs.Run.{IsRun, GoesOn, EndsWith, marks_of, waiting_at_all, queued_at_all}
 use Rattle.ra_world.specs.Quiet.{requests_in}
 
 -- how many nodes there are, the highest number that each resource begins with, and the steps so far with what came of
@@ -84,6 +85,17 @@ MayNeedMemory n start moves (Ask node client name mode) = Unit {0}
 MayNeedMemory n start moves (Leave node client name) = Unit {0}
 MayNeedMemory n start moves (Deliver message) = AtNode n start moves (to_of message) (λ s. BringsNothing s message → ⊥)
 MayNeedMemory n start moves (Lose message) = ⊥
+
+-- what a world answers to a step, and what it is then
+pub record AnswersStep (old : WorldState) (step : Step) (result : Result Outcome StepError) (new : WorldState) : Type 0 where
+  pub ok : IfOk result (λ outcome. new ≡ with_move old step outcome.sends.items outcome.marks.items)
+  pub run : IsRun new.count new.start new.moves
+  pub count : IsNodeNumber new.count
+  pub refused : (cause : StepError) → cause ≢ Memory → IsErrOf result cause ↔ HasCause old.count old.start old.moves step cause
+  -- want of memory is the one other error
+  pub allowed : IsOkUnless result Memory ↔ GoesOn old.count old.start old.moves step
+  pub err : OnErr result (new ≡ old)
+  pub memory : IsErrOf result Memory → MayNeedMemory old.count old.start old.moves step ⊎ IsFull old.moves
 
 -- the report of a run
 pub record Reports (n start : ℕ) (moves : List Move) (report : Report) : Type 0 where

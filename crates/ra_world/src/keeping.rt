@@ -42,7 +42,12 @@ use std::alloc::Global;
 /// # Errors
 ///
 /// `Memory`. Where it is for no message and no mark, it is answered only where 2^64-1 steps were made.
-pub fn make_room(under_way: &mut Bag, log: &mut Log, sends: u64, marks: u64) -> Result<(), Memory>
+pub fn make_room<const KEEPS_MARKS: u8>(
+    under_way: &mut Bag,
+    log: &mut Log<KEEPS_MARKS>,
+    sends: u64,
+    marks: u64,
+) -> Result<(), Memory>
     ensures messages { under_way.new.items ≡ under_way.old.items }
     ensures moves { log.new.moves ≡ log.old.moves }
     ensures bag_room { OnOk result (sends ≤ under_way.new.spare) }
@@ -62,9 +67,9 @@ pub fn make_room(under_way: &mut Bag, log: &mut Log, sends: u64, marks: u64) -> 
 /// # Errors
 ///
 /// `Memory`, where the message brings something or 2^64-1 steps were made.
-pub fn make_room_for(
+pub fn make_room_for<const KEEPS_MARKS: u8>(
     under_way: &mut Bag,
-    log: &mut Log,
+    log: &mut Log<KEEPS_MARKS>,
     receiver: &Node,
     message: &Message,
 ) -> Result<(), Memory>
@@ -109,7 +114,12 @@ fn most_entries(message: &Message) -> u64
 
 /// Puts what a step sent under way and logs the step, where there is room for it.
 #[inline(always)]
-pub fn keep(under_way: &mut Bag, log: &mut Log, step: &Step, outcome: &Outcome)
+pub fn keep<const KEEPS_MARKS: u8>(
+    under_way: &mut Bag,
+    log: &mut Log<KEEPS_MARKS>,
+    step: &Step,
+    outcome: &Outcome,
+)
     requires bag_room { length outcome.now.sends.items ≤ under_way.old.spare }
     requires log_room { HasRoom log.old (length outcome.now.marks.items) }
     ensures messages { under_way.new.items ≡ under_way.old.items ++ outcome.now.sends.items }

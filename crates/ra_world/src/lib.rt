@@ -37,4 +37,4 @@ pub use output::write_out;
 pub use report::Report;
 pub use running::run;
 pub use step::{Step, Steps};
-pub use world::World;
+pub use world::{MarklessWorld, World, WorldOf};

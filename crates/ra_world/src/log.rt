@@ -3,6 +3,7 @@ ghost use Rattle.std.specs.Prelude.{◌≡◌, ◌+◌, ◌≤◌, ◌⊎◌, []
 ghost use Rattle.ra_stamp.specs.declared.entry.Mark.{Mark};
 ghost use Rattle.ra_world.specs.Traffic.{lost_in};
 ghost use Rattle.ra_world.specs.Quiet.{requests_in};
+ghost use Rattle.ra_world.specs.Log.{room_of};
 
 use crate::Step;
 use crate::history::History;
@@ -12,39 +13,39 @@ use std::alloc::Global;
 use std::fmt;
 use std::marker::Model;
 
-/// What came of the steps so far. The steps themselves are counted and not kept. Contracts see the moves, and the room for more
-/// marks.
+/// What came of the steps so far. The steps themselves are counted and not kept, and their marks are kept where `KEEPS_MARKS` is 1.
+/// Contracts see the moves, and the room for more marks.
 #[derive(Drop)]
-pub struct Log {
+pub struct Log<const KEEPS_MARKS: u8> {
     /// How many steps there were.
     steps: u64,
-    /// All marks of the steps, in order.
+    /// All marks of the steps, in order, where they are kept, and else none.
     marks: Marks,
     /// How many messages the steps sent.
     sent: u128,
-    /// How many of the marks are Requested.
-    requests: u64,
+    /// How many of the marks of the steps are Requested.
+    requests: u128,
     /// How many of the steps are losses.
     lost: u64,
     /// Each step with what came of it, for proofs alone.
     made: History<Step, Outcome>,
 }
 
-impl Model for Log {
-    ghost use Rattle.ra_world.specs.Log.{LogState, moves_of, AreCounted};
+impl<const KEEPS_MARKS: u8> Model for Log<KEEPS_MARKS> {
+    ghost use Rattle.ra_world.specs.Log.{LogState, moves_of, room_of, AreCounted};
 
     ghost Value = { LogState };
 
     ghost view = { λ l. record {
       moves = moves_of l.made.items;
-      marks_room = l.marks.spare;
+      marks_room = room_of KEEPS_MARKS l.marks.spare;
     } };
 
     ghost invariant = { λ l.
-        AreCounted (moves_of l.made.items) l.steps l.marks.items l.sent l.requests l.lost };
+        AreCounted KEEPS_MARKS (moves_of l.made.items) l.steps l.marks.items l.sent l.requests l.lost };
 }
 
-impl fmt::Debug for Log {
+impl<const KEEPS_MARKS: u8> fmt::Debug for Log<KEEPS_MARKS> {
     fn fmt<W: fmt::Write>(&self, f: &mut fmt::Formatter<W>) -> fmt::Result {
         f.debug_struct("Log")
             .field("steps", &self.steps)
@@ -56,14 +57,14 @@ impl fmt::Debug for Log {
     }
 }
 
-impl Log {
+impl<const KEEPS_MARKS: u8> Log<KEEPS_MARKS> {
     ghost use Rattle.ra_world.specs.Log.{HasRoom};
     ghost use Rattle.ra_world.specs.Traffic.{sent_by, lost_by};
     ghost use Rattle.ra_world.specs.Run.{marks_of};
     ghost use Rattle.ra_world.specs.World.{IsFull};
 
     /// Makes the log of no step.
-    pub fn new(alloc: Global) -> Log
+    pub fn new(alloc: Global) -> Log<KEEPS_MARKS>
         ensures { result.moves ≡ [] }
     {
         Log {
@@ -91,7 +92,7 @@ impl Log {
     }
 
     /// Returns how many requests the steps made.
-    pub fn requests(&self) -> u64
+    pub fn requests(&self) -> u128
         ensures { result ≡ requests_in (marks_of self.now.moves) }
     {
         self.requests
@@ -104,9 +105,9 @@ impl Log {
         self.lost
     }
 
-    /// Returns the marks of the steps, in order.
+    /// Returns the marks of the steps, in order, where they are kept.
     pub fn marks(&self) -> &Marks
-        ensures { result.now.items ≡ marks_of self.now.moves }
+        ensures { KEEPS_MARKS ≡ 1 → result.now.items ≡ marks_of self.now.moves }
     {
         &self.marks
     }
@@ -125,10 +126,7 @@ impl Log {
         if self.steps == u64::MAX {
             return Err(Memory);
         }
-        if marks > 0 {
-            self.marks.reserve(marks)?;
-        }
-        Ok(())
+        reserve_marks::<KEEPS_MARKS>(&mut self.marks, marks)
     }
 
     /// Adds a step with what came of it, for which there is room.
@@ -138,11 +136,10 @@ impl Log {
             ++ record { step = step.now; sends = outcome.now.sends.items; marks = outcome.now.marks.items } ∷ [] }
     {
         self.steps += 1;
-        append(&mut self.marks, outcome.marks.as_slice());
-        // The counts fit: no list has 2^64 items, and there are no more requests than marks and no more losses than steps.
+        keep_marks::<KEEPS_MARKS>(&mut self.marks, outcome.marks.as_slice());
+        // The counts fit: no list has 2^64 items, and there are no more losses than steps.
         self.sent += u128::from(outcome.sends.len());
-        let _all_marks = self.marks.len();
-        self.requests += requests_of(outcome.marks.as_slice());
+        self.requests += u128::from(requests_of(outcome.marks.as_slice()));
         self.lost += losses_of(step);
         self.made = self.made.and(step, outcome);
     }
@@ -155,6 +152,32 @@ fn losses_of(step: &Step) -> u64
     match step {
         Step::Lose(_) => 1,
         Step::Ask { .. } | Step::Leave { .. } | Step::Deliver(_) => 0,
+    }
+}
+
+/// Makes room for more marks, where they are kept.
+///
+/// # Errors
+///
+/// `Memory`, which is not answered for no mark.
+fn reserve_marks<const KEEPS_MARKS: u8>(kept: &mut Marks, marks: u64) -> Result<(), Memory>
+    ensures same { kept.new.items ≡ kept.old.items }
+    ensures ok { OnOk result (marks ≤ room_of KEEPS_MARKS kept.new.spare) }
+    ensures err { OnErr result (1 ≤ marks) }
+{
+    if KEEPS_MARKS != 1 || marks == 0 {
+        return Ok(());
+    }
+    kept.reserve(marks)
+}
+
+/// Adds the marks of a step to those that are kept, where any are, for which there is room.
+fn keep_marks<const KEEPS_MARKS: u8>(kept: &mut Marks, marks: &[Mark])
+    requires { KEEPS_MARKS ≡ 1 → length marks.now ≤ kept.old.spare }
+    ensures { KEEPS_MARKS ≡ 1 → kept.new.items ≡ kept.old.items ++ marks.now }
+{
+    if KEEPS_MARKS == 1 {
+        append(kept, marks);
     }
 }
 

@@ -1,4 +1,4 @@
-ghost use Rattle.std.specs.Prelude.{◌≡◌, ◌≢◌, ℕ, ◌<◌, ◌≤◌, ◌⊎◌, ◌↔◌, ◌*◌, [], ◌++◌, List, length, slice_get, IsTrue, IsErrOf, IsOk, IsOkUnless, IfOk, OnErr, IfErr, OnOk};
+ghost use Rattle.std.specs.Prelude.{◌≡◌, ◌↔◌, [], List, length, slice_get, IsTrue, IsErrOf, IfOk, OnOk};
 ghost use Rattle.ra_stamp.specs.declared.message.Message.{Message};
 
 use crate::keeping::{
@@ -14,21 +14,27 @@ use ra_stamp::{Memory, Message, Mode, Name, NodeId};
 use std::alloc::Global;
 use std::marker::Model;
 
+/// A world that keeps the marks of its steps, and can report them.
+pub type World = WorldOf<1>;
+
+/// A world that keeps no marks, for who looks at those of each step as it is made. What it keeps does not grow with the marks.
+pub type MarklessWorld = WorldOf<0>;
+
 /// A cluster of nodes in one thread, with the messages under way between them. Contracts see how many nodes there are, the
 /// start value and the steps so far with what came of them, which are a run.
 ///
-/// A world keeps the marks of its steps, and of the messages that they sent those under way. Of the steps and of all messages it
-/// keeps only how many there were.
+/// A world keeps the marks of its steps where `KEEPS_MARKS` is 1, and of the messages that they sent those under way. Of the steps
+/// and of all messages it keeps only how many there were.
 #[derive(Debug, Drop)]
-pub struct World {
+pub struct WorldOf<const KEEPS_MARKS: u8> {
     start: u64,
     /// The nodes by their numbers, from 1.
     nodes: Vec<Node>,
     under_way: Bag,
-    log: Log,
+    log: Log<KEEPS_MARKS>,
 }
 
-impl Model for World {
+impl<const KEEPS_MARKS: u8> Model for WorldOf<KEEPS_MARKS> {
     ghost use Rattle.ra_world.specs.World.{WorldState};
     ghost use Rattle.ra_world.specs.Keeping.{world_of, IsKept};
 
@@ -39,13 +45,12 @@ impl Model for World {
     ghost invariant = { IsKept };
 }
 
-impl World {
+impl<const KEEPS_MARKS: u8> WorldOf<KEEPS_MARKS> {
     ghost use Rattle.ra_stamp.specs.NodeId.{IsNodeNumber};
     ghost use Rattle.ra_world.specs.Traffic.{LeavesUnderWay, sent_by};
     ghost use Rattle.ra_world.specs.Quiet.{requests_in};
     ghost use Rattle.ra_world.specs.Run.{IsRun, GoesOn, marks_of};
-    ghost use Rattle.ra_world.specs.World.{with_move, HasCause, MayNeedMemory, IsFull, Reports};
-    ghost use Rattle.ra_world.specs.MainTheorem.{MainTheorem};
+    ghost use Rattle.ra_world.specs.World.{AnswersStep};
     ghost use Rattle.ra_world.specs.Keeping.{Tries};
 
     /// Makes a world of this many nodes, in which nothing has happened yet. The highest number of each resource begins at
@@ -57,7 +62,7 @@ impl World {
     ///
     /// 1. `BadCount`: the number of nodes is not 1 to 64.
     /// 2. `Memory`: there is no room for the nodes.
-    pub fn new(alloc: Global, nodes: u16, start: u64) -> Result<World, NewError>
+    pub fn new(alloc: Global, nodes: u16, start: u64) -> Result<WorldOf<KEEPS_MARKS>, NewError>
         ensures ok { IfOk result (λ world. world ≡ record { count = nodes; start = start; moves = [] }) }
         ensures run { IfOk result (λ world. IsRun world.count world.start world.moves) }
         ensures count { OnOk result (IsNodeNumber nodes) }
@@ -69,7 +74,7 @@ impl World {
         }
         let opened = opening_nodes(alloc, nodes, start)?;
         let under_way = Bag::new(alloc)?;
-        Ok(World {
+        Ok(WorldOf {
             start,
             nodes: opened,
             under_way,
@@ -92,18 +97,7 @@ impl World {
     /// 4. `Memory`: there is no room for what the step makes, or 2^64-1 steps were made, since no more are counted. A message by
     ///    which nothing is sent or marked is never refused for want of room, nor is a loss.
     pub fn step(&mut self, alloc: Global, step: &Step) -> Result<Outcome, StepError>
-        ensures ok { IfOk result (λ outcome.
-            self.new ≡ with_move self.old step.now outcome.sends.items outcome.marks.items) }
-        ensures run { IsRun self.new.count self.new.start self.new.moves }
-        ensures count { IsNodeNumber self.new.count }
-        ensures refused { (cause : StepError) → cause ≢ StepError.Memory
-            → IsErrOf result cause ↔ HasCause self.old.count self.old.start self.old.moves step.now cause }
-        // Memory is the one other error.
-        ensures allowed { IsOkUnless result StepError.Memory
-            ↔ GoesOn self.old.count self.old.start self.old.moves step.now }
-        ensures err { OnErr result (self.new ≡ self.old) }
-        ensures memory { IsErrOf result StepError.Memory
-            → MayNeedMemory self.old.count self.old.start self.old.moves step.now ⊎ IsFull self.old.moves }
+        ensures { AnswersStep self.old step.now result self.new }
     {
         self.step_near(alloc, step, 0)
     }
@@ -117,18 +111,7 @@ impl World {
     /// Those of `step`.
     #[inline(always)]
     pub fn step_near(&mut self, alloc: Global, step: &Step, near: u64) -> Result<Outcome, StepError>
-        ensures ok { IfOk result (λ outcome.
-            self.new ≡ with_move self.old step.now outcome.sends.items outcome.marks.items) }
-        ensures run { IsRun self.new.count self.new.start self.new.moves }
-        ensures count { IsNodeNumber self.new.count }
-        ensures refused { (cause : StepError) → cause ≢ StepError.Memory
-            → IsErrOf result cause ↔ HasCause self.old.count self.old.start self.old.moves step.now cause }
-        // Memory is the one other error.
-        ensures allowed { IsOkUnless result StepError.Memory
-            ↔ GoesOn self.old.count self.old.start self.old.moves step.now }
-        ensures err { OnErr result (self.new ≡ self.old) }
-        ensures memory { IsErrOf result StepError.Memory
-            → MayNeedMemory self.old.count self.old.start self.old.moves step.now ⊎ IsFull self.old.moves }
+        ensures { AnswersStep self.old step.now result self.new }
     {
         steps_have_one_cause();
         // What holds before the step is that the steps so far are a run.
@@ -198,7 +181,7 @@ impl World {
     }
 
     /// Returns how many requests were made. It does not allocate.
-    pub fn requests(&self) -> u64
+    pub fn requests(&self) -> u128
         ensures value { result ≡ requests_in (marks_of self.now.moves) }
         ensures run { IsRun self.now.count self.now.start self.now.moves }
         ensures count { IsNodeNumber self.now.count }
@@ -213,33 +196,6 @@ impl World {
         ensures count { IsNodeNumber self.now.count }
     {
         self.log.sent()
-    }
-
-    /// Reports what came of the steps so far. The cost is linear in the number of marks and of nodes.
-    ///
-    /// # Errors
-    ///
-    /// `Memory`: there is no room for a copy of the marks.
-    pub fn report(&self, alloc: Global) -> Result<Report, Memory>
-        ensures ok { IfOk result (Reports self.now.count self.now.start self.now.moves) }
-        ensures run { IsRun self.now.count self.now.start self.now.moves }
-        ensures count { IsNodeNumber self.now.count }
-        ensures main_theorem { IfOk result (MainTheorem self.now.count) }
-    {
-        kept_runs_go_on();
-        reports_meet_the_main_theorem();
-        let marks = copy_of(alloc, self.log.marks())?;
-        // No more clients are queued than steps were made, so their count fits.
-        let _steps = self.log.len();
-        Ok(Report {
-            marks,
-            sent: self.log.sent(),
-            requests: u128::from(self.log.requests()),
-            under_way: u128::from(self.under_way.len()),
-            lost: u128::from(self.log.lost()),
-            waiting: waiting_at(&self.nodes),
-            queued: queued_at(&self.nodes),
-        })
     }
 
     /// A client asks for a name at a node.
@@ -386,5 +342,39 @@ impl World {
             Some(place) => is_held_by(&self.nodes[place], client, name),
             None => false,
         }
+    }
+}
+
+impl WorldOf<1> {
+    ghost use Rattle.ra_stamp.specs.NodeId.{IsNodeNumber};
+    ghost use Rattle.ra_world.specs.Run.{IsRun};
+    ghost use Rattle.ra_world.specs.World.{Reports};
+    ghost use Rattle.ra_world.specs.MainTheorem.{MainTheorem};
+
+    /// Reports what came of the steps so far. The cost is linear in the number of marks and of nodes.
+    ///
+    /// # Errors
+    ///
+    /// `Memory`: there is no room for a copy of the marks.
+    pub fn report(&self, alloc: Global) -> Result<Report, Memory>
+        ensures ok { IfOk result (Reports self.now.count self.now.start self.now.moves) }
+        ensures run { IsRun self.now.count self.now.start self.now.moves }
+        ensures count { IsNodeNumber self.now.count }
+        ensures main_theorem { IfOk result (MainTheorem self.now.count) }
+    {
+        kept_runs_go_on();
+        reports_meet_the_main_theorem();
+        let marks = copy_of(alloc, self.log.marks())?;
+        // No more clients are queued than steps were made, so their count fits.
+        let _steps = self.log.len();
+        Ok(Report {
+            marks,
+            sent: self.log.sent(),
+            requests: self.log.requests(),
+            under_way: u128::from(self.under_way.len()),
+            lost: u128::from(self.log.lost()),
+            waiting: waiting_at(&self.nodes),
+            queued: queued_at(&self.nodes),
+        })
     }
 }

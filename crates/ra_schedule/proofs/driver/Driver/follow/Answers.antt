@@ -1,4 +1,4 @@
-use Rattle.std.proofs.Common.{◌≡◌, subst, inl, inr, Result, IfOk, IfErr}
+use Rattle.std.proofs.Common.{subst, inl, inr, Result, IfOk, IfErr}
 use Rattle.ra_world.specs.declared.step.Step.{Step}
 use Rattle.ra_schedule.specs.declared.error.DriveError.{DriveError}
 use Rattle.ra_schedule.specs.Schedule.{StandsFor}

@@ -4,4 +4,4 @@ use Rattle.ra_world.specs.Log.{LogState}
 use Rattle.ra_world.proofs.log.Log.marks.Goals as goal
 
 pub returns : goal.returns
-returns c = c.self.invariant.marks_are ∙ ap (λ (s : LogState). marks_of s.moves) c.self.view_is
+returns g c kept = c.self.invariant.marks_are kept ∙ ap (λ (s : LogState). marks_of s.moves) c.self.view_is

@@ -5,5 +5,4 @@ use Rattle.ra_world.specs.Log.{LogState}
 use Rattle.ra_world.proofs.log.Log.requests.Goals as goal
 
 pub returns : goal.returns
-returns c =
-    c.self.invariant.requests_are ∙ ap requests_in c.self.invariant.marks_are ∙ ap (λ (s : LogState). requests_in (marks_of s.moves)) c.self.view_is
+returns g c = c.self.invariant.requests_are ∙ ap (λ (s : LogState). requests_in (marks_of s.moves)) c.self.view_is

@@ -4,4 +4,4 @@ use Rattle.ra_world.specs.Log.{LogState}
 use Rattle.ra_world.proofs.log.Log.sent.Goals as goal
 
 pub returns : goal.returns
-returns c = c.self.invariant.sent_is ∙ ap (λ (s : LogState). length (sent_by s.moves)) c.self.view_is
+returns g c = c.self.invariant.sent_is ∙ ap (λ (s : LogState). length (sent_by s.moves)) c.self.view_is

@@ -6,15 +6,15 @@ use Rattle.ra_world.specs.declared.step.Step.TheVariants.{Deliver, Lose}
 use Rattle.ra_world.specs.Run.{GoesOn}
 use Rattle.ra_world.specs.World.{WorldState}
 use Rattle.ra_world.proofs.Worlds.{accepted_message}
-use Rattle.ra_world.proofs.world.World.accepts.Goals as goal
+use Rattle.ra_world.proofs.world.WorldOf.accepts.Goals as goal
 
 pub returns-in-Ask-clause-value : goal.returns-in-Ask-clause-value
-returns-in-Ask-clause-value c =
+returns-in-Ask-clause-value g c =
     let w = c.args.self.now in
     subst (λ (step : Step). IsTrue c.may_ask.result ↔ GoesOn w.count w.start w.moves step) (sym c.in-Ask.is) (c.may_ask.ensures.value c.in-Ask.mode)
 
 pub returns-in-Deliver-clause-value : goal.returns-in-Deliver-clause-value
-returns-in-Deliver-clause-value c =
+returns-in-Deliver-clause-value g c =
     let w = c.self.inside in
     let k = c.self.invariant in
     let laws = c.runs_go_on_where_steps_are_allowed.ensures in

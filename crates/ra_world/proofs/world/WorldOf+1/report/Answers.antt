@@ -1,4 +1,4 @@
-use Rattle.std.proofs.Common.{arith, ◌≡◌, ◌≤◌, length, ap, ◌∙◌, subst}
+use Rattle.std.proofs.Common.{arith, ◌≡◌, ◌≤◌, length, refl, ap, ◌∙◌, subst}
 use Rattle.std.specs.Prelude.{sum_by}
 use Rattle.ra_stamp.specs.NodeId.{IsNodeNumber}
 use Rattle.ra_node.specs.Node.{waiting_count, queued_count}
@@ -6,7 +6,7 @@ use Rattle.ra_world.specs.declared.report.Report.{Report}
 use Rattle.ra_world.specs.Run.{IsRun}
 use Rattle.ra_world.specs.World.{WorldState, Reports}
 use Rattle.ra_world.proofs.Worlds.{reported}
-use Rattle.ra_world.proofs.world.World.report.Goals as goal
+use Rattle.ra_world.proofs.world.WorldOf+1.report.Goals as goal
 
 pub queued_at-requires : goal.queued_at-requires
 queued_at-requires c =
@@ -22,16 +22,16 @@ returns-clause-ok c =
     let report : Report = record {
       marks = c.in_ok-marks.marks;
       sent = c.sent.result;
-      requests = c.from.result;
-      under_way = c.from-2.result;
-      lost = c.from-3.result;
+      requests = c.requests.result;
+      under_way = c.from.result;
+      lost = c.from-2.result;
       waiting = c.waiting_at.result;
       queued = c.queued_at.result;
     } in
     subst (λ (s : WorldState). Reports s.count s.start s.moves report) c.self.view_is
     (reported w.start w.nodes.items w.under_way.items w.log.moves report c.self.invariant c.kept_runs_go_on.ensures.at_all
-    (c.in_ok-marks.ensures ∙ c.marks.ensures) c.sent.ensures (c.from.ensures ∙ c.requests.ensures)
-    (c.from-2.ensures ∙ c.len.ensures) (c.from-3.ensures ∙ c.lost.ensures)
+    (c.in_ok-marks.ensures ∙ c.marks.ensures refl) c.sent.ensures c.requests.ensures
+    (c.from.ensures ∙ c.len.ensures) (c.from-2.ensures ∙ c.lost.ensures)
     (c.waiting_at.ensures ∙ ap (sum_by waiting_count) c.deref.ensures.value)
     (c.queued_at.ensures ∙ ap (sum_by queued_count) c.deref-2.ensures.value))
 

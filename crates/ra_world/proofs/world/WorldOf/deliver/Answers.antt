@@ -13,24 +13,24 @@ use Rattle.ra_world.specs.declared.step.Step.TheVariants.{Deliver}
 use Rattle.ra_world.specs.declared.error.StepError.TheVariants.{NotUnderWay, Memory}
 use Rattle.ra_world.specs.Keeping.{nodes_of}
 use Rattle.ra_world.proofs.Trying.{shown, with_cause, short, same_nodes, at_node, node_here, took_one, room_here, kept_by, here, run_of}
-use Rattle.ra_world.proofs.world.World.deliver.Goals as goal
+use Rattle.ra_world.proofs.world.WorldOf.deliver.Goals as goal
 
 pub returns-in_default-clause-tried : goal.returns-in_default-clause-tried
-returns-in_default-clause-tried c =
+returns-in_default-clause-tried g c =
     let w = c.self.inside in
     let under = c.kept_runs_go_on.ensures.under_way w.start w.nodes.items w.under_way.items w.log.moves c.args.message.now c.self.invariant in
     let absent : Contains w.under_way.items c.args.message.now → ⊥ = λ there. let some = c.in_default.ensures.found.1 there in absurd cc in
     (c.self.view_is, with_cause w.start w.nodes.items w.log.moves c.args.self.now (Deliver c.args.message.now) NotUnderWay c.self.view_is (λ on. absent (under.0 on)))
 
 pub unreachable-requires : goal.unreachable-requires
-unreachable-requires c =
+unreachable-requires g c =
     let w = c.self.inside in
     let there : Contains w.under_way.items c.args.message.now = c.in-Some.ensures.found.0 refl in
     let taken = c.kept_runs_go_on.ensures.is_taken w.start w.nodes.items w.under_way.items w.log.moves c.args.message.now c.self.invariant there in
     omega (arith, taken.0, c.in_default-place_of.ensures.none.0 refl, c.to.ensures, ap length c.deref.ensures.value)
 
 pub returns-in_err-make_room_for-clause-tried : goal.returns-in_err-make_room_for-clause-tried
-returns-in_err-make_room_for-clause-tried c =
+returns-in_err-make_room_for-clause-tried g c =
     let w = c.self.inside in
     let k = c.self.invariant in
     let there : Contains w.under_way.items c.args.message.now = c.in-Some.ensures.found.0 refl in
@@ -46,7 +46,7 @@ returns-in_err-make_room_for-clause-tried c =
     c.from_residual.ensures.1
 
 pub returns-in-Err-Memory-clause-tried : goal.returns-in-Err-Memory-clause-tried
-returns-in-Err-Memory-clause-tried c =
+returns-in-Err-Memory-clause-tried g c =
     let w = c.self.inside in
     let k = c.self.invariant in
     let message = c.args.message.now in
@@ -68,7 +68,7 @@ returns-in-Err-Memory-clause-tried c =
     refl
 
 pub unreachable-requires-in-Err-WrongNode : goal.unreachable-requires-in-Err-WrongNode
-unreachable-requires-in-Err-WrongNode c =
+unreachable-requires-in-Err-WrongNode g c =
     let w = c.self.inside in
     let message = c.args.message.now in
     let place = c.in-Some-place_of.place in
@@ -83,12 +83,12 @@ unreachable-requires-in-Err-WrongNode c =
     search rules
 
 pub returns-in-Err-Memory-clause-run : goal.returns-in-Err-Memory-clause-run
-returns-in-Err-Memory-clause-run c =
+returns-in-Err-Memory-clause-run g c =
     let w = c.self.inside in
     run_of w.start w.nodes.items w.under_way.items w.log.moves c.make_room_for.new.log.moves c.in-Some-place_of.place c.receive.new.self c.self.invariant c.make_room_for.ensures.moves
 
 pub invariant_of-self-2 : goal.invariant_of-self-2
-invariant_of-self-2 c =
+invariant_of-self-2 g c =
     let w = c.self.inside in
     let old = c.index_mut-receiver.result.now in
     let place = c.in-Some-place_of.place in
@@ -111,10 +111,11 @@ invariant_of-self-2 c =
     c.keep.ensures.messages c.make_room_for.ensures.moves c.keep.ensures.moves
 
 pub returns-clause-run : goal.returns-clause-run
-returns-clause-run c = (invariant_of-self-2 c).run
+returns-clause-run g c = (invariant_of-self-2 g c).run
 
-pub keep-requires-clause-bag_room : goal.keep-requires-clause-bag_room
-keep-requires-clause-bag_room c =
+-- a value fits into memory, and then there is room in the bag and in the log
+pub keep-requires : goal.keep-requires
+keep-requires g c =
     let w = c.self.inside in
     let first = c.index-receiver.result.now in
     let old = c.index_mut-receiver.result.now in
@@ -125,18 +126,4 @@ keep-requires-clause-bag_room c =
     let at : old ≡ get_or w.nodes.items place old = search rules in
     let fits = room_here c.make_room_for.new.under_way.spare c.make_room_for.new.log c.args.message.now w.nodes.items place first old c.receive.new.self outcome.sends.items outcome.marks.items
     c.in_ok-make_room_for.ensures.room within at_first at c.in-Ok.ensures.ok in
-    omega (arith, fits.0, c.take_from.ensures.spare)
-
-pub keep-requires-clause-log_room : goal.keep-requires-clause-log_room
-keep-requires-clause-log_room c =
-    let w = c.self.inside in
-    let first = c.index-receiver.result.now in
-    let old = c.index_mut-receiver.result.now in
-    let place = c.in-Some-place_of.place in
-    let outcome = c.in-Ok.outcome in
-    let within : place < length w.nodes.items = search rules in
-    let at_first : first ≡ get_or w.nodes.items place first = search rules in
-    let at : old ≡ get_or w.nodes.items place old = search rules in
-    let fits = room_here c.make_room_for.new.under_way.spare c.make_room_for.new.log c.args.message.now w.nodes.items place first old c.receive.new.self outcome.sends.items outcome.marks.items
-    c.in_ok-make_room_for.ensures.room within at_first at c.in-Ok.ensures.ok in
-    fits.1
+    (omega arith, (omega (arith, fits.0, c.take_from.ensures.spare), fits.1))

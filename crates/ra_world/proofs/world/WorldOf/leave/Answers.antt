@@ -10,10 +10,10 @@ use Rattle.ra_world.specs.declared.step.Step.TheVariants.{Leave}
 use Rattle.ra_world.specs.declared.error.StepError.TheVariants.{Node}
 use Rattle.ra_world.specs.declared.error.NodeRefusal.TheVariants.{NotHeld}
 use Rattle.ra_world.proofs.Trying.{shown, with_cause, short, same_nodes, at_node, leave_on, reads_same, memory_of_leave, few_carried, room_for, kept_by, here, run_of}
-use Rattle.ra_world.proofs.world.World.leave.Goals as goal
+use Rattle.ra_world.proofs.world.WorldOf.leave.Goals as goal
 
 pub returns-then-not-is_held_by-clause-tried : goal.returns-then-not-is_held_by-clause-tried
-returns-then-not-is_held_by-clause-tried c =
+returns-then-not-is_held_by-clause-tried g c =
     let w = c.self.inside in
     let old = c.index-left.result.now in
     let place = c.in-Some.place in
@@ -29,7 +29,7 @@ returns-then-not-is_held_by-clause-tried c =
     )
 
 pub returns-in_err-make_room-clause-tried : goal.returns-in_err-make_room-clause-tried
-returns-in_err-make_room-clause-tried c =
+returns-in_err-make_room-clause-tried g c =
     let w = c.self.inside in
     let old = c.index-left.result.now in
     let place = c.in-Some.place in
@@ -44,7 +44,7 @@ returns-in_err-make_room-clause-tried c =
     c.from_residual.ensures.1
 
 pub returns-in_err-outcome-clause-tried : goal.returns-in_err-outcome-clause-tried
-returns-in_err-outcome-clause-tried c =
+returns-in_err-outcome-clause-tried g c =
     let w = c.self.inside in
     let first = c.index-left.result.now in
     let old = c.index_mut-left.result.now in
@@ -63,12 +63,12 @@ returns-in_err-outcome-clause-tried c =
     (memory_of_leave c.from_residual-in_err-outcome.result c.in_err-outcome.field-0.0 c.from_residual-in_err-outcome.ensures.1 memory)
 
 pub returns-in_err-outcome-clause-run : goal.returns-in_err-outcome-clause-run
-returns-in_err-outcome-clause-run c =
+returns-in_err-outcome-clause-run g c =
     let w = c.self.inside in
     run_of w.start w.nodes.items w.under_way.items w.log.moves c.make_room.new.log.moves c.in-Some.place c.leave.new.self c.self.invariant c.make_room.ensures.moves
 
 pub invariant_of-self-2 : goal.invariant_of-self-2
-invariant_of-self-2 c =
+invariant_of-self-2 g c =
     let w = c.self.inside in
     let old = c.index_mut-left.result.now in
     let place = c.in-Some.place in
@@ -85,10 +85,11 @@ invariant_of-self-2 c =
     c.make_room.ensures.moves c.keep.ensures.moves
 
 pub returns-clause-run : goal.returns-clause-run
-returns-clause-run c = (invariant_of-self-2 c).run
+returns-clause-run g c = (invariant_of-self-2 g c).run
 
-pub keep-requires-clause-bag_room : goal.keep-requires-clause-bag_room
-keep-requires-clause-bag_room c =
+-- a value fits into memory, and then there is room in the bag and in the log
+pub keep-requires : goal.keep-requires
+keep-requires g c =
     let w = c.self.inside in
     let first = c.index-left.result.now in
     let old = c.index_mut-left.result.now in
@@ -100,19 +101,4 @@ keep-requires-clause-bag_room c =
     let few = few_carried c.events_keep_a_node_consistent.ensures.room_by_event w.nodes.items place first old c.leave.new.self (GivenBack c.args.client c.args.name)
     outcome.sends.items outcome.marks.items
     (c.kept_runs_go_on.ensures.counts w.start w.nodes.items w.under_way.items w.log.moves place c.self.invariant within) within at_first at c.is_held_by.ensures.consistent c.in_ok-outcome.ensures.ok in
-    omega (arith, few.0, c.in_ok-make_room.ensures.bag_room)
-
-pub keep-requires-clause-log_room : goal.keep-requires-clause-log_room
-keep-requires-clause-log_room c =
-    let w = c.self.inside in
-    let first = c.index-left.result.now in
-    let old = c.index_mut-left.result.now in
-    let place = c.in-Some.place in
-    let outcome = c.in_ok-outcome.outcome in
-    let within : place < length w.nodes.items = search rules in
-    let at_first : first ≡ get_or w.nodes.items place first = search rules in
-    let at : old ≡ get_or w.nodes.items place old = search rules in
-    let few = few_carried c.events_keep_a_node_consistent.ensures.room_by_event w.nodes.items place first old c.leave.new.self (GivenBack c.args.client c.args.name)
-    outcome.sends.items outcome.marks.items
-    (c.kept_runs_go_on.ensures.counts w.start w.nodes.items w.under_way.items w.log.moves place c.self.invariant within) within at_first at c.is_held_by.ensures.consistent c.in_ok-outcome.ensures.ok in
-    room_for c.make_room.new.log (length outcome.marks.items) 3 c.in_ok-make_room.ensures.log_room few.1
+    (omega arith, (omega (arith, few.0, c.in_ok-make_room.ensures.bag_room), room_for c.make_room.new.log (length outcome.marks.items) 3 c.in_ok-make_room.ensures.log_room few.1))

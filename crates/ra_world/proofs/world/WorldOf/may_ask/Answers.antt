@@ -7,10 +7,10 @@ use Rattle.ra_world.specs.Run.{GoesOn}
 use Rattle.ra_world.specs.World.{WorldState}
 use Rattle.ra_world.specs.Keeping.{nodes_of}
 use Rattle.ra_world.proofs.Worlds.{accepted_at, refused_above}
-use Rattle.ra_world.proofs.world.World.may_ask.Goals as goal
+use Rattle.ra_world.proofs.world.WorldOf.may_ask.Goals as goal
 
 pub returns-in-Some-clause-value : goal.returns-in-Some-clause-value
-returns-in-Some-clause-value c = λ mode.
+returns-in-Some-clause-value g c = λ mode.
     let w = c.self.inside in
     let k = c.self.invariant in
     let step = Ask c.args.node c.args.client c.args.name.now mode in
@@ -24,7 +24,7 @@ returns-in-Some-clause-value c = λ mode.
     (subst (λ (b : Bool). IsTrue b ↔ MayAsk (resource_at c.index.result.now c.args.name.now) c.args.client) (sym c.is_ok.ensures.value) c.may_ask.ensures.allowed))
 
 pub returns-in-None-clause-value : goal.returns-in-None-clause-value
-returns-in-None-clause-value c = λ mode.
+returns-in-None-clause-value g c = λ mode.
     let w = c.self.inside in
     let k = c.self.invariant in
     let step = Ask c.args.node c.args.client c.args.name.now mode in

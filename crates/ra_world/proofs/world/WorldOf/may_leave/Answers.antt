@@ -8,10 +8,10 @@ use Rattle.ra_world.specs.Run.{GoesOn}
 use Rattle.ra_world.specs.World.{WorldState}
 use Rattle.ra_world.specs.Keeping.{nodes_of}
 use Rattle.ra_world.proofs.Worlds.{accepted_at, refused_above}
-use Rattle.ra_world.proofs.world.World.may_leave.Goals as goal
+use Rattle.ra_world.proofs.world.WorldOf.may_leave.Goals as goal
 
 pub returns-in-Some-clause-value : goal.returns-in-Some-clause-value
-returns-in-Some-clause-value c =
+returns-in-Some-clause-value g c =
     let w = c.self.inside in
     let k = c.self.invariant in
     let step = Leave c.args.node c.args.client c.args.name.now in
@@ -24,7 +24,7 @@ returns-in-Some-clause-value c =
     law c.in-Some.ensures.some.0 within c.index.ensures c.is_held_by.ensures.held)
 
 pub returns-in-None-clause-value : goal.returns-in-None-clause-value
-returns-in-None-clause-value c =
+returns-in-None-clause-value g c =
     let w = c.self.inside in
     let k = c.self.invariant in
     let step = Leave c.args.node c.args.client c.args.name.now in

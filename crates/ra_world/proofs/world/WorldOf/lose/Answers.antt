@@ -8,17 +8,17 @@ use Rattle.ra_world.specs.declared.error.StepError.TheVariants.{NotUnderWay}
 use Rattle.ra_world.specs.Traffic.{Move}
 use Rattle.ra_world.specs.Keeping.{Keeps}
 use Rattle.ra_world.proofs.Trying.{shown, with_cause, short, took_one, one_more}
-use Rattle.ra_world.proofs.world.World.lose.Goals as goal
+use Rattle.ra_world.proofs.world.WorldOf.lose.Goals as goal
 
 pub returns-in_default-clause-tried : goal.returns-in_default-clause-tried
-returns-in_default-clause-tried c =
+returns-in_default-clause-tried g c =
     let w = c.self.inside in
     let under = c.kept_runs_go_on.ensures.under_way w.start w.nodes.items w.under_way.items w.log.moves c.args.message.now c.self.invariant in
     let absent : Contains w.under_way.items c.args.message.now → ⊥ = λ there. let some = c.in_default.ensures.found.1 there in absurd cc in
     (c.self.view_is, with_cause w.start w.nodes.items w.log.moves c.args.self.now (Lose c.args.message.now) NotUnderWay c.self.view_is (λ on. absent (under.0 on)))
 
 pub returns-in_err-make_room-clause-tried : goal.returns-in_err-make_room-clause-tried
-returns-in_err-make_room-clause-tried c =
+returns-in_err-make_room-clause-tried g c =
     let w = c.self.inside in
     let k = c.self.invariant in
     let under = c.kept_runs_go_on.ensures.under_way w.start w.nodes.items w.under_way.items w.log.moves c.args.message.now k in
@@ -30,7 +30,7 @@ returns-in_err-make_room-clause-tried c =
     c.from_residual.ensures.1
 
 pub invariant_of-self-2 : goal.invariant_of-self-2
-invariant_of-self-2 c =
+invariant_of-self-2 g c =
     let w = c.self.inside in
     let takes : TakesFirst w.under_way.items c.args.message.now c.take_from.new.self.items =
     took_one c.make_room.new.under_way.items w.under_way.items c.take_from.new.self.items c.args.message.now (c.make_room.ensures.messages ∙ ap (λ (b : Listed Message). b.items) c.in-Some.ensures.same)
@@ -46,4 +46,4 @@ invariant_of-self-2 c =
     (c.kept_runs_go_on.ensures.loss w.start w.nodes.items w.under_way.items c.take_from.new.self.items w.log.moves c.args.message.now c.self.invariant takes))
 
 pub returns-clause-run : goal.returns-clause-run
-returns-clause-run c = (invariant_of-self-2 c).run
+returns-clause-run g c = (invariant_of-self-2 g c).run
