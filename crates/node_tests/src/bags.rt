@@ -1,8 +1,9 @@
 //! The messages under way, as a bag keeps them: what it does or shows, one step after the other.
 use crate::helpers::{assert_all, reply, request};
 use Step::{
-    Contains, Finds, Has, HasCount, HasNumbers, Lacks, MakesRoom, Misses, Puts, PutsNumbers,
-    RefusesRoom, Takes, TakesEveryOther, TakesNear, TakesNone,
+    Contains, Copies, CopiesAmong, CopiesNone, CopiesNumbers, Finds, Has, HasCount, HasNumbers,
+    Lacks, MakesRoom, Misses, Puts, PutsNumbers, RefusesRoom, Takes, TakesEqual, TakesEveryOther,
+    TakesNear, TakesNone, TakesTwice,
 };
 use Wire::{Asks, Replies};
 use ra_bag::Bag;
@@ -30,8 +31,21 @@ enum Step {
     Puts(&'static [Wire]),
     /// So many requests are put into it, with the numbers from the first one given up.
     PutsNumbers(u64, u64),
+    /// A copy of the message is put behind all others.
+    Copies(Wire),
+    /// There is none to be copied.
+    CopiesNone(Wire),
+    /// So many requests are copied, with the numbers from the first one given up.
+    CopiesNumbers(u64, u64),
+    /// The request with the first number given is copied so many times, behind nine others each time, whose numbers go on from the
+    /// second one.
+    CopiesAmong(u64, u64, u64),
     /// The first message that is equal to this one is taken.
     Takes(Wire),
+    /// So many messages that are equal to this one are taken, one after the other.
+    TakesEqual(Wire, u64),
+    /// So many requests are taken, each twice, with the numbers from the first one given up.
+    TakesTwice(u64, u64),
     /// There is none to be taken.
     TakesNone(Wire),
     /// The message is found near this place, and taken.
@@ -88,6 +102,62 @@ fn puts_numbers(alloc: Global, bag: &mut Bag, first: u64, count: u64) -> bool {
     let mut seq = first;
     for _ in 0..count {
         if !puts(alloc, bag, &[Asks(seq)]) {
+            return false;
+        }
+        seq = seq.wrapping_add(1);
+    }
+    true
+}
+
+/// Returns whether a copy of a message was put into the bag.
+fn copies(bag: &mut Bag, wire: Wire) -> bool {
+    bag.again(&message(wire)) == Ok(true)
+}
+
+/// Returns whether so many requests were copied.
+fn copies_numbers(bag: &mut Bag, first: u64, count: u64) -> bool {
+    let mut seq = first;
+    for _ in 0..count {
+        if !copies(bag, Asks(seq)) {
+            return false;
+        }
+        seq = seq.wrapping_add(1);
+    }
+    true
+}
+
+/// Returns whether a request was copied so many times, behind nine others each time.
+fn copies_among(alloc: Global, bag: &mut Bag, copied: u64, first: u64, count: u64) -> bool {
+    let mut seq = first;
+    for _ in 0..count {
+        if !puts_numbers(alloc, bag, seq, 9) || !copies(bag, Asks(copied)) {
+            return false;
+        }
+        seq = seq.wrapping_add(9);
+    }
+    true
+}
+
+/// Returns whether the first message that is equal to this one was taken.
+fn takes(bag: &mut Bag, wire: Wire) -> bool {
+    bag.take(&message(wire)) == Some(message(wire))
+}
+
+/// Returns whether so many messages that are equal to this one were taken.
+fn takes_equal(bag: &mut Bag, wire: Wire, count: u64) -> bool {
+    for _ in 0..count {
+        if !takes(bag, wire) {
+            return false;
+        }
+    }
+    true
+}
+
+/// Returns whether so many requests were taken, each twice.
+fn takes_twice(bag: &mut Bag, first: u64, count: u64) -> bool {
+    let mut seq = first;
+    for _ in 0..count {
+        if !takes_equal(bag, Asks(seq), 2) {
             return false;
         }
         seq = seq.wrapping_add(1);
@@ -163,18 +233,31 @@ fn shows(bag: &mut Bag, step: Step) -> bool {
     }
 }
 
+/// Returns whether a bag does this, where it is about copies.
+fn repeats(alloc: Global, bag: &mut Bag, step: Step) -> bool {
+    match step {
+        Copies(wire) => copies(bag, wire),
+        CopiesNone(wire) => bag.again(&message(wire)) == Ok(false),
+        CopiesNumbers(first, count) => copies_numbers(bag, first, count),
+        CopiesAmong(copied, first, count) => copies_among(alloc, bag, copied, first, count),
+        TakesEqual(wire, count) => takes_equal(bag, wire, count),
+        TakesTwice(first, count) => takes_twice(bag, first, count),
+        _ => shows(bag, step),
+    }
+}
+
 /// Returns whether a bag does or shows this.
 fn does(alloc: Global, bag: &mut Bag, step: Step) -> bool {
     match step {
         Puts(items) => puts(alloc, bag, items),
         PutsNumbers(first, count) => puts_numbers(alloc, bag, first, count),
-        Takes(wire) => bag.take(&message(wire)) == Some(message(wire)),
+        Takes(wire) => takes(bag, wire),
         TakesNone(wire) => bag.take(&message(wire)).is_none(),
         TakesNear(wire, near) => takes_near(bag, &message(wire), near),
         TakesEveryOther(first, count) => takes_every_other(bag, first, count),
         MakesRoom(more) => bag.reserve(more).is_ok(),
         RefusesRoom(more) => bag.reserve(more) == Err(Memory),
-        _ => shows(bag, step),
+        _ => repeats(alloc, bag, step),
     }
 }
 
@@ -273,20 +356,91 @@ fn each_of_two_equal_messages_among_many_is_taken(rt: HostRuntime) {
     follow(&rt, STEPS);
 }
 
-/// Where one of two equal messages among many is looked for, the index knows the later one, and who looks through all finds the earlier
-/// one. The later one is found while messages are taken and put.
+/// Of two equal messages among many the earlier one is found, while others are taken and put, and once it is taken the later one.
 #[test]
-fn among_many_the_slot_of_each_message_is_known(rt: HostRuntime) {
+fn among_many_the_first_slot_of_each_message_is_known(rt: HostRuntime) {
     const STEPS: &[Step] = &[
         PutsNumbers(1, 200),
         PutsNumbers(50, 1),
-        Finds(50, 200),
+        Finds(50, 49),
         TakesNear(Asks(1), 0),
-        Finds(50, 199),
+        Finds(50, 48),
         TakesNear(Asks(100), 0),
-        Finds(50, 199),
+        Finds(50, 48),
         PutsNumbers(60, 1),
+        Finds(60, 58),
+        Takes(Asks(50)),
+        Finds(50, 199),
+        Takes(Asks(60)),
         Finds(60, 200),
+    ];
+    follow(&rt, STEPS);
+}
+
+#[test]
+fn a_copy_of_a_message_stands_behind_all_others(rt: HostRuntime) {
+    const STEPS: &[Step] = &[
+        Puts(&[ASKED, REPLIED]),
+        Copies(ASKED),
+        Has(&[ASKED, REPLIED, ASKED]),
+        CopiesNone(Asks(2)),
+        Has(&[ASKED, REPLIED, ASKED]),
+    ];
+    follow(&rt, STEPS);
+}
+
+/// A message that was taken is not there to be copied, while a copy of it is.
+#[test]
+fn of_a_message_and_its_copies_the_first_goes(rt: HostRuntime) {
+    const STEPS: &[Step] = &[
+        CopiesNone(ASKED),
+        Puts(&[ASKED, REPLIED]),
+        Copies(ASKED),
+        Takes(ASKED),
+        Has(&[REPLIED, ASKED]),
+        Copies(ASKED),
+        Takes(REPLIED),
+        TakesEqual(ASKED, 2),
+        CopiesNone(ASKED),
+        HasCount(0),
+    ];
+    follow(&rt, STEPS);
+}
+
+/// A request is copied a thousand times among nine thousand others, and all equal ones are taken; the others stay in their order. They
+/// are looked for so often that each has to be found without looking at all before it.
+#[test]
+fn a_thousand_copies_among_ten_thousand_messages_are_taken(rt: HostRuntime) {
+    const STEPS: &[Step] = &[
+        PutsNumbers(2, 1),
+        PutsNumbers(1, 1),
+        CopiesAmong(1, 3, 1_000),
+        HasCount(10_002),
+        HasNumbers(1, 1, 0, 1),
+        HasNumbers(11, 1, 0, 1),
+        TakesEqual(Asks(1), 1_000),
+        HasNumbers(0, 2, 1, 20),
+        HasNumbers(8_991, 8_993, 1, 10),
+        HasNumbers(9_001, 1, 0, 1),
+        TakesEqual(Asks(1), 1),
+        TakesNone(Asks(1)),
+        HasCount(9_001),
+    ];
+    follow(&rt, STEPS);
+}
+
+/// Each of five thousand requests is copied once, so that each copy stands far behind.
+#[test]
+fn each_of_many_messages_and_its_copy_is_taken(rt: HostRuntime) {
+    const STEPS: &[Step] = &[
+        PutsNumbers(1, 5_000),
+        CopiesNumbers(1, 5_000),
+        TakesTwice(11, 4_000),
+        HasNumbers(0, 1, 1, 10),
+        HasNumbers(10, 4_011, 1, 990),
+        HasNumbers(1_000, 1, 1, 10),
+        HasNumbers(1_010, 4_011, 1, 990),
+        HasCount(2_000),
     ];
     follow(&rt, STEPS);
 }

@@ -159,6 +159,18 @@ fn try_reserve(bag: &mut Bag, more: u64) -> Tried {
     }
 }
 
+/// Puts a copy of a message that is in a bag behind the others, and again where memory was wanting.
+fn try_copy(bag: &mut Bag, message: &Message) -> Tried {
+    let before = bag.len();
+    if bag.again(message) == Ok(true) {
+        Tried::AtOnce
+    } else if bag.len() == before && bag.again(message) == Ok(true) {
+        Tried::Again
+    } else {
+        Tried::Wrong
+    }
+}
+
 /// Puts 100 requests into a list, with the numbers from 1 up.
 fn try_pushes(list: &mut Messages) -> Tried {
     let mut tried = Tried::AtOnce;
@@ -166,6 +178,15 @@ fn try_pushes(list: &mut Messages) -> Tried {
     for _ in 0..100 {
         seq = seq.wrapping_add(1);
         tried = both(tried, try_push(list, seq));
+    }
+    tried
+}
+
+/// Copies a message until there is no room left for one more, and once more.
+fn try_copies(bag: &mut Bag, message: &Message) -> Tried {
+    let mut tried = Tried::AtOnce;
+    for _ in 0..1_100 {
+        tried = both(tried, try_copy(bag, message));
     }
     tried
 }
@@ -179,7 +200,7 @@ fn try_bag_calls(alloc: Global, bag: &mut Bag) -> Tried {
     let all = both(both(pushed, put), try_reserve(bag, 1_000));
     let sought = request(1, 2, 70);
     if bag.find(&sought, 0).is_some() && bag.take(&sought) == Some(sought) && bag.len() == 199 {
-        all
+        both(all, try_copies(bag, &sought))
     } else {
         Tried::Wrong
     }

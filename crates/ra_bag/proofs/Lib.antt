@@ -1,2 +1,4 @@
 pub mod Emptied
 pub mod Taken
+pub mod Numbers
+pub mod Told

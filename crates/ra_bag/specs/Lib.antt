@@ -1,1 +1,2 @@
 pub mod Bag
+pub mod Places

@@ -1,6 +1,8 @@
-ghost use Rattle.std.specs.Prelude.{◌≡◌, ◌≢◌, ◌+◌, ◌≤◌, ◌↔◌, [], ◌++◌, take, drop, suc, length, slice_get, Contains, IsNone, IsSome, IsOk, IfOk, IfSome, OnOk, OnErr, IsTrue, ℕ};
+ghost use Rattle.std.specs.Prelude.{◌≡◌, ◌≢◌, ◌+◌, ◌≤◌, ◌↔◌, [], ◌∷◌, ◌++◌, take, drop, suc, length, slice_get, Contains, IsNone, IsSome, IsOk, IfOk, IfSome, OnOk, OnErr, IsTrue, IsFalse, ℕ};
 ghost use Rattle.std.specs.VecDeque.{deque_len, deque_capacity};
+ghost use Rattle.ra_stamp.specs.declared.message.Message.{Message};
 ghost use Rattle.ra_bag.specs.Bag.{TakesFirst, TakesOne, StandsIn, messages_in, HasEmpty, FewEmpty};
+ghost use Rattle.ra_bag.specs.Places.{IsFirstSlot, IsTold};
 
 use crate::places::Places;
 use crate::slots::{
@@ -30,13 +32,15 @@ impl Model for Bag {
     ghost use Rattle.ra_stamp.specs.declared.message.Message.{Message};
     ghost use Rattle.ra_stamp.specs.Sequence.{Listed};
     ghost use Rattle.ra_bag.specs.Bag.{messages_in, HasEmpty, FewEmpty};
+    ghost use Rattle.ra_bag.specs.Places.{IsTold};
 
     ghost Value = { Listed Message };
 
     ghost view = { λ b.
         record { items = messages_in b.slots.items; spare = deque_capacity b.slots - deque_len b.slots } };
 
-    ghost invariant = { λ b. HasEmpty b.slots.items b.empty × FewEmpty b.slots.items b.empty };
+    ghost invariant = { λ b. HasEmpty b.slots.items b.empty × FewEmpty b.slots.items b.empty
+        × IsTold ⟦<Message as PartialEq>⟧.eq b.places b.slots.items };
 }
 
 impl Bag {
@@ -93,9 +97,8 @@ impl Bag {
 
     /// Returns in which slot a message stands that is equal to this one, for `take_from`, or `None` where there is none.
     ///
-    /// Where no slot is empty the one at the place `near` is looked at first, at constant cost. Else the cost is amortized constant on
-    /// average where all messages are different; where there is none such, or no memory to know where they stand, it is linear in
-    /// the number of messages.
+    /// Where no slot is empty the one at the place `near` is looked at first, at constant cost. Else it is the first one, and the cost
+    /// is that of `take`.
     #[inline(always)]
     pub fn find(&mut self, message: &Message, near: u64) -> Option<u64>
         ensures same { self.new ≡ self.old }
@@ -112,12 +115,7 @@ impl Bag {
         ensures same { self.new ≡ self.old }
         ensures found { IsSome result ↔ Contains self.old.items message.now }
     {
-        if let Some(known) = self.places.look_up(&self.slots, message) {
-            if has(&self.slots, known, message) {
-                return Some(known as u64);
-            }
-        }
-        let slot = slot_of(&self.slots, message)?;
+        let slot = first_of(&self.slots, &mut self.places, message)?;
         Some(slot as u64)
     }
 
@@ -149,14 +147,52 @@ impl Bag {
         ensures spare { length messages.now.items ≤ self.old.spare
             → self.new.spare + length messages.now.items ≡ self.old.spare }
     {
-        make_room(&mut self.slots, messages.len() as usize)?;
-        self.places.follow(self.slots.len(), messages.as_slice());
-        append(&mut self.slots, messages.as_slice());
+        self.put(messages.as_slice())
+    }
+
+    /// Puts one more message under way that is equal to this one, behind all others, and returns true, or returns false where there
+    /// is none and leaves the bag. The cost is that of `find`, and amortized constant beside it. Where there is room it cannot fail.
+    ///
+    /// # Errors
+    ///
+    /// `Memory`: the bag is as before, with its spare. Where no equal message is under way it is not answered.
+    pub fn again(&mut self, message: &Message) -> Result<bool, Memory>
+        ensures told { IfOk result (λ again. IsTrue again ↔ Contains self.old.items message.now) }
+        ensures copied { IfOk result (λ again. IsTrue again
+            → self.new.items ≡ self.old.items ++ message.now ∷ []) }
+        ensures left { IfOk result (λ again. IsFalse again → self.new ≡ self.old) }
+        ensures err { OnErr result (self.new ≡ self.old) }
+        ensures there { OnErr result (Contains self.old.items message.now) }
+        ensures succeeds { 1 ≤ self.old.spare → IsOk result }
+        ensures spare { IfOk result (λ again. IsTrue again → 1 ≤ self.old.spare
+            → self.new.spare + 1 ≡ self.old.spare) }
+    {
+        if self.find(message, 0).is_none() {
+            return Ok(false);
+        }
+        self.put(&[*message])?;
+        Ok(true)
+    }
+
+    /// Puts messages under way as `put_all` does.
+    fn put(&mut self, messages: &[Message]) -> Result<(), Memory>
+        ensures ok { OnOk result (self.new.items ≡ self.old.items ++ messages.now) }
+        ensures err { OnErr result (self.new ≡ self.old) }
+        ensures succeeds { length messages.now ≤ self.old.spare → IsOk result }
+        ensures spare { length messages.now ≤ self.old.spare
+            → self.new.spare + length messages.now ≡ self.old.spare }
+    {
+        make_room(&mut self.slots, messages.len())?;
+        self.places.follow(self.slots.len(), messages);
+        append(&mut self.slots, messages);
         Ok(())
     }
 
-    /// Takes the first message that is equal to this one, or returns `None` where there is none and leaves the
-    /// bag, in time linear in the number of messages. It does not allocate.
+    /// Takes the first message that is equal to this one, or returns `None` where there is none and leaves the bag.
+    ///
+    /// The cost is constant where it is the oldest of all. Else it is amortized constant on average: many messages are looked through
+    /// once, and then it is known where each stands, equal ones too. Where there is none such, or no memory to know that, it is linear
+    /// in the number of messages. That memory is wanting is not answered.
     pub fn take(&mut self, message: &Message) -> Option<Message>
         ensures taken { IfSome result (λ taken. (taken ≡ message.now)
             × TakesFirst self.old.items message.now self.new.items) }
@@ -164,7 +200,7 @@ impl Bag {
         ensures left { IsNone result → self.new ≡ self.old }
         ensures spare { self.old.spare ≤ self.new.spare }
     {
-        let first = slot_of(&self.slots, message)?;
+        let first = first_of(&self.slots, &mut self.places, message)?;
         remove(
             &mut self.slots,
             &mut self.empty,
@@ -201,6 +237,27 @@ impl Bag {
     }
 }
 
+/// Returns the first slot that has a message that is equal to this one.
+fn first_of(
+    slots: &VecDeque<Option<Message>>,
+    places: &mut Places,
+    message: &Message,
+) -> Option<usize>
+    requires { IsTold ⟦<Message as PartialEq>⟧.eq places.old slots.now.items }
+    ensures told { IsTold ⟦<Message as PartialEq>⟧.eq places.new slots.now.items }
+    ensures some { IsSome result ↔ Contains (messages_in slots.now.items) message.now }
+    ensures first { IfSome result (IsFirstSlot slots.now.items message.now) }
+{
+    // Who delivers the oldest takes the first.
+    if has(slots, 0, message) {
+        return Some(0);
+    }
+    if let Some(known) = places.look_up(slots, message) {
+        return Some(known);
+    }
+    slot_of(slots, message)
+}
+
 /// Takes the message, which stands in this slot, out of the slots. They are closed up where more than half of them are empty.
 #[inline(always)]
 fn remove(
@@ -211,8 +268,10 @@ fn remove(
     message: &Message,
 )
     requires count { HasEmpty slots.old.items empty.old }
+    requires told { IsTold ⟦<Message as PartialEq>⟧.eq places.old slots.old.items }
     requires there { StandsIn slots.old.items message.now slot }
     ensures count { HasEmpty slots.new.items empty.new }
+    ensures told { IsTold ⟦<Message as PartialEq>⟧.eq places.new slots.new.items }
     ensures few { FewEmpty slots.new.items empty.new }
     ensures items { messages_in slots.new.items
         ≡ messages_in (take slot slots.old.items) ++ messages_in (drop (suc slot) slots.old.items) }
@@ -237,16 +296,17 @@ fn remove_slot(
     message: &Message,
 )
     requires count { HasEmpty slots.old.items empty.old }
+    requires told { IsTold ⟦<Message as PartialEq>⟧.eq places.old slots.old.items }
     requires there { StandsIn slots.old.items message.now slot }
     ensures count { HasEmpty slots.new.items empty.new }
+    ensures told { IsTold ⟦<Message as PartialEq>⟧.eq places.new slots.new.items }
     ensures items { messages_in slots.new.items
         ≡ messages_in (take slot slots.old.items) ++ messages_in (drop (suc slot) slots.old.items) }
     ensures len { deque_len slots.new ≤ deque_len slots.old }
     ensures capacity { deque_capacity slots.new ≡ deque_capacity slots.old }
 {
-    places.take(message);
+    places.take(slot, message);
     if slot == 0 {
-        // Who delivers the oldest takes the first.
         take_first(slots);
         places.shift();
     } else if slot + 1 == slots.len() {

@@ -1,8 +1,11 @@
-use Rattle.std.proofs.Common.{rules, ◌≡◌, ◌+◌, ◌-◌, List, Option, None, length, take, ap, ◌∙◌, arith}
+use Rattle.std.proofs.Common.{rules, ◌≡◌, ◌+◌, ◌-◌, List, Option, None, length, set, take, drop, sym, ap, ◌∙◌, subst, arith}
 use Rattle.std.proofs.lemmas.List.{length-set, length-take-le}
 use Rattle.ra_stamp.specs.declared.message.Message.{Message}
 use Rattle.ra_bag.specs.Bag.{messages_in}
 use Rattle.ra_bag.proofs.Emptied.{emptied, removed, last_removed, length_without, one_less, one_emptied}
+use Rattle.ra_stamp.specs.contracts.message.MessagePartialEq.TheImpl.{eq-value}
+use Rattle.ra_bag.specs.Places.{IsTold}
+use Rattle.ra_bag.proofs.Told.{told_without_last, first_emptied}
 use Rattle.ra_bag.proofs.bag.remove_slot.Goals as goal
 
 pub returns-then-slot-len-clause-count : goal.returns-then-slot-len-clause-count
@@ -38,3 +41,24 @@ returns-else-not-are_known-clause-count c =
     one_emptied old c.clear.new.slots.items c.args.slot c.args.message.now c.args.empty.now there.0 there.1 c.requires.count
     (returns-else-not-are_known-clause-items c)
     (ap length c.clear.ensures.items ∙ length-set old c.args.slot None)
+
+-- ---- What is known of the slots
+
+pub returns-then-slot-eq0-clause-told : goal.returns-then-slot-eq0-clause-told
+returns-then-slot-eq0-clause-told c =
+    let is_first : c.args.slot ≡ 0 = search rules in
+    let taken = c.take.ensures c.args.slots.now.items c.requires.there c.requires.told in
+    subst (λ (l : List (Option Message)). IsTold eq-value.it c.shift.new.self l) (sym c.take_first.ensures.items)
+    (c.shift.ensures (drop 1 c.args.slots.now.items)
+    (subst (λ (l : List (Option Message)). IsTold eq-value.it c.take.new.self l)
+    (ap (λ i. set c.args.slots.now.items i None) is_first ∙ first_emptied c.args.slots.now.items (omega (arith, c.requires.there.0))) taken))
+
+pub returns-then-slot-len-clause-told : goal.returns-then-slot-len-clause-told
+returns-then-slot-len-clause-told c =
+    let old = c.args.slots.now.items in
+    let slot = c.args.slot in
+    let last : slot + 1 ≡ length old = search rules in
+    let before : length old - 1 ≡ slot = omega (arith, last) in
+    let taken = c.take.ensures old c.requires.there c.requires.told in
+    subst (λ (l : List (Option Message)). IsTold eq-value.it c.take.new.self l) (sym (c.take_last.ensures.items ∙ ap (λ n. take n old) before))
+    (told_without_last eq-value.it c.take.new.self old slot last taken)

@@ -9,10 +9,10 @@ pub returns-clause-taken : goal.returns-clause-taken
 returns-clause-taken c =
     let slots = c.self.inside.slots.items in
     let message = c.args.message.now in
-    let found = c.in_ok-first.ensures.found in (
+    let first = c.in_ok-first.ensures.first in (
       refl,
       subst (λ (old : List Message). TakesFirst old message (messages_in c.remove.new.slots.items)) (ap (λ (b : Listed Message). b.items) c.self.view_is)
-          (takes_first slots c.in_ok-first.first message (messages_in c.remove.new.slots.items) found.0 found.1 c.in_ok-first.ensures.first c.remove.ensures.items),
+          (takes_first slots c.in_ok-first.first message (messages_in c.remove.new.slots.items) first.0.0 first.0.1 first.1 c.remove.ensures.items),
     )
 
 pub returns-clause-none : goal.returns-clause-none
