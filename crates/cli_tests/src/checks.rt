@@ -353,6 +353,7 @@ version 2, which `ra sim --trace` prints, there are 1 to 64 nodes and five modes
   IS   intent shared
   IX   intent exclusive
   SIX  shared and intent exclusive
+A line with `lose` in place of `deliver` says that a message is lost, and in version 2 one with `repeat` that it will come once more.
 
 It prints `valid`, and how many requests and messages there were; or `invalid`, the first line that is wrong, and why:
   Line         it is none, or stands where it may not

@@ -16,22 +16,28 @@ fn is_of_the_steps(alloc: Global, nodes: u16, settled: &Settled) -> bool {
     }
 }
 
-/// Returns whether two reports have one text.
+/// Returns whether two reports have one text, and tell of as many repeats, which no text does.
 fn is_same(alloc: Global, one: &Report, other: &Report) -> bool {
+    one.repeated == other.repeated && is_one_text(alloc, one, other)
+}
+
+/// Returns whether two reports have one text.
+fn is_one_text(alloc: Global, one: &Report, other: &Report) -> bool {
     match (report_text(alloc, one), report_text(alloc, other)) {
         (Ok(one), Ok(other)) => one.as_str() == other.as_str(),
         _ => false,
     }
 }
 
-/// Returns whether so many requests were made and messages sent, and nothing is left: none is under way, lost, waiting or queued;
-/// and the report is that of a run of the steps at so many nodes, from numbers that begin at 0.
+/// Returns whether so many requests were made and messages sent, and nothing is left: none is under way, lost, repeated, waiting or
+/// queued; and the report is that of a run of the steps at so many nodes, from numbers that begin at 0.
 pub fn is_done(alloc: Global, nodes: u16, settled: &Settled, requests: u128, sent: u128) -> bool {
     let report = &settled.report;
     report.requests == requests
         && report.sent == sent
         && report.under_way == 0
         && report.lost == 0
+        && report.repeated == 0
         && report.waiting == 0
         && report.queued == 0
         && is_of_the_steps(alloc, nodes, settled)

@@ -12,7 +12,7 @@ use Rattle.ra_node.specs.Node.{NodeState, opening_node}
 use Rattle.ra_node.specs.Events.{Event, Happening, NodeEvents}
 use Rattle.ra_world.specs.declared.step.Step.{Step}
 use Rattle.ra_world.specs.declared.step.Step.TheVariants.{Lose}
-use Rattle.ra_world.specs.Traffic.{Move, taken_in, sent_by}
+use Rattle.ra_world.specs.Traffic.{Move, taken_in, sent_by, repeated_by}
 use Rattle.ra_world.specs.Run.{IsRun, WorldRun, events_at, happened_at}
 use Rattle.ra_world.specs.Fitting.{sent_in, happened_by, WasSentBy, NamesNode, FitTogether}
 use Rattle.ra_cluster.specs.declared.event.BookKind.{BookKind}
@@ -21,7 +21,7 @@ use Rattle.ra_cluster.specs.History.{node_event, happening_of}
 use Rattle.ra_cluster.specs.Book.{BookState, HasHistory}
 use Rattle.ra_cluster.specs.Settled.{IsCluster, IsSettledOrder, Placed, WasSent, BooksFit, events_of, step_at, steps_of, all_lost, lost_among, all_received, settled_steps, start_of}
 use Rattle.ra_cluster.proofs.Merging.{number_at}
-use Rattle.ra_cluster.proofs.Projections.{projected, nothing_by_losses, all_addressed}
+use Rattle.ra_cluster.proofs.Projections.{projected, nothing_by_losses, none_repeated, nothing_repeated, all_addressed}
 use Rattle.ra_cluster.proofs.Distinct.{AreDifferent, never_twice}
 use Rattle.ra_cluster.proofs.Unsent.{all_were_sent}
 use Rattle.ra_cluster.proofs.Happened.{happened_in, happened_at_place, events_of_book, sent_of_book}
@@ -201,6 +201,7 @@ module _ (books : List BookState) (placed : List Placed) (cluster : IsCluster bo
       once =
           subst AreDifferent
           (sym (flat_map-append taken_in (steps_of placed) (losses ms) ∙ ap (λ (xs : List Message). delivered placed ++ xs) (taken_by_losses ms))) apart;
+      unrepeated = none_repeated placed ms;
     }
 
   -- ---- They are a run
@@ -208,7 +209,7 @@ module _ (books : List BookState) (placed : List Placed) (cluster : IsCluster bo
   module _ (count : IsNodeNumber n)
       (fitting : (n start : ℕ) (steps : List Step) (happened : ℕ → List Happening) → IsNodeNumber n → FitTogether n start steps happened
       → (moves : List Move) × (map (λ move. move.step) moves ≡ steps) × IsRun n start moves × ((i : ℕ) → 1 ≤ i → i ≤ n → happened_at i moves ≡ happened i))
-      (differ : (n start : ℕ) (moves : List Move) → IsNodeNumber n → IsRun n start moves → AreDifferent (sent_by moves))
+      (differ : (n start : ℕ) (moves : List Move) → IsNodeNumber n → IsRun n start moves → repeated_by moves ≡ [] → AreDifferent (sent_by moves))
       (own : (b : BookState) → HasHistory b → All (λ s. from_of s.frame.message ≡ b.me) b.sent) where
     came_once : AreDifferent (delivered placed)
     came_once = delivered_apart books placed cluster histories order came
@@ -229,7 +230,8 @@ module _ (books : List BookState) (placed : List Placed) (cluster : IsCluster bo
 
     each_different : All (λ b. AreDifferent (messages_of b)) books
     each_different k d low =
-        let here = different_at (k + 1) events_ran.0 (differ n start events_ran.0 count events_ran.2) in
+        let once : repeated_by events_ran.0 ≡ [] = nothing_repeated events_ran.0 placed [] events_ran.1 in
+        let here = different_at (k + 1) events_ran.0 (differ n start events_ran.0 count events_ran.2 once) in
         subst AreDifferent (ap sent_in (events_ran.3 (k + 1) (omega arith) (omega (arith, low))) ∙ sent_there k d low) here
 
     lost_went_out : All WentOut (all_lost books)
@@ -258,7 +260,7 @@ node_count (b ∷ books) cluster histories =
 pub books_ran :
     ((n start : ℕ) (steps : List Step) (happened : ℕ → List Happening) → IsNodeNumber n → FitTogether n start steps happened
     → (moves : List Move) × (map (λ move. move.step) moves ≡ steps) × IsRun n start moves × ((i : ℕ) → 1 ≤ i → i ≤ n → happened_at i moves ≡ happened i))
-    → ((n start : ℕ) (moves : List Move) → IsNodeNumber n → IsRun n start moves → AreDifferent (sent_by moves))
+    → ((n start : ℕ) (moves : List Move) → IsNodeNumber n → IsRun n start moves → repeated_by moves ≡ [] → AreDifferent (sent_by moves))
     → ((b : BookState) → HasHistory b → All (λ s. from_of s.frame.message ≡ b.me) b.sent)
     → (books : List BookState) (placed : List Placed) → IsCluster books → All HasHistory books → IsSettledOrder books placed → BooksFit books
     → WorldRun (length books) (start_of books) (settled_steps books placed)

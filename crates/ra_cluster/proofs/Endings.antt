@@ -104,6 +104,7 @@ pub done_by : (books : List BookState) (script : ScriptState) (grants : List Gra
     → MeetsPlan script settled.report.marks.items × IsQuietEnd settled.report → IsDone script settled
 done_by books script grants settled outcome met =
     let theorem = outcome.main_theorem in
+    let unrepeated : settled.report.repeated ≡ 0 = outcome.reports.repeated ∙ ap length outcome.settled_run.unrepeated in
     let requests = requests_are_locks _ _ outcome.moves script settled.report outcome.reports met.0 in
     record {
       moves = outcome.moves;
@@ -113,9 +114,10 @@ done_by books script grants settled outcome met =
       main_theorem = theorem;
       plan = met.0;
       ended = met.1;
+      unrepeated = unrepeated;
       none_waits = waits_for_none script.nodes script settled.report theorem met.0;
       requests = requests;
-      count = messages_are script.nodes script settled.report theorem met.1 met.0 requests;
+      count = messages_are script.nodes script settled.report theorem met.1 unrepeated met.0 requests;
     }
 
 -- the clauses of what is promised of it, one by one
@@ -140,6 +142,10 @@ module _ (script : ScriptState) (Q : ClusterError → Type 0) where
   pub ended : (r : Result Settled ClusterError) → Whole r → IfOk r (λ settled. IsQuietEnd settled.report)
   ended (Ok s) whole = whole.ended
   ended (Err e) whole = tt
+
+  pub unrepeated : (r : Result Settled ClusterError) → Whole r → IfOk r (λ settled. settled.report.repeated ≡ 0)
+  unrepeated (Ok s) whole = whole.unrepeated
+  unrepeated (Err e) whole = tt
 
   pub none_waits : (r : Result Settled ClusterError) → Whole r → IfOk r (λ settled. settled.report.waiting ≡ 0)
   none_waits (Ok s) whole = whole.none_waits

@@ -174,7 +174,8 @@ pub requests_are_locks : (n start : ℕ) (moves : List Move) (script : ScriptSta
 requests_are_locks n start moves script report reports met =
     reports.requests ∙ ap requests_in (sym reports.marks) ∙ requests_of_plan script report.marks.items met
 
-pub messages_are : (n : ℕ) (script : ScriptState) (report : Report) → MainTheorem n report → IsQuietEnd report → MeetsPlan script report.marks.items → report.requests ≡ locks_of script → report.sent ≡ 2 * (n - 1) * locks_of script
-messages_are n script report main quiet met requests =
-    main.count (record { none_lost = quiet.lost; none_under_way = quiet.under_way }) (waits_for_none n script report main met)
+pub messages_are : (n : ℕ) (script : ScriptState) (report : Report) → MainTheorem n report → IsQuietEnd report → report.repeated ≡ 0
+    → MeetsPlan script report.marks.items → report.requests ≡ locks_of script → report.sent ≡ 2 * (n - 1) * locks_of script
+messages_are n script report main quiet unrepeated met requests =
+    main.count (record { none_lost = quiet.lost; none_under_way = quiet.under_way }) unrepeated (waits_for_none n script report main met)
     ∙ ap (λ (r : ℕ). 2 * (n - 1) * r) requests

@@ -15,7 +15,7 @@ use Rattle.ra_node.specs.Events.{Event, Happening, name_of_event, NodeEvent, Nod
 use Rattle.ra_node.specs.Events.Event.{Ask as AskedFor, Leave as GivenBack, Receive as Received}
 use Rattle.ra_node.specs.Carried.{IsMark, entry_in}
 use Rattle.ra_world.specs.declared.step.Step.{Step}
-use Rattle.ra_world.specs.declared.step.Step.TheVariants.{Ask, Leave, Deliver, Lose}
+use Rattle.ra_world.specs.declared.step.Step.TheVariants.{Ask, Leave, Deliver, Lose, Repeat}
 use Rattle.ra_world.specs.Traffic.{Move, IsUnderWay}
 use Rattle.ra_world.specs.Run.{IsRun, IsFit, AreFit, events_at, happened_at, marks_of}
 use Rattle.ra_cluster.specs.declared.event.BookEvent.{BookEvent}
@@ -34,6 +34,12 @@ no_event events m = map (λ event. record { event = event; sends = m.sends; mark
 
 module _ (n start : ℕ) (fronts : (front back : List Move) → IsRun n start (front ++ back) → IsRun n start front)
     (goes : (moves : List Move) (message : Message) → IsRun n start moves → IsUnderWay moves message → (1 ≤ to_of message) × (to_of message ≤ n)) (mark : Mark) where
+  unmarked : (marks : List Mark) → marks ≡ [] → Contains marks mark → ⊥
+  unmarked marks none is = nowhere (subst (λ (ms : List Mark). Contains ms mark) none is)
+    where
+      nowhere : Contains [] mark → ⊥
+      nowhere (k, low, at) = omega (arith, low)
+
   -- the node at which a step is an event
   node_of : (front : List Move) (step : Step) (sends : List Message) (marks : List Mark) → IsRun n start front → IsFit n front step sends marks → Contains marks mark
       → (i : ℕ) × ((1 ≤ i) × (i ≤ n)) × (event : Event) × (events_at i step ≡ event ∷ [])
@@ -41,10 +47,8 @@ module _ (n start : ℕ) (fronts : (front back : List Move) → IsRun n start (f
   node_of front (Leave node client name) sends marks run fit is = (node, fit, GivenBack client name, ap (λ b. cond b (GivenBack client name ∷ []) []) (eq-eqb node node refl))
   node_of front (Deliver message) sends marks run fit is =
       let i = to_of message in (i, goes front message run fit, Received message, ap (λ b. cond b (Received message ∷ []) []) (eq-eqb i i refl))
-  node_of front (Lose message) sends marks run fit is = absurd (none (subst (λ (ms : List Mark). Contains ms mark) fit.2 is))
-    where
-      none : Contains [] mark → ⊥
-      none (k, low, at) = omega (arith, low)
+  node_of front (Lose message) sends marks run fit is = absurd (unmarked marks fit.2 is)
+  node_of front (Repeat message) sends marks run fit is = absurd (unmarked marks fit.2 is)
 
   pub made_at : (back front : List Move) → IsRun n start (front ++ back) → AreFit n front back → Contains (marks_of back) mark → (i : ℕ) × ((1 ≤ i) × (i ≤ n)) × Contains (marks_by (happened_at i back)) mark
   made_at [] front run fit is = absurd (omega (arith, is.1))

@@ -14,7 +14,7 @@ use Rattle.ra_node.specs.Node.{opening_node}
 use Rattle.ra_node.specs.Events.{Event, Happening, IsForThisNode}
 use Rattle.ra_node.specs.Events.Event.{Receive as Received}
 use Rattle.ra_world.specs.declared.step.Step.TheVariants.{Lose}
-use Rattle.ra_world.specs.Traffic.{Move, lost_in, lost_by}
+use Rattle.ra_world.specs.Traffic.{Move, lost_in, lost_by, repeated_in, repeated_by}
 use Rattle.ra_world.specs.Run.{IsRun, events_at, happened_at}
 use Rattle.ra_cluster.specs.declared.event.BookKind.{BookKind}
 use Rattle.ra_cluster.specs.declared.event.BookKind.TheVariants.{Asked, Gave, Got}
@@ -59,6 +59,33 @@ lost_in_event i (Got frame) = refl
 nothing_lost : (placed : List Placed) → flat_map lost_in (steps_of placed) ≡ []
 nothing_lost [] = refl
 nothing_lost (p ∷ placed) = (λ j. lost_in_event p.node p.event.kind j ++ nothing_lost placed j)
+
+-- ---- No step is a repeat
+
+repeated_by_steps : (moves : List Move) → repeated_by moves ≡ flat_map repeated_in (map (λ m. m.step) moves)
+repeated_by_steps [] = refl
+repeated_by_steps (m ∷ moves) = ap (λ (ms : List Message). repeated_in m.step ++ ms) (repeated_by_steps moves)
+
+repeated_in_event : (i : ℕ) (kind : BookKind) → repeated_in (step_at i kind) ≡ []
+repeated_in_event i (Asked client name mode) = refl
+repeated_in_event i (Gave client name) = refl
+repeated_in_event i (Got frame) = refl
+
+by_events : (placed : List Placed) → flat_map repeated_in (steps_of placed) ≡ []
+by_events [] = refl
+by_events (p ∷ placed) = (λ j. repeated_in_event p.node p.event.kind j ++ by_events placed j)
+
+by_losses : (ms : List Message) → flat_map repeated_in (map (λ m. Lose m) ms) ≡ []
+by_losses [] = refl
+by_losses (m ∷ ms) = by_losses ms
+
+pub none_repeated : (placed : List Placed) (ms : List Message) → flat_map repeated_in (steps_of placed ++ map (λ m. Lose m) ms) ≡ []
+none_repeated placed ms = flat_map-append repeated_in (steps_of placed) (map (λ m. Lose m) ms) ∙ (λ j. by_events placed j ++ by_losses ms j)
+
+-- so moves with these steps repeat no message
+pub nothing_repeated : (moves : List Move) (placed : List Placed) (ms : List Message) → map (λ m. m.step) moves ≡ steps_of placed ++ map (λ m. Lose m) ms
+    → repeated_by moves ≡ []
+nothing_repeated moves placed ms steps = repeated_by_steps moves ∙ ap (flat_map repeated_in) steps ∙ none_repeated placed ms
 
 -- ---- The events
 
@@ -155,4 +182,5 @@ settled books placed moves cluster histories order run steps =
           subst (IsPermutation (all_lost books))
           (sym (lost_by_steps moves ∙ ap (flat_map lost_in) steps ∙ flat_map-append lost_in (steps_of placed) (map (λ m. Lose m) (all_lost books)) ∙ (λ j. nothing_lost placed j ++ lost_by_losses (all_lost books) j)))
           (IsPermutation-refl (all_lost books));
+      unrepeated = nothing_repeated moves placed (all_lost books) steps;
     }

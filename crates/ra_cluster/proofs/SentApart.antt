@@ -7,7 +7,7 @@ use Rattle.ra_stamp.specs.Message.{to_of}
 use Rattle.ra_node.specs.Events.{Event, Happening}
 use Rattle.ra_node.specs.Events.Event.{Ask as AskedFor, Leave as GivenBack, Receive as Received}
 use Rattle.ra_world.specs.declared.step.Step.{Step}
-use Rattle.ra_world.specs.declared.step.Step.TheVariants.{Ask, Leave, Deliver, Lose}
+use Rattle.ra_world.specs.declared.step.Step.TheVariants.{Ask, Leave, Deliver, Lose, Repeat}
 use Rattle.ra_world.specs.Traffic.{Move, sent_by}
 use Rattle.ra_world.specs.Run.{events_at, happened_at}
 use Rattle.ra_world.specs.Fitting.{sent_in}
@@ -26,6 +26,7 @@ one_at_most i step = at step
     at (Leave node client name) = by_test (eqb node i) (GivenBack client name)
     at (Deliver message) = by_test (eqb (to_of message) i) (Received message)
     at (Lose message) = inl refl
+    at (Repeat message) = inl refl
 
 -- of different elements in two parts one of the first is none of the second
 across : {X : Type 0} (xs ys : List X) → AreDifferent (xs ++ ys) → (k : ℕ) (d : X) → k < length xs → All (λ y. get_or xs k d ≢ y) ys

@@ -91,6 +91,7 @@ pub record IsDone (script : ScriptState) (settled : Settled) : Type 0 where
   pub main_theorem : MainTheorem script.nodes settled.report
   pub plan : MeetsPlan script settled.report.marks.items
   pub ended : IsQuietEnd settled.report
+  pub unrepeated : settled.report.repeated ≡ 0
   pub none_waits : settled.report.waiting ≡ 0
   pub requests : settled.report.requests ≡ locks_of script
   pub count : settled.report.sent ≡ 2 * (script.nodes - 1) * locks_of script

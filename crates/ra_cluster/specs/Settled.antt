@@ -11,7 +11,7 @@ use Rattle.ra_frame.specs.declared.frame.Frame.{Frame}
 use Rattle.ra_node.specs.Node.{NodeState}
 use Rattle.ra_world.specs.declared.step.Step.{Step}
 use Rattle.ra_world.specs.declared.step.Step.TheVariants.{Ask, Leave, Deliver, Lose}
-use Rattle.ra_world.specs.Traffic.{Move, lost_by}
+use Rattle.ra_world.specs.Traffic.{Move, lost_by, repeated_by}
 use Rattle.ra_world.specs.Run.{IsRun, happened_at}
 use Rattle.ra_cluster.specs.declared.event.BookKind.{BookKind}
 use Rattle.ra_cluster.specs.declared.event.BookKind.TheVariants.{Asked, Gave, Got}
@@ -79,12 +79,13 @@ all_lost books = flat_map (λ b. lost_among b.sent) books
 abbrev pub settled_steps : List BookState → List Placed → List Step
 settled_steps books placed = steps_of placed ++ map (λ m. Lose m) (all_lost books)
 
--- A run of the cluster whose steps on each node are its book's events, in their order, and whose losses are of the message of
--- each frame that is flagged lost, each once, and of no other.
+-- A run of the cluster whose steps on each node are its book's events, in their order, whose losses are of the message of each
+-- frame that is flagged lost, each once, and of no other, and of whose steps none is a repeat.
 pub record IsSettledRun (books : List BookState) (moves : List Move) : Type 0 where
   pub run : IsRun (length books) (start_of books) moves
   pub events : All (λ b. map (λ h. h.event) (happened_at b.me moves) ≡ map (λ e. node_event e.kind) b.events) books
   pub losses : IsPermutation (all_lost books) (lost_by moves)
+  pub unrepeated : repeated_by moves ≡ []
 
 -- ---- Grants
 

@@ -60,8 +60,8 @@ impl From<Memory> for ClusterError {
 
 /// Runs a script by threads: one for each node and one for each client, whose operations it does one after the other at the
 /// client's site. Once the threads of the clients have ended, the post is closed; once those of the nodes have ended, the books
-/// settle. The numbers begin at 0. Where it is Ok, nobody waits or is queued, no message was lost or is under way, there are as many
-/// requests as locks in the script, and with N nodes 2(N-1) times as many messages.
+/// settle. The numbers begin at 0. Where it is Ok, nobody waits or is queued, no message was lost or repeated or is under way, there are
+/// as many requests as locks in the script, and with N nodes 2(N-1) times as many messages.
 ///
 /// Nothing bounds how long the threads wait. Each client takes its names in ascending order and holds none at its end, since
 /// clients that take names in different orders can wait for each other for ever.
@@ -97,6 +97,7 @@ pub fn run_cluster<R: Threads + Wait + Sync, G: Gate>(
     ensures main_theorem { IfOk result (λ settled. MainTheorem script.now.nodes settled.report) }
     ensures plan { IfOk result (λ settled. MeetsPlan script.now settled.report.marks.items) }
     ensures ended { IfOk result (λ settled. IsQuietEnd settled.report) }
+    ensures unrepeated { IfOk result (λ settled. settled.report.repeated ≡ 0) }
     // Nobody waits, each lock of the script was requested, and two messages to or from each other node were sent for each.
     ensures none_waits { IfOk result (λ settled. settled.report.waiting ≡ 0) }
     ensures requests { IfOk result (λ settled. settled.report.requests ≡ locks_of script.now) }

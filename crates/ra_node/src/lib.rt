@@ -34,9 +34,9 @@
 //!
 //! # What a host owes
 //!
-//! The network may reorder messages and lose them. A lost message can leave requests waiting for ever, and never lets two
-//! clients in together that exclude each other. Nothing is promised of a message that comes twice, is changed or is
-//! invented, nor of a node that comes back with an empty state.
+//! The network may reorder messages, lose them and bring them again. A lost message can leave requests waiting for ever, and
+//! neither it nor one that comes again ever lets two clients in together that exclude each other. Nothing is promised of a
+//! message that is changed or invented, nor of a node that comes back with an empty state.
 //!
 //! A node has no event clock: where the frames of its messages carry one, as those of `ra_frame` do, the host keeps it.
 //!

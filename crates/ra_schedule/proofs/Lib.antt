@@ -14,3 +14,4 @@ mod EnabledFlags
 mod Elsewhere
 mod LookingAgain
 mod NodesOfClients
+mod Unrepeated

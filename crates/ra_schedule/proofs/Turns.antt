@@ -7,7 +7,7 @@ use Rattle.std.proofs.lemmas.Option.{IfSome_then}
 use Rattle.ra_stamp.specs.NodeId.{IsNodeNumber}
 use Rattle.ra_stamp.specs.declared.message.Message.{Message as Sent}
 use Rattle.ra_world.specs.declared.step.Step.{Step}
-use Rattle.ra_world.specs.declared.step.Step.TheVariants.{Ask, Leave, Deliver, Lose}
+use Rattle.ra_world.specs.declared.step.Step.TheVariants.{Ask, Leave, Deliver, Lose, Repeat}
 use Rattle.ra_world.specs.Traffic.{Move, IsUnderWay}
 use Rattle.ra_world.specs.World.{WorldState, Reports}
 use Rattle.ra_world.specs.MainTheorem.{MainTheorem}
@@ -231,6 +231,7 @@ one_at_most client (Leave node leaver name) = at_most (leaver == client)
     at_most false = omega arith
 one_at_most client (Deliver message) = omega arith
 one_at_most client (Lose message) = omega arith
+one_at_most client (Repeat message) = omega arith
 
 few_steps : (client : ℕ) (moves : List Move) → steps_by client (steps_of moves) ≤ length moves
 few_steps client [] = omega arith

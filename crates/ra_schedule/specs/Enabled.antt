@@ -3,7 +3,7 @@ use Rattle.std.specs.Prelude.{◌≡◌, ◌≢◌, ◌↔◌, ℕ, ◌+◌, ◌
 use Rattle.ra_stamp.specs.declared.entry.Mark.{Mark}
 use Rattle.ra_stamp.specs.Message.{to_of}
 use Rattle.ra_world.specs.declared.step.Step.{Step}
-use Rattle.ra_world.specs.declared.step.Step.TheVariants.{Ask, Leave, Deliver, Lose}
+use Rattle.ra_world.specs.declared.step.Step.TheVariants.{Ask, Leave, Deliver, Lose, Repeat}
 use Rattle.ra_world.specs.Traffic.{Move}
 use Rattle.ra_schedule.specs.Script.{ScriptState, client_at}
 use Rattle.ra_schedule.specs.Schedule.{IsEnabled, Enters}
@@ -32,6 +32,7 @@ node_at (Ask node client name mode) = Some node
 node_at (Leave node client name) = Some node
 node_at (Deliver message) = Some (to_of message)
 node_at (Lose message) = None
+node_at (Repeat message) = None
 
 -- for each node, in the order of their numbers, its clients
 abbrev pub AreRosters : ScriptState → List (List ℕ) → Type 0

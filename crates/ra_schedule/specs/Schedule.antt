@@ -7,7 +7,7 @@ use Rattle.ra_stamp.specs.declared.entry.Mark.{Mark}
 use Rattle.ra_stamp.specs.declared.entry.Mark.TheVariants.{Requested, Entered, Left}
 use Rattle.ra_stamp.specs.declared.message.Message.{Message as Sent}
 use Rattle.ra_world.specs.declared.step.Step.{Step}
-use Rattle.ra_world.specs.declared.step.Step.TheVariants.{Ask, Leave, Deliver, Lose}
+use Rattle.ra_world.specs.declared.step.Step.TheVariants.{Ask, Leave, Deliver, Lose, Repeat}
 use Rattle.ra_world.specs.declared.report.Report.{Report}
 use Rattle.ra_world.specs.Traffic.{Move, LeavesUnderWay}
 use Rattle.ra_world.specs.Run.{IsRun, GoesOn, marks_of}
@@ -31,6 +31,7 @@ steps_in client (Ask node asker name mode) = if asker == client then 1 else 0
 steps_in client (Leave node leaver name) = if leaver == client then 1 else 0
 steps_in client (Deliver message) = 0
 steps_in client (Lose message) = 0
+steps_in client (Repeat message) = 0
 
 abbrev pub steps_by : ℕ → List Step → ℕ
 steps_by client [] = 0
@@ -42,6 +43,7 @@ Asks client (Ask node asker name mode) = asker ≡ client
 Asks client (Leave node leaver name) = ⊥
 Asks client (Deliver message) = ⊥
 Asks client (Lose message) = ⊥
+Asks client (Repeat message) = ⊥
 
 -- the mark says that the client entered
 abbrev pub Enters : ℕ → Mark → Type 0

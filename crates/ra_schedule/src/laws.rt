@@ -1,7 +1,7 @@
 //! What is true of every schedule: a function does nothing, and its contract is the law.
-ghost use Rattle.std.specs.Prelude.{◌≡◌, List};
+ghost use Rattle.std.specs.Prelude.{◌≡◌, [], List};
 ghost use Rattle.ra_stamp.specs.NodeId.{IsNodeNumber};
-ghost use Rattle.ra_world.specs.Traffic.{Move};
+ghost use Rattle.ra_world.specs.Traffic.{Move, repeated_by};
 ghost use Rattle.ra_schedule.specs.declared.choice.Policy.{Policy};
 ghost use Rattle.ra_schedule.specs.Script.{ScriptState};
 ghost use Rattle.ra_schedule.specs.Schedule.{Follows, Ends};
@@ -31,3 +31,10 @@ pub fn policies_lead_to_one_run()
 {
     schedules_rest_on_runs();
 }
+
+/// No policy repeats a message: no choice stands for that. So what a report says of runs in which nothing was repeated holds of each
+/// that `drive` and `summarize` return.
+pub fn policies_repeat_no_message()
+    ensures { (script : ScriptState) (policy : Policy) (moves : List Move) → Follows script policy moves
+        → repeated_by moves ≡ [] }
+{}

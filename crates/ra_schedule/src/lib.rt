@@ -17,5 +17,5 @@ mod script;
 pub use choice::{Choice, Choices, Policy};
 pub use driving::{Recording, Summary, drive, summarize};
 pub use error::{AddClientError, AddOpError, DriveError, NewScriptError};
-pub use laws::policies_lead_to_one_run;
+pub use laws::{policies_lead_to_one_run, policies_repeat_no_message};
 pub use script::{Op, Script};

@@ -106,7 +106,7 @@ pub fn note_step(list: &mut [Progress], step: &Step)
     match *step {
         Step::Ask { client, .. } => advance(list, client, true),
         Step::Leave { client, .. } => advance(list, client, false),
-        Step::Deliver(_) | Step::Lose(_) => {}
+        Step::Deliver(_) | Step::Lose(_) | Step::Repeat(_) => {}
     }
 }
 

@@ -80,13 +80,13 @@ pub fn members_at(rosters: &[Roster], node: Option<NodeId>) -> &[u32]
     }
 }
 
-/// Returns the node at which a step happens, or `None` where it is a loss.
+/// Returns the node at which a step happens, or `None` where it is a loss or a repeat.
 pub fn node_at(step: &Step) -> Option<NodeId>
     ensures { result ≡ node_at step.now }
 {
     match step {
         Step::Ask { node, .. } | Step::Leave { node, .. } => Some(*node),
         Step::Deliver(message) => Some(message.to()),
-        Step::Lose(_) => None,
+        Step::Lose(_) | Step::Repeat(_) => None,
     }
 }

@@ -9,7 +9,7 @@ use Rattle.ra_stamp.specs.declared.entry.Mark.TheVariants.{Requested, Entered, L
 use Rattle.ra_stamp.specs.declared.message.Message.TheVariants.{Request, Reply}
 use Rattle.ra_stamp.specs.declared.mode.Mode.{Mode}
 use Rattle.ra_stamp.specs.declared.mode.Mode.TheVariants.{Shared, Exclusive, IntentShared, IntentExclusive, SharedIntentExclusive}
-use Rattle.ra_world.specs.declared.step.Step.TheVariants.{Ask, Leave, Deliver, Lose}
+use Rattle.ra_world.specs.declared.step.Step.TheVariants.{Ask, Leave, Deliver, Lose, Repeat}
 use Rattle.ra_world.specs.Lines.{mode_word}
 use Rattle.ra_trace.specs.declared.line.Line.{Line}
 use Rattle.ra_trace.specs.declared.line.Line.TheVariants.{First, Stepped, Marked, Last}
@@ -87,6 +87,11 @@ body_is_short (Stepped (Lose (Request from to name mode seq))) h =
     (full_length from to seq name mode (node_length from h.0) (node_length to h.1) h.2 h.4) (omega arith)
 body_is_short (Stepped (Lose (Reply from to name seq))) h =
     behind_words (codes "lose reply ") (reply_tail (from, (to, (name, seq)))) 95 (reply_length from to seq name h.0 h.1 h.2 h.3) (omega arith)
+body_is_short (Stepped (Repeat (Request from to name mode seq))) (may, h) =
+    behind_words (codes "repeat request ") (full_tail (from, (to, (name, (mode, seq))))) 99
+    (full_length from to seq name mode (node_length from h.0) (node_length to h.1) h.2 h.4) (omega arith)
+body_is_short (Stepped (Repeat (Reply from to name seq))) (may, h) =
+    behind_words (codes "repeat reply ") (reply_tail (from, (to, (name, seq)))) 95 (reply_length from to seq name h.0 h.1 h.2 h.3) (omega arith)
 body_is_short (Marked (Requested entry)) h = behind_words (codes "request ") _ 99 (entry_length entry h) (omega arith)
 body_is_short (Marked (Entered entry)) h = behind_words (codes "enter ") _ 99 (entry_length entry h) (omega arith)
 body_is_short (Marked (Left entry)) h = behind_words (codes "leave ") _ 99 (entry_length entry h) (omega arith)

@@ -13,7 +13,7 @@ use Rattle.ra_stamp.specs.declared.message.Message.{Message}
 use Rattle.ra_stamp.specs.declared.message.Message.TheVariants.{Request, Reply}
 use Rattle.ra_stamp.specs.declared.mode.Mode.{Mode}
 use Rattle.ra_world.specs.declared.step.Step.{Step}
-use Rattle.ra_world.specs.declared.step.Step.TheVariants.{Ask, Leave, Deliver, Lose}
+use Rattle.ra_world.specs.declared.step.Step.TheVariants.{Ask, Leave, Deliver, Lose, Repeat}
 use Rattle.ra_world.specs.Lines.{mode_word, entry_fields}
 use Rattle.ra_trace.specs.declared.line.Line.{Line}
 use Rattle.ra_trace.specs.declared.line.Line.TheVariants.{First, Stepped, Marked, Last}
@@ -168,6 +168,12 @@ only_lose words read only =
     only_made read (HasMessage words) (λ message. Stepped (Lose message)) (HasLine (codes "lose" ++ words))
     (λ message text h. (h.0, ap (λ (bytes : List ℕ). codes "lose" ++ bytes) h.1)) only
 
+only_repeat : (words : List ℕ) (read : List ℕ → Option Message) → Only read (HasMessage words)
+    → Only (λ rest. option_map (λ message. Stepped (Repeat message)) (read rest)) (HasLine (codes "repeat" ++ words))
+only_repeat words read only =
+    only_made read (HasMessage words) (λ message. Stepped (Repeat message)) (HasLine (codes "repeat" ++ words))
+    (λ message text h. ((refl, h.0), ap (λ (bytes : List ℕ). codes "repeat" ++ bytes) h.1)) only
+
 -- each form reads lines that begin like it
 abbrev AllRead : List Form → Type 0
 AllRead [] = Unit {0}
@@ -191,12 +197,18 @@ only_forms = (
               (
                 only_lose (codes " reply ") reply_in only_reply,
                 (
-                  only_made entry_in HasEntry (λ entry. Marked (Requested entry)) (HasLine (codes "request ")) (λ entry text h. (h.0, ap (λ (bytes : List ℕ). codes "request" ++ bytes) h.1)) only_entry,
+                  only_repeat (codes " request ") request_in only_request,
                   (
-                    only_made entry_in HasEntry (λ entry. Marked (Entered entry)) (HasLine (codes "enter ")) (λ entry text h. (h.0, ap (λ (bytes : List ℕ). codes "enter" ++ bytes) h.1)) only_entry,
+                    only_repeat (codes " reply ") reply_in only_reply,
                     (
-                      only_made entry_in HasEntry (λ entry. Marked (Left entry)) (HasLine (codes "leave ")) (λ entry text h. (h.0, ap (λ (bytes : List ℕ). codes "leave" ++ bytes) h.1)) only_entry,
-                      (only_last, tt),
+                      only_made entry_in HasEntry (λ entry. Marked (Requested entry)) (HasLine (codes "request ")) (λ entry text h. (h.0, ap (λ (bytes : List ℕ). codes "request" ++ bytes) h.1)) only_entry,
+                      (
+                        only_made entry_in HasEntry (λ entry. Marked (Entered entry)) (HasLine (codes "enter ")) (λ entry text h. (h.0, ap (λ (bytes : List ℕ). codes "enter" ++ bytes) h.1)) only_entry,
+                        (
+                          only_made entry_in HasEntry (λ entry. Marked (Left entry)) (HasLine (codes "leave ")) (λ entry text h. (h.0, ap (λ (bytes : List ℕ). codes "leave" ++ bytes) h.1)) only_entry,
+                          (only_last, tt),
+                        ),
+                      ),
                     ),
                   ),
                 ),
@@ -234,6 +246,8 @@ body (Stepped (Deliver (Request from to name mode seq))) = codes "deliver reques
 body (Stepped (Deliver (Reply from to name seq))) = codes "deliver reply " ++ reply_tail (from, (to, (name, seq)))
 body (Stepped (Lose (Request from to name mode seq))) = codes "lose request " ++ full_tail (from, (to, (name, (mode, seq))))
 body (Stepped (Lose (Reply from to name seq))) = codes "lose reply " ++ reply_tail (from, (to, (name, seq)))
+body (Stepped (Repeat (Request from to name mode seq))) = codes "repeat request " ++ full_tail (from, (to, (name, (mode, seq))))
+body (Stepped (Repeat (Reply from to name seq))) = codes "repeat reply " ++ reply_tail (from, (to, (name, seq)))
 body (Marked (Requested entry)) = codes "request " ++ full_tail (entry.stamp.node, (entry.client, (entry.name, (entry.mode, entry.stamp.seq))))
 body (Marked (Entered entry)) = codes "enter " ++ full_tail (entry.stamp.node, (entry.client, (entry.name, (entry.mode, entry.stamp.seq))))
 body (Marked (Left entry)) = codes "leave " ++ full_tail (entry.stamp.node, (entry.client, (entry.name, (entry.mode, entry.stamp.seq))))
@@ -311,6 +325,22 @@ has_body (Stepped (Lose (Reply from to name seq))) h =
     record {
       text_is = sym (joined4 (codes "lose reply ") (decimal f.0) (decimal f.1.0) f.1.1.0 (decimal f.1.1.1));
       no_feed = free_words (codes "lose reply ") (reply_tail f) refl (reads_reply.no_feed f is);
+      read = rw (reads_reply.each f is);
+    }
+has_body (Stepped (Repeat (Request from to name mode seq))) (may, h) =
+    let f : ℕ × (ℕ × (List ℕ × (Mode × ℕ))) = (from, (to, (name, (mode, seq)))) in
+    let is : IsNodeNumber from × (IsNodeNumber to × (IsName name × (Unit {0} × IsSeq seq))) = (h.0, (h.1, (h.2, (tt, h.4)))) in
+    record {
+      text_is = sym (joined5 (codes "repeat request ") (decimal f.0) (decimal f.1.0) f.1.1.0 (mode_word f.1.1.1.0) (decimal f.1.1.1.1));
+      no_feed = free_words (codes "repeat request ") (full_tail f) refl (reads_request.no_feed f is);
+      read = rw (reads_request.each f is);
+    }
+has_body (Stepped (Repeat (Reply from to name seq))) (may, h) =
+    let f : ℕ × (ℕ × (List ℕ × ℕ)) = (from, (to, (name, seq))) in
+    let is : IsNodeNumber from × (IsNodeNumber to × (IsName name × IsSeq seq)) = (h.0, (h.1, (h.2, h.3))) in
+    record {
+      text_is = sym (joined4 (codes "repeat reply ") (decimal f.0) (decimal f.1.0) f.1.1.0 (decimal f.1.1.1));
+      no_feed = free_words (codes "repeat reply ") (reply_tail f) refl (reads_reply.no_feed f is);
       read = rw (reads_reply.each f is);
     }
 has_body (Marked (Requested entry)) h =

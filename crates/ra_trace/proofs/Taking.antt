@@ -9,7 +9,7 @@ use Rattle.ra_stamp.specs.declared.message.Message.{Message}
 use Rattle.ra_table.specs.Table.{LockTable, TableStep, TableRun}
 use Rattle.ra_table.specs.Laws.{AllowsMark}
 use Rattle.ra_world.specs.declared.step.Step.{Step}
-use Rattle.ra_world.specs.declared.step.Step.TheVariants.{Ask, Leave, Deliver, Lose}
+use Rattle.ra_world.specs.declared.step.Step.TheVariants.{Ask, Leave, Deliver, Lose, Repeat}
 use Rattle.ra_world.specs.declared.error.NodeRefusal.{NodeRefusal}
 use Rattle.ra_world.specs.declared.error.StepError.TheVariants.{NoNode, NotUnderWay, Node}
 use Rattle.ra_world.specs.Traffic.{Move}
@@ -24,7 +24,7 @@ use Rattle.ra_trace.specs.declared.version.Version.{Version}
 use Rattle.ra_trace.specs.Version.{IsNodeIn}
 use Rattle.ra_trace.specs.Forms.{IsReadable, BeginsReadable, has_node, allows_step, allows_mark}
 use Rattle.ra_trace.specs.TraceText.{IsLine, BeginsWith}
-use Rattle.ra_trace.specs.Verdict.{IsFront, IsFirst, IsOfClient, TakesMessage, marks_in_line, marks_in}
+use Rattle.ra_trace.specs.Verdict.{IsFront, IsFirst, IsOfClient, IsOfMessage, marks_in_line, marks_in}
 use Rattle.ra_trace.specs.Checking.{due_of, IsOpening, StandsBehind, TakesOn, Refuses, Allows}
 use Rattle.ra_trace.specs.Reading.{HasBegun}
 use Rattle.ra_trace.specs.Below.{LawsBelow}
@@ -164,9 +164,9 @@ step_is_refused checker step allowed none of_client stops =
       );
     }
 
-pub step_is_not_under_way : (checker : Checker) (step : Step) → allows_step checker.version step ≡ true → due_of checker ≡ [] → TakesMessage step
+pub step_is_not_under_way : (checker : Checker) (step : Step) → allows_step checker.version step ≡ true → due_of checker ≡ [] → IsOfMessage step
     → (GoesOn checker.world.count checker.world.start checker.world.moves step → ⊥) → Refuses checker (Stepped step) cause.NotUnderWay
-step_is_not_under_way checker step allowed none takes stops =
+step_is_not_under_way checker step allowed none of_message stops =
     record {
       wrong = λ lines text rest stands begins. (
         checker.version,
@@ -177,7 +177,7 @@ step_is_not_under_way checker step allowed none takes stops =
         step,
         rest,
         step_begins checker step text rest allowed begins,
-        takes,
+        of_message,
         stops,
       );
     }
@@ -188,18 +188,21 @@ no_node_is_of_client n start moves (Ask node client name mode) h = tt
 no_node_is_of_client n start moves (Leave node client name) h = tt
 no_node_is_of_client n start moves (Deliver message) h = h
 no_node_is_of_client n start moves (Lose message) h = h
+no_node_is_of_client n start moves (Repeat message) h = h
 
 pub node_is_of_client : (n start : ℕ) (moves : List Move) (step : Step) (why : NodeRefusal) → HasCause n start moves step (Node why) → IsOfClient step
 node_is_of_client n start moves (Ask node client name mode) why h = tt
 node_is_of_client n start moves (Leave node client name) why h = tt
 node_is_of_client n start moves (Deliver message) why h = h
 node_is_of_client n start moves (Lose message) why h = h
+node_is_of_client n start moves (Repeat message) why h = h
 
-pub not_under_way_takes : (n start : ℕ) (moves : List Move) (step : Step) → HasCause n start moves step NotUnderWay → TakesMessage step
-not_under_way_takes n start moves (Ask node client name mode) h = h
-not_under_way_takes n start moves (Leave node client name) h = h
-not_under_way_takes n start moves (Deliver message) h = tt
-not_under_way_takes n start moves (Lose message) h = tt
+pub not_under_way_is_of_message : (n start : ℕ) (moves : List Move) (step : Step) → HasCause n start moves step NotUnderWay → IsOfMessage step
+not_under_way_is_of_message n start moves (Ask node client name mode) h = h
+not_under_way_is_of_message n start moves (Leave node client name) h = h
+not_under_way_is_of_message n start moves (Deliver message) h = tt
+not_under_way_is_of_message n start moves (Lose message) h = tt
+not_under_way_is_of_message n start moves (Repeat message) h = tt
 
 -- ---- Marks
 

@@ -1,21 +1,22 @@
 -- A world, and the text of its steps so far, which grows with them.
-use Rattle.std.proofs.Common.{◌≡◌, ◌≢◌, ◌↔◌, ◌^◌, ◌<◌, inl, inr, ℕ, ◌+◌, List, [], ◌∷◌, ◌++◌, map, flat_map, length, get_or, take, All, codes, refl, sym, ap, subst, ◌∙◌, append_assoc}
+use Rattle.std.proofs.Common.{◌≡◌, ◌≢◌, ◌↔◌, ◌^◌, ◌<◌, ◌≤◌, inl, inr, ℕ, ◌+◌, List, [], ◌∷◌, ◌++◌, map, flat_map, length, get_or, take, All, codes, refl, sym, ap, subst, ◌∙◌, append_assoc}
 use Rattle.std.proofs.lemmas.Grind.{flat_map-append}
 use Rattle.std.proofs.lemmas.List.{append-nil, map-append, take_more}
 use Rattle.std.proofs.lemmas.List.Elements.{All-nil, All-cons, All-append, All-head, All-tail, All-push}
 use Rattle.ra_stamp.specs.NodeId.{IsNodeNumber}
+use Rattle.ra_stamp.specs.Message.{seq_of}
 use Rattle.ra_stamp.specs.declared.message.Message.{Message}
 use Rattle.ra_stamp.specs.declared.entry.Mark.{Mark}
 use Rattle.ra_stamp.specs.declared.entry.Mark.TheVariants.{Requested, Entered, Left}
 use Rattle.ra_world.specs.declared.step.Step.{Step}
-use Rattle.ra_world.specs.declared.step.Step.TheVariants.{Ask, Leave, Deliver, Lose}
+use Rattle.ra_world.specs.declared.step.Step.TheVariants.{Ask, Leave, Deliver, Lose, Repeat}
 use Rattle.ra_world.specs.Lines.{mark_line}
 use Rattle.ra_world.specs.Numbers.{IsNumberedMark, IsNumberedMessage}
 use Rattle.ra_world.specs.declared.error.RunError.TheVariants.{Refused}
 use Rattle.ra_world.specs.declared.error.StepError.{StepError}
 use Rattle.ra_world.specs.declared.error.StepError.TheVariants as cause
-use Rattle.ra_world.specs.Run.{IsRun, WorldRun, GoesOn, marks_of}
-use Rattle.ra_world.specs.Traffic.{Move, taken_in, taken_by}
+use Rattle.ra_world.specs.Run.{IsRun, WorldRun, GoesOn, IsFit, AreFit, marks_of}
+use Rattle.ra_world.specs.Traffic.{Move, taken_in, taken_by, repeated_in, repeated_by, IsUnderWay}
 use Rattle.ra_world.specs.World.{WorldState, HasCause, HasMade, with_move}
 use Rattle.ra_world.proofs.Refusing.{memory_or_not, no_run, refused_there}
 use Rattle.ra_trace.specs.declared.error.WriteTraceError.{WriteTraceError}
@@ -123,11 +124,12 @@ All-parts P (x ∷ xs) ys all =
     let rest = All-parts P xs ys (All-tail P x (xs ++ ys) all) in
     (All-cons P x xs (All-head P x (xs ++ ys) all) rest.0, rest.1)
 
-step_line_fits : (step : Step) → StepFits step → All IsNumberedMessage (taken_in step) → IsStepLine Two step
-step_line_fits (Ask node client name mode) fits numbered = fits
-step_line_fits (Leave node client name) fits numbered = fits
-step_line_fits (Deliver message) fits numbered = fits (All-head IsNumberedMessage message [] numbered)
-step_line_fits (Lose message) fits numbered = fits (All-head IsNumberedMessage message [] numbered)
+step_line_fits : (step : Step) → StepFits step → All IsNumberedMessage (taken_in step) → All IsNumberedMessage (repeated_in step) → IsStepLine Two step
+step_line_fits (Ask node client name mode) fits taken repeated = fits
+step_line_fits (Leave node client name) fits taken repeated = fits
+step_line_fits (Deliver message) fits taken repeated = fits (All-head IsNumberedMessage message [] taken)
+step_line_fits (Lose message) fits taken repeated = fits (All-head IsNumberedMessage message [] taken)
+step_line_fits (Repeat message) fits taken repeated = (refl, fits (All-head IsNumberedMessage message [] repeated))
 
 mark_line_fits : (mark : Mark) → MarkFits mark → IsNumberedMark mark → IsMarkLine Two mark
 mark_line_fits (Requested entry) fits number = fits number
@@ -140,25 +142,51 @@ marks_fit (mark ∷ marks) fits numbers =
     All-cons (IsLine Two) (Marked mark) (map Marked marks) (mark_line_fits mark (All-head MarkFits mark marks fits) (All-head IsNumberedMark mark marks numbers))
     (marks_fit marks (All-tail MarkFits mark marks fits) (All-tail IsNumberedMark mark marks numbers))
 
-lines_fit : (moves : List Move) → All MoveFits moves → All IsNumberedMark (marks_of moves) → All IsNumberedMessage (taken_by moves) → All (IsLine Two) (flat_map move_lines moves)
-lines_fit [] fits numbers numbered = All-nil (IsLine Two)
-lines_fit (move ∷ moves) fits numbers numbered =
+lines_fit : (moves : List Move) → All MoveFits moves → All IsNumberedMark (marks_of moves) → All IsNumberedMessage (taken_by moves)
+    → All IsNumberedMessage (repeated_by moves) → All (IsLine Two) (flat_map move_lines moves)
+lines_fit [] fits numbers taken repeated = All-nil (IsLine Two)
+lines_fit (move ∷ moves) fits numbers taken repeated =
     let here = All-head MoveFits move moves fits in
     let marks = All-parts IsNumberedMark move.marks (marks_of moves) numbers in
-    let taken = All-parts IsNumberedMessage (taken_in move.step) (taken_by moves) numbered in
+    let takes = All-parts IsNumberedMessage (taken_in move.step) (taken_by moves) taken in
+    let repeats = All-parts IsNumberedMessage (repeated_in move.step) (repeated_by moves) repeated in
     All-append (IsLine Two) (move_lines move) (flat_map move_lines moves)
-    (All-cons (IsLine Two) (Stepped move.step) (map Marked move.marks) (step_line_fits move.step here.0 taken.0) (marks_fit move.marks here.1 marks.0))
-    (lines_fit moves (All-tail MoveFits move moves fits) marks.1 taken.1)
+    (All-cons (IsLine Two) (Stepped move.step) (map Marked move.marks) (step_line_fits move.step here.0 takes.0 repeats.0) (marks_fit move.marks here.1 marks.0))
+    (lines_fit moves (All-tail MoveFits move moves fits) marks.1 takes.1 repeats.1)
+
+-- each message that a run repeats has a number, as it is under way then
+module _ (fronts : (n start : ℕ) (front back : List Move) → IsRun n start (front ++ back) → IsRun n start front)
+    (numbers : (n start : ℕ) (moves : List Move) (message : Message) → IsNodeNumber n → IsRun n start moves → IsUnderWay moves message → 1 ≤ seq_of message)
+    (n start : ℕ) (count : IsNodeNumber n) where
+  repeat_is_numbered : (front : List Move) (step : Step) (sends : List Message) (marks : List Mark) → IsRun n start front → IsFit n front step sends marks
+      → All IsNumberedMessage (repeated_in step)
+  repeat_is_numbered front (Ask node client name mode) sends marks run fit = All-nil IsNumberedMessage
+  repeat_is_numbered front (Leave node client name) sends marks run fit = All-nil IsNumberedMessage
+  repeat_is_numbered front (Deliver message) sends marks run fit = All-nil IsNumberedMessage
+  repeat_is_numbered front (Lose message) sends marks run fit = All-nil IsNumberedMessage
+  repeat_is_numbered front (Repeat message) sends marks run fit =
+      All-cons IsNumberedMessage message [] (numbers n start front message count run fit.0) (All-nil IsNumberedMessage)
+
+  repeats_behind : (back front : List Move) → IsRun n start (front ++ back) → AreFit n front back → All IsNumberedMessage (repeated_by back)
+  repeats_behind [] front run fit = All-nil IsNumberedMessage
+  repeats_behind (move ∷ back) front run fit =
+      All-append IsNumberedMessage (repeated_in move.step) (repeated_by back)
+      (repeat_is_numbered front move.step move.sends move.marks (fronts n start front (move ∷ back) run) fit.0)
+      (repeats_behind back (front ++ move ∷ []) (subst (IsRun n start) (sym (append_assoc front (move ∷ []) back)) run) fit.1)
+
+  pub repeats_are_numbered : (moves : List Move) → IsRun n start moves → All IsNumberedMessage (repeated_by moves)
+  repeats_are_numbered moves run = repeats_behind moves [] run run.each_fits
 
 pub traced_all : (n start : ℕ) (steps : List Step) (world : WorldState) (text : List ℕ) → HasTraced n start steps world text → start < 2 ^ 64
-    → All IsNumberedMark (marks_of world.moves) → All IsNumberedMessage (taken_by world.moves) → IsTrace n start world.moves (text ++ codes "end\n")
-traced_all n start steps world text traced small numbers numbered =
+    → All IsNumberedMark (marks_of world.moves) → All IsNumberedMessage (taken_by world.moves) → All IsNumberedMessage (repeated_by world.moves)
+    → IsTrace n start world.moves (text ++ codes "end\n")
+traced_all n start steps world text traced small numbers taken repeated =
     let lines = flat_map move_lines world.moves in
     record {
       count = traced.number;
       run = traced.run;
       lines = All-cons (IsLine Two) (First Two n start) (lines ++ Last ∷ []) (refl, traced.number, small)
-          (All-append (IsLine Two) lines (Last ∷ []) (lines_fit world.moves traced.fit numbers numbered) (All-cons (IsLine Two) Last [] tt (All-nil (IsLine Two))));
+          (All-append (IsLine Two) lines (Last ∷ []) (lines_fit world.moves traced.fit numbers taken repeated) (All-cons (IsLine Two) Last [] tt (All-nil (IsLine Two))));
       text_is = ap (λ (front : List ℕ). front ++ codes "end\n") traced.text_is
           ∙ (append_assoc (line_text (First Two n start)) (flat_map line_text lines) (codes "end\n")
           ∙ ap (λ (xs : List ℕ). line_text (First Two n start) ++ xs) (sym (flat_map-append line_text lines (Last ∷ []))));

@@ -7,7 +7,7 @@ use Rattle.ra_stamp.specs.declared.entry.Mark.{Mark}
 use Rattle.ra_stamp.specs.declared.entry.Mark.TheVariants.{Requested, Entered, Left}
 use Rattle.ra_world.specs.Lines.{mark_line}
 use Rattle.ra_world.specs.declared.step.Step.{Step}
-use Rattle.ra_world.specs.declared.step.Step.TheVariants.{Ask, Leave, Deliver, Lose}
+use Rattle.ra_world.specs.declared.step.Step.TheVariants.{Ask, Leave, Deliver, Lose, Repeat}
 use Rattle.ra_world.specs.Traffic.{Move, sent_by}
 use Rattle.ra_world.specs.Run.{GoesOn, marks_of}
 use Rattle.ra_world.specs.Quiet.{requests_in}
@@ -20,7 +20,7 @@ use Rattle.ra_trace.specs.declared.verdict.Verdict.TheVariants.{Valid, Invalid}
 use Rattle.ra_trace.specs.declared.version.Version.{Version}
 use Rattle.ra_trace.specs.Forms.{IsReadable, BeginsReadable}
 use Rattle.ra_trace.specs.TraceText.{IsLine, IsTraceIn, BeginsWith, step_line, line_text, trace_lines}
-use Rattle.ra_trace.specs.Verdict.{IsFront, TableGoesOn, IsOfClient, TakesMessage, IsFirst, HasNoLine, IsUndue, IsWrong, IsVerdict, marks_in}
+use Rattle.ra_trace.specs.Verdict.{IsFront, TableGoesOn, IsOfClient, IsOfMessage, IsFirst, HasNoLine, IsUndue, IsWrong, IsVerdict, marks_in}
 use Rattle.ra_trace.specs.Below.{LawsBelow}
 use Rattle.ra_trace.proofs.Lines.{begins_once, begins_in_one}
 use Rattle.ra_trace.proofs.Versions.{readable}
@@ -34,7 +34,7 @@ Blame n start moves due front (First named nodes from) why = ⊥
 Blame n start moves due front (Stepped step) why =
     ((due ≢ []) × (why ≡ cause.Marks))
     ⊎ ((due ≡ []) × (GoesOn n start moves step → ⊥) × IsOfClient step × (why ≡ cause.Refused))
-    ⊎ ((due ≡ []) × (GoesOn n start moves step → ⊥) × TakesMessage step × (why ≡ cause.NotUnderWay))
+    ⊎ ((due ≡ []) × (GoesOn n start moves step → ⊥) × IsOfMessage step × (why ≡ cause.NotUnderWay))
 Blame n start moves due front (Marked mark) why =
     ((TableGoesOn (marks_in front) mark → ⊥) × (why ≡ cause.Table))
     ⊎ (TableGoesOn (marks_in front) mark × ((others : List Mark) → due ≢ mark ∷ others) × (why ≡ cause.Marks))
@@ -104,11 +104,12 @@ blamed front text cause.NotUnderWay (version, n, start, moves, behind, step, res
       blame = inr (inr (refl, stops, takes, refl));
     })
 
-not_both : (step : Step) → IsOfClient step → TakesMessage step → ⊥
+not_both : (step : Step) → IsOfClient step → IsOfMessage step → ⊥
 not_both (Ask node client name mode) a b = b
 not_both (Leave node client name) a b = b
 not_both (Deliver message) a b = a
 not_both (Lose message) a b = a
+not_both (Repeat message) a b = a
 
 first_is_not_blamed : (n start : ℕ) (moves : List Move) (due : List Mark) (front : List Line) (line : Line) (why : Cause) → IsFirst line
     → Blame n start moves due front line why → ⊥
@@ -357,6 +358,7 @@ step_has_bytes (Ask node client name mode) rest e = cc
 step_has_bytes (Leave node client name) rest e = cc
 step_has_bytes (Deliver message) rest e = cc
 step_has_bytes (Lose message) rest e = cc
+step_has_bytes (Repeat message) rest e = cc
 
 pub line_has_bytes : (line : Line) (rest : List ℕ) → [] ≡ line_text line ++ rest → ⊥
 line_has_bytes (First version nodes start) rest e = cc

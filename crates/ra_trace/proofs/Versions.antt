@@ -7,12 +7,12 @@ use Rattle.ra_stamp.specs.declared.entry.Mark.TheVariants.{Requested, Entered, L
 use Rattle.ra_stamp.specs.declared.message.Message.{Message}
 use Rattle.ra_stamp.specs.declared.message.Message.TheVariants.{Request, Reply}
 use Rattle.ra_world.specs.declared.step.Step.{Step}
-use Rattle.ra_world.specs.declared.step.Step.TheVariants.{Ask, Leave, Deliver, Lose}
+use Rattle.ra_world.specs.declared.step.Step.TheVariants.{Ask, Leave, Deliver, Lose, Repeat}
 use Rattle.ra_trace.specs.declared.line.Line.{Line}
 use Rattle.ra_trace.specs.declared.line.Line.TheVariants.{First, Stepped, Marked, Last}
 use Rattle.ra_trace.specs.declared.version.Version.{Version}
 use Rattle.ra_trace.specs.declared.version.Version.TheVariants.{One, Two}
-use Rattle.ra_trace.specs.Version.{last_node, has_mode, IsNodeIn}
+use Rattle.ra_trace.specs.Version.{last_node, has_mode, has_repeats, IsNodeIn}
 use Rattle.ra_trace.specs.TraceText.{IsEntryLine, IsMarkLine, IsMessageLine, IsStepLine, IsLine, BeginsWith}
 use Rattle.ra_trace.specs.Forms.{IsReadable, BeginsReadable, has_node, allows_entry, allows_mark, allows_message, allows_step}
 
@@ -39,6 +39,7 @@ step_of_any version (Ask node client name mode) h = (node_of_any version node h.
 step_of_any version (Leave node client name) h = (node_of_any version node h.0, h.1, h.2)
 step_of_any version (Deliver message) h = message_of_any version message h
 step_of_any version (Lose message) h = message_of_any version message h
+step_of_any version (Repeat message) h = (refl, message_of_any version message h.1)
 
 pub readable : (version : Version) (line : Line) → IsLine version line → IsReadable line
 readable version (First named nodes start) h = (node_of_any version nodes h.1, h.2)
@@ -101,12 +102,15 @@ step_is version (Ask node client name mode) h is_so =
 step_is version (Leave node client name) h is_so = (node_is version node h.0 is_so, h.1, h.2)
 step_is version (Deliver message) h is_so = message_is version message h is_so
 step_is version (Lose message) h is_so = message_is version message h is_so
+step_is version (Repeat message) h is_so =
+    let (may, fields) = and_parts (has_repeats version) (allows_message version message) is_so in (may, message_is version message h.1 fields)
 
 step_allowed : (version : Version) (step : Step) → IsStepLine version step → allows_step version step ≡ true
 step_allowed version (Ask node client name mode) h = rw (le-leb node (last_node version) h.0.1, h.3)
 step_allowed version (Leave node client name) h = le-leb node (last_node version) h.0.1
 step_allowed version (Deliver message) h = message_allowed version message h
 step_allowed version (Lose message) h = message_allowed version message h
+step_allowed version (Repeat message) h = rw (h.0, message_allowed version message h.1)
 
 pub step_is_not : (version : Version) (step : Step) → allows_step version step ≡ false → IsStepLine version step → ⊥
 step_is_not version step not_so h = false≢true (sym not_so ∙ step_allowed version step h)

@@ -15,9 +15,9 @@ use Rattle.ra_stamp.specs.declared.entry.Mark.TheVariants.{Requested, Entered, L
 use Rattle.ra_stamp.specs.declared.message.Message.{Message}
 use Rattle.ra_stamp.specs.declared.message.Message.TheVariants.{Request, Reply}
 use Rattle.ra_world.specs.declared.step.Step.{Step}
-use Rattle.ra_world.specs.declared.step.Step.TheVariants.{Ask, Leave, Deliver, Lose}
+use Rattle.ra_world.specs.declared.step.Step.TheVariants.{Ask, Leave, Deliver, Lose, Repeat}
 use Rattle.ra_trace.specs.declared.forms.Way.{Way}
-use Rattle.ra_trace.specs.declared.forms.Way.TheVariants.{Delivered, Lost}
+use Rattle.ra_trace.specs.declared.forms.Way.TheVariants.{Delivered, Lost, Repeated}
 use Rattle.ra_trace.specs.declared.forms.Change.{Change}
 use Rattle.ra_trace.specs.declared.forms.Change.TheVariants as change
 use Rattle.ra_trace.specs.declared.forms.Kind.{Kind}
@@ -26,7 +26,7 @@ use Rattle.ra_trace.specs.declared.line.Line.{Line}
 use Rattle.ra_trace.specs.declared.line.Line.TheVariants.{First, Stepped, Marked, Last}
 use Rattle.ra_trace.specs.declared.version.Version.{Version}
 use Rattle.ra_trace.specs.declared.version.Version.TheVariants.{One, Two}
-use Rattle.ra_trace.specs.Version.{last_node, has_mode, IsNodeIn}
+use Rattle.ra_trace.specs.Version.{last_node, has_mode, has_repeats, IsNodeIn}
 use Rattle.ra_trace.specs.TraceText.{line_text, IsMarkLine, IsStepLine}
 
 -- digits, of which the first of two or more is not `0`
@@ -122,6 +122,7 @@ last_in (b ∷ text) = None
 abbrev pub sent_line : Way → Message → Line
 sent_line Delivered message = Stepped (Deliver message)
 sent_line Lost message = Stepped (Lose message)
+sent_line Repeated message = Stepped (Repeat message)
 
 abbrev pub entry_line : Change → Entry → Line
 entry_line change.Requested entry = Marked (Requested entry)
@@ -143,7 +144,7 @@ pub record Form : Type 0 where
   pub words : List ℕ
   pub read : List ℕ → Option Line
 
--- the twelve forms, no two of which begin alike
+-- the fourteen forms, no two of which begin alike
 abbrev pub forms : List Form
 forms =
     record { words = codes "trace 1 "; read = first_in One } ∷
@@ -154,6 +155,8 @@ forms =
     record { words = codes "deliver reply "; read = λ rest. option_map (λ message. Stepped (Deliver message)) (reply_in rest) } ∷
     record { words = codes "lose request "; read = λ rest. option_map (λ message. Stepped (Lose message)) (request_in rest) } ∷
     record { words = codes "lose reply "; read = λ rest. option_map (λ message. Stepped (Lose message)) (reply_in rest) } ∷
+    record { words = codes "repeat request "; read = λ rest. option_map (λ message. Stepped (Repeat message)) (request_in rest) } ∷
+    record { words = codes "repeat reply "; read = λ rest. option_map (λ message. Stepped (Repeat message)) (reply_in rest) } ∷
     record { words = codes "request "; read = λ rest. option_map (λ entry. Marked (Requested entry)) (entry_in rest) } ∷
     record { words = codes "enter "; read = λ rest. option_map (λ entry. Marked (Entered entry)) (entry_in rest) } ∷
     record { words = codes "leave "; read = λ rest. option_map (λ entry. Marked (Left entry)) (entry_in rest) } ∷
@@ -203,3 +206,4 @@ allows_step version (Ask node client name mode) = has_node version node && has_m
 allows_step version (Leave node client name) = has_node version node
 allows_step version (Deliver message) = allows_message version message
 allows_step version (Lose message) = allows_message version message
+allows_step version (Repeat message) = has_repeats version && allows_message version message

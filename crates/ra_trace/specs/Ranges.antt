@@ -7,7 +7,7 @@ use Rattle.ra_stamp.specs.declared.entry.Mark.{Mark}
 use Rattle.ra_stamp.specs.declared.entry.Mark.TheVariants.{Requested, Entered, Left}
 use Rattle.ra_stamp.specs.declared.message.Message.{Message}
 use Rattle.ra_world.specs.declared.step.Step.{Step}
-use Rattle.ra_world.specs.declared.step.Step.TheVariants.{Ask, Leave, Deliver, Lose}
+use Rattle.ra_world.specs.declared.step.Step.TheVariants.{Ask, Leave, Deliver, Lose, Repeat}
 use Rattle.ra_trace.specs.declared.version.Version.TheVariants.{Two}
 use Rattle.ra_trace.specs.TraceText.{IsEntryLine, IsMessageLine, IsStepLine}
 
@@ -27,3 +27,4 @@ StepFits (Ask node client name mode) = IsStepLine Two (Ask node client name mode
 StepFits (Leave node client name) = IsStepLine Two (Leave node client name)
 StepFits (Deliver message) = MessageFits message
 StepFits (Lose message) = MessageFits message
+StepFits (Repeat message) = MessageFits message

@@ -9,7 +9,7 @@ use Rattle.ra_stamp.specs.declared.entry.Mark.TheVariants.{Requested, Entered, L
 use Rattle.ra_stamp.specs.declared.message.Message.{Message}
 use Rattle.ra_stamp.specs.declared.message.Message.TheVariants.{Request, Reply}
 use Rattle.ra_world.specs.declared.step.Step.{Step}
-use Rattle.ra_world.specs.declared.step.Step.TheVariants.{Ask, Leave, Deliver, Lose}
+use Rattle.ra_world.specs.declared.step.Step.TheVariants.{Ask, Leave, Deliver, Lose, Repeat}
 use Rattle.ra_world.specs.Traffic.{Move}
 use Rattle.ra_world.specs.Run.{IsRun}
 use Rattle.ra_world.specs.Lines.{field, mode_word, mark_line}
@@ -17,7 +17,7 @@ use Rattle.ra_trace.specs.declared.line.Line.{Line}
 use Rattle.ra_trace.specs.declared.line.Line.TheVariants.{First, Stepped, Marked, Last}
 use Rattle.ra_trace.specs.declared.version.Version.{Version}
 use Rattle.ra_trace.specs.declared.version.Version.TheVariants.{Two}
-use Rattle.ra_trace.specs.Version.{version_word, IsNodeIn, IsModeIn}
+use Rattle.ra_trace.specs.Version.{version_word, IsNodeIn, IsModeIn, MayRepeat}
 
 -- kind, sender, receiver, name, of a REQUEST the mode, and number
 abbrev pub message_fields : Message → List ℕ
@@ -34,6 +34,7 @@ step_line (Leave node client name) =
     codes "release" ++ field (decimal node) ++ field (decimal client) ++ field name ++ codes "\n"
 step_line (Deliver message) = codes "deliver" ++ message_fields message ++ codes "\n"
 step_line (Lose message) = codes "lose" ++ message_fields message ++ codes "\n"
+step_line (Repeat message) = codes "repeat" ++ message_fields message ++ codes "\n"
 
 -- the first line says the version, how many nodes there are, and the number that each resource begins with
 abbrev pub line_text : Line → List ℕ
@@ -70,6 +71,7 @@ IsStepLine version (Ask node client name mode) = IsNodeIn version node × IsClie
 IsStepLine version (Leave node client name) = IsNodeIn version node × IsClientNumber client × IsName name
 IsStepLine version (Deliver message) = IsMessageLine version message
 IsStepLine version (Lose message) = IsMessageLine version message
+IsStepLine version (Repeat message) = MayRepeat version × IsMessageLine version message
 
 -- a line that a trace of this version may have, each of its fields in its range; the first line names the version
 abbrev pub IsLine : Version → Line → Type 0

@@ -6,7 +6,7 @@ use Rattle.ra_stamp.specs.NodeId.{IsNodeNumber}
 use Rattle.ra_stamp.specs.declared.entry.Mark.{Mark}
 use Rattle.ra_table.specs.Table.{LockTable, TableRun}
 use Rattle.ra_world.specs.declared.step.Step.{Step}
-use Rattle.ra_world.specs.declared.step.Step.TheVariants.{Ask, Leave, Deliver, Lose}
+use Rattle.ra_world.specs.declared.step.Step.TheVariants.{Ask, Leave, Deliver, Lose, Repeat}
 use Rattle.ra_world.specs.Traffic.{Move, sent_by}
 use Rattle.ra_world.specs.Run.{IsRun, GoesOn, marks_of}
 use Rattle.ra_world.specs.Quiet.{requests_in}
@@ -40,18 +40,20 @@ marks_in lines = flat_map marks_in_line lines
 abbrev pub TableGoesOn : List Mark → Mark → Type 0
 TableGoesOn marks mark = (table : LockTable) × TableRun (marks ++ mark ∷ []) table
 
--- a client's step, and a step that takes a message
+-- a step of a client, and one of a message
 abbrev pub IsOfClient : Step → Type 0
 IsOfClient (Ask node client name mode) = Unit {0}
 IsOfClient (Leave node client name) = Unit {0}
 IsOfClient (Deliver message) = ⊥
 IsOfClient (Lose message) = ⊥
+IsOfClient (Repeat message) = ⊥
 
-abbrev pub TakesMessage : Step → Type 0
-TakesMessage (Ask node client name mode) = ⊥
-TakesMessage (Leave node client name) = ⊥
-TakesMessage (Deliver message) = Unit {0}
-TakesMessage (Lose message) = Unit {0}
+abbrev pub IsOfMessage : Step → Type 0
+IsOfMessage (Ask node client name mode) = ⊥
+IsOfMessage (Leave node client name) = ⊥
+IsOfMessage (Deliver message) = Unit {0}
+IsOfMessage (Lose message) = Unit {0}
+IsOfMessage (Repeat message) = Unit {0}
 
 -- the line is the first of a trace
 abbrev pub IsFirst : Line → Type 0
@@ -98,7 +100,7 @@ IsWrong front text cause.Refused =
 IsWrong front text cause.NotUnderWay =
     (version : Version) × (n start : ℕ) × (moves : List Move) × IsFront version n start moves [] front
     × (step : Step) × (rest : List ℕ) × BeginsWith version text (Stepped step) rest
-    × TakesMessage step × (GoesOn n start moves step → ⊥)
+    × IsOfMessage step × (GoesOn n start moves step → ⊥)
 
 -- the text is the trace of a run, with so many requests and messages; or this line of it, counted from 1, is the first wrong one
 abbrev pub IsVerdict : List ℕ → Verdict → Type 0

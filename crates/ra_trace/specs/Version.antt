@@ -24,9 +24,17 @@ has_mode One IntentExclusive = false
 has_mode One SharedIntentExclusive = false
 has_mode Two mode = true
 
+-- whether a message may be repeated
+abbrev pub has_repeats : Version → Bool
+has_repeats One = false
+has_repeats Two = true
+
 -- the same as facts
 abbrev pub IsNodeIn : Version → ℕ → Type 0
 IsNodeIn version node = (1 ≤ node) × (node ≤ last_node version)
 
 abbrev pub IsModeIn : Version → Mode → Type 0
 IsModeIn version mode = IsTrue (has_mode version mode)
+
+abbrev pub MayRepeat : Version → Type 0
+MayRepeat version = IsTrue (has_repeats version)

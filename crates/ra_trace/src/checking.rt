@@ -230,11 +230,11 @@ fn check_by<R: Read, S: LineSource<R>>(
 }
 
 /// Checks the text of a trace of either version: says that it is the trace of a run, or which line is the first wrong one and why.
-/// In version 1 a node above 16 is wrong, and so is a mode other than `S` and `X`, at the line in which it stands. It goes line by
-/// line, makes each step in a world of its own and each mark in a lock table, and believes neither. The verdict is given at the
-/// first wrong line, and nothing behind that line is read: no byte behind its line feed, none behind its 128th byte, since each
-/// line is shorter, and where something stands behind the last line, one byte of it. Of the text it keeps no more than the present
-/// line. It reads at most `limit + 1` bytes, each by a read of its own, so that a reader with a buffer is best; a byte past the
+/// In version 1 a node above 16 is wrong, and so is a mode other than `S` and `X`, and a repeat, at the line in which it stands. It
+/// goes line by line, makes each step in a world of its own and each mark in a lock table, and believes neither. The verdict is given
+/// at the first wrong line, and nothing behind that line is read: no byte behind its line feed, none behind its 128th byte, since
+/// each line is shorter, and where something stands behind the last line, one byte of it. Of the text it keeps no more than the
+/// present line. It reads at most `limit + 1` bytes, each by a read of its own, so that a reader with a buffer is best; a byte past the
 /// limit is not looked at. No read that failed is tried again. The cost is linear in what is read, beside that of the steps and the
 /// marks, as `World::step` and `Table` say; to read a line takes no memory.
 ///

@@ -198,6 +198,7 @@ fn last_of(text: &[u8]) -> Option<Line>
 enum Way {
     Delivered,
     Lost,
+    Repeated,
 }
 
 impl Way {
@@ -208,6 +209,7 @@ impl Way {
         match self {
             Way::Delivered => Line::Stepped(Step::Deliver(message)),
             Way::Lost => Line::Stepped(Step::Lose(message)),
+            Way::Repeated => Line::Stepped(Step::Repeat(message)),
         }
     }
 }
@@ -287,7 +289,7 @@ impl Kind {
 }
 
 /// The forms of lines, no two of which begin alike: how each begins, and what it is.
-const FORMS: [(&[u8], Kind); 12] = [
+const FORMS: [(&[u8], Kind); 14] = [
     (b"trace 1 ", Kind::First(Version::One)),
     (b"trace 2 ", Kind::First(Version::Two)),
     (b"ask ", Kind::Ask),
@@ -296,6 +298,8 @@ const FORMS: [(&[u8], Kind); 12] = [
     (b"deliver reply ", Kind::Reply(Way::Delivered)),
     (b"lose request ", Kind::Request(Way::Lost)),
     (b"lose reply ", Kind::Reply(Way::Lost)),
+    (b"repeat request ", Kind::Request(Way::Repeated)),
+    (b"repeat reply ", Kind::Reply(Way::Repeated)),
     (b"request ", Kind::Mark(Change::Requested)),
     (b"enter ", Kind::Mark(Change::Entered)),
     (b"leave ", Kind::Mark(Change::Left)),

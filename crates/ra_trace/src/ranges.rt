@@ -110,5 +110,6 @@ pub fn step_fits(step: &Step)
         }
         Step::Deliver(message) => message_fits(message),
         Step::Lose(message) => message_fits(message),
+        Step::Repeat(message) => message_fits(message),
     }
 }

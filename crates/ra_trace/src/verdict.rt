@@ -10,7 +10,7 @@ pub enum Cause {
     /// The world refuses an ask or a release.
     #[error("Refused")]
     Refused,
-    /// A message that is delivered or lost is not under way.
+    /// A message that is delivered, lost or repeated is not under way.
     #[error("NotUnderWay")]
     NotUnderWay,
     /// It is not the mark that comes next, or a mark of the step before has not come.
@@ -28,7 +28,7 @@ pub enum Verdict {
     Valid {
         /// How many requests were made.
         requests: u128,
-        /// How many messages were sent.
+        /// How many messages were sent, copies not counted.
         messages: u128,
     },
     /// A line is wrong, the first one that is.

@@ -9,9 +9,9 @@ use ra_world::Step;
 /// A version of the form of traces. Each is read, and the last one is written.
 #[derive(Clone, Copy)]
 pub enum Version {
-    /// Nodes 1 to 16, and the modes `S` and `X`.
+    /// Nodes 1 to 16, the modes `S` and `X`, and no repeats.
     One,
-    /// Nodes 1 to 64, and all modes.
+    /// Nodes 1 to 64, all modes, and repeats.
     Two,
 }
 
@@ -39,6 +39,16 @@ impl Version {
     {
         match self {
             Version::One => matches!(mode, Mode::Shared | Mode::Exclusive),
+            Version::Two => true,
+        }
+    }
+
+    /// Returns whether a message may be repeated.
+    fn has_repeats(self) -> bool
+        ensures { result ≡ spec.has_repeats self }
+    {
+        match self {
+            Version::One => false,
             Version::Two => true,
         }
     }
@@ -73,7 +83,7 @@ impl Version {
         }
     }
 
-    /// Returns whether the fields of a step are in the ranges of this version. It does not allocate.
+    /// Returns whether this version has such a step, with its fields in their ranges. It does not allocate.
     pub fn allows_step(self, step: &Step) -> bool
         ensures { result ≡ allows_step self step.now }
     {
@@ -82,6 +92,7 @@ impl Version {
             Step::Leave { node, .. } => self.has_node(*node),
             Step::Deliver(message) => self.allows_message(message),
             Step::Lose(message) => self.allows_message(message),
+            Step::Repeat(message) => self.has_repeats() && self.allows_message(message),
         }
     }
 }

@@ -19,8 +19,8 @@ use crate::version::Version;
 use ra_stamp::{Marks, Memory, Message, Name, NodeId};
 use ra_world::{
     NewError, RunError, Step, StepError, Steps, World, fronts_of_runs_are_runs,
-    marks_of_runs_are_numbered, mode_word, push_field, push_mark_line, push_number, text_of,
-    write_out,
+    marks_of_runs_are_numbered, messages_under_way_are_between_nodes, mode_word, push_field,
+    push_mark_line, push_number, text_of, write_out,
 };
 use std::alloc::Global;
 use std::io::Write;
@@ -99,7 +99,7 @@ fn push_asker(
 }
 
 /// Adds a word and a message.
-fn push_taken(text: &mut String, word: &str, message: &Message) -> Result<(), Memory>
+fn push_sent(text: &mut String, word: &str, message: &Message) -> Result<(), Memory>
     ensures { OnOk result (string_bytes text.new ≡ string_bytes text.old ++ word.now ++ spec.message_fields message.now) }
 {
     text.push_str(word)?;
@@ -121,8 +121,9 @@ fn push_step(text: &mut String, step: &Step) -> Result<(), Memory>
             push_field(text, mode_word(*mode))
         }
         Step::Leave { node, client, name } => push_asker(text, "release", *node, *client, name),
-        Step::Deliver(message) => push_taken(text, "deliver", message),
-        Step::Lose(message) => push_taken(text, "lose", message),
+        Step::Deliver(message) => push_sent(text, "deliver", message),
+        Step::Lose(message) => push_sent(text, "lose", message),
+        Step::Repeat(message) => push_sent(text, "repeat", message),
     }
 }
 
@@ -256,6 +257,8 @@ fn trace_run(
         → Written nodes start steps.now.items (string_bytes text.new) result }
 {
     marks_of_runs_are_numbered();
+    fronts_of_runs_are_runs();
+    messages_under_way_are_between_nodes();
     push_first_line(text, nodes, start)?;
     trace_steps(alloc, text, world, steps)?;
     text.push_str("end\n")?;

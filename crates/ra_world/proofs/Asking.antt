@@ -15,8 +15,8 @@ use Rattle.ra_automaton.specs.declared.phase.Phase.TheVariants.{Idle, Waiting, I
 use Rattle.ra_automaton.specs.State.{State}
 use Rattle.ra_automaton.specs.Steps.{others_of, Awaits, OwnGoesFirst, RequestStep, LeaveStep}
 use Rattle.ra_world.proofs.Dialogs.{belongs, between, reply_for, requests_to_one, requests_of_others, replies_to_one, replies_of_others}
-use Rattle.ra_automaton.proofs.Consistent.{other_is_asked}
-use Rattle.ra_world.proofs.Protocol.{IsNode, HasOwn, LetsPass, IsSilent, Dialog, IsPlaced, Protocol, Changes, changed}
+use Rattle.ra_world.proofs.Protocol.{IsNode, LetsPass, IsSilent, Dialog, IsPlaced, Protocol, Changes, changed}
+use Rattle.ra_world.proofs.Stepping.{idle_has_none, requests_are, all_asked, passes_after_request, replies_are, idle_after_leave, none_deferred, passes_after_leave}
 
 -- ---- Messages that are put under way
 
@@ -59,35 +59,13 @@ module _ {Lossy : Type 0} (n : ℕ) (r : List ℕ) (s s' : ℕ → State) (bag :
     here = old.each p within
 
     sends_are : sends ≡ map (λ o. Request p o r mode seq) (others_of p n)
-    sends_are = step.sends_are ∙ (λ i. map (λ o. Request (here.me_is i) o (here.name_is i) mode seq) (others_of (here.me_is i) (here.nodes_is i)))
+    sends_are = requests_are n r p (s p) new here within mode sends entered step
 
     asks_all : (x : ℕ) → IsNode n x → x ≢ p → Awaits new x seq mode × (new.deferred ≡ (s p).deferred) × (new.me ≡ (s p).me) × (new.highest ≡ seq)
-    asks_all x at apart = elim step.begins [
-      | inl asks ↦ (
-        record {
-          waits = ap (λ (t : State). t.phase) asks.new_is;
-          awaited = subst (λ (t : State). IsTrue (set.contains t.awaited x)) (sym asks.new_is)
-              (other_is_asked (s p).me (s p).nodes x at.0 (subst (λ (k : ℕ). x ≤ k) (sym here.nodes_is) at.1) (λ e. apart (e ∙ here.me_is)));
-        },
-        ap (λ (t : State). t.deferred) asks.new_is,
-        ap (λ (t : State). t.me) asks.new_is,
-        ap (λ (t : State). t.highest) asks.new_is,
-      )
-      | inr alone ↦ absurd (only_one x p n at within (sym here.nodes_is ∙ alone.alone) apart)
-    ]
-      where
-        only_one : (x p n : ℕ) → IsNode n x → IsNode n p → n ≡ 1 → x ≢ p → ⊥
-        only_one x p n at within one apart = apart (omega (arith, at.0, at.1, within.0, within.1, one))
+    asks_all = all_asked n r p (s p) new here within mode sends entered step
 
-    -- the own request that begins is later than all that were met
     lets_pass : (x k : ℕ) (m : Mode) → LetsPass (s p) x k m → LetsPass new x k m
-    lets_pass x k m pass = elim step.begins [
-      | inl asks ↦ subst (λ (t : State). LetsPass t x k m) (sym asks.new_is) (record { reached = omega (arith, pass.reached); not_first = λ first. not_yet (s p).highest (s p).me x k pass.reached first.earlier })
-      | inr alone ↦ subst (λ (t : State). LetsPass t x k m) (sym alone.new_is) (record { reached = omega (arith, pass.reached); not_first = λ first. not_yet (s p).highest (s p).me x k pass.reached first.earlier })
-    ]
-      where
-        not_yet : (highest me other k : ℕ) → k ≤ highest → IsEarlier (record { seq = highest + 1; node = me }) (record { seq = k; node = other }) → ⊥
-        not_yet highest me other k low earlier = elim earlier [ inl below ↦ omega (arith, low, below) | inr same ↦ omega (arith, low, same.0) ]
+    lets_pass = passes_after_request n r p (s p) new here within mode sends entered step
 
     mine : (x : ℕ) → IsNode n x → x ≢ p → Dialog Lossy r p x (s p) (s x) (between r p x bag) → Dialog Lossy r p x new (s x) (between r p x (bag ++ sends))
     mine x at apart d =
@@ -135,26 +113,19 @@ module _ {Lossy : Type 0} (n : ℕ) (r : List ℕ) (s s' : ℕ → State) (bag :
     abbrev held : IsPlaced n r p (s p)
     held = old.each p within
 
-    replies_are : sends ≡ map (λ e. Reply p e.0 r e.1) (finmap.entries (s p).deferred)
-    replies_are = step.sends_are ∙ (λ i. map (λ e. Reply (held.me_is i) e.0 (held.name_is i) e.1) (finmap.entries (s p).deferred))
+    sent : sends ≡ map (λ e. Reply p e.0 r e.1) (finmap.entries (s p).deferred)
+    sent = replies_are n r p (s p) new held sends step
 
-    idle_now : new.phase ≡ Idle
-    idle_now = ap (λ (t : State). t.phase) step.new_is
-
-    none_deferred : (x : ℕ) → finmap.get new.deferred x ≡ None
-    none_deferred x = ap (λ (t : State). finmap.get t.deferred x) step.new_is ∙ finmap.get-empty nat_cmp x
-
-    nothing_first : (phase : Phase) (me x k : ℕ) (m : Mode) → phase ≡ Idle → OwnGoesFirst phase me x k m → ⊥
-    nothing_first phase me x k m idle first = subst (λ (q : Phase). OwnGoesFirst q me x k m) idle first
+    none_left : (x : ℕ) → finmap.get new.deferred x ≡ None
+    none_left = none_deferred n r p (s p) new held sends step
 
     passes_now : (x k : ℕ) (m : Mode) → k ≤ (s p).highest → LetsPass new x k m
-    passes_now x k m low =
-        record { reached = subst (λ (t : State). k ≤ t.highest) (sym step.new_is) low; not_first = nothing_first new.phase new.me x k m idle_now }
+    passes_now = passes_after_leave n r p (s p) new held sends step
 
     leave_mine : (x : ℕ) → IsNode n x → x ≢ p → Dialog Lossy r p x (s p) (s x) (between r p x bag) → Dialog Lossy r p x new (s x) (between r p x (bag ++ sends))
     leave_mine x at apart d =
         let silent = silent_of r p x (s p) (s x) (between r p x bag) (λ k m. inside_awaits_nobody (s p) x k step.seq m step.mode step.inside) d in
-        let same = none_between r p x bag sends (ap (between r p x) replies_are ∙ replies_of_others r r p x p (finmap.entries (s p).deferred) (λ e _. apart e)) in
+        let same = none_between r p x bag sends (ap (between r p x) sent ∙ replies_of_others r r p x p (finmap.entries (s p).deferred) (λ e _. apart e)) in
         inl (record {
           none = same ∙ silent.none;
           not_deferred = silent.not_deferred;
@@ -164,12 +135,12 @@ module _ {Lossy : Type 0} (n : ℕ) (r : List ℕ) (s s' : ℕ → State) (bag :
     leave_theirs : (x : ℕ) → IsNode n x → x ≢ p → Dialog Lossy r x p (s x) (s p) (between r x p bag) → Dialog Lossy r x p (s x) new (between r x p (bag ++ sends))
     leave_theirs x at apart d =
         let go : (o : Option ℕ) → finmap.get (s p).deferred x ≡ o → between r x p (bag ++ sends) ≡ between r x p bag ++ reply_for r p x o =
-        λ o e. more_between r x p bag sends (reply_for r p x o) (ap (between r x p) replies_are ∙ replies_to_one r p x (s p).deferred ∙ ap (reply_for r p x) e) in
+        λ o e. more_between r x p bag sends (reply_for r p x o) (ap (between r x p) sent ∙ replies_to_one r p x (s p).deferred ∙ ap (reply_for r p x) e) in
         let nothing : finmap.get (s p).deferred x ≡ None → between r x p (bag ++ sends) ≡ between r x p bag = λ e. go None e ∙ append-nil (between r x p bag) in
         elim d [
-          | inl silent ↦ inl (record { none = nothing silent.not_deferred ∙ silent.none; not_deferred = none_deferred x; unheard = silent.unheard })
+          | inl silent ↦ inl (record { none = nothing silent.not_deferred ∙ silent.none; not_deferred = none_left x; unheard = silent.unheard })
           | inr y ↦ elim y [
-            | inl asking ↦ inr (inl (record { seq = asking.seq; mode = asking.mode; awaits = asking.awaits; asks = nothing asking.not_deferred ∙ asking.asks; not_deferred = none_deferred x }))
+            | inl asking ↦ inr (inl (record { seq = asking.seq; mode = asking.mode; awaits = asking.awaits; asks = nothing asking.not_deferred ∙ asking.asks; not_deferred = none_left x }))
             | inr z ↦ elim z [
               | inl deferred ↦
                   inr (inr (inr (record {
@@ -177,7 +148,7 @@ module _ {Lossy : Type 0} (n : ℕ) (r : List ℕ) (s s' : ℕ → State) (bag :
                     mode = deferred.mode;
                     awaits = deferred.awaits;
                     answers = go (Some deferred.seq) deferred.deferred ∙ ap (λ (ms : List Message). ms ++ Reply p x r deferred.seq ∷ []) deferred.none;
-                    not_deferred = none_deferred x;
+                    not_deferred = none_left x;
                     passes = passes_now x deferred.seq deferred.mode (held.consistent.deferred_numbers x deferred.seq deferred.deferred).1;
                   })))
               | inr answered ↦
@@ -186,7 +157,7 @@ module _ {Lossy : Type 0} (n : ℕ) (r : List ℕ) (s s' : ℕ → State) (bag :
                     mode = answered.mode;
                     awaits = answered.awaits;
                     answers = nothing answered.not_deferred ∙ answered.answers;
-                    not_deferred = none_deferred x;
+                    not_deferred = none_left x;
                     passes = passes_now x answered.seq answered.mode answered.passes.reached;
                   })))
             ]
@@ -196,10 +167,7 @@ module _ {Lossy : Type 0} (n : ℕ) (r : List ℕ) (s s' : ℕ → State) (bag :
     pub leave_kept : Protocol Lossy n r s' (bag ++ sends)
     leave_kept =
         changed n r s s' bag (bag ++ sends) p new old changes placed leave_mine leave_theirs
-        (λ i j i_apart j_apart. none_between r i j bag sends (ap (between r i j) replies_are ∙ replies_of_others r r i j p (finmap.entries (s p).deferred) (λ e _. j_apart e)))
-        (λ x k m at apart own free. absurd (nothing_own new.phase k m idle_now own))
+        (λ i j i_apart j_apart. none_between r i j bag sends (ap (between r i j) sent ∙ replies_of_others r r i j p (finmap.entries (s p).deferred) (λ e _. j_apart e)))
+        (λ x k m at apart own free. absurd (idle_has_none new.phase k m (idle_after_leave n r p (s p) new held sends step) own))
         (λ x k m pass. passes_now x k m pass.reached)
         within
-      where
-        nothing_own : (phase : Phase) (k : ℕ) (m : Mode) → phase ≡ Idle → HasOwn phase k m → ⊥
-        nothing_own phase k m idle own = subst (λ (q : Phase). HasOwn q k m) idle own

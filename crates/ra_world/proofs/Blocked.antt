@@ -19,8 +19,8 @@ use Rattle.ra_node.specs.Node.{NodeState, resource_at}
 use Rattle.ra_table.specs.Table.{LockTable}
 use Rattle.ra_world.specs.Quiet.{IsBlocked}
 use Rattle.ra_automaton.proofs.Apart.{tied}
-use Rattle.ra_world.proofs.Lists.{none_some}
-use Rattle.ra_world.proofs.Protocol.{seq_in, mode_in, IsNode, IsDeferred}
+use Rattle.ra_world.proofs.Protocol.{IsNode}
+use Rattle.ra_world.proofs.Exchanges.{Holds}
 use Rattle.ra_world.proofs.Tables.{contains_of, of_contains}
 use Rattle.ra_world.proofs.Marking.{waiting_of, granted_of, is_waiting}
 use Rattle.ra_world.proofs.Uses.{use_waits}
@@ -51,7 +51,7 @@ precedes_in s (Waiting k m) (Some c) other seq mode fits first = record { entry 
 precedes_in s (Inside k m) None other seq mode fits first = absurd (false≢true fits)
 precedes_in s (Inside k m) (Some c) other seq mode fits first = record { entry = entry_of s.me s.name k c m; stands = inr refl; node_is = refl; name_is = refl; first = first }
 
-module _ (n : ℕ) (nodes : ℕ → NodeState) (table : LockTable) (holds : Invariant ⊥ n nodes [] table) (e : Entry) (waits : Contains table.waiting e) where
+module _ (Copied : Type 0) (start n : ℕ) (nodes : ℕ → NodeState) (table : LockTable) (holds : Invariant ⊥ Copied start n nodes [] table) (e : Entry) (waits : Contains table.waiting e) where
   abbrev i : ℕ
   i = e.stamp.node
 
@@ -73,7 +73,7 @@ module _ (n : ℕ) (nodes : ℕ → NodeState) (table : LockTable) (holds : Inva
   -- somebody is awaited
   awaited : (j : ℕ) × IsTrue (set.contains (s i).awaited j)
   awaited =
-      let consistent = ((holds.protocol r).each i within).consistent in
+      let consistent = ((holds.protocol r).exchanges.each i within).consistent in
       has_member (s i).awaited (consistent.awaits (subst IsWaiting (sym phase_is) tt))
 
   abbrev j : ℕ
@@ -81,22 +81,22 @@ module _ (n : ℕ) (nodes : ℕ → NodeState) (table : LockTable) (holds : Inva
 
   j_within : IsNode n j
   j_within =
-      let placed = (holds.protocol r).each i within in
+      let placed = (holds.protocol r).exchanges.each i within in
       let other = placed.consistent.awaited_others j awaited.1 in
       (other.first, subst (λ (k : ℕ). j ≤ k) placed.nodes_is other.last)
 
   apart : i ≢ j
   apart is =
-      let placed = (holds.protocol r).each i within in
+      let placed = (holds.protocol r).exchanges.each i within in
       (placed.consistent.awaited_others j awaited.1).other (sym is ∙ sym placed.me_is)
 
   -- so its REPLY is deferred there
-  deferred : IsDeferred i j (s i) (s j) []
-  deferred = elim ((holds.protocol r).dialog i j within j_within apart) [
-    | inl silent ↦ absurd (silent.unheard awaited.1)
+  deferred : Holds (s j) i e.stamp.seq e.mode
+  deferred = elim (((holds.protocol r).exchanges.dialog i j within j_within apart).pending e.stamp.seq e.mode (record { waits = phase_is; awaited = awaited.1 })) [
+    | inl lost ↦ absurd lost
     | inr x ↦ elim x [
-      | inl asking ↦ absurd (none_some asking.asks)
-      | inr y ↦ elim y [ inl held ↦ held | inr answered ↦ absurd (none_some answered.answers) ]
+      | inl asking ↦ absurd (omega (arith, asking.1))
+      | inr y ↦ elim y [ inl held ↦ held | inr answered ↦ absurd (omega (arith, answered.1)) ]
     ]
   ]
 
@@ -104,15 +104,12 @@ module _ (n : ℕ) (nodes : ℕ → NodeState) (table : LockTable) (holds : Inva
   precedes : Precedes (s j) (uses nodes j r) i e.stamp.seq e.mode
   precedes =
       let here = (holds.each j j_within).consistent.each r in
-      let same : Waiting deferred.seq deferred.mode ≡ Waiting e.stamp.seq e.mode = sym deferred.awaits.waits ∙ phase_is in
-      let first = subst (λ (k : ℕ). OwnGoesFirst (s j).phase (s j).me i k deferred.mode) (ap (seq_in 0) same) deferred.own_first in
-      precedes_in (s j) (s j).phase (resource_at (nodes j) r).client i e.stamp.seq e.mode here.client_fits
-      (subst (λ (m : Mode). OwnGoesFirst (s j).phase (s j).me i e.stamp.seq m) (ap (mode_in e.mode) same) first)
+      precedes_in (s j) (s j).phase (resource_at (nodes j) r).client i e.stamp.seq e.mode here.client_fits deferred.own_first
 
   pub blocked : IsBlocked table e
   blocked =
       let x = precedes.entry in
-      let placed = (holds.protocol r).each j j_within in
+      let placed = (holds.protocol r).exchanges.each j j_within in
       let named : x.name ≡ r = precedes.name_is ∙ placed.name_is in
       elim precedes.stands [
         | inl there ↦

@@ -10,7 +10,7 @@ use Rattle.ra_node.specs.Turns.{MayAsk}
 use Rattle.ra_node.specs.Node.{NodeState, opening_node, resource_at}
 use Rattle.ra_node.specs.Events.{Happening, NodeEvents}
 use Rattle.ra_world.specs.declared.step.Step.{Step}
-use Rattle.ra_world.specs.declared.step.Step.TheVariants.{Ask, Leave, Deliver, Lose}
+use Rattle.ra_world.specs.declared.step.Step.TheVariants.{Ask, Leave, Deliver, Lose, Repeat}
 use Rattle.ra_world.specs.declared.error.NodeRefusal.TheVariants.{Busy, Exhausted, NotHeld}
 use Rattle.ra_world.specs.declared.error.StepError.{StepError}
 use Rattle.ra_world.specs.declared.error.StepError.TheVariants.{NoNode, NotUnderWay, Node, Memory}
@@ -33,6 +33,8 @@ module _
     → (message : Message) → GoesOn n start moves (Deliver message) ↔ IsUnderWay moves message)
     (may_lose : (n start : ℕ) (moves : List Move) → IsNodeNumber n → IsRun n start moves
     → (message : Message) → GoesOn n start moves (Lose message) ↔ IsUnderWay moves message)
+    (may_repeat : (n start : ℕ) (moves : List Move) → IsNodeNumber n → IsRun n start moves
+    → (message : Message) → GoesOn n start moves (Repeat message) ↔ IsUnderWay moves message)
   where
     pub no_step : (n start : ℕ) (moves : List Move) (step : Step) (cause : StepError) → IsNodeNumber n → IsRun n start moves
         → HasCause n start moves step cause → GoesOn n start moves step → ⊥
@@ -65,6 +67,10 @@ module _
     no_step n start moves (Lose message) (Node which) count run why on = absurd why
     no_step n start moves (Lose message) NotUnderWay count run why on = why ((may_lose n start moves count run message).0 on)
     no_step n start moves (Lose message) Memory count run why on = absurd why
+    no_step n start moves (Repeat message) NoNode count run why on = absurd why
+    no_step n start moves (Repeat message) (Node which) count run why on = absurd why
+    no_step n start moves (Repeat message) NotUnderWay count run why on = why ((may_repeat n start moves count run message).0 on)
+    no_step n start moves (Repeat message) Memory count run why on = absurd why
 
 module _
     (determined : (old a b : NodeState) (happened : List Happening) → NodeEvents old happened a → NodeEvents old happened b → a ≡ b)
@@ -135,6 +141,13 @@ module _
     one_loss n start moves message NotUnderWay p = refl
     one_loss n start moves message Memory p = absurd p
 
+    one_copy : (n start : ℕ) (moves : List Move) (message : Message) (a : StepError)
+        → HasCause n start moves (Repeat message) a → a ≡ NotUnderWay
+    one_copy n start moves message NoNode p = absurd p
+    one_copy n start moves message (Node why) p = absurd p
+    one_copy n start moves message NotUnderWay p = refl
+    one_copy n start moves message Memory p = absurd p
+
     pub one_cause : (n start : ℕ) (moves : List Move) (step : Step) (a b : StepError)
         → HasCause n start moves step a → HasCause n start moves step b → a ≡ b
     one_cause n start moves (Ask node client name mode) a b p q = one_ask n start moves node client name mode a b p q
@@ -146,4 +159,8 @@ module _
     one_cause n start moves (Lose message) a b p q =
         let x = one_loss n start moves message a p in
         let y = one_loss n start moves message b q in
+        cc
+    one_cause n start moves (Repeat message) a b p q =
+        let x = one_copy n start moves message a p in
+        let y = one_copy n start moves message b q in
         cc

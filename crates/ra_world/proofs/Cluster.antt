@@ -1,7 +1,7 @@
 -- What holds of a cluster at any moment, and that each event of a node keeps it.
-use Rattle.std.proofs.Common.{◌≡◌, ◌≢◌, ℕ, ◌≤◌, Bool, true, false, cond, List, ◌∷◌, ◌++◌, All, refl, sym, ap, ◌∙◌, subst, append_assoc, arith, nat_eq, inl, inr}
+use Rattle.std.proofs.Common.{◌≡◌, ◌≢◌, ℕ, ◌≤◌, Bool, true, false, cond, List, [], ◌∷◌, ◌++◌, All, Contains, refl, sym, ap, ◌∙◌, subst, append_assoc, arith, nat_eq, inl, inr}
 use Rattle.std.proofs.lemmas.List.{append-nil}
-use Rattle.std.proofs.lemmas.List.Elements.{All-append, All-weaker}
+use Rattle.std.proofs.lemmas.List.Elements.{All-append, All-weaker, All-push, All-contains}
 use Rattle.std.proofs.lemmas.Bool.{eq-eqb, ne_eqb}
 use Rattle.ra_stamp.specs.declared.mode.Mode.{Mode}
 use Rattle.ra_stamp.specs.declared.message.Message.{Message}
@@ -25,9 +25,9 @@ use Rattle.ra_automaton.proofs.Apart.{cases_same}
 use Rattle.ra_node.proofs.Lookups.{same_or_apart}
 use Rattle.ra_world.proofs.Lists.{filter_left, All-taken}
 use Rattle.ra_world.proofs.Dialogs.{belongs, between, IsOf, belongs_not, between_none}
-use Rattle.ra_world.proofs.Protocol.{IsNode, IsPlaced, Protocol, Changes}
-use Rattle.ra_world.proofs.Asking.{none_between, request_kept, leave_kept}
-use Rattle.ra_world.proofs.Receiving.{request_taken, reply_taken, message_lost, undisturbed}
+use Rattle.ra_world.proofs.Protocol.{IsNode, IsPlaced, Changes}
+use Rattle.ra_world.proofs.Asking.{none_between}
+use Rattle.ra_world.proofs.Conduct.{Conduct, request_conduct, leave_conduct, request_taken_conduct, reply_taken_conduct, lost_conduct, copied_conduct, undisturbed_conduct}
 use Rattle.ra_world.proofs.Marking.{Tabled, Alters}
 use Rattle.ra_world.proofs.Marks.{MayBeGranted, IsOwn, same_others, use_after, run_request, run_entered, run_left, run_handed, run_nothing}
 use Rattle.ra_world.proofs.Uses.{IsRequestOf, use_granted, use_waits, may_be_granted}
@@ -52,9 +52,9 @@ pub record IsTraffic (n : ℕ) (m : Message) : Type 0 where
   pub from : IsOtherNode (to_of m) n (from_of m)
   pub numbered : 1 ≤ seq_of m
 
-pub record Invariant (Lossy : Type 0) (n : ℕ) (nodes : ℕ → NodeState) (bag : List Message) (table : LockTable) : Type 0 where
+pub record Invariant (Lossy Copied : Type 0) (start n : ℕ) (nodes : ℕ → NodeState) (bag : List Message) (table : LockTable) : Type 0 where
   pub each : (i : ℕ) → IsNode n i → IsThere n i (nodes i)
-  pub protocol : (r : List ℕ) → Protocol Lossy n r (states nodes r) bag
+  pub protocol : (r : List ℕ) → Conduct Lossy Copied start n r (states nodes r) bag
   pub traffic : All (IsTraffic n) bag
   pub tabled : Tabled n (uses nodes) (reaches nodes) table
 
@@ -94,7 +94,7 @@ pub record Went (n : ℕ) (nodes nodes' : ℕ → NodeState) (p : ℕ) (r : List
   pub sent : All (IsSend p n r) sends
   pub numbered : All (λ m. 1 ≤ seq_of m) sends
 
-module _ {Lossy : Type 0} (symmetric : (a b : Mode) → Conflict a b → Conflict b a) (n : ℕ) (nodes nodes' : ℕ → NodeState) (p : ℕ) (r : List ℕ) (new : NodeState) (sends : List Message) (bag rest : List Message) (table : LockTable) (old : Invariant Lossy n nodes bag table) (went : Went n nodes nodes' p r new sends) where
+module _ {Lossy Copied : Type 0} (symmetric : (a b : Mode) → Conflict a b → Conflict b a) (start n : ℕ) (nodes nodes' : ℕ → NodeState) (p : ℕ) (r : List ℕ) (new : NodeState) (sends : List Message) (bag rest : List Message) (table : LockTable) (old : Invariant Lossy Copied start n nodes bag table) (went : Went n nodes nodes' p r new sends) where
   abbrev before : Resource
   before = resource_at (nodes p) r
 
@@ -131,9 +131,9 @@ module _ {Lossy : Type 0} (symmetric : (a b : Mode) → Conflict a b → Conflic
   ]
 
   -- another name goes its own way
-  elsewhere : ((q : List ℕ) (i j : ℕ) → q ≢ r → between q i j rest ≡ between q i j bag) → (q : List ℕ) → q ≢ r → Protocol Lossy n q (states nodes' q) (rest ++ sends)
+  elsewhere : ((q : List ℕ) (i j : ℕ) → q ≢ r → between q i j rest ≡ between q i j bag) → (q : List ℕ) → q ≢ r → Conduct Lossy Copied start n q (states nodes' q) (rest ++ sends)
   elsewhere untaken q apart =
-      undisturbed n q (states nodes q) (states nodes' q) bag (rest ++ sends)
+      undisturbed_conduct start n q (states nodes q) (states nodes' q) bag (rest ++ sends)
       (λ i. ap (λ (x : Resource). x.state) (resource_of i q (λ _ e. apart e)))
       (λ i j. none_between q i j rest sends (between_none q i j sends (All-weaker (IsSend p n r) (λ m. IsOf q i j m → ⊥) (λ m send is. apart (sym is.name_is ∙ send.name_is)) sends went.sent)) ∙ untaken q i j apart)
       (old.protocol q)
@@ -154,13 +154,13 @@ module _ {Lossy : Type 0} (symmetric : (a b : Mode) → Conflict a b → Conflic
   ]
 
   -- all of it together
-  pub goes_on : Protocol Lossy n r (states nodes' r) (rest ++ sends) → ((q : List ℕ) (i j : ℕ) → q ≢ r → between q i j rest ≡ between q i j bag) → All (IsTraffic n) rest
-      → (t : LockTable) → Tabled n (uses nodes') (reaches nodes') t → Invariant Lossy n nodes' (rest ++ sends) t
+  pub goes_on : Conduct Lossy Copied start n r (states nodes' r) (rest ++ sends) → ((q : List ℕ) (i j : ℕ) → q ≢ r → between q i j rest ≡ between q i j bag) → All (IsTraffic n) rest
+      → (t : LockTable) → Tabled n (uses nodes') (reaches nodes') t → Invariant Lossy Copied start n nodes' (rest ++ sends) t
   goes_on here untaken all t tabled =
       record {
         each = each_still;
         protocol = λ q. elim (same_or_apart q r) [
-          | inl same ↦ subst (λ (x : List ℕ). Protocol Lossy n x (states nodes' x) (rest ++ sends)) (sym same) here
+          | inl same ↦ subst (λ (x : List ℕ). Conduct Lossy Copied start n x (states nodes' x) (rest ++ sends)) (sym same) here
           | inr apart ↦ elsewhere untaken q apart
         ];
         traffic = traffic_still all;
@@ -168,14 +168,14 @@ module _ {Lossy : Type 0} (symmetric : (a b : Mode) → Conflict a b → Conflic
       }
 
   -- who is granted by this event may be
-  grant : Protocol Lossy n r (states nodes' r) (rest ++ sends) → (e : Entry) → use_of after ≡ HoldsBy e → MayBeGranted n (uses nodes) (reaches nodes') p r e
+  grant : Conduct Lossy Copied start n r (states nodes' r) (rest ++ sends) → (e : Entry) → use_of after ≡ HoldsBy e → MayBeGranted n (uses nodes) (reaches nodes') p r e
   grant here e is =
       same_others n (uses nodes') (uses nodes) (reaches nodes') p r e (λ j apart. sym (ap use_of (resource_of j r (λ same _. apart same))))
-      (may_be_granted symmetric n r nodes' (rest ++ sends) here p went.within e (ap (λ (y : NodeState). use_of (resource_at y r)) went.turned.here ∙ is))
+      (may_be_granted symmetric start n r nodes' (rest ++ sends) here.exchanges p went.within e (ap (λ (y : NodeState). use_of (resource_at y r)) went.turned.here ∙ is))
 
   own_before : (e : Entry) → IsRequestOf before.state e → IsOwn p r e
   own_before e is =
-      let placed = (old.protocol r).each p went.within in
+      let placed = (old.protocol r).exchanges.each p went.within in
       record { node_is = is.node_is ∙ placed.me_is; name_is = is.name_is ∙ placed.name_is }
 
   own_after : (e : Entry) → IsRequestOf after.state e → IsOwn p r e
@@ -206,14 +206,14 @@ module _ {Lossy : Type 0} (symmetric : (a b : Mode) → Conflict a b → Conflic
   ]
 
   pub asked : (client : ℕ) (mode : Mode) (marks : List Mark) → rest ≡ bag → AskTurn before client mode sends marks after → MarksLead (use_of before) marks (use_of after)
-      → (t : LockTable) × TableSteps table marks t × Invariant Lossy n nodes' (rest ++ sends) t
+      → (t : LockTable) × TableSteps table marks t × Invariant Lossy Copied start n nodes' (rest ++ sends) t
   asked client mode marks same turn leads =
       let untaken = λ (q : List ℕ) (i j : ℕ) (apart : q ≢ r). ap (between q i j) same in
       let all = subst (All (IsTraffic n)) (sym same) old.traffic in
       elim turn.1 [
         | inl asks ↦
-            let kept = request_kept n r (states nodes r) (states nodes' r) bag p after.state (old.protocol r) went.within state_changes mode sends asks.entered asks.step placed_after in
-            let here : Protocol Lossy n r (states nodes' r) (rest ++ sends) = subst (λ (ms : List Message). Protocol Lossy n r (states nodes' r) (ms ++ sends)) (sym same) kept in
+            let kept = request_conduct start n r (states nodes r) (states nodes' r) bag p after.state (old.protocol r) went.within state_changes mode sends asks.entered asks.step placed_after in
+            let here : Conduct Lossy Copied start n r (states nodes' r) (rest ++ sends) = subst (λ (ms : List Message). Conduct Lossy Copied start n r (states nodes' r) (ms ++ sends)) (sym same) kept in
             let e = next_entry before client mode in
             let both = leads_request asks.entered (use_of before) (use_of after) e (subst (λ (ms : List Mark). MarksLead (use_of before) ms (use_of after)) asks.marks_are leads) in
             let run = run_request n p r went.within asks.entered e (uses nodes) (uses nodes') (reaches nodes) (reaches nodes') table old.tabled (own_before e (record { node_is = refl; name_is = refl })) both.0
@@ -223,7 +223,7 @@ module _ {Lossy : Type 0} (symmetric : (a b : Mode) → Conflict a b → Conflic
         | inr queues ↦
             let same_state : after.state ≡ before.state = ap (λ (x : Resource). x.state) queues.new_is in
             let none : rest ++ sends ≡ bag = (λ k. same k ++ queues.sends_are k) ∙ append-nil bag in
-            let here : Protocol Lossy n r (states nodes' r) (rest ++ sends) = undisturbed n r (states nodes r) (states nodes' r) bag (rest ++ sends) (unmoved same_state) (λ i j. ap (between r i j) none) (old.protocol r) in
+            let here : Conduct Lossy Copied start n r (states nodes' r) (rest ++ sends) = undisturbed_conduct start n r (states nodes r) (states nodes' r) bag (rest ++ sends) (unmoved same_state) (λ i j. ap (between r i j) none) (old.protocol r) in
             let stays : use_of after ≡ use_of before = subst (λ (ms : List Mark). MarksLead (use_of before) ms (use_of after)) queues.marks_are leads in
             let run = run_nothing n p r went.within (uses nodes) (uses nodes') (reaches nodes) (reaches nodes') table old.tabled (unaltered stays) (higher (omega (arith, ap (λ (x : State). x.highest) same_state))) in
             (run.0, subst (λ (ms : List Mark). TableSteps table ms run.0) (sym queues.marks_are) run.1, goes_on here untaken all run.0 run.2)
@@ -240,15 +240,15 @@ module _ {Lossy : Type 0} (symmetric : (a b : Mode) → Conflict a b → Conflic
 
   pub left : (client : ℕ) (marks : List Mark) → rest ≡ bag → LeaveTurn before client sends marks after → MarksLead (use_of before) marks (use_of after)
       → ((m : State) (replies : List Message) → LeaveStep before.state replies m → IsConsistent m)
-      → (t : LockTable) × TableSteps table marks t × Invariant Lossy n nodes' (rest ++ sends) t
+      → (t : LockTable) × TableSteps table marks t × Invariant Lossy Copied start n nodes' (rest ++ sends) t
   left client marks same turn leads consistent =
       let untaken = λ (q : List ℕ) (i j : ℕ) (apart : q ≢ r). ap (between q i j) same in
       let all = subst (All (IsTraffic n)) (sym same) old.traffic in
-      let placed = (old.protocol r).each p went.within in
+      let placed = (old.protocol r).exchanges.each p went.within in
       elim turn [
         | inl leaves ↦
-            let kept = leave_kept n r (states nodes r) (states nodes' r) bag p after.state (old.protocol r) went.within state_changes sends leaves.leaves.step placed_after in
-            let here : Protocol Lossy n r (states nodes' r) (rest ++ sends) = subst (λ (ms : List Message). Protocol Lossy n r (states nodes' r) (ms ++ sends)) (sym same) kept in
+            let kept = leave_conduct start n r (states nodes r) (states nodes' r) bag p after.state (old.protocol r) went.within state_changes sends leaves.leaves.step placed_after in
+            let here : Conduct Lossy Copied start n r (states nodes' r) (rest ++ sends) = subst (λ (ms : List Message). Conduct Lossy Copied start n r (states nodes' r) (ms ++ sends)) (sym same) kept in
             let e = leaves.entry in
             let both = subst (λ (ms : List Mark). MarksLead (use_of before) ms (use_of after)) leaves.marks_are leads in
             let own = own_before e (use_granted before e both.0).1 in
@@ -268,13 +268,13 @@ module _ {Lossy : Type 0} (symmetric : (a b : Mode) → Conflict a b → Conflic
               nodes_is = ap (λ (x : State). x.nodes) step.leaves.new_is ∙ placed.nodes_is;
               name_is = ap (λ (x : State). x.name) step.leaves.new_is ∙ placed.name_is;
             } in
-            let first = leave_kept n r (states nodes r) s1 bag p mid (old.protocol r) went.within put step.replies step.leaves placed_mid in
+            let first = leave_conduct start n r (states nodes r) s1 bag p mid (old.protocol r) went.within put step.replies step.leaves placed_mid in
             let asks : RequestStep (s1 p) hands.next.mode step.requests hands.asks.entered after.state = subst (λ (x : State). RequestStep x hands.next.mode step.requests hands.asks.entered after.state) (sym put.here) step.asks in
-            let second = request_kept n r s1 (states nodes' r) (bag ++ step.replies) p after.state first went.within
+            let second = request_conduct start n r s1 (states nodes' r) (bag ++ step.replies) p after.state first went.within
             (record { here = state_changes.here; there = λ k apart. state_changes.there k apart ∙ sym (put.there k apart) }) hands.next.mode step.requests hands.asks.entered asks placed_after
             in
             let sent : (bag ++ step.replies) ++ step.requests ≡ rest ++ sends = append_assoc bag step.replies step.requests ∙ sym (λ k. same k ++ step.sends_are k) in
-            let here : Protocol Lossy n r (states nodes' r) (rest ++ sends) = subst (Protocol Lossy n r (states nodes' r)) sent second in
+            let here : Conduct Lossy Copied start n r (states nodes' r) (rest ++ sends) = subst (Conduct Lossy Copied start n r (states nodes' r)) sent second in
             let e = hands.entry in
             let f = next_entry before hands.next.client hands.next.mode in
             let both = leads_handed hands.asks.entered (use_of before) (use_of after) e f (subst (λ (ms : List Mark). MarksLead (use_of before) ms (use_of after)) handed leads) in
@@ -301,15 +301,15 @@ module _ {Lossy : Type 0} (symmetric : (a b : Mode) → Conflict a b → Conflic
     ]
   ]
 
-  taken_protocol : (m : Message) (entered : Bool) → TakesFirst bag m rest → IsForNode p n m → name_of m ≡ r → ReceiveStep before.state m sends entered after.state → Protocol Lossy n r (states nodes' r) (rest ++ sends)
+  taken_protocol : (m : Message) (entered : Bool) → TakesFirst bag m rest → IsForNode p n m → name_of m ≡ r → ReceiveStep before.state m sends entered after.state → Conduct Lossy Copied start n r (states nodes' r) (rest ++ sends)
   taken_protocol (Request from to name mode seq) entered takes for name_is step =
-      request_taken n r (states nodes r) (states nodes' r) bag rest p from after.state (old.protocol r) went.within (for.from.first, for.from.last) for.from.other state_changes placed_after sends seq mode
+      request_taken_conduct start n r (states nodes r) (states nodes' r) bag rest p from after.state (old.protocol r) went.within (for.from.first, for.from.last) for.from.other state_changes placed_after sends seq mode
       (subst (λ (k : ℕ). TakesFirst bag (Request from k r mode seq) rest) for.to (subst (λ (q : List ℕ). TakesFirst bag (Request from to q mode seq) rest) name_is takes)) step.1
   taken_protocol (Reply from to name seq) entered takes for name_is step =
-      reply_taken n r (states nodes r) (states nodes' r) bag rest p from after.state (old.protocol r) went.within (for.from.first, for.from.last) for.from.other state_changes placed_after sends seq entered
+      reply_taken_conduct start n r (states nodes r) (states nodes' r) bag rest p from after.state (old.protocol r) went.within (for.from.first, for.from.last) for.from.other state_changes placed_after sends seq entered
       (subst (λ (k : ℕ). TakesFirst bag (Reply from k r seq) rest) for.to (subst (λ (q : List ℕ). TakesFirst bag (Reply from to q seq) rest) name_is takes)) step.0 step.1
 
-  entering : (entered : Bool) (marks : List Mark) → EntersBy entered after marks → MarksLead (use_of before) marks (use_of after) → Protocol Lossy n r (states nodes' r) (rest ++ sends) → before.state.highest ≤ after.state.highest
+  entering : (entered : Bool) (marks : List Mark) → EntersBy entered after marks → MarksLead (use_of before) marks (use_of after) → Conduct Lossy Copied start n r (states nodes' r) (rest ++ sends) → before.state.highest ≤ after.state.highest
       → (t : LockTable) × TableSteps table marks t × Tabled n (uses nodes') (reaches nodes') t
   entering false marks none leads here more =
       let stays : use_of after ≡ use_of before = subst (λ (ms : List Mark). MarksLead (use_of before) ms (use_of after)) none leads in
@@ -323,7 +323,7 @@ module _ {Lossy : Type 0} (symmetric : (a b : Mode) → Conflict a b → Conflic
       (run.0, subst (λ (ms : List Mark). TableSteps table ms run.0) (sym some.2) run.1, run.2)
 
   pub received : (m : Message) (marks : List Mark) → TakesFirst bag m rest → IsForNode p n m → name_of m ≡ r → ReceiveTurn before m sends marks after → MarksLead (use_of before) marks (use_of after)
-      → (t : LockTable) × TableSteps table marks t × Invariant Lossy n nodes' (rest ++ sends) t
+      → (t : LockTable) × TableSteps table marks t × Invariant Lossy Copied start n nodes' (rest ++ sends) t
   received m marks takes for name_is turn leads =
       let here = taken_protocol m turn.entered takes for name_is turn.step in
       let run = entering turn.entered marks turn.enters leads here (receive_raises m turn.entered turn.step) in (
@@ -333,13 +333,22 @@ module _ {Lossy : Type 0} (symmetric : (a b : Mode) → Conflict a b → Conflic
             (All-taken (IsTraffic n) bag m rest takes old.traffic).1 run.0 run.2,
       )
 
--- ---- A message is lost
+-- ---- A message is lost, or comes once more
 
-pub lost : {Lossy : Type 0} → Lossy → (n : ℕ) (nodes : ℕ → NodeState) (bag rest : List Message) (table : LockTable) (m : Message) → Invariant Lossy n nodes bag table → TakesFirst bag m rest → Invariant Lossy n nodes rest table
-lost {Lossy} lossy n nodes bag rest table m old takes =
+pub lost : {Lossy Copied : Type 0} → Lossy → (start n : ℕ) (nodes : ℕ → NodeState) (bag rest : List Message) (table : LockTable) (m : Message) → Invariant Lossy Copied start n nodes bag table → TakesFirst bag m rest → Invariant Lossy Copied start n nodes rest table
+lost {Lossy} {Copied} lossy start n nodes bag rest table m old takes =
     record {
       each = old.each;
-      protocol = λ r. message_lost lossy n r (states nodes r) bag rest m (old.protocol r) takes;
+      protocol = λ r. lost_conduct lossy start n r (states nodes r) bag rest m (old.protocol r) takes;
       traffic = (All-taken (IsTraffic n) bag m rest takes old.traffic).1;
+      tabled = old.tabled;
+    }
+
+pub copied : {Lossy Copied : Type 0} → Copied → (start n : ℕ) (nodes : ℕ → NodeState) (bag : List Message) (table : LockTable) (m : Message) → Invariant Lossy Copied start n nodes bag table → Contains bag m → Invariant Lossy Copied start n nodes (bag ++ m ∷ []) table
+copied {Lossy} {Copied} copies start n nodes bag table m old there =
+    record {
+      each = old.each;
+      protocol = λ r. copied_conduct copies start n r (states nodes r) bag m there (old.protocol r);
+      traffic = All-push (IsTraffic n) bag m old.traffic (All-contains (IsTraffic n) bag m old.traffic there);
       tabled = old.tabled;
     }

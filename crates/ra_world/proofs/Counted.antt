@@ -90,7 +90,7 @@ some_none d e = cc
 nothing_some : {x : Message} {xs : List Message} → [] ≡ x ∷ xs → ⊥
 nothing_some k = cc
 
-module _ (n : ℕ) (nodes : ℕ → NodeState) (table : LockTable) (holds : Invariant ⊥ n nodes [] table) (nobody : length table.waiting ≡ 0) where
+module _ (start n : ℕ) (nodes : ℕ → NodeState) (table : LockTable) (holds : Invariant ⊥ ⊥ start n nodes [] table) (nobody : length table.waiting ≡ 0) where
   not_waiting : (i : ℕ) (r : List ℕ) (x : Entry) → IsNode n i → uses nodes i r ≡ WaitsBy x → ⊥
   not_waiting i r x at is =
       let there = of_contains i r table.waiting x (subst (λ (es : List Entry). Contains es x) (sym (holds.tabled.waiting i r at ∙ ap waiting_of is)) (0, omega arith, refl)) in
@@ -101,7 +101,7 @@ module _ (n : ℕ) (nodes : ℕ → NodeState) (table : LockTable) (holds : Inva
     | inl none ↦ none
     | inr some ↦
         let i = some.0 in
-        let protocol = holds.protocol r in
+        let protocol = (holds.protocol r).exact (λ x. x) in
         let placed = protocol.each j at in
         let other = placed.consistent.deferred_others i some.1 some.2 in
         let i_at : IsNode n i = (other.first, subst (λ (k : ℕ). i ≤ k) placed.nodes_is other.last) in

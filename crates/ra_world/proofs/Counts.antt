@@ -5,8 +5,8 @@ use Rattle.ra_stamp.specs.declared.entry.Mark.{Mark}
 use Rattle.ra_stamp.specs.declared.entry.Mark.TheVariants.{Requested, Entered, Left}
 use Rattle.ra_node.specs.declared.outcome.Outcome.{Outcome}
 use Rattle.ra_world.specs.declared.step.Step.{Step}
-use Rattle.ra_world.specs.declared.step.Step.TheVariants.{Ask, Leave, Deliver, Lose}
-use Rattle.ra_world.specs.Traffic.{Move, sent_by, lost_by, lost_in}
+use Rattle.ra_world.specs.declared.step.Step.TheVariants.{Ask, Leave, Deliver, Lose, Repeat}
+use Rattle.ra_world.specs.Traffic.{Move, sent_by, lost_by, lost_in, repeated_by, repeated_in}
 use Rattle.ra_world.specs.Run.{marks_of}
 use Rattle.ra_world.specs.Quiet.{requests_in}
 use Rattle.ra_world.specs.Log.{AreCounted, move_of, moves_of}
@@ -34,11 +34,28 @@ lost_in_le (Ask node client name mode) = omega arith
 lost_in_le (Leave node client name) = omega arith
 lost_in_le (Deliver message) = omega arith
 lost_in_le (Lose message) = omega arith
+lost_in_le (Repeat message) = omega arith
 
 -- each loss is a step
 pub lost_by_le : (moves : List Move) → length (lost_by moves) ≤ length moves
 lost_by_le [] = omega arith
 lost_by_le (x ∷ moves) = omega (arith, length-append (lost_in x.step) (lost_by moves), lost_in_le x.step, lost_by_le moves)
+
+pub repeated_by-append : (a b : List Move) → repeated_by (a ++ b) ≡ repeated_by a ++ repeated_by b
+repeated_by-append [] b = refl
+repeated_by-append (x ∷ a) b = ap (λ ms. repeated_in x.step ++ ms) (repeated_by-append a b) ∙ sym (append_assoc (repeated_in x.step) (repeated_by a) (repeated_by b))
+
+pub repeated_in_le : (s : Step) → length (repeated_in s) ≤ 1
+repeated_in_le (Ask node client name mode) = omega arith
+repeated_in_le (Leave node client name) = omega arith
+repeated_in_le (Deliver message) = omega arith
+repeated_in_le (Lose message) = omega arith
+repeated_in_le (Repeat message) = omega arith
+
+-- and so is each repeat
+pub repeated_by_le : (moves : List Move) → length (repeated_by moves) ≤ length moves
+repeated_by_le [] = omega arith
+repeated_by_le (x ∷ moves) = omega (arith, length-append (repeated_in x.step) (repeated_by moves), repeated_in_le x.step, repeated_by_le moves)
 
 -- one more mark
 pub requests_in-take : (marks : List Mark) (i : ℕ) (mark : Mark) → i < length marks → mark ≡ get_or marks i mark
@@ -52,22 +69,26 @@ requests_in-take marks i mark low is =
 pub requests_in-take-le : (marks : List Mark) (i : ℕ) → requests_in (take i marks) ≤ length marks
 requests_in-take-le marks i = omega (arith, requests_in_le (take i marks), length-take i marks)
 
--- no more losses than steps
-pub lost-le : (keeps : ℕ) (moves : List Move) (steps : ℕ) (marks : List Mark) (sent requests lost : ℕ)
-    → AreCounted keeps moves steps marks sent requests lost → lost ≤ steps
-lost-le keeps moves steps marks sent requests lost h = omega (arith, h.lost_are, lost_by_le moves, h.steps_are)
+-- no more losses, nor repeats, than steps
+pub lost-le : (keeps : ℕ) (moves : List Move) (steps : ℕ) (marks : List Mark) (sent requests lost repeated : ℕ)
+    → AreCounted keeps moves steps marks sent requests lost repeated → lost ≤ steps
+lost-le keeps moves steps marks sent requests lost repeated h = omega (arith, h.lost_are, lost_by_le moves, h.steps_are)
+
+pub repeated-le : (keeps : ℕ) (moves : List Move) (steps : ℕ) (marks : List Mark) (sent requests lost repeated : ℕ)
+    → AreCounted keeps moves steps marks sent requests lost repeated → repeated ≤ steps
+repeated-le keeps moves steps marks sent requests lost repeated h = omega (arith, h.repeated_are, repeated_by_le moves, h.steps_are)
 
 -- one more step with what came of it
 pub made_more : (made : List (Step × Outcome)) (one : Step × Outcome) → moves_of (made ++ one ∷ []) ≡ moves_of made ++ move_of one ∷ []
 made_more [] one = refl
 made_more (x ∷ made) one = ap (λ (ms : List Move). move_of x ∷ ms) (made_more made one)
 
-pub counted_more : (keeps : ℕ) (moves : List Move) (steps : ℕ) (marks marks' : List Mark) (sent requests lost : ℕ) (move : Move)
-    → AreCounted keeps moves steps marks sent requests lost → length move.sends ≤ 18446744073709551615
+pub counted_more : (keeps : ℕ) (moves : List Move) (steps : ℕ) (marks marks' : List Mark) (sent requests lost repeated : ℕ) (move : Move)
+    → AreCounted keeps moves steps marks sent requests lost repeated → length move.sends ≤ 18446744073709551615
     → requests_in move.marks ≤ 18446744073709551615 → (keeps ≡ 1 → marks' ≡ marks ++ move.marks)
     → AreCounted keeps (moves ++ move ∷ []) (steps + 1) marks' (sent + length move.sends) (requests + requests_in move.marks)
-    (lost + length (lost_in move.step))
-counted_more keeps moves steps marks marks' sent requests lost move h few fewer added =
+    (lost + length (lost_in move.step)) (repeated + length (repeated_in move.step))
+counted_more keeps moves steps marks marks' sent requests lost repeated move h few fewer added =
     let one : List Move = move ∷ [] in
     record {
       steps_are = omega (arith, h.steps_are, length-append moves one);
@@ -82,20 +103,26 @@ counted_more keeps moves steps marks marks' sent requests lost move h few fewer 
           ∙ ap (λ xs. length (lost_by moves) + length xs) (sym (append-nil (lost_in move.step)))
           ∙ sym (length-append (lost_by moves) (lost_by one))
           ∙ ap length (sym (lost_by-append moves one));
+      repeated_are =
+          ap (λ n. n + length (repeated_in move.step)) h.repeated_are
+          ∙ ap (λ xs. length (repeated_by moves) + length xs) (sym (append-nil (repeated_in move.step)))
+          ∙ sym (length-append (repeated_by moves) (repeated_by one))
+          ∙ ap length (sym (repeated_by-append moves one));
     }
 
 -- the same, of what is equal to it
-pub pushed : (keeps : ℕ) (made made' : List (Step × Outcome)) (steps steps' : ℕ) (marks marks' : List Mark) (sent s requests r lost k : ℕ) (step : Step)
-    (outcome : Outcome) → AreCounted keeps (moves_of made) steps marks sent requests lost
+pub pushed : (keeps : ℕ) (made made' : List (Step × Outcome)) (steps steps' : ℕ) (marks marks' : List Mark) (sent s requests r lost k repeated c : ℕ)
+    (step : Step) (outcome : Outcome) → AreCounted keeps (moves_of made) steps marks sent requests lost repeated
     → length outcome.sends.items ≤ 18446744073709551615 → requests_in outcome.marks.items ≤ 18446744073709551615
     → made' ≡ made ++ (step, outcome) ∷ [] → steps' ≡ steps + 1 → (keeps ≡ 1 → marks' ≡ marks ++ outcome.marks.items)
-    → s ≡ length outcome.sends.items → r ≡ requests_in outcome.marks.items → k ≡ length (lost_in step)
-    → AreCounted keeps (moves_of made') steps' marks' (sent + s) (requests + r) (lost + k)
-pushed keeps made made' steps steps' marks marks' sent s requests r lost k step outcome h few fewer em es ek is ir il =
+    → s ≡ length outcome.sends.items → r ≡ requests_in outcome.marks.items → k ≡ length (lost_in step) → c ≡ length (repeated_in step)
+    → AreCounted keeps (moves_of made') steps' marks' (sent + s) (requests + r) (lost + k) (repeated + c)
+pushed keeps made made' steps steps' marks marks' sent s requests r lost k repeated c step outcome h few fewer em es ek is ir il ic =
     let moves : moves_of made' ≡ moves_of made ++ move_of (step, outcome) ∷ [] = ap moves_of em ∙ made_more made (step, outcome) in
-    let more = counted_more keeps (moves_of made) steps marks marks' sent requests lost (move_of (step, outcome)) h few fewer ek in
-    subst (λ (ms : List Move). AreCounted keeps ms steps' marks' (sent + s) (requests + r) (lost + k)) (sym moves)
-    (subst (λ (n : ℕ). AreCounted keeps (moves_of made ++ move_of (step, outcome) ∷ []) n marks' (sent + s) (requests + r) (lost + k)) (sym es)
-    (subst (λ (n : ℕ). AreCounted keeps (moves_of made ++ move_of (step, outcome) ∷ []) (steps + 1) marks' (sent + n) (requests + r) (lost + k)) (sym is)
-    (subst (λ (n : ℕ). AreCounted keeps (moves_of made ++ move_of (step, outcome) ∷ []) (steps + 1) marks' (sent + length outcome.sends.items) (requests + n) (lost + k)) (sym ir)
-    (subst (λ (n : ℕ). AreCounted keeps (moves_of made ++ move_of (step, outcome) ∷ []) (steps + 1) marks' (sent + length outcome.sends.items) (requests + requests_in outcome.marks.items) (lost + n)) (sym il) more))))
+    let more = counted_more keeps (moves_of made) steps marks marks' sent requests lost repeated (move_of (step, outcome)) h few fewer ek in
+    subst (λ (ms : List Move). AreCounted keeps ms steps' marks' (sent + s) (requests + r) (lost + k) (repeated + c)) (sym moves)
+    (subst (λ (n : ℕ). AreCounted keeps (moves_of made ++ move_of (step, outcome) ∷ []) n marks' (sent + s) (requests + r) (lost + k) (repeated + c)) (sym es)
+    (subst (λ (n : ℕ). AreCounted keeps (moves_of made ++ move_of (step, outcome) ∷ []) (steps + 1) marks' (sent + n) (requests + r) (lost + k) (repeated + c)) (sym is)
+    (subst (λ (n : ℕ). AreCounted keeps (moves_of made ++ move_of (step, outcome) ∷ []) (steps + 1) marks' (sent + length outcome.sends.items) (requests + n) (lost + k) (repeated + c)) (sym ir)
+    (subst (λ (n : ℕ). AreCounted keeps (moves_of made ++ move_of (step, outcome) ∷ []) (steps + 1) marks' (sent + length outcome.sends.items) (requests + requests_in outcome.marks.items) (lost + n) (repeated + c)) (sym il)
+    (subst (λ (n : ℕ). AreCounted keeps (moves_of made ++ move_of (step, outcome) ∷ []) (steps + 1) marks' (sent + length outcome.sends.items) (requests + requests_in outcome.marks.items) (lost + length (lost_in step)) (repeated + n)) (sym ic) more)))))

@@ -1,5 +1,5 @@
--- All messages that a run sends are different.
-use Rattle.std.proofs.Common.{◌≡◌, ℕ, ◌≤◌, List, [], ◌∷◌, ◌++◌, All, map, refl, sym, ap, ◌∙◌, subst, append_assoc}
+-- All messages that a run sends are different, where nothing was repeated.
+use Rattle.std.proofs.Common.{◌≡◌, ℕ, ◌≤◌, List, [], ◌∷◌, ◌++◌, All, map, refl, sym, ap, ◌∙◌, subst, append_assoc, inl, inr}
 use Rattle.std.proofs.lemmas.List.{append-nil}
 use Rattle.std.proofs.lemmas.List.Elements.{All-nil, All-append, All-weaker}
 use Rattle.ra_stamp.specs.declared.message.Message.{Message}
@@ -17,14 +17,14 @@ use Rattle.ra_node.specs.Events.Event.{Ask as AskedFor, Leave as GivenBack, Rece
 use Rattle.ra_node.specs.Carried.{IsSend}
 use Rattle.ra_world.specs.Below.{LawsBelow}
 use Rattle.ra_world.specs.declared.step.Step.{Step}
-use Rattle.ra_world.specs.declared.step.Step.TheVariants.{Ask, Leave, Deliver, Lose}
-use Rattle.ra_world.specs.Traffic.{Move, sent_by, taken_in, TakesEach, IsUnderWay}
+use Rattle.ra_world.specs.declared.step.Step.TheVariants.{Ask, Leave, Deliver, Lose, Repeat}
+use Rattle.ra_world.specs.Traffic.{Move, sent_by, taken_in, repeated_in, repeated_by, TakesEach, IsUnderWay}
 use Rattle.ra_world.specs.Run.{events_at, happened_at, IsFit, IsRun}
 use Rattle.ra_world.proofs.Dialogs.{belongs, between, asker_of, answerer_of, belongs_here}
 use Rattle.ra_world.proofs.Protocol.{IsNode}
 use Rattle.ra_node.proofs.Lookups.{resource_changed}
-use Rattle.ra_world.proofs.Moves.{may_lose_all, sent_more, happens, happened_more, fits_split, at_node, only_at}
-use Rattle.ra_world.proofs.Reached.{Reached, under_way_more, one_list, was_under_way}
+use Rattle.ra_world.proofs.Moves.{Allows, AllowsAll, allows_moves, allows_more, sent_more, happens, happened_more, fits_split, at_node, only_at}
+use Rattle.ra_world.proofs.Reached.{Reached, under_way_sent, one_list, was_under_way}
 use Rattle.ra_world.proofs.Runs.{fronts, every_run}
 use Rattle.ra_world.proofs.DifferentLists.{AreDifferent, none_different, different_by}
 use Rattle.ra_world.proofs.DifferentEvents.{EverySaid, Happens, said_by_same, said_after_loss, said_by_ask, said_by_leave, said_by_receive}
@@ -34,12 +34,12 @@ abbrev IsBetween : ℕ → Message → Type 0
 IsBetween n m = IsNode n (to_of m) × IsOtherNode (to_of m) n (from_of m)
 
 -- what is known of a run: its messages go between nodes, and those of each dialog are different
-pub record Known (n start : ℕ) (moves : List Move) (at : Reached (Unit {0}) n start moves) : Type 0 where
+pub record Known (n start : ℕ) (moves : List Move) (at : Reached (Unit {0}) ⊥ n start moves) : Type 0 where
   pub traffic : All (IsBetween n) (sent_by moves)
   pub said : EverySaid n at.nodes at.bag (sent_by moves)
 
 -- before anything was sent
-nothing_known : (n start : ℕ) (at : Reached (Unit {0}) n start []) → Known n start [] at
+nothing_known : (n start : ℕ) (at : Reached (Unit {0}) ⊥ n start []) → Known n start [] at
 nothing_known n start at =
     record {
       traffic = All-nil (IsBetween n);
@@ -47,7 +47,7 @@ nothing_known n start at =
     }
 
 -- then all messages are different, since equal ones are of one dialog
-all_different : (n start : ℕ) (moves : List Move) (at : Reached (Unit {0}) n start moves) → Known n start moves at → AreDifferent (sent_by moves)
+all_different : (n start : ℕ) (moves : List Move) (at : Reached (Unit {0}) ⊥ n start moves) → Known n start moves at → AreDifferent (sent_by moves)
 all_different n start moves at known =
     different_by (λ m x. belongs (name_of m) (asker_of m) (answerer_of m) x) belongs_here (sent_by moves)
     (All-weaker (IsBetween n) (λ m. AreDifferent (between (name_of m) (asker_of m) (answerer_of m) (sent_by moves))) apart (sent_by moves) known.traffic)
@@ -59,7 +59,7 @@ all_different n start moves at known =
 module _ (laws : LawsBelow) (n start : ℕ) where
   -- ---- One more move
 
-  module _ (ms : List Move) (m : Move) (before : Reached (Unit {0}) n start ms) (after : Reached (Unit {0}) n start (ms ++ m ∷ [])) (known : Known n start ms before) where
+  module _ (ms : List Move) (m : Move) (before : Reached (Unit {0}) ⊥ n start ms) (after : Reached (Unit {0}) ⊥ n start (ms ++ m ∷ [])) (known : Known n start ms before) where
     abbrev happening : Event → Happening
     happening event = record { event = event; sends = m.sends; marks = m.marks }
 
@@ -74,9 +74,9 @@ module _ (laws : LawsBelow) (n start : ℕ) where
     by_events : (i : ℕ) (events : List Event) → IsNode n i → events_at i m.step ≡ events → NodeEvents (before.nodes i) (map happening events) (after.nodes i)
     by_events i events at are = subst (λ (es : List Event). NodeEvents (before.nodes i) (map happening es) (after.nodes i)) are (happens_from i at)
 
-    known_after : All (IsBetween n) m.sends → (next : List Message) → TakesEach before.bag (taken_in m.step) next → EverySaid n after.nodes (next ++ m.sends) (sent_by ms ++ m.sends) → Known n start (ms ++ m ∷ []) after
-    known_after traffic next takes said =
-        let left = one_list (ms ++ m ∷ []) (next ++ m.sends) after.bag (under_way_more ms m before.bag next before.under_way takes) after.under_way in
+    known_after : repeated_in m.step ≡ [] → All (IsBetween n) m.sends → (next : List Message) → TakesEach before.bag (taken_in m.step) next → EverySaid n after.nodes (next ++ m.sends) (sent_by ms ++ m.sends) → Known n start (ms ++ m ∷ []) after
+    known_after copies traffic next takes said =
+        let left = one_list (ms ++ m ∷ []) (next ++ m.sends) after.bag (under_way_sent ms m before.bag next before.under_way takes copies) after.under_way in
         record {
           traffic = subst (All (IsBetween n)) (sym (sent_more ms m)) (All-append (IsBetween n) (sent_by ms) m.sends known.traffic traffic);
           said = subst (EverySaid n after.nodes after.bag) (sym (sent_more ms m)) (subst (λ (xs : List Message). EverySaid n after.nodes xs (sent_by ms ++ m.sends)) left said);
@@ -112,12 +112,12 @@ module _ (laws : LawsBelow) (n start : ℕ) where
 
   -- ---- Each step
 
-  module _ (ms : List Move) (sends : List Message) (marks : List Mark) (before : Reached (Unit {0}) n start ms) (known : Known n start ms before) where
+  module _ (ms : List Move) (sends : List Message) (marks : List Mark) (before : Reached (Unit {0}) ⊥ n start ms) (known : Known n start ms before) where
     abbrev by : Step → Move
     by step = record { step = step; sends = sends; marks = marks }
 
     abbrev After : Step → Type 0
-    After step = Reached (Unit {0}) n start (ms ++ by step ∷ [])
+    After step = Reached (Unit {0}) ⊥ n start (ms ++ by step ∷ [])
 
     known_by_ask : (p client : ℕ) (name : List ℕ) (mode : Mode) → IsNode n p → (after : After (Ask p client name mode)) → Known n start (ms ++ by (Ask p client name mode) ∷ []) after
     known_by_ask p client name mode within after =
@@ -129,8 +129,8 @@ module _ (laws : LawsBelow) (n start : ℕ) where
         subst (λ (x : Resource). AskTurn (resource_at (before.nodes p) name) client mode sends marks x)
         (sym (ap (λ (x : NodeState). resource_at x name) did.new_is ∙ resource_changed (before.nodes p) name did.resource)) did.turn
         in
-        known_after ms m before after known (sent_between ms m before after known p within event here tt) before.bag refl
-        (said_by_ask n before.nodes after.nodes p name sends before.bag (sent_by ms) before.invariant.protocol known.said (event_happens ms m before after known p within event here tt) client mode marks turn)
+        known_after ms m before after known refl (sent_between ms m before after known p within event here tt) before.bag refl
+        (said_by_ask n before.nodes after.nodes p name sends before.bag (sent_by ms) (λ q. (before.invariant.protocol q).exact (λ x. x)) known.said (event_happens ms m before after known p within event here tt) client mode marks turn)
 
     known_by_leave : (p client : ℕ) (name : List ℕ) → IsNode n p → (after : After (Leave p client name)) → Known n start (ms ++ by (Leave p client name) ∷ []) after
     known_by_leave p client name within after =
@@ -142,8 +142,8 @@ module _ (laws : LawsBelow) (n start : ℕ) where
         subst (λ (x : Resource). LeaveTurn (resource_at (before.nodes p) name) client sends marks x)
         (sym (ap (λ (x : NodeState). resource_at x name) did.new_is ∙ resource_changed (before.nodes p) name did.resource)) did.turn
         in
-        known_after ms m before after known (sent_between ms m before after known p within event here tt) before.bag refl
-        (said_by_leave n before.nodes after.nodes p name sends before.bag (sent_by ms) before.invariant.protocol known.said (event_happens ms m before after known p within event here tt) client marks turn)
+        known_after ms m before after known refl (sent_between ms m before after known p within event here tt) before.bag refl
+        (said_by_leave n before.nodes after.nodes p name sends before.bag (sent_by ms) (λ q. (before.invariant.protocol q).exact (λ x. x)) known.said (event_happens ms m before after known p within event here tt) client marks turn)
 
     known_by_deliver : (message : Message) → IsUnderWay ms message → (after : After (Deliver message)) → Known n start (ms ++ by (Deliver message) ∷ []) after
     known_by_deliver message was after =
@@ -162,8 +162,8 @@ module _ (laws : LawsBelow) (n start : ℕ) where
         subst (λ (x : Resource). ReceiveTurn (resource_at (before.nodes p) name) message sends marks x)
         (sym (ap (λ (x : NodeState). resource_at x name) did.new_is ∙ resource_changed (before.nodes p) name did.resource)) did.turn
         in
-        known_after ms m before after known (sent_between ms m before after known p within event here for) taken.rest (taken.rest, taken.takes, refl)
-        (said_by_receive n before.nodes after.nodes p name sends before.bag (sent_by ms) before.invariant.protocol known.said (event_happens ms m before after known p within event here for)
+        known_after ms m before after known refl (sent_between ms m before after known p within event here for) taken.rest (taken.rest, taken.takes, refl)
+        (said_by_receive n before.nodes after.nodes p name sends before.bag (sent_by ms) (λ q. (before.invariant.protocol q).exact (λ x. x)) known.said (event_happens ms m before after known p within event here for)
         message taken.rest marks taken.takes for' refl turn)
 
     known_by_lose : (message : Message) → IsUnderWay ms message → sends ≡ [] → (after : After (Lose message)) → Known n start (ms ++ by (Lose message) ∷ []) after
@@ -173,35 +173,37 @@ module _ (laws : LawsBelow) (n start : ℕ) where
         let no_more : (xs : List Message) → xs ≡ xs ++ sends = λ xs. sym (ap (λ (ys : List Message). xs ++ ys) nothing ∙ append-nil xs) in
         let said : EverySaid n after.nodes taken.rest (sent_by ms) =
         said_by_same n before.nodes after.nodes taken.rest (sent_by ms) (λ i at. by_events ms m before after known i [] at refl)
-        (said_after_loss n before.nodes before.bag taken.rest (sent_by ms) message before.invariant.protocol taken.takes known.said)
+        (said_after_loss n before.nodes before.bag taken.rest (sent_by ms) message (λ q. (before.invariant.protocol q).exact (λ x. x)) taken.takes known.said)
         in
-        known_after ms m before after known (subst (All (IsBetween n)) (sym nothing) (All-nil (IsBetween n))) taken.rest (taken.rest, taken.takes, refl)
+        known_after ms m before after known refl (subst (All (IsBetween n)) (sym nothing) (All-nil (IsBetween n))) taken.rest (taken.rest, taken.takes, refl)
         (subst (λ (xs : List Message). EverySaid n after.nodes xs (sent_by ms ++ sends)) (no_more taken.rest) (subst (EverySaid n after.nodes taken.rest) (no_more (sent_by ms)) said))
 
-    known_by : (step : Step) → IsFit n ms step sends marks → (after : After step) → Known n start (ms ++ by step ∷ []) after
-    known_by (Ask node client name mode) fit after = known_by_ask node client name mode fit after
-    known_by (Leave node client name) fit after = known_by_leave node client name fit after
-    known_by (Deliver message) fit after = known_by_deliver message fit after
-    known_by (Lose message) fit after = known_by_lose message fit.0 fit.1 after
+    known_by : (step : Step) → Allows (Unit {0}) ⊥ step → IsFit n ms step sends marks → (after : After step) → Known n start (ms ++ by step ∷ []) after
+    known_by (Ask node client name mode) may fit after = known_by_ask node client name mode fit after
+    known_by (Leave node client name) may fit after = known_by_leave node client name fit after
+    known_by (Deliver message) may fit after = known_by_deliver message fit after
+    known_by (Lose message) may fit after = known_by_lose message fit.0 fit.1 after
+    known_by (Repeat message) may fit after = absurd may
 
   -- ---- Every run
 
   module _ (count : IsNodeNumber n) where
-    reached : (moves : List Move) → IsRun n start moves → Reached (Unit {0}) n start moves
-    reached moves run = every_run laws n start moves (may_lose_all moves) count run
+    reached : (moves : List Move) → AllowsAll (Unit {0}) ⊥ moves → IsRun n start moves → Reached (Unit {0}) ⊥ n start moves
+    reached moves may run = every_run laws n start moves may count run
 
     -- one move after the other
-    move_by_move : (back ms : List Move) (run : IsRun n start ms) → Known n start ms (reached ms run) → IsRun n start (ms ++ back) → AreDifferent (sent_by (ms ++ back))
-    move_by_move [] ms run known all = subst (λ (moves : List Move). AreDifferent (sent_by moves)) (sym (append-nil ms)) (all_different n start ms (reached ms run) known)
-    move_by_move (m ∷ back) ms run known all =
+    move_by_move : (back ms : List Move) (before : AllowsAll (Unit {0}) ⊥ ms) (run : IsRun n start ms) → AllowsAll (Unit {0}) ⊥ back → Known n start ms (reached ms before run) → IsRun n start (ms ++ back) → AreDifferent (sent_by (ms ++ back))
+    move_by_move [] ms before run may known all = subst (λ (moves : List Move). AreDifferent (sent_by moves)) (sym (append-nil ms)) (all_different n start ms (reached ms before run) known)
+    move_by_move (m ∷ back) ms before run may known all =
         let again : ms ++ m ∷ back ≡ (ms ++ m ∷ []) ++ back = sym (append_assoc ms (m ∷ []) back) in
         let all' = subst (IsRun n start) again all in
         let run' = fronts laws.splits n start back (ms ++ m ∷ []) all' in
+        let before' = allows_more (Unit {0}) ⊥ ms m before may.0 in
         let fit = (fits_split n [] ms (m ∷ back) all.each_fits).1.0 in
-        let next = known_by ms m.sends m.marks (reached ms run) known m.step fit (reached (ms ++ m ∷ []) run') in
-        subst (λ (moves : List Move). AreDifferent (sent_by moves)) (sym again) (move_by_move back (ms ++ m ∷ []) run' next all')
+        let next = known_by ms m.sends m.marks (reached ms before run) known m.step may.0 fit (reached (ms ++ m ∷ []) before' run') in
+        subst (λ (moves : List Move). AreDifferent (sent_by moves)) (sym again) (move_by_move back (ms ++ m ∷ []) before' run' may.1 next all')
 
-    pub messages_differ : (moves : List Move) → IsRun n start moves → AreDifferent (sent_by moves)
-    messages_differ moves run =
+    pub messages_differ : (moves : List Move) → IsRun n start moves → repeated_by moves ≡ [] → AreDifferent (sent_by moves)
+    messages_differ moves run unrepeated =
         let none = fronts laws.splits n start moves [] run in
-        move_by_move moves [] none (nothing_known n start (reached [] none)) run
+        move_by_move moves [] tt none (allows_moves moves (inr tt) (inl unrepeated)) (nothing_known n start (reached [] tt none)) run

@@ -16,8 +16,8 @@ use Rattle.ra_node.specs.Node.{NodeState, opening_node}
 use Rattle.ra_node.specs.Events.{Event, Happening, NodeEvent, NodeEvents}
 use Rattle.ra_node.specs.Events.Event.{Ask as AskedFor, Leave as GivenBack, Receive as Received}
 use Rattle.ra_world.specs.declared.step.Step.{Step}
-use Rattle.ra_world.specs.declared.step.Step.TheVariants.{Ask, Leave, Deliver, Lose}
-use Rattle.ra_world.specs.Traffic.{Move, TakesEach, LeavesUnderWay, IsUnderWay, sent_by, taken_in, taken_by}
+use Rattle.ra_world.specs.declared.step.Step.TheVariants.{Ask, Leave, Deliver, Lose, Repeat}
+use Rattle.ra_world.specs.Traffic.{Move, TakesEach, LeavesUnderWay, IsUnderWay, sent_by, put_in, put_by, taken_in, taken_by, repeated_in}
 use Rattle.ra_world.specs.Run.{IsFit, IsRun, EndsWith, events_at, happened_at, with_node}
 use Rattle.ra_world.specs.Fitting.{sent_in, happened_by, WasSentBy, NamesNode, FitTogether}
 use Rattle.ra_world.proofs.Lists.{head_of, tail_of, none_some}
@@ -102,6 +102,15 @@ sent_at i (move ∷ moves) message at =
     elim (Contains-append_cases (sent_in (happens i move)) (sent_in (happened_at i moves)) message both) [
       | inl here ↦ Contains-append_left move.sends (sent_by moves) message (sent_by_one move message (events_at i move.step) here)
       | inr later ↦ Contains-append_right move.sends (sent_by moves) message (sent_at i moves message later)
+    ]
+
+-- and put under way
+sent_is_put : (moves : List Move) (message : Message) → Contains (sent_by moves) message → Contains (put_by moves) message
+sent_is_put [] message at = at
+sent_is_put (move ∷ moves) message at =
+    elim (Contains-append_cases move.sends (sent_by moves) message at) [
+      | inl here ↦ Contains-append_left (put_in move) (put_by moves) message (Contains-append_left move.sends (repeated_in move.step) message here)
+      | inr later ↦ Contains-append_right (put_in move) (put_by moves) message (sent_is_put moves message later)
     ]
 
 -- what the moves took their steps took
@@ -194,7 +203,7 @@ module _
           let was = All-head (WasSentBy n happened front) message [] (subst (All (WasSentBy n happened front)) takes (fit.sent front step back parts)) in
           let sent = sent_at was.0 before.moves message (subst (λ (hs : List Happening). Contains (sent_in hs) message) (sym (before.each was.0 was.1 was.2)) was.3) in
           let left = exist n start before.moves count before.run in
-          (left.0, left.1, left_in (sent_by before.moves) (taken_by before.moves) left.0 message left.1 (other_taken message takes) sent)
+          (left.0, left.1, left_in (put_by before.moves) (taken_by before.moves) left.0 message left.1 (other_taken message takes) (sent_is_put before.moves message sent))
 
       -- the step is the next event of a node
       module _ (p : ℕ) (within : IsNode n p) (event : Event) (here : events_at p step ≡ event ∷ []) where
@@ -285,6 +294,12 @@ module _
         let within = (between n start before.moves message count before.run was).0 in
         on_by_event front step back parts before (to_of message) within event (at_node (to_of message) event) (λ _ _. was)
     one_on front (Lose message) back parts before = on_by_loss front message back parts before
+    one_on front (Repeat message) back parts before =
+        absurd (not_none (flat_map repeated_in front) message (flat_map repeated_in back)
+        (sym (ap (flat_map repeated_in) parts ∙ flat_map-append repeated_in front (Repeat message ∷ back)) ∙ fit.unrepeated))
+      where
+        not_none : (xs : List Message) (x : Message) (ys : List Message) → xs ++ x ∷ ys ≡ [] → ⊥
+        not_none xs x ys e = omega (arith, ap length e, length-append xs (x ∷ ys))
 
     all_on : (back front : List Step) → steps ≡ front ++ back → GoneBy n start happened front → GoneBy n start happened (front ++ back)
     all_on [] front parts before = subst (GoneBy n start happened) (sym (append-nil front)) before

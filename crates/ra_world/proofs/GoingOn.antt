@@ -13,11 +13,11 @@ use Rattle.ra_node.specs.Node.{NodeState, resource_at, IsConsistentNode}
 use Rattle.ra_node.specs.Events.{Event, Happening, NodeEvent, NodeEvents, AllowsEvent}
 use Rattle.ra_node.specs.Events.Event.{Ask as AskedFor, Leave as GivenBack, Receive as Received}
 use Rattle.ra_world.specs.declared.step.Step.{Step}
-use Rattle.ra_world.specs.declared.step.Step.TheVariants.{Ask, Leave, Deliver, Lose}
+use Rattle.ra_world.specs.declared.step.Step.TheVariants.{Ask, Leave, Deliver, Lose, Repeat}
 use Rattle.ra_world.specs.Below.{LawsBelow}
 use Rattle.ra_world.specs.Traffic.{Move, IsUnderWay}
 use Rattle.ra_world.specs.Run.{events_at, IsFit, IsRun, EndsWith, GoesOn, with_node}
-use Rattle.ra_world.proofs.Moves.{may_lose_all, fits_split, fits_join, at_node}
+use Rattle.ra_world.proofs.Moves.{allows_all, fits_split, fits_join, at_node}
 use Rattle.ra_world.proofs.Protocol.{IsNode}
 use Rattle.ra_world.proofs.Nodes.{left_alone, ends_after}
 use Rattle.ra_world.proofs.Reached.{Reached, was_under_way, event_happened}
@@ -40,9 +40,17 @@ loss_goes_on n start moves nodes message run ends was =
     let after : EndsWith n start (moves ++ m ∷ []) nodes = λ i low high. left_alone n start i moves m (nodes i) refl (ends i low high) in
     (record { each_fits = fits_join n [] moves (m ∷ []) run.each_fits ((was, refl, refl), tt); ends = (nodes, after) }, after)
 
+-- and so does a copy of one
+pub copy_goes_on : (n start : ℕ) (moves : List Move) (nodes : ℕ → NodeState) (message : Message) → IsRun n start moves → EndsWith n start moves nodes → IsUnderWay moves message
+    → IsRun n start (moves ++ record { step = Repeat message; sends = []; marks = [] } ∷ []) × EndsWith n start (moves ++ record { step = Repeat message; sends = []; marks = [] } ∷ []) nodes
+copy_goes_on n start moves nodes message run ends was =
+    let m : Move = record { step = Repeat message; sends = []; marks = [] } in
+    let after : EndsWith n start (moves ++ m ∷ []) nodes = λ i low high. left_alone n start i moves m (nodes i) refl (ends i low high) in
+    (record { each_fits = fits_join n [] moves (m ∷ []) run.each_fits ((was, refl, refl), tt); ends = (nodes, after) }, after)
+
 module _ (laws : LawsBelow) (n start : ℕ) (ms : List Move) (nodes : ℕ → NodeState) (count : IsNodeNumber n) (run : IsRun n start ms) (ends : EndsWith n start ms nodes) where
-  before : Reached (Unit {0}) n start ms
-  before = every_run laws n start ms (may_lose_all ms) count run
+  before : Reached (Unit {0}) (Unit {0}) n start ms
+  before = every_run laws n start ms (allows_all ms) count run
 
   same_at : (i : ℕ) → IsNode n i → before.nodes i ≡ nodes i
   same_at i at = same_ends laws.one_end n start ms before.nodes nodes before.ends ends i at
@@ -93,3 +101,6 @@ module _ (laws : LawsBelow) (n start : ℕ) (ms : List Move) (nodes : ℕ → No
 
   pub lose_goes_on : (message : Message) → GoesOn n start ms (Lose message) ↔ IsUnderWay ms message
   lose_goes_on message = (λ on. (fit_of (Lose message) on).0, λ was. ([], [], (loss_goes_on n start ms nodes message run ends was).0))
+
+  pub repeat_goes_on : (message : Message) → GoesOn n start ms (Repeat message) ↔ IsUnderWay ms message
+  repeat_goes_on message = (λ on. (fit_of (Repeat message) on).0, λ was. ([], [], (copy_goes_on n start ms nodes message run ends was).0))

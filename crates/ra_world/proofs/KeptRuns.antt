@@ -6,18 +6,19 @@ use Rattle.std.proofs.lemmas.List.FromFn.{length-map-range_with_len, get_or-map-
 use Rattle.ra_stamp.specs.declared.message.Message.{Message}
 use Rattle.ra_stamp.specs.Message.{to_of, from_of}
 use Rattle.ra_stamp.specs.NodeId.{IsNodeNumber}
-use Rattle.ra_bag.specs.Bag.{TakesFirst}
+use Rattle.ra_bag.specs.Bag.{TakesFirst, TakesOne}
 use Rattle.ra_automaton.specs.State.{IsForNode, IsOtherNode}
 use Rattle.ra_node.specs.Node.{NodeState, opening_node}
 use Rattle.ra_node.specs.Events.{Event, Happening, NodeEvent, NodeEvents}
-use Rattle.ra_world.specs.declared.step.Step.TheVariants.{Lose}
-use Rattle.ra_world.specs.Traffic.{Move, TakesEach, LeavesUnderWay, IsUnderWay, taken_in, taken_by, sent_by}
+use Rattle.ra_world.specs.declared.step.Step.TheVariants.{Lose, Repeat}
+use Rattle.ra_world.specs.Traffic.{Move, TakesEach, LeavesUnderWay, IsUnderWay, put_in, put_by, taken_in, taken_by, sent_by, repeated_in, repeated_by}
 use Rattle.ra_world.specs.Run.{IsRun, IsFit, EndsWith, events_at, happened_at, with_node}
 use Rattle.ra_world.specs.Keeping.{nodes_of, Keeps}
 use Rattle.std.proofs.lemmas.Bool.{ne_eqb}
 use Rattle.ra_automaton.proofs.Apart.{cases_same}
 use Rattle.std.specs.List.{remove}
 use Rattle.std.specs.Prelude.{AllPairs}
+use Rattle.ra_world.proofs.Moves.{put_is_sent, event_copies_nothing}
 use Rattle.ra_world.proofs.DifferentLists.{left_different, first_at}
 
 -- ---- The beginning
@@ -60,7 +61,7 @@ set_node nodes place i new within low =
 
 module _
     (go_on : (moves : List Move) (move : Move) (left next : List Message) → LeavesUnderWay moves left
-    → TakesEach left (taken_in move.step) next → LeavesUnderWay (moves ++ move ∷ []) (next ++ move.sends))
+    → TakesEach left (taken_in move.step) next → LeavesUnderWay (moves ++ move ∷ []) (next ++ put_in move))
     (by_event : (n start : ℕ) (moves : List Move) (nodes : ℕ → NodeState) (i : ℕ) (event : Event) (move : Move) (new : NodeState)
     → IsNodeNumber n → IsRun n start moves → EndsWith n start moves nodes
     → 1 ≤ i → i ≤ n → IsFit n moves move.step move.sends move.marks → events_at i move.step ≡ event ∷ []
@@ -70,6 +71,10 @@ module _
     → IsRun n start moves → EndsWith n start moves nodes → IsUnderWay moves message
     → IsRun n start (moves ++ record { step = Lose message; sends = []; marks = [] } ∷ [])
     × EndsWith n start (moves ++ record { step = Lose message; sends = []; marks = [] } ∷ []) nodes)
+    (by_copy : (n start : ℕ) (moves : List Move) (nodes : ℕ → NodeState) (message : Message)
+    → IsRun n start moves → EndsWith n start moves nodes → IsUnderWay moves message
+    → IsRun n start (moves ++ record { step = Repeat message; sends = []; marks = [] } ∷ [])
+    × EndsWith n start (moves ++ record { step = Repeat message; sends = []; marks = [] } ∷ []) nodes)
   where
     pub after_event : (start : ℕ) (nodes : List NodeState) (left next : List Message) (moves : List Move) (move : Move)
         (place : ℕ) (event : Event) (new : NodeState) → Keeps start nodes left moves → place < length nodes
@@ -86,7 +91,9 @@ module _
           count = subst IsNodeNumber many keeps.count;
           run = subst (λ (k : ℕ). IsRun k start (moves ++ move ∷ [])) many on.0;
           ends = subst (λ (k : ℕ). EndsWith k start (moves ++ move ∷ []) (nodes_of (set nodes place new))) many ends;
-          under_way = go_on moves move left next keeps.under_way takes;
+          under_way = subst (λ (ms : List Message). LeavesUnderWay (moves ++ move ∷ []) (next ++ ms))
+              (ap (λ (ms : List Message). move.sends ++ ms) (event_copies_nothing (place + 1) move.step event here) ∙ append-nil move.sends)
+              (go_on moves move left next keeps.under_way takes);
         }
 
     contains_first : (left next : List Message) (message : Message) → TakesFirst left message next → Contains left message
@@ -110,18 +117,26 @@ module _
               (go_on moves move left next keeps.under_way (next, takes, refl));
         }
 
+    pub after_copy : (start : ℕ) (nodes : List NodeState) (left : List Message) (moves : List Move) (message : Message)
+        → Keeps start nodes left moves → Contains left message
+        → Keeps start nodes (left ++ message ∷ []) (moves ++ record { step = Repeat message; sends = []; marks = [] } ∷ [])
+    after_copy start nodes left moves message keeps there =
+        let move : Move = record { step = Repeat message; sends = []; marks = [] } in
+        let on = by_copy (length nodes) start moves (nodes_of nodes) message keeps.run keeps.ends (left, keeps.under_way, there) in
+        record { count = keeps.count; run = on.0; ends = on.1; under_way = go_on moves move left left keeps.under_way refl }
+
 -- ---- Who a node is
 
 module _
     (who : (old new : NodeState) (event : Event) (sends : List Message) (marks : List _) → NodeEvent old event sends marks new
     → (new.me ≡ old.me) × (new.nodes ≡ old.nodes) × (new.start ≡ old.start))
   where
-    pub stays : (hs : List Happening) (old new : NodeState) → NodeEvents old hs new → (new.me ≡ old.me) × (new.nodes ≡ old.nodes)
-    stays [] old new e = (ap (λ (s : NodeState). s.me) e, ap (λ (s : NodeState). s.nodes) e)
+    pub stays : (hs : List Happening) (old new : NodeState) → NodeEvents old hs new → (new.me ≡ old.me) × (new.nodes ≡ old.nodes) × (new.start ≡ old.start)
+    stays [] old new e = (ap (λ (s : NodeState). s.me) e, ap (λ (s : NodeState). s.nodes) e, ap (λ (s : NodeState). s.start) e)
     stays (h ∷ hs) old new e =
         let one = who old e.0 h.event h.sends h.marks e.1 in
         let rest = stays hs e.0 new e.2 in
-        (rest.0 ∙ one.0, rest.1 ∙ one.1)
+        (rest.0 ∙ one.0, rest.1 ∙ one.1, rest.2 ∙ one.2)
 
     pub counts : (start : ℕ) (nodes : List NodeState) (left : List Message) (moves : List Move) (place : ℕ)
         → Keeps start nodes left moves → place < length nodes → (nodes_of nodes (place + 1)).nodes ≡ length nodes
@@ -150,9 +165,10 @@ module _
 
 -- ---- What is taken
 
-pub taken_at : ((n start : ℕ) (moves : List Move) → IsNodeNumber n → IsRun n start moves → AllPairs (λ a b. a ≢ b) (sent_by moves))
-    → (start : ℕ) (nodes : List NodeState) (left : List Message) (moves : List Move) (message : Message) (place : ℕ)
-    → Keeps start nodes left moves → place < length left → get_or left place message ≡ message → TakesFirst left message (remove left place)
-taken_at differ start nodes left moves message place keeps within is =
-    first_at left place message
-    (left_different (sent_by moves) (taken_by moves) left keeps.under_way (differ (length nodes) start moves keeps.count keeps.run)) within is
+pub taken_first : ((n start : ℕ) (moves : List Move) → IsNodeNumber n → IsRun n start moves → repeated_by moves ≡ [] → AllPairs (λ a b. a ≢ b) (sent_by moves))
+    → (start : ℕ) (nodes : List NodeState) (left next : List Message) (moves : List Move) (message : Message)
+    → Keeps start nodes left moves → repeated_by moves ≡ [] → TakesOne left message next → TakesFirst left message next
+taken_first differ start nodes left next moves message keeps unrepeated (place, within, is, gone) =
+    let different = subst (AllPairs (λ a b. a ≢ b)) (sym (put_is_sent moves unrepeated)) (differ (length nodes) start moves keeps.count keeps.run unrepeated) in
+    subst (λ (ms : List Message). TakesFirst left message ms) (sym gone)
+    (first_at left place message (left_different (put_by moves) (taken_by moves) left keeps.under_way different) within is)

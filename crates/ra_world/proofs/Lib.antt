@@ -3,8 +3,13 @@ mod Lists
 mod Dialogs
 mod Members
 mod Protocol
+mod Stepping
 mod Asking
 mod Receiving
+mod Exchanges
+mod ExchangesAsking
+mod ExchangesReceiving
+mod Conduct
 mod Tables
 mod Marking
 mod Marks

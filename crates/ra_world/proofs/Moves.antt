@@ -1,5 +1,5 @@
--- Lists of moves: what one more move adds to them, at which node a step is an event, and which messages they lose.
-use Rattle.std.proofs.Common.{◌≡◌, ◌≢◌, ℕ, true, false, List, [], ◌∷◌, ◌++◌, map, refl, sym, ap, ◌∙◌, subst, append_assoc, arith, ◌+◌, inl, inr}
+-- Lists of moves: what one more move adds to them, at which node a step is an event, and which messages they lose or repeat.
+use Rattle.std.proofs.Common.{◌≡◌, ◌≢◌, ℕ, true, false, List, [], ◌∷◌, ◌++◌, map, refl, sym, ap, ◌∙◌, subst, append_assoc, arith, ◌+◌, ◌⊎◌, inl, inr}
 use Rattle.std.specs.Prelude.{◌==◌, if◌then◌else◌}
 use Rattle.std.proofs.lemmas.List.{append-nil}
 use Rattle.std.proofs.lemmas.Bool.Decides.{nat_tests}
@@ -10,8 +10,8 @@ use Rattle.ra_stamp.specs.Message.{to_of}
 use Rattle.ra_node.specs.Events.{Event, Happening}
 use Rattle.ra_node.specs.Events.Event.{Ask as AskedFor, Leave as GivenBack, Receive as Received}
 use Rattle.ra_world.specs.declared.step.Step.{Step}
-use Rattle.ra_world.specs.declared.step.Step.TheVariants.{Ask, Leave, Deliver, Lose}
-use Rattle.ra_world.specs.Traffic.{Move, sent_by, taken_in, taken_by, lost_in, lost_by}
+use Rattle.ra_world.specs.declared.step.Step.TheVariants.{Ask, Leave, Deliver, Lose, Repeat}
+use Rattle.ra_world.specs.Traffic.{Move, sent_by, put_in, put_by, taken_in, taken_by, lost_in, lost_by, repeated_in, repeated_by}
 use Rattle.ra_world.specs.Run.{events_at, happened_at, marks_of, AreFit}
 use Rattle.ra_world.specs.Quiet.{requests_in}
 use Rattle.ra_automaton.proofs.Apart.{cases_same}
@@ -22,6 +22,22 @@ use Rattle.ra_world.proofs.Lists.{none_some}
 pub sent_more : (ms : List Move) (m : Move) → sent_by (ms ++ m ∷ []) ≡ sent_by ms ++ m.sends
 sent_more [] m = append-nil m.sends
 sent_more (x ∷ ms) m = ap (λ (ys : List Message). x.sends ++ ys) (sent_more ms m) ∙ sym (append_assoc x.sends (sent_by ms) m.sends)
+
+pub put_more : (ms : List Move) (m : Move) → put_by (ms ++ m ∷ []) ≡ put_by ms ++ put_in m
+put_more [] m = append-nil (put_in m)
+put_more (x ∷ ms) m = ap (λ (ys : List Message). put_in x ++ ys) (put_more ms m) ∙ sym (append_assoc (put_in x) (put_by ms) (put_in m))
+
+-- where nothing was repeated, what was put under way is what was sent
+pub put_is_sent : (ms : List Move) → repeated_by ms ≡ [] → put_by ms ≡ sent_by ms
+put_is_sent [] e = refl
+put_is_sent (x ∷ ms) e =
+    let both = none_of_both (repeated_in x.step) (repeated_by ms) e in
+    ap (λ (ys : List Message). (x.sends ++ ys) ++ put_by ms) both.0 ∙ ap (λ (ys : List Message). ys ++ put_by ms) (append-nil x.sends)
+    ∙ ap (λ (ys : List Message). x.sends ++ ys) (put_is_sent ms both.1)
+  where
+    none_of_both : (xs ys : List Message) → xs ++ ys ≡ [] → (xs ≡ []) × (ys ≡ [])
+    none_of_both [] ys e = (refl, e)
+    none_of_both (x ∷ xs) ys e = absurd (none_some (sym e))
 
 pub taken_more : (ms : List Move) (m : Move) → taken_by (ms ++ m ∷ []) ≡ taken_by ms ++ taken_in m.step
 taken_more [] m = append-nil (taken_in m.step)
@@ -77,39 +93,51 @@ only_at p i (Ask node client name mode) event here apart = one_node node p i (As
 only_at p i (Leave node client name) event here apart = one_node node p i (GivenBack client name) event here apart
 only_at p i (Deliver message) event here apart = one_node (to_of message) p i (Received message) event here apart
 only_at p i (Lose message) event here apart = refl
+only_at p i (Repeat message) event here apart = refl
 
--- ---- Which messages may be lost
+-- a step that is an event puts no copy under way
+pub event_copies_nothing : (p : ℕ) (step : Step) (event : Event) → events_at p step ≡ event ∷ [] → repeated_in step ≡ []
+event_copies_nothing p (Ask node client name mode) event here = refl
+event_copies_nothing p (Leave node client name) event here = refl
+event_copies_nothing p (Deliver message) event here = refl
+event_copies_nothing p (Lose message) event here = refl
+event_copies_nothing p (Repeat message) event here = absurd (none_some here)
 
--- messages are lost only where this is so
-abbrev pub MayLose : Type 0 → Step → Type 0
-MayLose Lossy (Ask node client name mode) = Unit {0}
-MayLose Lossy (Leave node client name) = Unit {0}
-MayLose Lossy (Deliver message) = Unit {0}
-MayLose Lossy (Lose message) = Lossy
+-- ---- Which messages may be lost or repeated
 
-abbrev pub MayLoseAll : Type 0 → List Move → Type 0
-MayLoseAll Lossy [] = Unit {0}
-MayLoseAll Lossy (move ∷ moves) = MayLose Lossy move.step × MayLoseAll Lossy moves
+-- messages are lost only where Lossy is so, and repeated only where Copied is so
+abbrev pub Allows : Type 0 → Type 0 → Step → Type 0
+Allows Lossy Copied (Ask node client name mode) = Unit {0}
+Allows Lossy Copied (Leave node client name) = Unit {0}
+Allows Lossy Copied (Deliver message) = Unit {0}
+Allows Lossy Copied (Lose message) = Lossy
+Allows Lossy Copied (Repeat message) = Copied
 
-pub may_lose_any : (step : Step) → MayLose (Unit {0}) step
-may_lose_any (Ask node client name mode) = tt
-may_lose_any (Leave node client name) = tt
-may_lose_any (Deliver message) = tt
-may_lose_any (Lose message) = tt
+abbrev pub AllowsAll : Type 0 → Type 0 → List Move → Type 0
+AllowsAll Lossy Copied [] = Unit {0}
+AllowsAll Lossy Copied (move ∷ moves) = Allows Lossy Copied move.step × AllowsAll Lossy Copied moves
 
-pub may_lose_all : (moves : List Move) → MayLoseAll (Unit {0}) moves
-may_lose_all [] = tt
-may_lose_all (move ∷ moves) = (may_lose_any move.step, may_lose_all moves)
+allows_one : {Lossy Copied : Type 0} (step : Step) (losses copies : List Message) → (lost_in step ++ losses ≡ []) ⊎ Lossy → (repeated_in step ++ copies ≡ []) ⊎ Copied
+    → Allows Lossy Copied step × ((losses ≡ []) ⊎ Lossy) × ((copies ≡ []) ⊎ Copied)
+allows_one (Ask node client name mode) losses copies lost repeated = (tt, lost, repeated)
+allows_one (Leave node client name) losses copies lost repeated = (tt, lost, repeated)
+allows_one (Deliver message) losses copies lost repeated = (tt, lost, repeated)
+allows_one (Lose message) losses copies lost repeated = elim lost [ inl none ↦ absurd (none_some (sym none)) | inr lossy ↦ (lossy, inr lossy, repeated) ]
+allows_one (Repeat message) losses copies lost repeated = elim repeated [ inl none ↦ absurd (none_some (sym none)) | inr copied ↦ (copied, lost, inr copied) ]
 
-pub may_lose_none : (step : Step) (more : List Message) → lost_in step ++ more ≡ [] → MayLose ⊥ step × (more ≡ [])
-may_lose_none (Ask node client name mode) more e = (tt, e)
-may_lose_none (Leave node client name) more e = (tt, e)
-may_lose_none (Deliver message) more e = (tt, e)
-may_lose_none (Lose message) more e = absurd (none_some (sym e))
+pub allows_moves : {Lossy Copied : Type 0} (moves : List Move) → (lost_by moves ≡ []) ⊎ Lossy → (repeated_by moves ≡ []) ⊎ Copied → AllowsAll Lossy Copied moves
+allows_moves [] lost repeated = tt
+allows_moves (move ∷ moves) lost repeated =
+    let one = allows_one move.step (lost_by moves) (repeated_by moves) lost repeated in
+    (one.0, allows_moves moves one.1 one.2)
 
-pub none_lost : (moves : List Move) → lost_by moves ≡ [] → MayLoseAll ⊥ moves
-none_lost [] e = tt
-none_lost (move ∷ moves) e = let both = may_lose_none move.step (lost_by moves) e in (both.0, none_lost moves both.1)
+pub allows_more : (Lossy Copied : Type 0) (moves : List Move) (m : Move) → AllowsAll Lossy Copied moves → Allows Lossy Copied m.step → AllowsAll Lossy Copied (moves ++ m ∷ [])
+allows_more Lossy Copied [] m before may = (may, tt)
+allows_more Lossy Copied (x ∷ moves) m before may = (before.0, allows_more Lossy Copied moves m before.1 may)
+
+-- all may be lost and repeated
+pub allows_all : (moves : List Move) → AllowsAll (Unit {0}) (Unit {0}) moves
+allows_all moves = allows_moves moves (inr tt) (inr tt)
 
 -- ---- How many requests were made
 

@@ -12,12 +12,12 @@ use Rattle.ra_node.specs.Events.{Event, name_of_event, NodeEvent, IsForThisNode}
 use Rattle.ra_node.specs.Events.Event.{Ask as AskedFor, Leave as GivenBack, Receive as Received}
 use Rattle.ra_node.specs.Carried.{IsMark}
 use Rattle.ra_world.specs.declared.step.Step.{Step}
-use Rattle.ra_world.specs.declared.step.Step.TheVariants.{Ask, Leave, Deliver, Lose}
+use Rattle.ra_world.specs.declared.step.Step.TheVariants.{Ask, Leave, Deliver, Lose, Repeat}
 use Rattle.ra_world.specs.Below.{LawsBelow}
 use Rattle.ra_world.specs.Traffic.{Move, taken_in, taken_by}
 use Rattle.ra_world.specs.Numbers.{IsNumberedMark, IsNumberedMessage}
 use Rattle.ra_world.specs.Run.{events_at, marks_of, IsFit, IsRun}
-use Rattle.ra_world.proofs.Moves.{may_lose_all, fits_split, at_node}
+use Rattle.ra_world.proofs.Moves.{allows_all, fits_split, at_node}
 use Rattle.ra_world.proofs.Nodes.{EndsAt}
 use Rattle.ra_world.proofs.Protocol.{IsNode}
 use Rattle.ra_world.proofs.Reached.{Reached, was_under_way, event_happened}
@@ -35,7 +35,7 @@ MarksOfNodes = (old new : NodeState) (event : Event) (sends : List Message) (mar
     → All (IsMark old.me (name_of_event event)) marks
 
 module _ (laws : LawsBelow) (marks_law : MarksOfNodes) (n start : ℕ) (count : IsNodeNumber n) where
-  module _ (ms : List Move) (sends : List Message) (marks : List Mark) (before : Reached (Unit {0}) n start ms) where
+  module _ (ms : List Move) (sends : List Message) (marks : List Mark) (before : Reached (Unit {0}) (Unit {0}) n start ms) where
     abbrev by : Step → Move
     by step = record { step = step; sends = sends; marks = marks }
 
@@ -67,13 +67,14 @@ module _ (laws : LawsBelow) (marks_law : MarksOfNodes) (n start : ℕ) (count : 
     by_step (Lose message) fit ends =
         let was = was_under_way laws n start ms before message fit.0 in
         (All-same IsNumberedMark marks [] fit.2 (All-nil IsNumberedMark), All-cons IsNumberedMessage message [] was.traffic.numbered (All-nil IsNumberedMessage))
+    by_step (Repeat message) fit ends = (All-same IsNumberedMark marks [] fit.2 (All-nil IsNumberedMark), All-nil IsNumberedMessage)
 
   move_by_move : (back ms : List Move) → IsRun n start (ms ++ back) → All IsNumberedMark (marks_of back) × All IsNumberedMessage (taken_by back)
   move_by_move [] ms run = (All-nil IsNumberedMark, All-nil IsNumberedMessage)
   move_by_move (m ∷ back) ms run =
       let longer = subst (IsRun n start) (sym (append_assoc ms (m ∷ []) back)) run in
       let after = fronts laws.splits n start back (ms ++ m ∷ []) longer in
-      let before = every_run laws n start ms (may_lose_all ms) count (fronts laws.splits n start (m ∷ []) ms after) in
+      let before = every_run laws n start ms (allows_all ms) count (fronts laws.splits n start (m ∷ []) ms after) in
       let fit = (fits_split n [] ms (m ∷ back) run.each_fits).1.0 in
       let here = by_step ms m.sends m.marks before m.step fit (λ p at. (after.ends.0 p, after.ends.1 p at.0 at.1)) in
       let rest = move_by_move back (ms ++ m ∷ []) longer in

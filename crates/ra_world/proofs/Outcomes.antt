@@ -1,5 +1,5 @@
 -- What holds at the end of every run: who holds, who waits, what is under way, and that no REPLY is a stray.
-use Rattle.std.proofs.Common.{◌≡◌, ◌≢◌, ℕ, List, [], ◌∷◌, ◌++◌, Contains, length, Some, refl, sym, ap, ◌∙◌, subst, arith}
+use Rattle.std.proofs.Common.{◌≡◌, ◌≢◌, ℕ, ◌<◌, List, [], ◌∷◌, ◌++◌, Contains, length, Some, refl, sym, ap, ◌∙◌, subst, arith, inl, inr}
 use Rattle.std.specs.Prelude.{◌↔◌}
 use Rattle.ra_stamp.specs.declared.mode.Mode.{Mode}
 use Rattle.ra_stamp.specs.declared.message.Message.{Message}
@@ -17,16 +17,17 @@ use Rattle.ra_table.specs.Laws.{SameEntries}
 use Rattle.ra_world.specs.declared.step.Step.{Step}
 use Rattle.ra_world.specs.declared.step.Step.TheVariants.{Deliver}
 use Rattle.ra_world.specs.Below.{LawsBelow}
-use Rattle.ra_world.specs.Traffic.{Move, LeavesUnderWay, IsUnderWay}
+use Rattle.ra_world.specs.Traffic.{Move, LeavesUnderWay, IsUnderWay, repeated_by}
 use Rattle.ra_world.specs.Run.{happened_at, marks_of, IsFit, IsRun, EndsWith, waiting_at_all}
 use Rattle.ra_world.proofs.Lists.{filter_taken}
-use Rattle.ra_world.proofs.Moves.{may_lose_all, fits_split}
+use Rattle.ra_world.proofs.Moves.{allows_all, allows_moves, fits_split}
 use Rattle.ra_world.proofs.Dialogs.{belongs, between, belongs_at}
 use Rattle.ra_world.proofs.Receiving.{was_answered}
 use Rattle.ra_world.proofs.Protocol.{IsNode}
 use Rattle.ra_world.proofs.Uses.{may_be_granted}
 use Rattle.ra_world.proofs.Counting.{same_over}
 use Rattle.ra_world.proofs.Cluster.{IsTraffic, states}
+use Rattle.ra_world.proofs.ExchangesReceiving.{contains_filter}
 use Rattle.ra_world.proofs.Reached.{Reached, waits_nowhere, one_list, was_under_way}
 use Rattle.ra_world.proofs.Runs.{every_run, same_ends, fronts}
 
@@ -40,8 +41,8 @@ held : (r : Resource) (e : Entry) → holder_of r ≡ Some e → use_of r ≡ Ho
 held r e is = held_in (use_of r) e is
 
 module _ (laws : LawsBelow) (n start : ℕ) (moves : List Move) (count : IsNodeNumber n) (run : IsRun n start moves) where
-  at_end : Reached (Unit {0}) n start moves
-  at_end = every_run laws n start moves (may_lose_all moves) count run
+  at_end : Reached (Unit {0}) (Unit {0}) n start moves
+  at_end = every_run laws n start moves (allows_all moves) count run
 
   same_at : (nodes : ℕ → NodeState) → EndsWith n start moves nodes → (i : ℕ) → IsNode n i → nodes i ≡ at_end.nodes i
   same_at nodes ends i at = same_ends laws.one_end n start moves nodes at_end.nodes ends at_end.ends i at
@@ -54,7 +55,7 @@ module _ (laws : LawsBelow) (n start : ℕ) (moves : List Move) (count : IsNodeN
       let uses : (k : ℕ) → IsNode n k → (e : Entry) → holder_of (resource_at (nodes k) name) ≡ Some e → use_of (resource_at (at_end.nodes k) name) ≡ HoldsBy e =
       λ k at e is. held (resource_at (at_end.nodes k) name) e (sym (ap (λ (x : NodeState). holder_of (resource_at x name)) (same_at nodes ends k at)) ∙ is)
       in
-      (may_be_granted laws.symmetric n name at_end.nodes at_end.bag (at_end.invariant.protocol name) j at_j b (uses j at_j b holds_b)).free i a at_i apart (uses i at_i a holds_a) conflict
+      (may_be_granted laws.symmetric start n name at_end.nodes at_end.bag (at_end.invariant.protocol name).exchanges j at_j b (uses j at_j b holds_b)).free i a at_i apart (uses i at_i a holds_a) conflict
 
   pub has_table : (table : LockTable) × TableRun (marks_of moves) table
   has_table = (at_end.table, at_end.run)
@@ -73,22 +74,32 @@ module _ (laws : LawsBelow) (n start : ℕ) (moves : List Move) (count : IsNodeN
   pub is_traffic : (message : Message) → IsUnderWay moves message → IsTraffic n message
   is_traffic message was = (was_under_way laws n start moves at_end message was).traffic
 
+  -- a REPLY is for a node that asked for its name
+  pub asked_for : (nodes : ℕ → NodeState) (from to : ℕ) (name : List ℕ) (seq : ℕ) → EndsWith n start moves nodes → IsUnderWay moves (Reply from to name seq) → start < (resource_at (nodes to) name).state.highest
+  asked_for nodes from to name seq ends was =
+      let message = Reply from to name seq in
+      let traffic = is_traffic message was in
+      let there : Contains at_end.bag message = subst (λ (xs : List Message). Contains xs message) (one_list moves was.0 at_end.bag was.1 at_end.under_way) was.2 in
+      let dialog = (at_end.invariant.protocol name).exchanges.dialog to from traffic.to (traffic.from.first, traffic.from.last) (λ e. traffic.from.other (sym e)) in
+      let grants = dialog.answered seq (contains_filter (belongs name to from) at_end.bag message (belongs_at name to from message (record { asker = refl; answerer = refl; name_is = refl })) there) in
+      omega (arith, grants.above, grants.reached, ap (λ (x : NodeState). (resource_at x name).state.highest) (same_at nodes ends to traffic.to))
+
 pub among_them : (moves : List Move) (left : List Message) (message : Message) → LeavesUnderWay moves left → IsUnderWay moves message ↔ Contains left message
 among_them moves left message less = (λ was. subst (λ (xs : List Message). Contains xs message) (one_list moves was.0 left was.1 less) was.2, λ at. (left, less, at))
 
 -- ---- No REPLY that is delivered is a stray
 
-pub reply_awaited : LawsBelow → (n start : ℕ) (front back : List Move) (move : Move) (from to : ℕ) (name : List ℕ) (seq : ℕ) (node : NodeState) → IsNodeNumber n → IsRun n start (front ++ move ∷ back)
+pub reply_awaited : LawsBelow → (n start : ℕ) (front back : List Move) (move : Move) (from to : ℕ) (name : List ℕ) (seq : ℕ) (node : NodeState) → IsNodeNumber n → IsRun n start (front ++ move ∷ back) → repeated_by front ≡ []
     → move.step ≡ Deliver (Reply from to name seq) → NodeEvents (opening_node to n start) (happened_at to front) node → (mode : Mode) × Awaits (resource_at node name).state from seq mode
-reply_awaited laws n start front back move from to name seq node count run is end =
+reply_awaited laws n start front back move from to name seq node count run unrepeated is end =
     let message = Reply from to name seq in
-    let before = every_run laws n start front (may_lose_all front) count (fronts laws.splits n start (move ∷ back) front run) in
+    let before : Reached (Unit {0}) ⊥ n start front = every_run laws n start front (allows_moves front (inr tt) (inl unrepeated)) count (fronts laws.splits n start (move ∷ back) front run) in
     let fit = subst (λ (step : Step). IsFit n front step move.sends move.marks) is (fits_split n [] front (move ∷ back) run.each_fits).1.0 in
     let was = was_under_way laws n start front before message fit in
     let sender = was.traffic.from in
     let s = states before.nodes name in
     let here = filter_taken (belongs name to from) before.bag message was.rest (belongs_at name to from message (record { asker = refl; answerer = refl; name_is = refl })) was.takes in
-    let dialog = (before.invariant.protocol name).dialog to from was.traffic.to (sender.first, sender.last) (λ e. sender.other (sym e)) in
+    let dialog = ((before.invariant.protocol name).exact (λ x. x)).dialog to from was.traffic.to (sender.first, sender.last) (λ e. sender.other (sym e)) in
     let answered = was_answered name to from (s to) (s from) (between name to from before.bag) seq (between name to from was.rest) here dialog in
     let same = laws.one_end (opening_node to n start) node (before.nodes to) (happened_at to front) end (before.ends to was.traffic.to.0 was.traffic.to.1) in
     (answered.mode, subst (λ (x : NodeState). Awaits (resource_at x name).state from seq answered.mode) (sym same) answered.awaits)

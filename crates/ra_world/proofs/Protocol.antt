@@ -106,6 +106,63 @@ pub record Changes (s s' : ℕ → State) (p : ℕ) (new : State) : Type 0 where
   pub here : s' p ≡ new
   pub there : (k : ℕ) → k ≢ p → s' k ≡ s k
 
+module _ (n : ℕ) (r : List ℕ) (s s' : ℕ → State) (p : ℕ) (new : State) (changes : Changes s s' p new) where
+  pub each_changed : ((i : ℕ) → IsNode n i → IsPlaced n r i (s i)) → IsPlaced n r p new → (i : ℕ) → IsNode n i → IsPlaced n r i (s' i)
+  each_changed each placed i at = elim (cases_same i p) [
+    | inl same ↦ subst (λ (k : ℕ). IsPlaced n r k (s' k)) (sym same) (subst (λ (x : State). IsPlaced n r p x) (sym changes.here) placed)
+    | inr apart ↦ subst (λ (x : State). IsPlaced n r i x) (sym (changes.there i apart)) (each i at)
+  ]
+
+  -- what D says of each two nodes and the messages between them
+  pub dialogs_changed : (D : ℕ → ℕ → State → State → List Message → Type 0) (bag bag' : List Message)
+      → ((i j : ℕ) → IsNode n i → IsNode n j → i ≢ j → D i j (s i) (s j) (between r i j bag))
+      → ((x : ℕ) → IsNode n x → x ≢ p → D p x (s p) (s x) (between r p x bag) → D p x new (s x) (between r p x bag'))
+      → ((x : ℕ) → IsNode n x → x ≢ p → D x p (s x) (s p) (between r x p bag) → D x p (s x) new (between r x p bag'))
+      → ((i j : ℕ) → i ≢ p → j ≢ p → between r i j bag' ≡ between r i j bag)
+      → IsNode n p → (i j : ℕ) → IsNode n i → IsNode n j → i ≢ j → D i j (s' i) (s' j) (between r i j bag')
+  dialogs_changed D bag bag' dialog mine theirs others within i j at_i at_j apart = elim (cases_same i p) [
+    | inl is_i ↦
+        let j_apart : j ≢ p = λ e. apart (is_i ∙ sym e) in
+        subst (λ (k : ℕ). D k j (s' k) (s' j) (between r k j bag')) (sym is_i)
+        (subst (λ (x : State). D p j x (s' j) (between r p j bag')) (sym changes.here)
+        (subst (λ (x : State). D p j new x (between r p j bag')) (sym (changes.there j j_apart))
+        (mine j at_j j_apart (dialog p j within at_j (λ e. j_apart (sym e))))))
+    | inr i_apart ↦ elim (cases_same j p) [
+      | inl is_j ↦
+          subst (λ (k : ℕ). D i k (s' i) (s' k) (between r i k bag')) (sym is_j)
+          (subst (λ (x : State). D i p (s' i) x (between r i p bag')) (sym changes.here)
+          (subst (λ (x : State). D i p x new (between r i p bag')) (sym (changes.there i i_apart))
+          (theirs i at_i i_apart (dialog i p at_i within i_apart))))
+      | inr j_apart ↦
+          subst (λ (x : State). D i j x (s' j) (between r i j bag')) (sym (changes.there i i_apart))
+          (subst (λ (x : State). D i j (s i) x (between r i j bag')) (sym (changes.there j j_apart))
+          (subst (λ (ms : List Message). D i j (s i) (s j) ms) (sym (others i j i_apart j_apart)) (dialog i j at_i at_j apart)))
+    ]
+  ]
+
+  pub passed_changed : ((i j seq : ℕ) (mode : Mode) → IsNode n i → IsNode n j → i ≢ j → HasOwn (s i).phase seq mode → (IsTrue (set.contains (s i).awaited j) → ⊥) → LetsPass (s j) i seq mode)
+      → ((x seq : ℕ) (mode : Mode) → IsNode n x → x ≢ p → HasOwn new.phase seq mode → (IsTrue (set.contains new.awaited x) → ⊥) → LetsPass (s x) p seq mode)
+      → ((x seq : ℕ) (mode : Mode) → LetsPass (s p) x seq mode → LetsPass new x seq mode)
+      → (i j seq : ℕ) (mode : Mode) → IsNode n i → IsNode n j → i ≢ j → HasOwn (s' i).phase seq mode → (IsTrue (set.contains (s' i).awaited j) → ⊥) → LetsPass (s' j) i seq mode
+  passed_changed before passes passed i j seq mode at_i at_j apart own free = elim (cases_same i p) [
+    | inl is_i ↦
+        let j_apart : j ≢ p = λ e. apart (is_i ∙ sym e) in
+        let now : s' i ≡ new = ap s' is_i ∙ changes.here in
+        subst (λ (x : State). LetsPass x i seq mode) (sym (changes.there j j_apart))
+        (subst (λ (k : ℕ). LetsPass (s j) k seq mode) (sym is_i)
+        (passes j seq mode at_j j_apart (subst (λ (x : State). HasOwn x.phase seq mode) now own) (λ awaited. free (subst (λ (x : State). IsTrue (set.contains x.awaited j)) (sym now) awaited))))
+    | inr i_apart ↦
+        let as_before = changes.there i i_apart in
+        let own' = subst (λ (x : State). HasOwn x.phase seq mode) as_before own in
+        let free' : IsTrue (set.contains (s i).awaited j) → ⊥ = λ awaited. free (subst (λ (x : State). IsTrue (set.contains x.awaited j)) (sym as_before) awaited) in
+        elim (cases_same j p) [
+          | inl is_j ↦
+              subst (λ (k : ℕ). LetsPass (s' k) i seq mode) (sym is_j) (subst (λ (x : State). LetsPass x i seq mode) (sym changes.here)
+              (passed i seq mode (subst (λ (k : ℕ). LetsPass (s k) i seq mode) is_j (before i j seq mode at_i at_j apart own' free'))))
+          | inr j_apart ↦ subst (λ (x : State). LetsPass x i seq mode) (sym (changes.there j j_apart)) (before i j seq mode at_i at_j apart own' free')
+        ]
+  ]
+
 module _ {Lossy : Type 0} (n : ℕ) (r : List ℕ) (s s' : ℕ → State) (bag bag' : List Message) (p : ℕ) (new : State) (old : Protocol Lossy n r s bag) (changes : Changes s s' p new) where
   pub changed : IsPlaced n r p new
       → ((x : ℕ) → IsNode n x → x ≢ p → Dialog Lossy r p x (s p) (s x) (between r p x bag) → Dialog Lossy r p x new (s x) (between r p x bag'))
@@ -116,45 +173,7 @@ module _ {Lossy : Type 0} (n : ℕ) (r : List ℕ) (s s' : ℕ → State) (bag b
       → IsNode n p → Protocol Lossy n r s' bag'
   changed placed mine theirs others passes passed within =
       record {
-        each = λ i at. elim (cases_same i p) [
-          | inl same ↦ subst (λ (k : ℕ). IsPlaced n r k (s' k)) (sym same) (subst (λ (x : State). IsPlaced n r p x) (sym changes.here) placed)
-          | inr apart ↦ subst (λ (x : State). IsPlaced n r i x) (sym (changes.there i apart)) (old.each i at)
-        ];
-        dialog = λ i j at_i at_j apart. elim (cases_same i p) [
-          | inl is_i ↦
-              let j_apart : j ≢ p = λ e. apart (is_i ∙ sym e) in
-              subst (λ (k : ℕ). Dialog Lossy r k j (s' k) (s' j) (between r k j bag')) (sym is_i)
-              (subst (λ (x : State). Dialog Lossy r p j x (s' j) (between r p j bag')) (sym changes.here)
-              (subst (λ (x : State). Dialog Lossy r p j new x (between r p j bag')) (sym (changes.there j j_apart))
-              (mine j at_j j_apart (old.dialog p j within at_j (λ e. j_apart (sym e))))))
-          | inr i_apart ↦ elim (cases_same j p) [
-            | inl is_j ↦
-                subst (λ (k : ℕ). Dialog Lossy r i k (s' i) (s' k) (between r i k bag')) (sym is_j)
-                (subst (λ (x : State). Dialog Lossy r i p (s' i) x (between r i p bag')) (sym changes.here)
-                (subst (λ (x : State). Dialog Lossy r i p x new (between r i p bag')) (sym (changes.there i i_apart))
-                (theirs i at_i i_apart (old.dialog i p at_i within i_apart))))
-            | inr j_apart ↦
-                subst (λ (x : State). Dialog Lossy r i j x (s' j) (between r i j bag')) (sym (changes.there i i_apart))
-                (subst (λ (x : State). Dialog Lossy r i j (s i) x (between r i j bag')) (sym (changes.there j j_apart))
-                (subst (λ (ms : List Message). Dialog Lossy r i j (s i) (s j) ms) (sym (others i j i_apart j_apart)) (old.dialog i j at_i at_j apart)))
-          ]
-        ];
-        passed = λ i j seq mode at_i at_j apart own free. elim (cases_same i p) [
-          | inl is_i ↦
-              let j_apart : j ≢ p = λ e. apart (is_i ∙ sym e) in
-              let now : s' i ≡ new = ap s' is_i ∙ changes.here in
-              subst (λ (x : State). LetsPass x i seq mode) (sym (changes.there j j_apart))
-              (subst (λ (k : ℕ). LetsPass (s j) k seq mode) (sym is_i)
-              (passes j seq mode at_j j_apart (subst (λ (x : State). HasOwn x.phase seq mode) now own) (λ awaited. free (subst (λ (x : State). IsTrue (set.contains x.awaited j)) (sym now) awaited))))
-          | inr i_apart ↦
-              let as_before = changes.there i i_apart in
-              let own' = subst (λ (x : State). HasOwn x.phase seq mode) as_before own in
-              let free' : IsTrue (set.contains (s i).awaited j) → ⊥ = λ awaited. free (subst (λ (x : State). IsTrue (set.contains x.awaited j)) (sym as_before) awaited) in
-              elim (cases_same j p) [
-                | inl is_j ↦
-                    subst (λ (k : ℕ). LetsPass (s' k) i seq mode) (sym is_j) (subst (λ (x : State). LetsPass x i seq mode) (sym changes.here)
-                    (passed i seq mode (subst (λ (k : ℕ). LetsPass (s k) i seq mode) is_j (old.passed i j seq mode at_i at_j apart own' free'))))
-                | inr j_apart ↦ subst (λ (x : State). LetsPass x i seq mode) (sym (changes.there j j_apart)) (old.passed i j seq mode at_i at_j apart own' free')
-              ]
-        ];
+        each = each_changed n r s s' p new changes old.each placed;
+        dialog = dialogs_changed n r s s' p new changes (Dialog Lossy r) bag bag' old.dialog mine theirs others within;
+        passed = passed_changed n r s s' p new changes old.passed passes passed;
       }

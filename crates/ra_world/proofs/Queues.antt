@@ -14,7 +14,7 @@ use Rattle.ra_node.specs.Node.{NodeState, opening_node, resource_at, with_resour
 use Rattle.ra_node.specs.Events.{Event, Happening, NodeEvent, NodeEvents}
 use Rattle.ra_node.specs.Events.Event.{Ask as AskedFor, Leave as GivenBack, Receive as Received}
 use Rattle.ra_world.specs.declared.step.Step.{Step}
-use Rattle.ra_world.specs.declared.step.Step.TheVariants.{Ask, Leave, Deliver, Lose}
+use Rattle.ra_world.specs.declared.step.Step.TheVariants.{Ask, Leave, Deliver, Lose, Repeat}
 use Rattle.ra_world.specs.Traffic.{Move}
 use Rattle.ra_world.specs.Run.{events_at, happened_at}
 use Rattle.ra_world.specs.Keeping.{nodes_of, Keeps}
@@ -99,16 +99,17 @@ one_at_most p event first (suc n) =
           omega (arith, here, split, one_at_most p event (first + 1) n)
     ]
 
-none_lost : (message : Message) (first n : ℕ) → sum_by (λ i. length (events_at i (Lose message))) (range_with_len first n) ≡ 0
-none_lost message first zero = refl
-none_lost message first (suc n) =
-    omega (arith, none_lost message (first + 1) n, sum_by-cons (λ (i : ℕ). length (events_at i (Lose message))) first (range_with_len (first + 1) n))
+nowhere : (step : Step) → ((i : ℕ) → length (events_at i step) ≡ 0) → (first n : ℕ) → sum_by (λ i. length (events_at i step)) (range_with_len first n) ≡ 0
+nowhere step none first zero = refl
+nowhere step none first (suc n) =
+    omega (arith, none first, nowhere step none (first + 1) n, sum_by-cons (λ (i : ℕ). length (events_at i step)) first (range_with_len (first + 1) n))
 
 one_event : (step : Step) (first n : ℕ) → sum_by (λ i. length (events_at i step)) (range_with_len first n) ≤ 1
 one_event (Ask node client name mode) first n = one_at_most node (AskedFor client name mode) first n
 one_event (Leave node client name) first n = one_at_most node (GivenBack client name) first n
 one_event (Deliver message) first n = one_at_most (to_of message) (Received message) first n
-one_event (Lose message) first n = omega (arith, none_lost message first n)
+one_event (Lose message) first n = omega (arith, nowhere (Lose message) (λ _. refl) first n)
+one_event (Repeat message) first n = omega (arith, nowhere (Repeat message) (λ _. refl) first n)
 
 added : (f g h : ℕ → ℕ) (first n : ℕ) → ((i : ℕ) → f i ≡ g i + h i) → sum_by f (range_with_len first n) ≡ sum_by g (range_with_len first n) + sum_by h (range_with_len first n)
 added f g h first zero is = refl

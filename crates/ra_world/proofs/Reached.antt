@@ -1,12 +1,13 @@
 -- What is reached at the end of a run: its nodes, what is under way, and its lock table, and all that holds of them. An
 -- event of a node leads on.
-use Rattle.std.proofs.Common.{◌≡◌, ℕ, ◌≤◌, List, [], ◌∷◌, ◌++◌, All, Contains, length, refl, sym, ap, ◌∙◌, subst, arith, inl, ◌+◌, ◌-◌, ◌*◌, mul-add}
+use Rattle.std.proofs.Common.{◌≡◌, ℕ, ◌≤◌, List, [], ◌∷◌, ◌++◌, All, Contains, length, Option, Some, None, refl, sym, ap, ◌∙◌, subst, arith, inl, ◌+◌, ◌-◌, ◌*◌, mul-add}
 use Rattle.std.specs.Prelude.{IsTrue}
 use Rattle.std.specs.Ordering.{nat_cmp}
 use Rattle.std.specs.FinSet as set
 use Rattle.std.specs.FinMap as finmap
-use Rattle.std.proofs.lemmas.List.{length-append}
+use Rattle.std.proofs.lemmas.List.{length-append, append-nil}
 use Rattle.std.proofs.lemmas.List.Elements.{All-nil}
+use Rattle.ra_stamp.specs.declared.mode.Mode.{Mode}
 use Rattle.ra_stamp.specs.declared.message.Message.{Message}
 use Rattle.ra_stamp.specs.declared.entry.Mark.{Mark}
 use Rattle.ra_stamp.specs.Message.{seq_of}
@@ -20,30 +21,31 @@ use Rattle.ra_node.specs.Events.Event.{Ask as AskedFor, Leave as GivenBack, Rece
 use Rattle.ra_node.specs.Carried.{IsSend, MarksLead}
 use Rattle.ra_table.specs.Table.{LockTable, empty_table, TableSteps, TableRun}
 use Rattle.ra_world.specs.Below.{LawsBelow}
-use Rattle.ra_world.specs.Traffic.{Move, sent_by, taken_in, taken_by, TakesEach, LeavesUnderWay, IsUnderWay}
+use Rattle.ra_world.specs.Traffic.{Move, sent_by, put_in, put_by, taken_in, taken_by, repeated_in, TakesEach, LeavesUnderWay, IsUnderWay}
 use Rattle.ra_world.specs.Run.{events_at, happened_at, marks_of, EndsWith, with_node}
 use Rattle.ra_world.specs.Quiet.{requests_in}
 use Rattle.ra_world.proofs.Lists.{All-taken, takes_out, less_more, less_joined, less_alike}
-use Rattle.ra_world.proofs.Moves.{sent_more, taken_more, marks_more, happens, happened_more, requests_both}
+use Rattle.ra_world.proofs.Moves.{sent_more, put_more, taken_more, marks_more, happens, happened_more, requests_both}
 use Rattle.ra_world.proofs.Members.{nobody}
 use Rattle.ra_world.proofs.Protocol.{IsNode, HasOwn}
+use Rattle.ra_world.proofs.Stepping.{awaits_has}
 use Rattle.ra_world.proofs.Marking.{waiting_of, granted_of}
 use Rattle.ra_world.proofs.Balance.{asking, owed}
 use Rattle.ra_world.proofs.Counting.{total, over, one_resource, one_node, marks_count, use_count, none_counted}
 use Rattle.ra_world.proofs.Cluster.{IsThere, IsTraffic, Invariant, Went, placed_at}
 use Rattle.ra_world.proofs.Nodes.{put_node, EndsAt, happens_here, ends_after}
 
--- messages are lost only where Lossy is so
-pub record Reached (Lossy : Type 0) (n start : ℕ) (moves : List Move) : Type 0 where
+-- messages are lost only where Lossy is so, and repeated only where Copied is so
+pub record Reached (Lossy Copied : Type 0) (n start : ℕ) (moves : List Move) : Type 0 where
   pub nodes : ℕ → NodeState
   pub bag : List Message
   pub table : LockTable
   pub ends : EndsWith n start moves nodes
   pub under_way : LeavesUnderWay moves bag
   pub run : TableRun (marks_of moves) table
-  pub invariant : Invariant Lossy n nodes bag table
+  pub invariant : Invariant Lossy Copied start n nodes bag table
   pub count : length table.waiting ≡ over waiting_at nodes 1 n
-  pub balance : (Lossy → ⊥) → length (sent_by moves) + asking bag + over owed nodes 1 n ≡ 2 * (n - 1) * requests_in (marks_of moves)
+  pub balance : (Lossy → ⊥) → (Copied → ⊥) → length (sent_by moves) + asking bag + over owed nodes 1 n ≡ 2 * (n - 1) * requests_in (marks_of moves)
 
 -- ---- At the start
 
@@ -53,8 +55,11 @@ owes_nowhere me nodes name start = finmap.len-empty nat_cmp ℕ
 pub waits_nowhere : (me nodes : ℕ) (name : List ℕ) (start : ℕ) → waiting_at (unmet me nodes name start) ≡ 0
 waits_nowhere me nodes name start = refl
 
-pub opening : LawsBelow → (Lossy : Type 0) (n start : ℕ) → IsNodeNumber n → Reached Lossy n start []
-opening laws Lossy n start count =
+some_none : (k : ℕ) → ◌≡◌ {A = Option ℕ} None (Some k) → ⊥
+some_none k e = cc
+
+pub opening : LawsBelow → (Lossy Copied : Type 0) (n start : ℕ) → IsNodeNumber n → Reached Lossy Copied n start []
+opening laws Lossy Copied n start count =
     let nodes = λ (i : ℕ). opening_node i n start in
     let there : (i : ℕ) → IsNode n i → IsThere n i (opening_node i n start) = λ i at. record { consistent = laws.opens i n start count at; me_is = refl; nodes_is = refl } in
     record {
@@ -66,11 +71,28 @@ opening laws Lossy n start count =
       run = refl;
       invariant = record {
         each = there;
-        protocol = λ r. record {
-          each = λ i at. placed_at n i (opening_node i n start) r (there i at);
-          dialog = λ i j at_i at_j apart. inl (record { none = refl; not_deferred = ap (λ (x : Resource). finmap.get x.state.deferred i) (nothing_met j n start r) ∙ finmap.get-empty nat_cmp i; unheard = λ awaited. absurd (nobody j (subst (λ (x : Resource). IsTrue (set.contains x.state.awaited j)) (nothing_met i n start r) awaited)) });
-          passed = λ i j seq mode at_i at_j apart own free. absurd (subst (λ (x : Resource). HasOwn x.state.phase seq mode) (nothing_met i n start r) own);
-        };
+        protocol = λ r.
+            let each = λ (i : ℕ) (at : IsNode n i). placed_at n i (opening_node i n start) r (there i at) in
+            let none = λ (i j : ℕ). ap (λ (x : Resource). finmap.get x.state.deferred i) (nothing_met j n start r) ∙ finmap.get-empty nat_cmp i in
+            let idle = λ (i seq : ℕ) (mode : Mode) (own : HasOwn (resource_at (opening_node i n start) r).state.phase seq mode). subst (λ (x : Resource). HasOwn x.state.phase seq mode) (nothing_met i n start r) own in
+            record {
+              exchanges = record {
+                each = each;
+                dialog = λ i j at_i at_j apart. record {
+                  asked = λ seq mode at. absurd (omega (arith, at.1));
+                  deferred = λ seq is. absurd (some_none seq (sym (none i j) ∙ is));
+                  answered = λ seq at. absurd (omega (arith, at.1));
+                  pending = λ seq mode awaits. absurd (idle i seq mode (awaits_has (resource_at (opening_node i n start) r).state j seq mode awaits));
+                };
+                passed = λ i j seq mode at_i at_j apart own free. absurd (idle i seq mode own);
+                risen = λ i at. omega (arith, ap (λ (x : Resource). x.state.highest) (nothing_met i n start r));
+              };
+              exact = λ _. record {
+                each = each;
+                dialog = λ i j at_i at_j apart. inl (record { none = refl; not_deferred = none i j; unheard = λ awaited. absurd (nobody j (subst (λ (x : Resource). IsTrue (set.contains x.state.awaited j)) (nothing_met i n start r) awaited)) });
+                passed = λ i j seq mode at_i at_j apart own free. absurd (idle i seq mode own);
+              };
+            };
         traffic = All-nil (IsTraffic n);
         tabled = record {
           waiting = λ i r at. sym (ap (λ (x : Resource). waiting_of (use_of x)) (nothing_met i n start r));
@@ -81,28 +103,33 @@ opening laws Lossy n start count =
         };
       };
       count = sym (none_counted waiting_at waits_nowhere nodes 1 n (λ i. refl));
-      balance = λ _. omega (arith, none_counted owed owes_nowhere nodes 1 n (λ i. refl));
+      balance = λ _ _. omega (arith, none_counted owed owes_nowhere nodes 1 n (λ i. refl));
     }
 
 -- ---- What is under way
 
--- one more move: what it takes is gone, and what it sends comes behind the rest
-pub under_way_more : (ms : List Move) (m : Move) (left next : List Message) → LeavesUnderWay ms left → TakesEach left (taken_in m.step) next → LeavesUnderWay (ms ++ m ∷ []) (next ++ m.sends)
+-- one more move: what it takes is gone, and what it puts there comes behind the rest
+pub under_way_more : (ms : List Move) (m : Move) (left next : List Message) → LeavesUnderWay ms left → TakesEach left (taken_in m.step) next → LeavesUnderWay (ms ++ m ∷ []) (next ++ put_in m)
 under_way_more ms m left next less takes =
-    subst (λ (sent : List Message). TakesEach sent (taken_by (ms ++ m ∷ [])) (next ++ m.sends)) (sym (sent_more ms m))
-    (subst (λ (taken : List Message). TakesEach (sent_by ms ++ m.sends) taken (next ++ m.sends)) (sym (taken_more ms m))
-    (less_more (sent_by ms) (taken_by ms ++ taken_in m.step) next m.sends (less_joined (sent_by ms) (taken_by ms) left (taken_in m.step) next less takes)))
+    subst (λ (put : List Message). TakesEach put (taken_by (ms ++ m ∷ [])) (next ++ put_in m)) (sym (put_more ms m))
+    (subst (λ (taken : List Message). TakesEach (put_by ms ++ put_in m) taken (next ++ put_in m)) (sym (taken_more ms m))
+    (less_more (put_by ms) (taken_by ms ++ taken_in m.step) next (put_in m) (less_joined (put_by ms) (taken_by ms) left (taken_in m.step) next less takes)))
+
+-- where it puts no copy there, that is what it sends
+pub under_way_sent : (ms : List Move) (m : Move) (left next : List Message) → LeavesUnderWay ms left → TakesEach left (taken_in m.step) next → repeated_in m.step ≡ [] → LeavesUnderWay (ms ++ m ∷ []) (next ++ m.sends)
+under_way_sent ms m left next less takes none =
+    subst (λ (xs : List Message). LeavesUnderWay (ms ++ m ∷ []) (next ++ xs)) (ap (λ (xs : List Message). m.sends ++ xs) none ∙ append-nil m.sends) (under_way_more ms m left next less takes)
 
 -- what is under way is one list
 pub one_list : (ms : List Move) (a b : List Message) → LeavesUnderWay ms a → LeavesUnderWay ms b → a ≡ b
-one_list ms a b less less' = less_alike (sent_by ms) (taken_by ms) a b less less'
+one_list ms a b less less' = less_alike (put_by ms) (taken_by ms) a b less less'
 
 pub record IsTakenFrom (n : ℕ) (bag : List Message) (message : Message) : Type 0 where
   pub rest : List Message
   pub takes : TakesFirst bag message rest
   pub traffic : IsTraffic n message
 
-pub was_under_way : LawsBelow → {Lossy : Type 0} (n start : ℕ) (ms : List Move) (reached : Reached Lossy n start ms) (message : Message) → IsUnderWay ms message → IsTakenFrom n reached.bag message
+pub was_under_way : LawsBelow → {Lossy Copied : Type 0} (n start : ℕ) (ms : List Move) (reached : Reached Lossy Copied n start ms) (message : Message) → IsUnderWay ms message → IsTakenFrom n reached.bag message
 was_under_way laws n start ms reached message was =
     let same = one_list ms was.0 reached.bag was.1 reached.under_way in
     let out = takes_out laws.same_or_apart reached.bag message (subst (λ (xs : List Message). Contains xs message) same was.2) in
@@ -116,7 +143,7 @@ event_resource old new (AskedFor client name mode) sends marks happened = (happe
 event_resource old new (GivenBack client name) sends marks happened = (happened.resource, happened.new_is)
 event_resource old new (Received message) sends marks happened = (happened.resource, happened.new_is)
 
-module _ (laws : LawsBelow) {Lossy : Type 0} (n start : ℕ) (ms : List Move) (m : Move) (before : Reached Lossy n start ms) (p : ℕ) (within : IsNode n p) (event : Event) (here : events_at p m.step ≡ event ∷ []) where
+module _ (laws : LawsBelow) {Lossy Copied : Type 0} (n start : ℕ) (ms : List Move) (m : Move) (before : Reached Lossy Copied n start ms) (p : ℕ) (within : IsNode n p) (event : Event) (here : events_at p m.step ≡ event ∷ []) where
   pub event_happened : EndsAt n start (ms ++ m ∷ []) p → (new : NodeState) × NodeEvent (before.nodes p) event m.sends m.marks new
   event_happened end =
       let parts = laws.splits (happened_at p ms) (happens p m) (opening_node p n start) end.0 (subst (λ (hs : List Happening). NodeEvents (opening_node p n start) hs end.0) (happened_more p ms m) end.1) in
@@ -161,8 +188,8 @@ module _ (laws : LawsBelow) {Lossy : Type 0} (n start : ℕ) (ms : List Move) (m
         omega (arith, marked, was, is, resource, node, before.count, ap waiting_count went.turned.here, ap waiting_count changed.1, ap waiting_at resource_is)
 
     balanced_after : (bag : List Message) → length m.sends + asking bag + owed (resource_at new name) ≡ asking before.bag + owed (resource_at (before.nodes p) name) + 2 * (n - 1) * requests_in m.marks
-        → (Lossy → ⊥) → length (sent_by (ms ++ m ∷ [])) + asking bag + over owed (with_node before.nodes p new) 1 n ≡ 2 * (n - 1) * requests_in (marks_of (ms ++ m ∷ []))
-    balanced_after bag balanced none =
+        → (Lossy → ⊥) → (Copied → ⊥) → length (sent_by (ms ++ m ∷ [])) + asking bag + over owed (with_node before.nodes p new) 1 n ≡ 2 * (n - 1) * requests_in (marks_of (ms ++ m ∷ []))
+    balanced_after bag balanced none uncopied =
         let resource = one_resource owed owes_nowhere (before.nodes p) name changed.0 in
         let node = one_node owed owes_nowhere before.nodes (with_node before.nodes p new) p 1 n within.0 (omega (arith, within.1)) went.turned.there in
         let sent = ap length (sent_more ms m) ∙ length-append (sent_by ms) m.sends in
@@ -170,12 +197,12 @@ module _ (laws : LawsBelow) {Lossy : Type 0} (n start : ℕ) (ms : List Move) (m
         let product : 2 * (n - 1) * requests_in (marks_of (ms ++ m ∷ [])) ≡ 2 * (n - 1) * requests_in (marks_of ms) + 2 * (n - 1) * requests_in m.marks =
         ap (λ k. 2 * (n - 1) * k) marked ∙ mul-add (2 * (n - 1)) (requests_in (marks_of ms)) (requests_in m.marks)
         in
-        omega (arith, before.balance none, balanced, resource, node, sent, product, ap (total owed) went.turned.here, ap (total owed) changed.1, ap owed resource_is)
+        omega (arith, before.balance none uncopied, balanced, resource, node, sent, product, ap (total owed) went.turned.here, ap (total owed) changed.1, ap owed resource_is)
 
     -- all of it together
-    pub reached : (bag : List Message) → LeavesUnderWay (ms ++ m ∷ []) bag → (t : LockTable) × TableSteps before.table m.marks t × Invariant Lossy n (with_node before.nodes p new) bag t
-        → length m.sends + asking bag + owed (resource_at new name) ≡ asking before.bag + owed (resource_at (before.nodes p) name) + 2 * (n - 1) * requests_in m.marks
-        → Reached Lossy n start (ms ++ m ∷ [])
+    pub reached : (bag : List Message) → LeavesUnderWay (ms ++ m ∷ []) bag → (t : LockTable) × TableSteps before.table m.marks t × Invariant Lossy Copied start n (with_node before.nodes p new) bag t
+        → ((Copied → ⊥) → length m.sends + asking bag + owed (resource_at new name) ≡ asking before.bag + owed (resource_at (before.nodes p) name) + 2 * (n - 1) * requests_in m.marks)
+        → Reached Lossy Copied n start (ms ++ m ∷ [])
     reached bag under_way result balanced =
         record {
           nodes = with_node before.nodes p new;
@@ -186,5 +213,5 @@ module _ (laws : LawsBelow) {Lossy : Type 0} (n start : ℕ) (ms : List Move) (m
           run = subst (λ (marks : List Mark). TableRun marks result.0) (sym (marks_more ms m)) (laws.table_joins (marks_of ms) m.marks empty_table before.table result.0 before.run result.1);
           invariant = result.2;
           count = counted result.0 result.1;
-          balance = balanced_after bag balanced;
+          balance = λ none uncopied. balanced_after bag (balanced uncopied) none uncopied;
         }

@@ -18,7 +18,7 @@ use Rattle.ra_bag.specs.Bag.{TakesFirst}
 use Rattle.ra_world.proofs.Lists.{filter_taken, filter_left, takes_none, takes_one}
 use Rattle.ra_world.proofs.Dialogs.{belongs, between, IsOf, belongs_at, belongs_not, between_none}
 use Rattle.ra_automaton.proofs.Apart.{cases_same, tied, untied}
-use Rattle.ra_world.proofs.Members.{remains, removed, nobody}
+use Rattle.ra_world.proofs.Stepping.{phase_same, awaited_same, highest_is, deferred_other, first_same, first_back, passes_after_receive, deferred_here, waited, still_awaited, was_awaited, not_awaited, still_waits, own_is, own_was, first_as, same_rest, passes_after_reply}
 use Rattle.ra_world.proofs.Protocol.{mode_in, IsNode, HasOwn, LetsPass, Dialog, IsPlaced, Protocol, Changes, changed}
 use Rattle.ra_world.proofs.Asking.{more_between, none_between}
 
@@ -155,41 +155,21 @@ module _ {Lossy : Type 0} (n : ℕ) (r : List ℕ) (s s' : ℕ → State) (bag r
         none_between r i j rest sends (sent_elsewhere i j apart)
         ∙ taken_elsewhere r i j bag (Request x p r mode seq) rest (λ is. apart (sym is.asker) (sym is.answerer)) takes
 
-    phase_same : new.phase ≡ (s p).phase
-    phase_same = elim step [ inl d ↦ ap (λ (t : State). t.phase) d.new_is | inr a ↦ ap (λ (t : State). t.phase) a.new_is ]
+    same_phase : new.phase ≡ (s p).phase
+    same_phase = phase_same (s p) new x seq mode sends step
 
-    me_same : new.me ≡ (s p).me
-    me_same = elim step [ inl d ↦ ap (λ (t : State). t.me) d.new_is | inr a ↦ ap (λ (t : State). t.me) a.new_is ]
-
-    awaited_same : new.awaited ≡ (s p).awaited
-    awaited_same = elim step [ inl d ↦ ap (λ (t : State). t.awaited) d.new_is | inr a ↦ ap (λ (t : State). t.awaited) a.new_is ]
-
-    highest_is : new.highest ≡ max (s p).highest seq
-    highest_is = elim step [ inl d ↦ ap (λ (t : State). t.highest) d.new_is | inr a ↦ ap (λ (t : State). t.highest) a.new_is ]
-
-    deferred_other : (y : ℕ) → y ≢ x → finmap.get new.deferred y ≡ finmap.get (s p).deferred y
-    deferred_other y apart = elim step [
-      | inl d ↦ ap (λ (t : State). finmap.get t.deferred y) d.new_is
-          ∙ finmap.get-insert nat_cmp_total (s p).deferred x (later_of (finmap.get (s p).deferred x) seq) y
-          ∙ ap (λ b. cond b (Some (later_of (finmap.get (s p).deferred x) seq)) (finmap.get (s p).deferred y)) (untied y x apart)
-      | inr a ↦ ap (λ (t : State). finmap.get t.deferred y) a.new_is
-    ]
-
-    first_same : (y k : ℕ) (m : Mode) → OwnGoesFirst (s p).phase (s p).me y k m → OwnGoesFirst new.phase new.me y k m
-    first_same y k m h = subst (λ (q : Phase). OwnGoesFirst q new.me y k m) (sym phase_same) (subst (λ (q : ℕ). OwnGoesFirst (s p).phase q y k m) (sym me_same) h)
-
-    first_back : (y k : ℕ) (m : Mode) → OwnGoesFirst new.phase new.me y k m → OwnGoesFirst (s p).phase (s p).me y k m
-    first_back y k m h = subst (λ (q : Phase). OwnGoesFirst q (s p).me y k m) phase_same (subst (λ (q : ℕ). OwnGoesFirst new.phase q y k m) me_same h)
+    same_awaited : new.awaited ≡ (s p).awaited
+    same_awaited = awaited_same (s p) new x seq mode sends step
 
     passes_still : (y k : ℕ) (m : Mode) → LetsPass (s p) y k m → LetsPass new y k m
-    passes_still y k m pass = record { reached = omega (arith, pass.reached, highest_is); not_first = λ h. pass.not_first (first_back y k m h) }
+    passes_still = passes_after_receive (s p) new x seq mode sends step
 
     mine : (y : ℕ) → IsNode n y → y ≢ p → Dialog Lossy r p y (s p) (s y) (between r p y bag) → Dialog Lossy r p y new (s y) (between r p y (rest ++ sends))
     mine y at apart d =
         subst (λ (ms : List Message). Dialog Lossy r p y new (s y) ms) (sym (elsewhere p y (λ e _. x_apart (sym e))))
         (move_asker r p y (s p) new (s y) (between r p y bag)
-        (λ k m awaits. record { waits = phase_same ∙ awaits.waits; awaited = subst (λ (q : set.FinSet nat_cmp). IsTrue (set.contains q y)) (sym awaited_same) awaits.awaited })
-        (subst (λ (q : set.FinSet nat_cmp). IsTrue (set.contains q y)) awaited_same) d)
+        (λ k m awaits. record { waits = same_phase ∙ awaits.waits; awaited = subst (λ (q : set.FinSet nat_cmp). IsTrue (set.contains q y)) (sym same_awaited) awaits.awaited })
+        (subst (λ (q : set.FinSet nat_cmp). IsTrue (set.contains q y)) same_awaited) d)
 
     -- the dialog of the message goes on
     goes_on : Dialog Lossy r x p (s x) new (between r x p (rest ++ sends))
@@ -202,10 +182,8 @@ module _ {Lossy : Type 0} (n : ℕ) (r : List ℕ) (s s' : ℕ → State) (bag r
             mode = mode;
             awaits = asked.awaits;
             none = none;
-            deferred = ap (λ (t : State). finmap.get t.deferred x) defers.new_is
-                ∙ finmap.get-insert nat_cmp_total (s p).deferred x (later_of (finmap.get (s p).deferred x) seq) x
-                ∙ ap (λ b. cond b (Some (later_of (finmap.get (s p).deferred x) seq)) (finmap.get (s p).deferred x)) (tied x x refl) ∙ ap (λ k. Some k) later;
-            own_first = first_same x seq mode defers.own_first;
+            deferred = deferred_here (s p) new x seq mode sends (inl defers) defers ∙ ap (λ k. Some k) later;
+            own_first = first_same (s p) new x seq mode sends (inl defers) x seq mode defers.own_first;
           })))
       | inr replies ↦
           let answer : between r x p sends ≡ Reply p x r seq ∷ [] =
@@ -218,7 +196,7 @@ module _ {Lossy : Type 0} (n : ℕ) (r : List ℕ) (s s' : ℕ → State) (bag r
             awaits = asked.awaits;
             answers = more_between r x p rest sends (Reply p x r seq ∷ []) answer ∙ ap (λ (ms : List Message). ms ++ Reply p x r seq ∷ []) asked.none;
             not_deferred = ap (λ (t : State). finmap.get t.deferred x) replies.new_is ∙ asked.not_deferred;
-            passes = record { reached = omega (arith, highest_is); not_first = λ h. replies.not_first (first_back x seq mode h) };
+            passes = record { reached = omega (arith, highest_is (s p) new x seq mode sends (inr replies)); not_first = λ h. replies.not_first (first_back (s p) new x seq mode sends (inr replies) x seq mode h) };
           })))
     ]
 
@@ -227,15 +205,19 @@ module _ {Lossy : Type 0} (n : ℕ) (r : List ℕ) (s s' : ℕ → State) (bag r
       | inl same ↦ subst (λ (k : ℕ). Dialog Lossy r k p (s k) new (between r k p (rest ++ sends))) (sym same) goes_on
       | inr other ↦
           subst (λ (ms : List Message). Dialog Lossy r y p (s y) new ms) (sym (elsewhere y p (λ e _. other e)))
-          (move_answerer r y p (s y) (s p) new (between r y p bag) (record { deferred = deferred_other y other; first = first_same y; passes = passes_still y }) d)
+          (move_answerer r y p (s y) (s p) new (between r y p bag) (record {
+            deferred = deferred_other (s p) new x seq mode sends step y other;
+            first = first_same (s p) new x seq mode sends step y;
+            passes = passes_still y;
+          }) d)
     ]
 
     pub request_taken : Protocol Lossy n r s' (rest ++ sends)
     request_taken =
         changed n r s s' bag (rest ++ sends) p new old changes placed mine theirs
         (λ i j i_apart j_apart. elsewhere i j (λ _ e. j_apart e))
-        (λ y k m at apart own free. old.passed p y k m within at (λ e. apart (sym e)) (subst (λ (q : Phase). HasOwn q k m) phase_same own)
-        (λ awaited. free (subst (λ (q : set.FinSet nat_cmp). IsTrue (set.contains q y)) (sym awaited_same) awaited)))
+        (λ y k m at apart own free. old.passed p y k m within at (λ e. apart (sym e)) (subst (λ (q : Phase). HasOwn q k m) same_phase own)
+        (λ awaited. free (subst (λ (q : set.FinSet nat_cmp). IsTrue (set.contains q y)) (sym same_awaited) awaited)))
         passes_still within
 
   -- ---- A REPLY of node x comes
@@ -245,92 +227,42 @@ module _ {Lossy : Type 0} (n : ℕ) (r : List ℕ) (s s' : ℕ → State) (bag r
     answered = was_answered r p x (s p) (s x) (between r p x bag) seq (between r p x rest)
         (taken_here r p x bag (Reply x p r seq) rest (record { asker = refl; answerer = refl; name_is = refl }) takes) (old.dialog p x within x_at (λ e. x_apart (sym e)))
 
-    abbrev wanted : Mode
-    wanted = answered.mode
-
     -- so it is no stray
-    entered_or_on : (mode : Mode) × (Enters (s p) x seq mode entered new ⊎ WaitsOn (s p) x seq mode entered new)
-    entered_or_on = elim step [ inl stray ↦ absurd (stray.not_awaited wanted answered.awaits) | inr some ↦ some ]
+    came : (mode : Mode) × (Enters (s p) x seq mode entered new ⊎ WaitsOn (s p) x seq mode entered new)
+    came = elim step [ inl stray ↦ absurd (stray.not_awaited answered.mode answered.awaits) | inr some ↦ some ]
 
-    one_mode : (phase : Phase) (k k' : ℕ) (m m' : Mode) → phase ≡ Waiting k m → phase ≡ Waiting k' m' → m ≡ m'
-    one_mode phase k k' m m' e e' = ap (mode_in m) (sym e ∙ e')
+    one_mode : (phase : Phase) (k : ℕ) (m m' : Mode) → phase ≡ Waiting k m → phase ≡ Waiting k m' → m ≡ m'
+    one_mode phase k m m' e e' = ap (mode_in m) (sym e ∙ e')
+
+    same_mode : answered.mode ≡ came.0
+    same_mode = one_mode (s p).phase seq answered.mode came.0 answered.awaits.waits (waited (s p) new x seq entered came.0 came.1).waits
 
     elsewhere_too : (i j : ℕ) → (i ≡ p → j ≡ x → ⊥) → between r i j (rest ++ sends) ≡ between r i j bag
     elsewhere_too i j apart =
         none_between r i j rest sends (ap (between r i j) nothing) ∙ taken_elsewhere r i j bag (Reply x p r seq) rest (λ is. apart (sym is.asker) (sym is.answerer)) takes
 
-    still_awaited : (y : ℕ) → y ≢ x → IsTrue (set.contains (s p).awaited y) → IsTrue (set.contains new.awaited y)
-    still_awaited y other h = elim entered_or_on.1 [
-      | inl enters ↦ absurd (nobody y (subst (λ (q : set.FinSet nat_cmp). IsTrue (set.contains q y)) enters.last (remains (s p).awaited x y other ∙ h)))
-      | inr on ↦ subst (λ (t : State). IsTrue (set.contains t.awaited y)) (sym on.new_is) (remains (s p).awaited x y other ∙ h)
-    ]
-
-    -- and who was not awaited is not
-    was_awaited : (y : ℕ) → y ≢ x → IsTrue (set.contains new.awaited y) → IsTrue (set.contains (s p).awaited y)
-    was_awaited y other h = elim entered_or_on.1 [
-      | inl enters ↦ absurd (nobody y (subst (λ (t : State). IsTrue (set.contains t.awaited y)) enters.new_is h))
-      | inr on ↦ sym (remains (s p).awaited x y other) ∙ subst (λ (t : State). IsTrue (set.contains t.awaited y)) on.new_is h
-    ]
-
-    not_awaited : IsTrue (set.contains new.awaited x) → ⊥
-    not_awaited h = elim entered_or_on.1 [
-      | inl enters ↦ nobody x (subst (λ (t : State). IsTrue (set.contains t.awaited x)) enters.new_is h)
-      | inr on ↦ removed (s p).awaited x (subst (λ (t : State). IsTrue (set.contains t.awaited x)) on.new_is h)
-    ]
-
-    still_waits : (y k : ℕ) (m : Mode) → y ≢ x → Awaits (s p) y k m → Awaits new y k m
-    still_waits y k m other h = elim entered_or_on.1 [
-      | inl enters ↦ absurd (nobody y (subst (λ (q : set.FinSet nat_cmp). IsTrue (set.contains q y)) enters.last (remains (s p).awaited x y other ∙ h.awaited)))
-      | inr on ↦ record { waits = ap (λ (t : State). t.phase) on.new_is ∙ h.waits; awaited = still_awaited y other h.awaited }
-    ]
-
-    own_is : (k : ℕ) (m : Mode) → HasOwn new.phase k m → (seq ≡ k) × (wanted ≡ m)
-    own_is k m own = elim entered_or_on.1 [
-      | inl enters ↦
-          let inside : (seq ≡ k) × (entered_or_on.0 ≡ m) = subst (λ (t : State). HasOwn t.phase k m) enters.new_is own in
-          (inside.0, one_mode (s p).phase seq seq wanted entered_or_on.0 answered.awaits.waits enters.awaits.waits ∙ inside.1)
-      | inr on ↦ subst (λ (q : Phase). HasOwn q k m) answered.awaits.waits (subst (λ (t : State). HasOwn t.phase k m) on.new_is own)
-    ]
-
-    old_own : (k : ℕ) (m : Mode) → (seq ≡ k) × (wanted ≡ m) → HasOwn (s p).phase k m
-    old_own k m is = subst (λ (q : Phase). HasOwn q k m) (sym answered.awaits.waits) is
-
-    first_as : (y k : ℕ) (m : Mode) → (OwnGoesFirst (s p).phase (s p).me y k m → OwnGoesFirst new.phase new.me y k m) × (OwnGoesFirst new.phase new.me y k m → OwnGoesFirst (s p).phase (s p).me y k m)
-    first_as y k m = elim entered_or_on.1 [
-      | inl enters ↦ (
-        λ h. subst (λ (t : State). OwnGoesFirst t.phase t.me y k m) (sym enters.new_is) (subst (λ (q : Phase). OwnGoesFirst q (s p).me y k m) enters.awaits.waits h),
-        λ h. subst (λ (q : Phase). OwnGoesFirst q (s p).me y k m) (sym enters.awaits.waits) (subst (λ (t : State). OwnGoesFirst t.phase t.me y k m) enters.new_is h),
-      )
-      | inr on ↦ (
-        λ h. subst (λ (t : State). OwnGoesFirst t.phase t.me y k m) (sym on.new_is) h,
-        λ h. subst (λ (t : State). OwnGoesFirst t.phase t.me y k m) on.new_is h,
-      )
-    ]
-
-    same_rest : (new.deferred ≡ (s p).deferred) × (new.highest ≡ (s p).highest)
-    same_rest = elim entered_or_on.1 [
-      | inl enters ↦ (ap (λ (t : State). t.deferred) enters.new_is, ap (λ (t : State). t.highest) enters.new_is)
-      | inr on ↦ (ap (λ (t : State). t.deferred) on.new_is, ap (λ (t : State). t.highest) on.new_is)
-    ]
-
     passes_on : (y k : ℕ) (m : Mode) → LetsPass (s p) y k m → LetsPass new y k m
-    passes_on y k m pass = record { reached = omega (arith, pass.reached, same_rest.1); not_first = λ h. pass.not_first ((first_as y k m).1 h) }
+    passes_on = passes_after_reply (s p) new x seq entered came.0 came.1
 
     reply_mine : (y : ℕ) → IsNode n y → y ≢ p → Dialog Lossy r p y (s p) (s y) (between r p y bag) → Dialog Lossy r p y new (s y) (between r p y (rest ++ sends))
     reply_mine y at apart d = elim (cases_same y x) [
       | inl same ↦
           let none : between r p x (rest ++ sends) ≡ [] = none_between r p x rest sends (ap (between r p x) nothing) ∙ answered.none in
-          subst (λ (k : ℕ). Dialog Lossy r p k new (s k) (between r p k (rest ++ sends))) (sym same) (inl (record { none = none; not_deferred = answered.not_deferred; unheard = λ awaited. absurd (not_awaited awaited) }))
+          subst (λ (k : ℕ). Dialog Lossy r p k new (s k) (between r p k (rest ++ sends))) (sym same) (inl (record { none = none; not_deferred = answered.not_deferred; unheard = λ awaited. absurd (not_awaited (s p) new x seq entered came.0 came.1 awaited) }))
       | inr other ↦
           subst (λ (ms : List Message). Dialog Lossy r p y new (s y) ms) (sym (elsewhere_too p y (λ _ e. other e)))
-          (move_asker r p y (s p) new (s y) (between r p y bag) (λ k m h. still_waits y k m other h) (was_awaited y other) d)
+          (move_asker r p y (s p) new (s y) (between r p y bag) (λ k m h. still_waits (s p) new x seq entered came.0 came.1 y k m other h) (was_awaited (s p) new x seq entered came.0 came.1 y other) d)
     ]
 
     reply_theirs : (y : ℕ) → IsNode n y → y ≢ p → Dialog Lossy r y p (s y) (s p) (between r y p bag) → Dialog Lossy r y p (s y) new (between r y p (rest ++ sends))
     reply_theirs y at apart d =
         subst (λ (ms : List Message). Dialog Lossy r y p (s y) new ms) (sym (elsewhere_too y p (λ e _. apart e)))
         (move_answerer r y p (s y) (s p) new (between r y p bag)
-        (record { deferred = ap (λ (q : finmap.FinMap nat_cmp ℕ). finmap.get q y) same_rest.0; first = λ k m. (first_as y k m).0; passes = passes_on y }) d)
+        (record {
+          deferred = ap (λ (q : finmap.FinMap nat_cmp ℕ). finmap.get q y) (same_rest (s p) new x seq entered came.0 came.1).0;
+          first = λ k m. (first_as (s p) new x seq entered came.0 came.1 y k m).0;
+          passes = passes_on y;
+        }) d)
 
     pub reply_taken : Protocol Lossy n r s' (rest ++ sends)
     reply_taken =
@@ -338,9 +270,12 @@ module _ {Lossy : Type 0} (n : ℕ) (r : List ℕ) (s s' : ℕ → State) (bag r
         (λ i j i_apart j_apart. elsewhere_too i j (λ e _. i_apart e))
         (λ y k m at apart own free. elim (cases_same y x) [
           | inl same ↦
-              let is = own_is k m own in
-              subst (λ (q : ℕ). LetsPass (s q) p k m) (sym same) (subst (λ (q : Mode). LetsPass (s x) p k q) is.1 (subst (λ (q : ℕ). LetsPass (s x) p q wanted) is.0 answered.passes))
-          | inr other ↦ old.passed p y k m within at (λ e. apart (sym e)) (old_own k m (own_is k m own)) (λ awaited. free (still_awaited y other awaited))
+              let is = own_is (s p) new x seq entered came.0 came.1 k m own in
+              subst (λ (q : ℕ). LetsPass (s q) p k m) (sym same)
+              (subst (λ (q : Mode). LetsPass (s x) p k q) (same_mode ∙ is.1) (subst (λ (q : ℕ). LetsPass (s x) p q answered.mode) is.0 answered.passes))
+          | inr other ↦
+              old.passed p y k m within at (λ e. apart (sym e)) (own_was (s p) new x seq entered came.0 came.1 k m own)
+              (λ awaited. free (still_awaited (s p) new x seq entered came.0 came.1 y other awaited))
         ])
         passes_on within
 

@@ -10,12 +10,12 @@ use Rattle.ra_node.specs.Node.{NodeState, opening_node}
 use Rattle.ra_node.specs.Events.{Event, Happening, NodeEvents}
 use Rattle.ra_node.specs.Events.Event.{Ask as AskedFor, Leave as GivenBack, Receive as Received}
 use Rattle.ra_world.specs.declared.step.Step.{Step}
-use Rattle.ra_world.specs.declared.step.Step.TheVariants.{Ask, Leave, Deliver, Lose}
+use Rattle.ra_world.specs.declared.step.Step.TheVariants.{Ask, Leave, Deliver, Lose, Repeat}
 use Rattle.ra_world.specs.Below.{LawsBelow}
 use Rattle.ra_world.specs.Traffic.{Move}
 use Rattle.ra_world.specs.Run.{events_at, happened_at, IsFit, IsRun, EndsWith, GoesOn, WorldRun}
 use Rattle.ra_world.proofs.Lists.{head_of, tail_of, none_some}
-use Rattle.ra_world.proofs.Moves.{MayLoseAll, may_lose_all, happens, happened_more, fits_split, at_node}
+use Rattle.ra_world.proofs.Moves.{AllowsAll, allows_all, happens, happened_more, fits_split, at_node}
 use Rattle.ra_world.proofs.Protocol.{IsNode}
 use Rattle.ra_world.proofs.Nodes.{choose, EndsAt}
 use Rattle.ra_world.proofs.Reached.{Reached, opening, was_under_way, event_happened}
@@ -62,21 +62,21 @@ with_step step sends marks = record { step = step; sends = sends; marks = marks 
 
 -- ---- One move after the other
 
-module _ (laws : LawsBelow) {Lossy : Type 0} (n start : ℕ) where
-  reached_by : (back ms : List Move) → MayLoseAll Lossy back → Reached Lossy n start ms → IsRun n start (ms ++ back) → Reached Lossy n start (ms ++ back)
-  reached_by [] ms may before run = subst (Reached Lossy n start) (sym (append-nil ms)) before
+module _ (laws : LawsBelow) {Lossy Copied : Type 0} (n start : ℕ) where
+  reached_by : (back ms : List Move) → AllowsAll Lossy Copied back → Reached Lossy Copied n start ms → IsRun n start (ms ++ back) → Reached Lossy Copied n start (ms ++ back)
+  reached_by [] ms may before run = subst (Reached Lossy Copied n start) (sym (append-nil ms)) before
   reached_by (m ∷ back) ms may before run =
       let again : ms ++ m ∷ back ≡ (ms ++ m ∷ []) ++ back = sym (append_assoc ms (m ∷ []) back) in
       let next = step_reached laws n start ms m.step m.sends m.marks before may.0 (fits_split n [] ms (m ∷ back) run.each_fits).1.0 (after_one laws.splits n start ms m back run) in
-      subst (Reached Lossy n start) (sym again) (reached_by back (ms ++ m ∷ []) may.1 next (subst (IsRun n start) again run))
+      subst (Reached Lossy Copied n start) (sym again) (reached_by back (ms ++ m ∷ []) may.1 next (subst (IsRun n start) again run))
 
-  pub every_run : (moves : List Move) → MayLoseAll Lossy moves → IsNodeNumber n → IsRun n start moves → Reached Lossy n start moves
-  every_run moves may count run = reached_by moves [] may (opening laws Lossy n start count) run
+  pub every_run : (moves : List Move) → AllowsAll Lossy Copied moves → IsNodeNumber n → IsRun n start moves → Reached Lossy Copied n start moves
+  every_run moves may count run = reached_by moves [] may (opening laws Lossy Copied n start count) run
 
   -- ---- The steps of a run decide what comes of them
 
   -- an event at a node
-  alike_at : (ms : List Move) (step : Step) (sends sends' : List Message) (marks marks' : List Mark) (p : ℕ) (event : Event) → Reached Lossy n start ms → IsNode n p → events_at p step ≡ event ∷ []
+  alike_at : (ms : List Move) (step : Step) (sends sends' : List Message) (marks marks' : List Mark) (p : ℕ) (event : Event) → Reached Lossy Copied n start ms → IsNode n p → events_at p step ≡ event ∷ []
       → EndsAt n start (ms ++ with_step step sends marks ∷ []) p → EndsAt n start (ms ++ with_step step sends' marks' ∷ []) p → (sends ≡ sends') × (marks ≡ marks')
   alike_at ms step sends sends' marks marks' p event before within here end end' =
       let a = event_happened laws n start ms (with_step step sends marks) before p within event here end in
@@ -84,7 +84,7 @@ module _ (laws : LawsBelow) {Lossy : Type 0} (n start : ℕ) where
       let same = laws.one_event (before.nodes p) a.0 b.0 event sends sends' marks marks' a.1 b.1 in
       (same.0, same.1)
 
-  alike_move : (ms : List Move) (step : Step) (sends sends' : List Message) (marks marks' : List Mark) → Reached Lossy n start ms → IsFit n ms step sends marks → IsFit n ms step sends' marks'
+  alike_move : (ms : List Move) (step : Step) (sends sends' : List Message) (marks marks' : List Mark) → Reached Lossy Copied n start ms → IsFit n ms step sends marks → IsFit n ms step sends' marks'
       → ((i : ℕ) → IsNode n i → EndsAt n start (ms ++ with_step step sends marks ∷ []) i) → ((i : ℕ) → IsNode n i → EndsAt n start (ms ++ with_step step sends' marks' ∷ []) i) → (sends ≡ sends') × (marks ≡ marks')
   alike_move ms (Ask node client name mode) sends sends' marks marks' before fit fit' ends ends' =
       let event = AskedFor client name mode in
@@ -97,8 +97,9 @@ module _ (laws : LawsBelow) {Lossy : Type 0} (n start : ℕ) where
       let within = (was_under_way laws n start ms before message fit).traffic.to in
       alike_at ms (Deliver message) sends sends' marks marks' p (Received message) before within (at_node p (Received message)) (ends p within) (ends' p within)
   alike_move ms (Lose message) sends sends' marks marks' before fit fit' ends ends' = (fit.1 ∙ sym fit'.1, fit.2 ∙ sym fit'.2)
+  alike_move ms (Repeat message) sends sends' marks marks' before fit fit' ends ends' = (fit.1 ∙ sym fit'.1, fit.2 ∙ sym fit'.2)
 
-  alike : (ms a b : List Move) → MayLoseAll Lossy a → Reached Lossy n start ms → IsRun n start (ms ++ a) → IsRun n start (ms ++ b) → map (λ move. move.step) a ≡ map (λ move. move.step) b → a ≡ b
+  alike : (ms a b : List Move) → AllowsAll Lossy Copied a → Reached Lossy Copied n start ms → IsRun n start (ms ++ a) → IsRun n start (ms ++ b) → map (λ move. move.step) a ≡ map (λ move. move.step) b → a ≡ b
   alike ms [] [] may before run run' e = refl
   alike ms [] (m ∷ b) may before run run' e = absurd (none_some e)
   alike ms (m ∷ a) [] may before run run' e = absurd (none_some (sym e))
@@ -118,7 +119,7 @@ module _ (laws : LawsBelow) {Lossy : Type 0} (n start : ℕ) where
       λ i. one i ∷ alike (ms ++ m ∷ []) a b may.1 next again again' (tail_of e) i
 
 pub one_run : LawsBelow → (n start : ℕ) (a b : List Move) → IsNodeNumber n → IsRun n start a → IsRun n start b → map (λ move. move.step) a ≡ map (λ move. move.step) b → a ≡ b
-one_run laws n start a b count run run' e = alike laws n start [] a b (may_lose_all a) (opening laws (Unit {0}) n start count) run run' e
+one_run laws n start a b count run run' e = alike laws n start [] a b (allows_all a) (opening laws (Unit {0}) (Unit {0}) n start count) run run' e
 
 -- ---- Lists of steps
 

@@ -1,5 +1,5 @@
 -- Each step of a run leads from what is reached before it to what is reached after it.
-use Rattle.std.proofs.Common.{◌≡◌, ℕ, ◌≤◌, true, List, [], ◌∷◌, ◌++◌, refl, sym, ap, ◌∙◌, subst, arith, ◌-◌, ◌*◌, None}
+use Rattle.std.proofs.Common.{◌≡◌, ℕ, ◌≤◌, true, List, [], ◌∷◌, ◌++◌, Contains, refl, sym, ap, ◌∙◌, subst, arith, ◌-◌, ◌*◌, None}
 use Rattle.std.specs.FinMap as finmap
 use Rattle.std.proofs.lemmas.List.{append-nil}
 use Rattle.std.proofs.lemmas.Bool.{false≢true}
@@ -17,20 +17,20 @@ use Rattle.ra_node.specs.Events.{IsForThisNode}
 use Rattle.ra_node.specs.Events.Event.{Ask as AskedFor, Leave as GivenBack, Receive as Received}
 use Rattle.ra_table.specs.Table.{TableRun}
 use Rattle.ra_world.specs.declared.step.Step.{Step}
-use Rattle.ra_world.specs.declared.step.Step.TheVariants.{Ask, Leave, Deliver, Lose}
+use Rattle.ra_world.specs.declared.step.Step.TheVariants.{Ask, Leave, Deliver, Lose, Repeat}
 use Rattle.ra_world.specs.Below.{LawsBelow}
 use Rattle.ra_world.specs.Traffic.{Move, LeavesUnderWay, IsUnderWay}
 use Rattle.ra_world.specs.Run.{marks_of, IsFit, with_node}
 use Rattle.ra_world.proofs.Lists.{filter_taken}
-use Rattle.ra_world.proofs.Moves.{MayLose, marks_more, at_node}
+use Rattle.ra_world.proofs.Moves.{Allows, marks_more, at_node}
 use Rattle.ra_world.proofs.Dialogs.{belongs, between, belongs_at}
 use Rattle.ra_world.proofs.Receiving.{was_asked}
 use Rattle.ra_world.proofs.Balance.{is_request, asking_both, ask_balanced, leave_balanced, receive_balanced}
 use Rattle.ra_world.proofs.Protocol.{IsNode, Protocol}
 use Rattle.ra_node.proofs.Lookups.{resource_changed}
-use Rattle.ra_world.proofs.Cluster.{states, asked, left, received, lost}
+use Rattle.ra_world.proofs.Cluster.{states, asked, left, received, lost, copied}
 use Rattle.ra_world.proofs.Nodes.{EndsAt, left_alone}
-use Rattle.ra_world.proofs.Reached.{Reached, under_way_more, was_under_way, event_happened, went, leads, reached}
+use Rattle.ra_world.proofs.Reached.{Reached, under_way_more, under_way_sent, one_list, was_under_way, event_happened, went, leads, reached}
 
 -- a REQUEST that comes was not deferred before
 fresh_at : {Lossy : Type 0} (n : ℕ) (s : ℕ → State) (bag rest : List Message) (message : Message) → Protocol Lossy n (name_of message) s bag → IsNode n (to_of message) → IsOtherNode (to_of message) n (from_of message)
@@ -56,11 +56,11 @@ not_by_leave client name message is = absurd cc
 by_receive : (came : Message) → 1 ≤ seq_of came → (message : Message) → Received came ≡ Received message → 1 ≤ seq_of message
 by_receive came numbered message is = let same : came ≡ message = cc in subst (λ (x : Message). 1 ≤ seq_of x) same numbered
 
-module _ (laws : LawsBelow) {Lossy : Type 0} (n start : ℕ) (ms : List Move) (sends : List Message) (marks : List Mark) (before : Reached Lossy n start ms) where
+module _ (laws : LawsBelow) {Lossy Copied : Type 0} (n start : ℕ) (ms : List Move) (sends : List Message) (marks : List Mark) (before : Reached Lossy Copied n start ms) where
   abbrev move : Step → Move
   move step = record { step = step; sends = sends; marks = marks }
 
-  ask_reached : (p client : ℕ) (name : List ℕ) (mode : Mode) → IsNode n p → EndsAt n start (ms ++ move (Ask p client name mode) ∷ []) p → Reached Lossy n start (ms ++ move (Ask p client name mode) ∷ [])
+  ask_reached : (p client : ℕ) (name : List ℕ) (mode : Mode) → IsNode n p → EndsAt n start (ms ++ move (Ask p client name mode) ∷ []) p → Reached Lossy Copied n start (ms ++ move (Ask p client name mode) ∷ [])
   ask_reached p client name mode within end =
       let m = move (Ask p client name mode) in
       let event = AskedFor client name mode in
@@ -72,16 +72,16 @@ module _ (laws : LawsBelow) {Lossy : Type 0} (n start : ℕ) (ms : List Move) (s
       subst (λ (x : Resource). AskTurn (resource_at (before.nodes p) name) client mode sends marks x)
       (sym (ap (λ (x : NodeState). resource_at x name) happened.1.new_is ∙ resource_changed (before.nodes p) name happened.1.resource)) happened.1.turn
       in
-      let result = asked laws.symmetric n before.nodes (with_node before.nodes p new) p name new sends before.bag before.bag before.table before.invariant
+      let result = asked laws.symmetric start n before.nodes (with_node before.nodes p new) p name new sends before.bag before.bag before.table before.invariant
       (went laws n start ms m before p within event here new happened.1 tt unnumbered) client mode marks refl turn
       (leads laws n start ms m before p within event here new happened.1 tt unnumbered)
       in
-      let placed = (before.invariant.protocol name).each p within in
+      let placed = (before.invariant.protocol name).exchanges.each p within in
       let balanced = ask_balanced n (2 * (n - 1)) refl (resource_at (before.nodes p) name) (resource_at new name) (subst (λ (k : ℕ). IsNode n k) (sym placed.me_is) within) placed.nodes_is sends marks client mode before.bag turn in
-      reached laws n start ms m before p within event here new happened.1 tt unnumbered (before.bag ++ sends) (under_way_more ms m before.bag before.bag before.under_way refl) result
-      (omega (arith, balanced, asking_both before.bag sends))
+      reached laws n start ms m before p within event here new happened.1 tt unnumbered (before.bag ++ sends) (under_way_sent ms m before.bag before.bag before.under_way refl refl) result
+      (λ _. omega (arith, balanced, asking_both before.bag sends))
 
-  leave_reached : (p client : ℕ) (name : List ℕ) → IsNode n p → EndsAt n start (ms ++ move (Leave p client name) ∷ []) p → Reached Lossy n start (ms ++ move (Leave p client name) ∷ [])
+  leave_reached : (p client : ℕ) (name : List ℕ) → IsNode n p → EndsAt n start (ms ++ move (Leave p client name) ∷ []) p → Reached Lossy Copied n start (ms ++ move (Leave p client name) ∷ [])
   leave_reached p client name within end =
       let m = move (Leave p client name) in
       let event = GivenBack client name in
@@ -93,17 +93,17 @@ module _ (laws : LawsBelow) {Lossy : Type 0} (n start : ℕ) (ms : List Move) (s
       subst (λ (x : Resource). LeaveTurn (resource_at (before.nodes p) name) client sends marks x)
       (sym (ap (λ (x : NodeState). resource_at x name) happened.1.new_is ∙ resource_changed (before.nodes p) name happened.1.resource)) happened.1.turn
       in
-      let result = left laws.symmetric n before.nodes (with_node before.nodes p new) p name new sends before.bag before.bag before.table before.invariant
+      let result = left laws.symmetric start n before.nodes (with_node before.nodes p new) p name new sends before.bag before.bag before.table before.invariant
       (went laws n start ms m before p within event here new happened.1 tt unnumbered) client marks refl turn
       (leads laws n start ms m before p within event here new happened.1 tt unnumbered)
       (λ mid replies step. laws.leave_consistent (resource_at (before.nodes p) name).state mid replies ((before.invariant.each p within).consistent.each name).state step)
       in
-      let placed = (before.invariant.protocol name).each p within in
+      let placed = (before.invariant.protocol name).exchanges.each p within in
       let balanced = leave_balanced n (2 * (n - 1)) refl (resource_at (before.nodes p) name) (resource_at new name) (subst (λ (k : ℕ). IsNode n k) (sym placed.me_is) within) placed.nodes_is sends marks client before.bag turn in
-      reached laws n start ms m before p within event here new happened.1 tt unnumbered (before.bag ++ sends) (under_way_more ms m before.bag before.bag before.under_way refl) result
-      (omega (arith, balanced, asking_both before.bag sends))
+      reached laws n start ms m before p within event here new happened.1 tt unnumbered (before.bag ++ sends) (under_way_sent ms m before.bag before.bag before.under_way refl refl) result
+      (λ _. omega (arith, balanced, asking_both before.bag sends))
 
-  deliver_reached : (message : Message) → IsUnderWay ms message → ((i : ℕ) → IsNode n i → EndsAt n start (ms ++ move (Deliver message) ∷ []) i) → Reached Lossy n start (ms ++ move (Deliver message) ∷ [])
+  deliver_reached : (message : Message) → IsUnderWay ms message → ((i : ℕ) → IsNode n i → EndsAt n start (ms ++ move (Deliver message) ∷ []) i) → Reached Lossy Copied n start (ms ++ move (Deliver message) ∷ [])
   deliver_reached message is_under_way ends =
       let m = move (Deliver message) in
       let was = was_under_way laws n start ms before message is_under_way in
@@ -122,18 +122,18 @@ module _ (laws : LawsBelow) {Lossy : Type 0} (n start : ℕ) (ms : List Move) (s
       subst (λ (x : Resource). ReceiveTurn (resource_at (before.nodes p) name) message sends marks x)
       (sym (ap (λ (x : NodeState). resource_at x name) happened.1.new_is ∙ resource_changed (before.nodes p) name happened.1.resource)) happened.1.turn
       in
-      let result = received laws.symmetric n before.nodes (with_node before.nodes p new) p name new sends before.bag was.rest before.table before.invariant
+      let result = received laws.symmetric start n before.nodes (with_node before.nodes p new) p name new sends before.bag was.rest before.table before.invariant
       (went laws n start ms m before p within event here new happened.1 for numbered) message marks was.takes for' refl turn
       (leads laws n start ms m before p within event here new happened.1 for numbered)
       in
-      let placed = (before.invariant.protocol name).each p within in
-      let balanced = receive_balanced n (2 * (n - 1)) refl (resource_at (before.nodes p) name) (resource_at new name) (subst (λ (k : ℕ). IsNode n k) (sym placed.me_is) within) placed.nodes_is sends marks message before.bag was.rest was.takes
-      (fresh_request n (states before.nodes name) before.bag was.rest message (before.invariant.protocol name) within was.traffic.from was.takes) turn
+      let placed = (before.invariant.protocol name).exchanges.each p within in
+      let balanced = λ (uncopied : Copied → ⊥). receive_balanced n (2 * (n - 1)) refl (resource_at (before.nodes p) name) (resource_at new name) (subst (λ (k : ℕ). IsNode n k) (sym placed.me_is) within) placed.nodes_is sends marks message before.bag was.rest was.takes
+      (fresh_request n (states before.nodes name) before.bag was.rest message ((before.invariant.protocol name).exact uncopied) within was.traffic.from was.takes) turn
       in
-      reached laws n start ms m before p within event here new happened.1 for numbered (was.rest ++ sends) (under_way_more ms m before.bag was.rest before.under_way (was.rest, was.takes, refl)) result
-      (omega (arith, balanced, asking_both was.rest sends))
+      reached laws n start ms m before p within event here new happened.1 for numbered (was.rest ++ sends) (under_way_sent ms m before.bag was.rest before.under_way (was.rest, was.takes, refl) refl) result
+      (λ uncopied. omega (arith, balanced uncopied, asking_both was.rest sends))
 
-  lose_reached : Lossy → (message : Message) → IsUnderWay ms message → sends ≡ [] → marks ≡ [] → Reached Lossy n start (ms ++ move (Lose message) ∷ [])
+  lose_reached : Lossy → (message : Message) → IsUnderWay ms message → sends ≡ [] → marks ≡ [] → Reached Lossy Copied n start (ms ++ move (Lose message) ∷ [])
   lose_reached lossy message is_under_way no_sends no_marks =
       let m = move (Lose message) in
       let was = was_under_way laws n start ms before message is_under_way in
@@ -142,16 +142,33 @@ module _ (laws : LawsBelow) {Lossy : Type 0} (n start : ℕ) (ms : List Move) (s
         bag = was.rest;
         table = before.table;
         ends = λ i low high. left_alone n start i ms m (before.nodes i) refl (before.ends i low high);
-        under_way = subst (λ (xs : List Message). LeavesUnderWay (ms ++ m ∷ []) xs) (ap (λ (xs : List Message). was.rest ++ xs) no_sends ∙ append-nil was.rest) (under_way_more ms m before.bag was.rest before.under_way (was.rest, was.takes, refl));
+        under_way = subst (λ (xs : List Message). LeavesUnderWay (ms ++ m ∷ []) xs) (ap (λ (xs : List Message). was.rest ++ xs) no_sends ∙ append-nil was.rest) (under_way_sent ms m before.bag was.rest before.under_way (was.rest, was.takes, refl) refl);
         run = subst (λ (xs : List Mark). TableRun xs before.table) (sym (marks_more ms m ∙ ap (λ (xs : List Mark). marks_of ms ++ xs) no_marks ∙ append-nil (marks_of ms))) before.run;
-        invariant = lost lossy n before.nodes before.bag was.rest before.table message before.invariant was.takes;
+        invariant = lost lossy start n before.nodes before.bag was.rest before.table message before.invariant was.takes;
         count = before.count;
-        balance = λ none. absurd (none lossy);
+        balance = λ none _. absurd (none lossy);
       }
 
-pub step_reached : LawsBelow → {Lossy : Type 0} (n start : ℕ) (ms : List Move) (step : Step) (sends : List Message) (marks : List Mark) → Reached Lossy n start ms → MayLose Lossy step → IsFit n ms step sends marks
-    → ((i : ℕ) → IsNode n i → EndsAt n start (ms ++ record { step = step; sends = sends; marks = marks } ∷ []) i) → Reached Lossy n start (ms ++ record { step = step; sends = sends; marks = marks } ∷ [])
+  copy_reached : Copied → (message : Message) → IsUnderWay ms message → sends ≡ [] → marks ≡ [] → Reached Lossy Copied n start (ms ++ move (Repeat message) ∷ [])
+  copy_reached copies message is_under_way no_sends no_marks =
+      let m = move (Repeat message) in
+      let there : Contains before.bag message = subst (λ (xs : List Message). Contains xs message) (one_list ms is_under_way.0 before.bag is_under_way.1 before.under_way) is_under_way.2 in
+      record {
+        nodes = before.nodes;
+        bag = before.bag ++ message ∷ [];
+        table = before.table;
+        ends = λ i low high. left_alone n start i ms m (before.nodes i) refl (before.ends i low high);
+        under_way = subst (λ (xs : List Message). LeavesUnderWay (ms ++ m ∷ []) (before.bag ++ xs)) (ap (λ (xs : List Message). xs ++ message ∷ []) no_sends) (under_way_more ms m before.bag before.bag before.under_way refl);
+        run = subst (λ (xs : List Mark). TableRun xs before.table) (sym (marks_more ms m ∙ ap (λ (xs : List Mark). marks_of ms ++ xs) no_marks ∙ append-nil (marks_of ms))) before.run;
+        invariant = copied copies start n before.nodes before.bag before.table message before.invariant there;
+        count = before.count;
+        balance = λ _ uncopied. absurd (uncopied copies);
+      }
+
+pub step_reached : LawsBelow → {Lossy Copied : Type 0} (n start : ℕ) (ms : List Move) (step : Step) (sends : List Message) (marks : List Mark) → Reached Lossy Copied n start ms → Allows Lossy Copied step → IsFit n ms step sends marks
+    → ((i : ℕ) → IsNode n i → EndsAt n start (ms ++ record { step = step; sends = sends; marks = marks } ∷ []) i) → Reached Lossy Copied n start (ms ++ record { step = step; sends = sends; marks = marks } ∷ [])
 step_reached laws n start ms (Ask node client name mode) sends marks before may fit ends = ask_reached laws n start ms sends marks before node client name mode fit (ends node fit)
 step_reached laws n start ms (Leave node client name) sends marks before may fit ends = leave_reached laws n start ms sends marks before node client name fit (ends node fit)
 step_reached laws n start ms (Deliver message) sends marks before may fit ends = deliver_reached laws n start ms sends marks before message fit ends
 step_reached laws n start ms (Lose message) sends marks before may fit ends = lose_reached laws n start ms sends marks before may message fit.0 fit.1 fit.2
+step_reached laws n start ms (Repeat message) sends marks before may fit ends = copy_reached laws n start ms sends marks before may message fit.0 fit.1 fit.2

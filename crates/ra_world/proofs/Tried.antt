@@ -6,7 +6,7 @@ use Rattle.ra_stamp.specs.NodeId.{IsNodeNumber}
 use Rattle.ra_node.specs.declared.outcome.Outcome.{Outcome}
 use Rattle.ra_node.specs.Node.{NodeState}
 use Rattle.ra_world.specs.declared.step.Step.{Step}
-use Rattle.ra_world.specs.declared.step.Step.TheVariants.{Ask, Leave, Deliver, Lose}
+use Rattle.ra_world.specs.declared.step.Step.TheVariants.{Ask, Leave, Deliver, Lose, Repeat}
 use Rattle.ra_world.specs.declared.error.StepError.{StepError}
 use Rattle.ra_world.specs.declared.error.StepError.TheVariants.{Memory}
 use Rattle.ra_world.specs.Traffic.{Move}
@@ -34,6 +34,7 @@ module _
     no_cause (Leave node client name) why = why
     no_cause (Deliver message) why = why
     no_cause (Lose message) why = why
+    no_cause (Repeat message) why = why
 
     made : (outcome : Outcome) → Tries w step (Ok outcome) new → GoesOn w.count w.start w.moves step
     made outcome tried = (outcome.sends.items, outcome.marks.items, subst (λ (v : WorldState). IsRun v.count v.start v.moves) tried run)

@@ -1,9 +1,9 @@
 -- What is said of a step that is tried, from what a world keeps.
-use Rattle.std.proofs.Common.{eq-eqb, ◌≡◌, ◌⊎◌, ◌↔◌, ℕ, ◌+◌, ◌<◌, ◌≤◌, List, ◌++◌, ◌∷◌, [], length, set, get_or, Result, Ok, Err, refl, sym, ap, ◌∙◌, subst, inl, inr, arith}
-use Rattle.std.specs.Prelude.{IsErrAnd, ◌==◌, if◌then◌else◌}
-use Rattle.std.specs.List.{remove}
+use Rattle.std.proofs.Common.{eq-eqb, ◌≡◌, ◌⊎◌, ◌↔◌, ℕ, ◌+◌, ◌<◌, ◌≤◌, Bool, List, Contains, ◌++◌, ◌∷◌, [], length, set, get_or, Option, Some, None, Result, Ok, Err, refl, sym, ap, ◌∙◌, subst, inl, inr, arith}
+use Rattle.std.specs.Prelude.{IsErrAnd, IfSome, IfOk, IsNone, IsOk, IsTrue, ◌==◌, if◌then◌else◌}
 use Rattle.std.proofs.lemmas.List.{set-get_or, length-set, get_or_default}
 use Rattle.ra_stamp.specs.declared.message.Message.{Message}
+use Rattle.ra_stamp.specs.declared.memory.Memory.{Memory as MemoryRefused}
 use Rattle.ra_stamp.specs.declared.entry.Mark.{Mark}
 use Rattle.ra_bag.specs.Bag.{TakesFirst, TakesOne}
 use Rattle.ra_node.specs.declared.outcome.Outcome.{Outcome}
@@ -24,7 +24,7 @@ use Rattle.ra_world.specs.declared.step.Step.{Step}
 use Rattle.ra_world.specs.declared.step.Step.TheVariants.{Ask, Leave}
 use Rattle.ra_world.specs.declared.error.StepError.{StepError}
 use Rattle.ra_world.specs.declared.error.StepError.TheVariants.{Memory}
-use Rattle.ra_world.specs.Traffic.{Move, TakesEach, taken_in}
+use Rattle.ra_world.specs.Traffic.{Move, TakesEach, taken_in, repeated_by}
 use Rattle.ra_world.specs.Run.{IsRun, IsFit, GoesOn, EndsWith, events_at}
 use Rattle.ra_world.specs.World.{WorldState, HasCause, MayNeedMemory, IsFull, AtNode}
 use Rattle.ra_world.specs.Keeping.{nodes_of, Keeps, IsShort, Tries}
@@ -68,13 +68,34 @@ same_nodes start nodes moves moves' place old new at same is =
     let nodes_are : set nodes place new ≡ nodes = ap (set nodes place) (same ∙ at) ∙ set-get_or nodes place old in
     λ i. shown start (nodes_are i) (is i)
 
--- a message is taken, at the one place where it stands
-pub took_one : (before left new : List Message) (message : Message) → before ≡ left → TakesOne before message new
-    → ((place : ℕ) → place < length left → get_or left place message ≡ message → TakesFirst left message (remove left place))
+-- a message is taken, the first one, or where nothing was repeated the only one
+pub took_first : (before left new : List Message) (message : Message) (moves moves' : List Move) → before ≡ left → moves' ≡ moves
+    → TakesFirst before message new ⊎ ((repeated_by moves' ≡ []) × TakesOne before message new)
+    → (repeated_by moves ≡ [] → TakesOne left message new → TakesFirst left message new)
     → TakesFirst left message new
-took_one before left new message same taken first =
-    let (place, within, is, gone) = subst (λ (ms : List Message). TakesOne ms message new) same taken in
-    subst (λ (ms : List Message). TakesFirst left message ms) (sym gone) (first place within is)
+took_first before left new message moves moves' same kept taken first =
+    elim taken [
+      | inl it ↦ subst (λ (ms : List Message). TakesFirst ms message new) same it
+      | inr one ↦ first (ap repeated_by (sym kept) ∙ one.0) (subst (λ (ms : List Message). TakesOne ms message new) same one.1)
+    ]
+
+-- of a message that is there the first one is taken
+pub first_is_taken : (r : Option Message) (old new : List Message) (message : Message) → Contains old message
+    → IfSome r (λ taken. (taken ≡ message) × TakesFirst old message new) → (IsNone r → Contains old message → ⊥)
+    → TakesFirst old message new
+first_is_taken None old new message there taken none = absurd (none refl there)
+first_is_taken (Some m) old new message there taken none = taken.1
+
+-- a message that is there is copied, where there is room for it
+pub copied_on : (r : Result Bool MemoryRefused) (before left new : List Message) (message : Message)
+    → IfOk r (λ again. IsTrue again ↔ Contains before message) → IfOk r (λ again. IsTrue again → new ≡ before ++ message ∷ [])
+    → IsOk r → before ≡ left → Contains left message → new ≡ left ++ message ∷ []
+copied_on (Ok again) before left new message told copied ok same there =
+    copied (told.1 (subst (λ (ms : List Message). Contains ms message) (sym same) there)) ∙ ap (λ (ms : List Message). ms ++ message ∷ []) same
+copied_on (Err e) before left new message told copied ok same there = absurd (not_ok ok)
+  where
+    not_ok : IsOk {T = Bool} (Err e) → ⊥
+    not_ok is = cc
 
 -- one more move, of lists that are equal to these
 pub one_more : (moves before after : List Move) (step : Step) (sends sends' : List Message) (marks marks' : List Mark)

@@ -18,7 +18,8 @@ use Rattle.ra_node.specs.Resource.Use.{Nobody, WaitsBy, HoldsBy}
 use Rattle.ra_node.specs.Node.{NodeState, resource_at}
 use Rattle.ra_automaton.proofs.Apart.{cases_same}
 use Rattle.ra_world.proofs.Members.{nobody}
-use Rattle.ra_world.proofs.Protocol.{IsNode, HasOwn, LetsPass, Protocol}
+use Rattle.ra_world.proofs.Protocol.{IsNode, HasOwn, LetsPass}
+use Rattle.ra_world.proofs.Exchanges.{Exchanges}
 use Rattle.ra_world.proofs.Marking.{entry_in_use}
 use Rattle.ra_world.proofs.Marks.{MayBeGranted}
 
@@ -88,7 +89,7 @@ one_is_earlier s i t j apart = elim (cases_lt s t) [
   ]
 ]
 
-module _ {Lossy : Type 0} (symmetric : (a b : Mode) → Conflict a b → Conflict b a) (n : ℕ) (r : List ℕ) (nodes : ℕ → NodeState) (bag : List Message) (holds : Protocol Lossy n r (λ i. (resource_at (nodes i) r).state) bag) (p : ℕ) (within : IsNode n p) (e : Entry)
+module _ {Lossy : Type 0} (symmetric : (a b : Mode) → Conflict a b → Conflict b a) (start n : ℕ) (r : List ℕ) (nodes : ℕ → NodeState) (bag : List Message) (holds : Exchanges Lossy start n r (λ i. (resource_at (nodes i) r).state) bag) (p : ℕ) (within : IsNode n p) (e : Entry)
     (granted : use_of (resource_at (nodes p) r) ≡ HoldsBy e) where
   abbrev s : ℕ → State
   s i = (resource_at (nodes i) r).state

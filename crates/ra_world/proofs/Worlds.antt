@@ -7,8 +7,8 @@ use Rattle.ra_stamp.specs.declared.message.Message.{Message}
 use Rattle.ra_node.specs.Node.{NodeState, opening_node, waiting_count, queued_count}
 use Rattle.ra_world.specs.declared.report.Report.{Report}
 use Rattle.ra_world.specs.declared.step.Step.{Step}
-use Rattle.ra_world.specs.declared.step.Step.TheVariants.{Deliver, Lose}
-use Rattle.ra_world.specs.Traffic.{Move, IsUnderWay, sent_by, lost_by}
+use Rattle.ra_world.specs.declared.step.Step.TheVariants.{Deliver, Lose, Repeat}
+use Rattle.ra_world.specs.Traffic.{Move, IsUnderWay, sent_by, lost_by, repeated_by}
 use Rattle.ra_world.specs.Run.{GoesOn, marks_of}
 use Rattle.ra_world.specs.Quiet.{requests_in}
 use Rattle.ra_world.specs.World.{Reports}
@@ -32,14 +32,15 @@ pub reported : (start : ℕ) (nodes : List NodeState) (left : List Message) (mov
     → ((ns : List NodeState) (f : NodeState → ℕ) → sum_by (λ i. f (nodes_of ns i)) (range_with_len 1 (length ns)) ≡ sum_by f ns)
     → report.marks.items ≡ marks_of moves → report.sent ≡ length (sent_by moves)
     → report.requests ≡ requests_in (marks_of moves) → report.under_way ≡ length left → report.lost ≡ length (lost_by moves)
-    → report.waiting ≡ sum_by waiting_count nodes → report.queued ≡ sum_by queued_count nodes
+    → report.repeated ≡ length (repeated_by moves) → report.waiting ≡ sum_by waiting_count nodes → report.queued ≡ sum_by queued_count nodes
     → Reports (length nodes) start moves report
-reported start nodes left moves report keeps at_all marks sent requests under_way lost waiting queued = record {
+reported start nodes left moves report keeps at_all marks sent requests under_way lost repeated waiting queued = record {
   marks = marks;
   sent = sent;
   requests = requests;
   under_way = (left, keeps.under_way, under_way);
   lost = lost;
+  repeated = repeated;
   at_nodes = (nodes_of nodes, keeps.ends, waiting ∙ sym (at_all nodes waiting_count), queued ∙ sym (at_all nodes queued_count));
 }
 
@@ -69,16 +70,20 @@ refused_above n start moves step node P law above =
     never : IsTrue false → ⊥
     never e = cc
 
--- a message can be delivered or lost where it is kept
+-- a message can be delivered, lost or repeated where it is kept
 pub accepted_message : (n start : ℕ) (moves : List Move) (left : List Message) (step : Step) (message : Message) (answer : Bool)
     → GoesOn n start moves (Deliver message) ↔ IsUnderWay moves message
     → GoesOn n start moves (Lose message) ↔ IsUnderWay moves message
+    → GoesOn n start moves (Repeat message) ↔ IsUnderWay moves message
     → IsUnderWay moves message ↔ Contains left message → IsTrue answer ↔ Contains left message
-    → (step ≡ Deliver message) ⊎ (step ≡ Lose message)
+    → (step ≡ Deliver message) ⊎ ((step ≡ Lose message) ⊎ (step ≡ Repeat message))
     → IsTrue answer ↔ GoesOn n start moves step
-accepted_message n start moves left step message answer deliver lose under tells (inl is) =
-    subst (λ (s : Step). IsTrue answer ↔ GoesOn n start moves s) (sym is)
-    (λ yes. deliver.1 (under.1 (tells.0 yes)), λ on. tells.1 (under.0 (deliver.0 on)))
-accepted_message n start moves left step message answer deliver lose under tells (inr is) =
-    subst (λ (s : Step). IsTrue answer ↔ GoesOn n start moves s) (sym is)
-    (λ yes. lose.1 (under.1 (tells.0 yes)), λ on. tells.1 (under.0 (lose.0 on)))
+accepted_message n start moves left step message answer deliver lose repeat under tells which = elim which [
+  | inl is ↦ by (Deliver message) is deliver
+  | inr other ↦ elim other [ inl is ↦ by (Lose message) is lose | inr is ↦ by (Repeat message) is repeat ]
+]
+  where
+    by : (s : Step) → step ≡ s → GoesOn n start moves s ↔ IsUnderWay moves message → IsTrue answer ↔ GoesOn n start moves step
+    by s is law =
+        subst (λ (x : Step). IsTrue answer ↔ GoesOn n start moves x) (sym is)
+        (λ yes. law.1 (under.1 (tells.0 yes)), λ on. tells.1 (under.0 (law.0 on)))

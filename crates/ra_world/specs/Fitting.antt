@@ -1,12 +1,12 @@
 -- Steps that fit together: each node's are its own history, and each message was sent before it is taken, and is taken
 -- once.
-use Rattle.std.specs.Prelude.{◌≡◌, ◌≢◌, ℕ, ◌≤◌, List, ◌∷◌, ◌++◌, All, AllPairs, Contains, map, take, length, flat_map}
+use Rattle.std.specs.Prelude.{◌≡◌, ◌≢◌, ℕ, ◌≤◌, List, [], ◌∷◌, ◌++◌, All, AllPairs, Contains, map, take, length, flat_map}
 use Rattle.ra_stamp.specs.declared.message.Message.{Message}
 use Rattle.ra_node.specs.Node.{NodeState, opening_node}
 use Rattle.ra_node.specs.Events.{Happening, NodeEvents}
 use Rattle.ra_world.specs.declared.step.Step.{Step}
-use Rattle.ra_world.specs.declared.step.Step.TheVariants.{Ask, Leave, Deliver, Lose}
-use Rattle.ra_world.specs.Traffic.{taken_in}
+use Rattle.ra_world.specs.declared.step.Step.TheVariants.{Ask, Leave, Deliver, Lose, Repeat}
+use Rattle.ra_world.specs.Traffic.{taken_in, repeated_in}
 use Rattle.ra_world.specs.Run.{events_at}
 
 -- the messages that these happenings sent, in order
@@ -28,10 +28,11 @@ NamesNode n (Ask node client name mode) = (1 ≤ node) × (node ≤ n)
 NamesNode n (Leave node client name) = (1 ≤ node) × (node ≤ n)
 NamesNode n (Deliver message) = Unit {0}
 NamesNode n (Lose message) = Unit {0}
+NamesNode n (Repeat message) = Unit {0}
 
 -- The steps fit together, where this happened at each node: it is a history of the node, and its events are those of the
 -- steps. A client's step names a node that there is. Each message that a step takes was sent by the steps before it, and
--- no message is taken twice.
+-- no message is taken twice, nor repeated.
 pub record FitTogether (n start : ℕ) (steps : List Step) (happened : ℕ → List Happening) : Type 0 where
   pub nodes : (i : ℕ) → 1 ≤ i → i ≤ n
       → (node : NodeState) × NodeEvents (opening_node i n start) (happened i) node
@@ -40,3 +41,4 @@ pub record FitTogether (n start : ℕ) (steps : List Step) (happened : ℕ → L
   pub sent : (front : List Step) (step : Step) (back : List Step) → steps ≡ front ++ step ∷ back
       → All (WasSentBy n happened front) (taken_in step)
   pub once : AllPairs (λ a b. a ≢ b) (flat_map taken_in steps)
+  pub unrepeated : flat_map repeated_in steps ≡ []

@@ -4,7 +4,7 @@ use Rattle.std.specs.Prelude.{◌≡◌, ℕ, ◌*◌, ◌<◌, ◌≤◌, ◌==
 use Rattle.ra_stamp.specs.declared.entry.Mark.{Mark}
 use Rattle.ra_node.specs.declared.outcome.Outcome.{Outcome}
 use Rattle.ra_world.specs.declared.step.Step.{Step}
-use Rattle.ra_world.specs.Traffic.{Move, sent_by, lost_by}
+use Rattle.ra_world.specs.Traffic.{Move, sent_by, lost_by, repeated_by}
 use Rattle.ra_world.specs.Run.{marks_of}
 use Rattle.ra_world.specs.Quiet.{requests_in}
 
@@ -30,7 +30,7 @@ abbrev pub moves_of : List (Step × Outcome) → List Move
 moves_of made = map move_of made
 
 -- what is kept is that of the moves, the marks only where they are kept, and no list that was counted had 2^64 messages or marks
-pub record AreCounted (keeps : ℕ) (moves : List Move) (steps : ℕ) (marks : List Mark) (sent requests lost : ℕ) : Type 0 where
+pub record AreCounted (keeps : ℕ) (moves : List Move) (steps : ℕ) (marks : List Mark) (sent requests lost repeated : ℕ) : Type 0 where
   pub steps_are : steps ≡ length moves
   pub marks_are : keeps ≡ 1 → marks ≡ marks_of moves
   pub sent_is : sent ≡ length (sent_by moves)
@@ -38,3 +38,4 @@ pub record AreCounted (keeps : ℕ) (moves : List Move) (steps : ℕ) (marks : L
   pub requests_are : requests ≡ requests_in (marks_of moves)
   pub requests_fit : requests ≤ 18446744073709551615 * steps
   pub lost_are : lost ≡ length (lost_by moves)
+  pub repeated_are : repeated ≡ length (repeated_by moves)

@@ -38,5 +38,5 @@ pub record MainTheorem (n : ℕ) (report : Report) : Type 0 where
   -- so none could enter
   pub none_may_enter : (table : LockTable) → TableRun report.marks.items table → IsQuietReport report
       → All (λ e. MayEnter table e → ⊥) table.waiting
-  -- and if none waits, exactly two messages for each request and other node were sent
-  pub count : IsQuietReport report → report.waiting ≡ 0 → report.sent ≡ 2 * (n - 1) * report.requests
+  -- and if none waits, and nothing was repeated, exactly two messages for each request and other node were sent
+  pub count : IsQuietReport report → report.repeated ≡ 0 → report.waiting ≡ 0 → report.sent ≡ 2 * (n - 1) * report.requests

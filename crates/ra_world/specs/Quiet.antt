@@ -1,4 +1,4 @@
--- Quiet moments: nothing was lost and nothing is under way.
+-- Quiet moments: nothing was lost and nothing is under way, no copy either.
 use Rattle.std.specs.Prelude.{◌≡◌, ◌⊎◌, ℕ, ◌+◌, ◌-◌, ◌*◌, List, [], ◌∷◌, length}
 use Rattle.ra_stamp.specs.declared.entry.Entry.{Entry}
 use Rattle.ra_stamp.specs.declared.entry.Mark.{Mark}

@@ -1,4 +1,4 @@
--- Runs of a world: the steps of each node are its events, and what is delivered or lost is under way.
+-- Runs of a world: the steps of each node are its events, and what is delivered, lost or repeated is under way.
 use Rattle.std.specs.Prelude.{◌≡◌, ℕ, ◌≤◌, List, [], ◌∷◌, ◌++◌, map, sum_by, if◌then◌else◌, ◌==◌}
 use Rattle.std.specs.List.{range_with_len}
 use Rattle.ra_stamp.specs.declared.message.Message.{Message}
@@ -8,7 +8,7 @@ use Rattle.ra_node.specs.Node.{NodeState, opening_node, waiting_count, queued_co
 use Rattle.ra_node.specs.Events.{Event, Happening, NodeEvents}
 use Rattle.ra_node.specs.Events.Event.{Ask as AskedFor, Leave as GivenBack, Receive as Received}
 use Rattle.ra_world.specs.declared.step.Step.{Step}
-use Rattle.ra_world.specs.declared.step.Step.TheVariants.{Ask, Leave, Deliver, Lose}
+use Rattle.ra_world.specs.declared.step.Step.TheVariants.{Ask, Leave, Deliver, Lose, Repeat}
 use Rattle.ra_world.specs.Traffic.{Move, IsUnderWay}
 
 -- what happens at a node by a step: one event, or none
@@ -17,6 +17,7 @@ events_at i (Ask node client name mode) = if node == i then AskedFor client name
 events_at i (Leave node client name) = if node == i then GivenBack client name ∷ [] else []
 events_at i (Deliver message) = if to_of message == i then Received message ∷ [] else []
 events_at i (Lose message) = []
+events_at i (Repeat message) = []
 
 -- what happened at a node, in order
 abbrev pub happened_at : ℕ → List Move → List Happening
@@ -30,13 +31,14 @@ abbrev pub marks_of : List Move → List Mark
 marks_of [] = []
 marks_of (move ∷ moves) = move.marks ++ marks_of moves
 
--- a client's step names a node that there is, a message that is taken is under way, and the loss of one sends and marks
--- nothing
+-- a client's step names a node that there is, a message that is taken or repeated is under way, and the loss of one, or a copy, sends
+-- and marks nothing
 abbrev pub IsFit : ℕ → List Move → Step → List Message → List Mark → Type 0
 IsFit n before (Ask node client name mode) sends marks = (1 ≤ node) × (node ≤ n)
 IsFit n before (Leave node client name) sends marks = (1 ≤ node) × (node ≤ n)
 IsFit n before (Deliver message) sends marks = IsUnderWay before message
 IsFit n before (Lose message) sends marks = IsUnderWay before message × (sends ≡ []) × (marks ≡ [])
+IsFit n before (Repeat message) sends marks = IsUnderWay before message × (sends ≡ []) × (marks ≡ [])
 
 -- each of these moves fits, one after the other, behind those that were before
 abbrev pub AreFit : ℕ → List Move → List Move → Type 0

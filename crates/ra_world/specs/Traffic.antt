@@ -4,7 +4,7 @@ use Rattle.ra_stamp.specs.declared.message.Message.{Message}
 use Rattle.ra_stamp.specs.declared.entry.Mark.{Mark}
 use Rattle.ra_bag.specs.Bag.{TakesFirst}
 use Rattle.ra_world.specs.declared.step.Step.{Step}
-use Rattle.ra_world.specs.declared.step.Step.TheVariants.{Ask, Leave, Deliver, Lose}
+use Rattle.ra_world.specs.declared.step.Step.TheVariants.{Ask, Leave, Deliver, Lose, Repeat}
 
 -- a step, and what came of it: the messages that it sent and its marks
 pub record Move : Type 0 where
@@ -23,6 +23,7 @@ taken_in (Ask node client name mode) = []
 taken_in (Leave node client name) = []
 taken_in (Deliver message) = message ∷ []
 taken_in (Lose message) = message ∷ []
+taken_in (Repeat message) = []
 
 abbrev pub taken_by : List Move → List Message
 taken_by [] = []
@@ -34,10 +35,31 @@ lost_in (Ask node client name mode) = []
 lost_in (Leave node client name) = []
 lost_in (Deliver message) = []
 lost_in (Lose message) = message ∷ []
+lost_in (Repeat message) = []
 
 abbrev pub lost_by : List Move → List Message
 lost_by [] = []
 lost_by (move ∷ moves) = lost_in move.step ++ lost_by moves
+
+-- the message of which a step puts a copy under way, if it puts one
+abbrev pub repeated_in : Step → List Message
+repeated_in (Ask node client name mode) = []
+repeated_in (Leave node client name) = []
+repeated_in (Deliver message) = []
+repeated_in (Lose message) = []
+repeated_in (Repeat message) = message ∷ []
+
+abbrev pub repeated_by : List Move → List Message
+repeated_by [] = []
+repeated_by (move ∷ moves) = repeated_in move.step ++ repeated_by moves
+
+-- all messages that these steps put under way, in order: those that they sent, and the copies, which nobody sent
+abbrev pub put_in : Move → List Message
+put_in move = move.sends ++ repeated_in move.step
+
+abbrev pub put_by : List Move → List Message
+put_by [] = []
+put_by (move ∷ moves) = put_in move ++ put_by moves
 
 -- the new list is the old one less the first equal message for each of these, in order
 abbrev pub TakesEach : List Message → List Message → List Message → Type 0
@@ -45,9 +67,10 @@ TakesEach old [] new = new ≡ old
 TakesEach old (message ∷ messages) new = (next : List Message) × TakesFirst old message next
     × TakesEach next messages new
 
--- these steps leave these messages under way, in order of sending: what was sent, less what was delivered or lost
+-- these steps leave these messages under way, in the order in which they were put there: what was sent and the copies, less what
+-- was delivered or lost
 abbrev pub LeavesUnderWay : List Move → List Message → Type 0
-LeavesUnderWay moves left = TakesEach (sent_by moves) (taken_by moves) left
+LeavesUnderWay moves left = TakesEach (put_by moves) (taken_by moves) left
 
 -- after these steps the message is under way
 abbrev pub IsUnderWay : List Move → Message → Type 0

@@ -11,12 +11,12 @@ use Rattle.ra_node.specs.Node.{NodeState, resource_at}
 use Rattle.ra_node.specs.Memory.{BringsNothing}
 use Rattle.ra_node.specs.declared.outcome.Outcome.{Outcome}
 use Rattle.ra_world.specs.declared.step.Step.{Step}
-use Rattle.ra_world.specs.declared.step.Step.TheVariants.{Ask, Leave, Deliver, Lose}
+use Rattle.ra_world.specs.declared.step.Step.TheVariants.{Ask, Leave, Deliver, Lose, Repeat}
 use Rattle.ra_world.specs.declared.error.NodeRefusal.TheVariants.{Busy, Exhausted, NotHeld}
 use Rattle.ra_world.specs.declared.error.StepError.{StepError}
 use Rattle.ra_world.specs.declared.error.StepError.TheVariants.{NoNode, NotUnderWay, Node, Memory}
 use Rattle.ra_world.specs.declared.report.Report.{Report}
-use Rattle.ra_world.specs.Traffic.{Move, LeavesUnderWay, IsUnderWay, sent_by, lost_by}
+use Rattle.ra_world.specs.Traffic.{Move, LeavesUnderWay, IsUnderWay, sent_by, lost_by, repeated_by}
 use Rattle.ra_world.specs.Run.{IsRun, GoesOn, EndsWith, marks_of, waiting_at_all, queued_at_all}
 use Rattle.ra_world.specs.Quiet.{requests_in}
 
@@ -73,18 +73,23 @@ HasCause n start moves (Lose message) NoNode = ⊥
 HasCause n start moves (Lose message) (Node why) = ⊥
 HasCause n start moves (Lose message) NotUnderWay = IsUnderWay moves message → ⊥
 HasCause n start moves (Lose message) Memory = ⊥
+HasCause n start moves (Repeat message) NoNode = ⊥
+HasCause n start moves (Repeat message) (Node why) = ⊥
+HasCause n start moves (Repeat message) NotUnderWay = IsUnderWay moves message → ⊥
+HasCause n start moves (Repeat message) Memory = ⊥
 
 -- so many steps were made that no further one is counted: 2^64-1
 abbrev pub IsFull : List Move → Type 0
 IsFull moves = 18446744073709551615 ≤ length moves
 
 -- which steps can want memory: a client that asks may queue, one that leaves is marked, a message that is delivered may bring
--- something, and one that is lost brings nothing
+-- something, one that is lost brings nothing, and a copy has to be put somewhere
 abbrev pub MayNeedMemory : ℕ → ℕ → List Move → Step → Type 0
 MayNeedMemory n start moves (Ask node client name mode) = Unit {0}
 MayNeedMemory n start moves (Leave node client name) = Unit {0}
 MayNeedMemory n start moves (Deliver message) = AtNode n start moves (to_of message) (λ s. BringsNothing s message → ⊥)
 MayNeedMemory n start moves (Lose message) = ⊥
+MayNeedMemory n start moves (Repeat message) = Unit {0}
 
 -- what a world answers to a step, and what it is then
 pub record AnswersStep (old : WorldState) (step : Step) (result : Result Outcome StepError) (new : WorldState) : Type 0 where
@@ -104,5 +109,6 @@ pub record Reports (n start : ℕ) (moves : List Move) (report : Report) : Type 
   pub requests : report.requests ≡ requests_in (marks_of moves)
   pub under_way : (left : List Message) × LeavesUnderWay moves left × (report.under_way ≡ length left)
   pub lost : report.lost ≡ length (lost_by moves)
+  pub repeated : report.repeated ≡ length (repeated_by moves)
   pub at_nodes : (nodes : ℕ → NodeState) × EndsWith n start moves nodes
       × (report.waiting ≡ waiting_at_all n nodes) × (report.queued ≡ queued_at_all n nodes)

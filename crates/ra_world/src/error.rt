@@ -40,7 +40,7 @@ pub enum StepError {
     /// An ask or a leave is at a node above the number of nodes.
     #[error("NoNode")]
     NoNode,
-    /// A message that is to be delivered or lost is not under way.
+    /// A message that is to be delivered, lost or repeated is not under way.
     #[error("NotUnderWay")]
     NotUnderWay,
     /// The node refuses it.

@@ -13,7 +13,7 @@ use ra_node::{events_are_determined, events_go_on};
 
 /// Steps that fit together are a run. Where each client's step names a node that there is, the steps that name each node
 /// are the events of a history of that node, each message that a step takes was sent by an earlier one, and no message is
-/// taken twice, there are moves with these steps that are a run, and what happens at each node in it is that history.
+/// taken twice or repeated, there are moves with these steps that are a run, and what happens at each node in it is that history.
 pub fn steps_that_fit_together_are_runs()
     ensures run { (n start : ℕ) (steps : List Step) (happened : ℕ → List Happening)
         → IsNodeNumber n → FitTogether n start steps happened → WorldRun n start steps }

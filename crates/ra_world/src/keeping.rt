@@ -6,7 +6,7 @@ ghost use Rattle.ra_stamp.specs.declared.message.Message.{Message};
 ghost use Rattle.ra_stamp.specs.declared.entry.Mark.{Mark};
 ghost use Rattle.ra_stamp.specs.Message.{to_of, name_of};
 ghost use Rattle.ra_stamp.specs.NodeId.{IsNodeNumber};
-ghost use Rattle.ra_bag.specs.Bag.{TakesFirst};
+ghost use Rattle.ra_bag.specs.Bag.{TakesFirst, TakesOne};
 ghost use Rattle.ra_automaton.specs.State.{IsForNode};
 ghost use Rattle.ra_node.specs.Node.{NodeState, opening_node, queued_count};
 ghost use Rattle.ra_node.specs.Events.{Event, NodeEvent, ReceiveEvent};
@@ -15,7 +15,7 @@ ghost use Rattle.ra_node.specs.Memory.{BringsNothing};
 ghost use Rattle.ra_world.specs.declared.step.Step.{Step};
 ghost use Rattle.ra_world.specs.declared.error.StepError.{StepError};
 ghost use Rattle.ra_world.specs.declared.report.Report.{Report};
-ghost use Rattle.ra_world.specs.Traffic.{Move, TakesEach, IsUnderWay, taken_in};
+ghost use Rattle.ra_world.specs.Traffic.{Move, TakesEach, IsUnderWay, taken_in, repeated_by};
 ghost use Rattle.ra_world.specs.Run.{IsRun, IsFit, GoesOn, events_at};
 ghost use Rattle.ra_world.specs.World.{HasCause, Reports, IsFull};
 ghost use Rattle.ra_world.specs.MainTheorem.{MainTheorem};
@@ -25,7 +25,7 @@ ghost use Rattle.ra_world.specs.Keeping.{nodes_of, Keeps};
 use crate::log::Log;
 use crate::{
     Report, Step, StepError, marks_of_runs_are_table_runs, messages_of_runs_are_different,
-    messages_under_way_are_between_nodes, no_delivered_reply_is_a_stray,
+    messages_under_way_are_between_nodes,
     quiet_runs_sent_two_messages_for_each_request_and_other_node, runs_go_on_by_events,
     runs_go_on_where_steps_are_allowed, waiting_requests_are_blocked_in_quiet_runs,
 };
@@ -130,6 +130,27 @@ pub fn keep<const KEEPS_MARKS: u8>(
     log.push(step, outcome);
 }
 
+/// Takes a message from those under way, the first that is equal to it. Where nothing was repeated there is no other, and it is in
+/// the slot in which it was found.
+#[inline(always)]
+pub fn take<const KEEPS_MARKS: u8>(
+    under_way: &mut Bag,
+    log: &Log<KEEPS_MARKS>,
+    slot: u64,
+    message: &Message,
+)
+    requires { Contains under_way.old.items message.now }
+    ensures taken { TakesFirst under_way.old.items message.now under_way.new.items
+        ⊎ ((repeated_by log.now.moves ≡ []) × TakesOne under_way.old.items message.now under_way.new.items) }
+    ensures spare { under_way.old.spare ≤ under_way.new.spare }
+{
+    if log.repeated() == 0 {
+        under_way.take_from(slot, message);
+    } else {
+        under_way.take(message);
+    }
+}
+
 /// Makes the outcome of a step that touches no node.
 pub fn nothing(alloc: Global) -> Outcome
     ensures { (result.sends.items ≡ []) × (result.marks.items ≡ []) }
@@ -152,7 +173,7 @@ pub fn copy_of(alloc: Global, marks: &Marks) -> Result<Marks, Memory>
     Ok(copy)
 }
 
-/// A world that keeps a run goes on keeping it: at an event of a node, and at the loss of a message.
+/// A world that keeps a run goes on keeping it: at an event of a node, and at the loss or a copy of a message.
 pub fn kept_runs_go_on()
     ensures opened { (n start : ℕ) → IsNodeNumber n
         → Keeps start (map (λ i. opening_node i n start) (range_with_len 1 n)) [] [] }
@@ -168,6 +189,9 @@ pub fn kept_runs_go_on()
         (message : Message)
         → Keeps start nodes left moves → TakesFirst left message next
         → Keeps start nodes next (moves ++ record { step = Step.Lose message; sends = []; marks = [] } ∷ []) }
+    ensures copy { (start : ℕ) (nodes : List NodeState) (left : List Message) (moves : List Move) (message : Message)
+        → Keeps start nodes left moves → Contains left message → Keeps start nodes (left ++ message ∷ [])
+        (moves ++ record { step = Step.Repeat message; sends = []; marks = [] } ∷ []) }
     // A message is under way where it is kept, and then it is for a node that there is, which takes it.
     ensures under_way { (start : ℕ) (nodes : List NodeState) (left : List Message) (moves : List Move)
         (message : Message)
@@ -183,11 +207,11 @@ pub fn kept_runs_go_on()
         → finmap.get (nodes_of nodes (to_of message)).resources (name_of message) ≡ None → ⊥ }
     ensures counts { (start : ℕ) (nodes : List NodeState) (left : List Message) (moves : List Move) (place : ℕ)
         → Keeps start nodes left moves → place < length nodes → (nodes_of nodes (place + 1)).nodes ≡ length nodes }
-    // All messages under way are different, so the one at a place is the first of its kind.
-    ensures taken_at { (start : ℕ) (nodes : List NodeState) (left : List Message) (moves : List Move)
-        (message : Message) (place : ℕ)
-        → Keeps start nodes left moves → place < length left → slice_index_or left place message ≡ message
-        → TakesFirst left message (remove left place) }
+    // Where nothing was repeated all messages under way are different, so the one at whichever place is the first of its kind.
+    ensures taken { (start : ℕ) (nodes : List NodeState) (left next : List Message) (moves : List Move)
+        (message : Message)
+        → Keeps start nodes left moves → repeated_by moves ≡ [] → TakesOne left message next
+        → TakesFirst left message next }
     // At most one client more is queued after each step.
     ensures queued { (start : ℕ) (nodes : List NodeState) (left : List Message) (moves : List Move)
         → Keeps start nodes left moves → sum_by queued_count nodes ≤ length moves }
@@ -196,7 +220,6 @@ pub fn kept_runs_go_on()
 {
     runs_go_on_by_events();
     runs_go_on_where_steps_are_allowed();
-    no_delivered_reply_is_a_stray();
     messages_under_way_are_between_nodes();
     messages_of_runs_are_different();
     events_leave_other_names();

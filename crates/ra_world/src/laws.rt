@@ -1,5 +1,5 @@
 //! What is true of every run of a world, for the crates above: each function does nothing, and its contract is the law.
-ghost use Rattle.std.specs.Prelude.{◌≡◌, ◌≢◌, ◌≤◌, ◌++◌, ◌∷◌, ◌↔◌, [], ℕ, List, Some, All, AllPairs, Contains, length, map};
+ghost use Rattle.std.specs.Prelude.{◌≡◌, ◌≢◌, ◌<◌, ◌≤◌, ◌++◌, ◌∷◌, ◌↔◌, [], ℕ, List, Some, All, AllPairs, Contains, length, map};
 ghost use Rattle.ra_stamp.specs.declared.message.Message.{Message};
 ghost use Rattle.ra_stamp.specs.declared.mode.Mode.{Mode};
 ghost use Rattle.ra_stamp.specs.declared.entry.Entry.{Entry};
@@ -15,7 +15,7 @@ ghost use Rattle.ra_node.specs.Node.{NodeState, opening_node, resource_at};
 ghost use Rattle.ra_node.specs.Events.{Event, NodeEvent, NodeEvents};
 ghost use Rattle.ra_table.specs.Table.{LockTable, TableRun, MayEnter};
 ghost use Rattle.ra_world.specs.declared.step.Step.{Step};
-ghost use Rattle.ra_world.specs.Traffic.{Move, TakesEach, LeavesUnderWay, IsUnderWay, sent_by, taken_by, taken_in};
+ghost use Rattle.ra_world.specs.Traffic.{Move, TakesEach, LeavesUnderWay, IsUnderWay, sent_by, put_in, put_by, repeated_by, taken_by, taken_in};
 ghost use Rattle.ra_world.specs.Numbers.{IsNumberedMark, IsNumberedMessage};
 ghost use Rattle.ra_world.specs.Quiet.{IsQuiet, IsBlocked, MeetsMessageCount};
 ghost use Rattle.ra_world.specs.Below.{LawsBelow};
@@ -45,7 +45,7 @@ fn laws_below()
     runs_go_on_by_steps();
 }
 
-/// Mutual exclusion. At the end of a run no two different nodes hold a name in modes that conflict, whatever was lost
+/// Mutual exclusion. At the end of a run no two different nodes hold a name in modes that conflict, whatever was lost or repeated
 /// and in whatever order the messages came.
 pub fn two_nodes_never_hold_in_conflict()
     ensures { (n start : ℕ) (moves : List Move) (nodes : ℕ
@@ -59,7 +59,7 @@ pub fn two_nodes_never_hold_in_conflict()
 }
 
 /// Which steps a run goes on with: an ask or a leave at a node that there is, where its client may ask or holds at the end
-/// of the run, and the delivery or the loss of a message that is under way.
+/// of the run, and the delivery, the loss or a copy of a message that is under way.
 pub fn runs_go_on_where_steps_are_allowed()
     ensures empty { (n start : ℕ) → IsRun n start [] }
     ensures ask { (n start : ℕ) (moves : List Move) (nodes : ℕ → NodeState)
@@ -77,6 +77,8 @@ pub fn runs_go_on_where_steps_are_allowed()
         → (message : Message) → GoesOn n start moves (Step.Deliver message) ↔ IsUnderWay moves message }
     ensures lose { (n start : ℕ) (moves : List Move) → IsNodeNumber n → IsRun n start moves
         → (message : Message) → GoesOn n start moves (Step.Lose message) ↔ IsUnderWay moves message }
+    ensures repeat { (n start : ℕ) (moves : List Move) → IsNodeNumber n → IsRun n start moves
+        → (message : Message) → GoesOn n start moves (Step.Repeat message) ↔ IsUnderWay moves message }
 {
     laws_below();
 }
@@ -97,9 +99,9 @@ pub fn steps_elsewhere_leave_a_node()
     runs_go_on_where_steps_are_allowed();
 }
 
-/// The marks of a run are a run of the lock table. So no two conflicting entries on one name hold at once, and
-/// conflicting entries on one name are granted in the order of their stamps. As many requests wait in the table as at
-/// the nodes.
+/// The marks of a run, also of one in which messages were lost or repeated, are a run of the lock table. So no two conflicting
+/// entries on one name hold at once, and conflicting entries on one name are granted in the order of their stamps. As many
+/// requests wait in the table as at the nodes.
 pub fn marks_of_runs_are_table_runs()
     ensures table { (n start : ℕ) (moves : List Move) → IsNodeNumber n → IsRun n start moves
         → (table : LockTable) × TableRun (marks_of moves) table }
@@ -113,7 +115,8 @@ pub fn marks_of_runs_are_table_runs()
 }
 
 /// After each run the messages under way are one list, and each of them has a number and is from a node to another one of
-/// those there are. The list goes on step by step: a message that is taken is out of it, and what is sent comes behind it.
+/// those there are. The list goes on step by step: a message that is taken is out of it, and what is sent, or a copy, comes
+/// behind it. Where nothing was repeated, what was put under way is what was sent.
 pub fn messages_under_way_are_between_nodes()
     ensures exist { (n start : ℕ) (moves : List Move) → IsNodeNumber n → IsRun n start moves
         → (left : List Message) × LeavesUnderWay moves left }
@@ -124,17 +127,22 @@ pub fn messages_under_way_are_between_nodes()
         → IsUnderWay moves message ↔ Contains left message }
     ensures go_on { (moves : List Move) (move : Move) (left next : List Message) → LeavesUnderWay moves left
         → TakesEach left (taken_in move.step) next
-        → LeavesUnderWay (moves ++ move ∷ []) (next ++ move.sends) }
+        → LeavesUnderWay (moves ++ move ∷ []) (next ++ put_in move) }
+    ensures put_is_sent { (moves : List Move) → repeated_by moves ≡ [] → put_by moves ≡ sent_by moves }
     ensures between_nodes { (n start : ℕ) (moves : List Move) (message : Message)
         → IsNodeNumber n → IsRun n start moves → IsUnderWay moves message
         → ((1 ≤ to_of message) × (to_of message ≤ n)) × IsOtherNode (to_of message) n (from_of message) }
+    // A REPLY is for a node that asked for its name, so that the highest number there is above the start value.
+    ensures asked_for { (n start : ℕ) (moves : List Move) (nodes : ℕ → NodeState) (from to : ℕ) (name : List ℕ) (seq : ℕ)
+        → IsNodeNumber n → IsRun n start moves → EndsWith n start moves nodes
+        → IsUnderWay moves (Message.Reply from to name seq) → start < (resource_at (nodes to) name).state.highest }
     ensures numbered { (n start : ℕ) (moves : List Move) (message : Message)
         → IsNodeNumber n → IsRun n start moves → IsUnderWay moves message → 1 ≤ seq_of message }
 {
     laws_below();
 }
 
-/// A run goes on by the event that a node really makes of a step, and the other nodes stay; and by the loss of a message
+/// A run goes on by the event that a node really makes of a step, and the other nodes stay; and by the loss or a copy of a message
 /// under way, at which all nodes stay.
 pub fn runs_go_on_by_events()
     ensures event { (n start : ℕ) (moves : List Move) (nodes : ℕ
@@ -147,6 +155,10 @@ pub fn runs_go_on_by_events()
         → IsRun n start moves → EndsWith n start moves nodes → IsUnderWay moves message
         → IsRun n start (moves ++ record { step = Step.Lose message; sends = []; marks = [] } ∷ [])
         × EndsWith n start (moves ++ record { step = Step.Lose message; sends = []; marks = [] } ∷ []) nodes }
+    ensures copy { (n start : ℕ) (moves : List Move) (nodes : ℕ → NodeState) (message : Message)
+        → IsRun n start moves → EndsWith n start moves nodes → IsUnderWay moves message
+        → IsRun n start (moves ++ record { step = Step.Repeat message; sends = []; marks = [] } ∷ [])
+        × EndsWith n start (moves ++ record { step = Step.Repeat message; sends = []; marks = [] } ∷ []) nodes }
 {
     events_go_on();
 }
@@ -175,19 +187,20 @@ pub fn marks_of_runs_are_numbered()
     events_keep_a_node_consistent();
 }
 
-/// All messages that a run sends are different.
+/// All messages that a run sends are different, where nothing was repeated: a REQUEST that comes again is answered again.
 pub fn messages_of_runs_are_different()
-    ensures { (n start : ℕ) (moves : List Move) → IsNodeNumber n → IsRun n start moves
+    ensures { (n start : ℕ) (moves : List Move) → IsNodeNumber n → IsRun n start moves → repeated_by moves ≡ []
         → AllPairs (λ a b. a ≢ b) (sent_by moves) }
 {
     laws_below();
 }
 
-/// No REPLY that is delivered in a run is a stray: the node that it is for waits with its number and awaits it.
+/// No REPLY that is delivered in a run is a stray, where nothing was repeated before: the node that it is for waits with its number
+/// and awaits it.
 pub fn no_delivered_reply_is_a_stray()
     ensures { (n start : ℕ) (front back : List Move) (move : Move) (from to : ℕ) (name : List ℕ) (seq : ℕ)
         (node : NodeState)
-        → IsNodeNumber n → IsRun n start (front ++ move ∷ back)
+        → IsNodeNumber n → IsRun n start (front ++ move ∷ back) → repeated_by front ≡ []
         → move.step ≡ Step.Deliver (Message.Reply from to name seq)
         → NodeEvents (opening_node to n start) (happened_at to front) node
         → (mode : Mode) × Awaits (resource_at node name).state from seq mode }
@@ -203,8 +216,8 @@ pub fn runs_are_determined()
     laws_below();
 }
 
-/// Where nothing was lost and nothing is under way, each request that waits is blocked: an entry that excludes it holds, or
-/// waits with an earlier stamp. So none that waits could enter.
+/// Where nothing was lost and nothing is under way, no copy either, each request that waits is blocked: an entry that excludes it
+/// holds, or waits with an earlier stamp. So none that waits could enter, whatever was repeated.
 pub fn waiting_requests_are_blocked_in_quiet_runs()
     ensures blocked { (n start : ℕ) (moves : List Move) (table : LockTable) (e : Entry)
         → IsNodeNumber n → IsRun n start moves → IsQuiet moves → TableRun (marks_of moves) table
@@ -217,11 +230,12 @@ pub fn waiting_requests_are_blocked_in_quiet_runs()
     tables_of_one_run_have_the_same_entries();
 }
 
-/// Where nothing was lost, nothing is under way and no request waits, exactly two messages to or from each other node
+/// Where nothing was lost or repeated, nothing is under way and no request waits, exactly two messages to or from each other node
 /// were sent for each request.
 pub fn quiet_runs_sent_two_messages_for_each_request_and_other_node()
     ensures { (n start : ℕ) (moves : List Move) (table : LockTable)
-        → IsNodeNumber n → IsRun n start moves → IsQuiet moves → TableRun (marks_of moves) table
+        → IsNodeNumber n → IsRun n start moves → IsQuiet moves → repeated_by moves ≡ []
+        → TableRun (marks_of moves) table
         → table.waiting ≡ [] → MeetsMessageCount n moves }
 {
     laws_below();

@@ -1,7 +1,7 @@
 //! What came of the steps of a world so far.
 ghost use Rattle.std.specs.Prelude.{◌≡◌, ◌+◌, ◌≤◌, ◌⊎◌, [], ◌∷◌, ◌++◌, length, OnOk, OnErr};
 ghost use Rattle.ra_stamp.specs.declared.entry.Mark.{Mark};
-ghost use Rattle.ra_world.specs.Traffic.{lost_in};
+ghost use Rattle.ra_world.specs.Traffic.{lost_in, repeated_in};
 ghost use Rattle.ra_world.specs.Quiet.{requests_in};
 ghost use Rattle.ra_world.specs.Log.{room_of};
 
@@ -27,6 +27,8 @@ pub struct Log<const KEEPS_MARKS: u8> {
     requests: u128,
     /// How many of the steps are losses.
     lost: u64,
+    /// How many of the steps are repeats.
+    repeated: u64,
     /// Each step with what came of it, for proofs alone.
     made: History<Step, Outcome>,
 }
@@ -42,7 +44,7 @@ impl<const KEEPS_MARKS: u8> Model for Log<KEEPS_MARKS> {
     } };
 
     ghost invariant = { λ l.
-        AreCounted KEEPS_MARKS (moves_of l.made.items) l.steps l.marks.items l.sent l.requests l.lost };
+        AreCounted KEEPS_MARKS (moves_of l.made.items) l.steps l.marks.items l.sent l.requests l.lost l.repeated };
 }
 
 impl<const KEEPS_MARKS: u8> fmt::Debug for Log<KEEPS_MARKS> {
@@ -53,13 +55,14 @@ impl<const KEEPS_MARKS: u8> fmt::Debug for Log<KEEPS_MARKS> {
             .field("sent", &self.sent)
             .field("requests", &self.requests)
             .field("lost", &self.lost)
+            .field("repeated", &self.repeated)
             .finish()
     }
 }
 
 impl<const KEEPS_MARKS: u8> Log<KEEPS_MARKS> {
     ghost use Rattle.ra_world.specs.Log.{HasRoom};
-    ghost use Rattle.ra_world.specs.Traffic.{sent_by, lost_by};
+    ghost use Rattle.ra_world.specs.Traffic.{sent_by, lost_by, repeated_by};
     ghost use Rattle.ra_world.specs.Run.{marks_of};
     ghost use Rattle.ra_world.specs.World.{IsFull};
 
@@ -73,6 +76,7 @@ impl<const KEEPS_MARKS: u8> Log<KEEPS_MARKS> {
             sent: 0,
             requests: 0,
             lost: 0,
+            repeated: 0,
             made: History::new(),
         }
     }
@@ -103,6 +107,13 @@ impl<const KEEPS_MARKS: u8> Log<KEEPS_MARKS> {
         ensures { result ≡ length (lost_by self.now.moves) }
     {
         self.lost
+    }
+
+    /// Returns how many copies of messages were put under way.
+    pub fn repeated(&self) -> u64
+        ensures { result ≡ length (repeated_by self.now.moves) }
+    {
+        self.repeated
     }
 
     /// Returns the marks of the steps, in order, where they are kept.
@@ -137,10 +148,11 @@ impl<const KEEPS_MARKS: u8> Log<KEEPS_MARKS> {
     {
         self.steps += 1;
         keep_marks::<KEEPS_MARKS>(&mut self.marks, outcome.marks.as_slice());
-        // The counts fit: no list has 2^64 items, and there are no more losses than steps.
+        // The counts fit: no list has 2^64 items, and there are no more losses, nor repeats, than steps.
         self.sent += u128::from(outcome.sends.len());
         self.requests += u128::from(requests_of(outcome.marks.as_slice()));
         self.lost += losses_of(step);
+        self.repeated += repeats_of(step);
         self.made = self.made.and(step, outcome);
     }
 }
@@ -151,7 +163,17 @@ fn losses_of(step: &Step) -> u64
 {
     match step {
         Step::Lose(_) => 1,
-        Step::Ask { .. } | Step::Leave { .. } | Step::Deliver(_) => 0,
+        Step::Ask { .. } | Step::Leave { .. } | Step::Deliver(_) | Step::Repeat(_) => 0,
+    }
+}
+
+/// Returns how many copies the step puts under way, none or one.
+fn repeats_of(step: &Step) -> u64
+    ensures { result ≡ length (repeated_in step.now) }
+{
+    match step {
+        Step::Repeat(_) => 1,
+        Step::Ask { .. } | Step::Leave { .. } | Step::Deliver(_) | Step::Lose(_) => 0,
     }
 }
 

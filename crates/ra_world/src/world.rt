@@ -3,7 +3,7 @@ ghost use Rattle.ra_stamp.specs.declared.message.Message.{Message};
 
 use crate::keeping::{
     copy_of, keep, kept_runs_go_on, make_room, make_room_for, nothing,
-    reports_meet_the_main_theorem, steps_have_one_cause,
+    reports_meet_the_main_theorem, steps_have_one_cause, take,
 };
 use crate::log::Log;
 use crate::numbering::{is_held_by, opening_nodes, place_of, queued_at, waiting_at};
@@ -83,16 +83,16 @@ impl<const KEEPS_MARKS: u8> WorldOf<KEEPS_MARKS> {
     }
 
     /// Makes a step, and answers what came of it: the messages that it sent, which are under way then, and its marks. By a
-    /// loss nothing is sent or marked. The cost is that of the node's event, and beside it amortized constant on average, with
-    /// finding and taking a message: the steps so far are not looked at. Where the message is not under way, or there was no memory
-    /// to know where each stands, it is linear in the number of messages under way.
+    /// loss or a repeat nothing is sent or marked. The cost is that of the node's event, and beside it amortized constant on
+    /// average, with finding and taking a message: the steps so far are not looked at. Where the message is not under way, or there
+    /// was no memory to know where each stands, it is linear in the number of messages under way.
     ///
     /// # Errors
     ///
     /// The first that holds, and the world is as before:
     ///
     /// 1. `NoNode`: an ask or a leave is at a node above the number of nodes.
-    /// 2. `NotUnderWay`: a message that is to be delivered or lost is not under way.
+    /// 2. `NotUnderWay`: a message that is to be delivered, lost or repeated is not under way.
     /// 3. `Node`: the node refuses an ask (`Busy`, `Exhausted`) or a leave (`NotHeld`).
     /// 4. `Memory`: there is no room for what the step makes, or 2^64-1 steps were made, since no more are counted. A message by
     ///    which nothing is sent or marked is never refused for want of room, nor is a loss.
@@ -102,9 +102,10 @@ impl<const KEEPS_MARKS: u8> WorldOf<KEEPS_MARKS> {
         self.step_near(alloc, step, 0)
     }
 
-    /// Makes a step as `step` does. A message that is to be delivered or lost is looked for at the place `near` first, counted
-    /// from 0 in the order of sending, where it costs no search. Where all messages so far were found so, taking one is linear in its
-    /// distance from the nearer end, and `message_at` takes constant time.
+    /// Makes a step as `step` does. A message that is to be delivered, lost or repeated is looked for at the place `near` first,
+    /// counted from 0 in the order of sending, where it costs no search. Where all messages so far were found so and none was repeated,
+    /// taking one is linear in its distance from the nearer end, and `message_at` takes constant time. Once one was repeated, of equal
+    /// messages the first is taken, wherever that stands.
     ///
     /// # Errors
     ///
@@ -126,6 +127,7 @@ impl<const KEEPS_MARKS: u8> WorldOf<KEEPS_MARKS> {
             Step::Leave { node, client, name } => self.leave(alloc, *node, *client, *name),
             Step::Deliver(message) => self.deliver(alloc, message, near),
             Step::Lose(message) => self.lose(alloc, message, near),
+            Step::Repeat(message) => self.repeat(alloc, message, near),
         }
     }
 
@@ -146,7 +148,9 @@ impl<const KEEPS_MARKS: u8> WorldOf<KEEPS_MARKS> {
                 ..
             } => self.may_ask(node, client, &name),
             Step::Leave { node, client, name } => self.may_leave(node, client, &name),
-            Step::Deliver(message) | Step::Lose(message) => self.under_way.contains(&message),
+            Step::Deliver(message) | Step::Lose(message) | Step::Repeat(message) => {
+                self.under_way.contains(&message)
+            }
         }
     }
 
@@ -290,7 +294,7 @@ impl<const KEEPS_MARKS: u8> WorldOf<KEEPS_MARKS> {
             // What is under way is for its node and from another one.
             Err(ReceiveError::WrongNode | ReceiveError::Stranger) => unreachable!(),
         };
-        self.under_way.take_from(slot, message);
+        take(&mut self.under_way, &self.log, slot, message);
         let step = Step::Deliver(*message);
         keep(&mut self.under_way, &mut self.log, &step, &outcome);
         Ok(outcome)
@@ -310,9 +314,28 @@ impl<const KEEPS_MARKS: u8> WorldOf<KEEPS_MARKS> {
         };
         make_room(&mut self.under_way, &mut self.log, 0, 0)?;
         let outcome = nothing(alloc);
-        self.under_way.take_from(slot, message);
+        take(&mut self.under_way, &self.log, slot, message);
         let step = Step::Lose(*message);
         keep(&mut self.under_way, &mut self.log, &step, &outcome);
+        Ok(outcome)
+    }
+
+    /// A copy of a message under way comes under way.
+    fn repeat(&mut self, alloc: Global, message: &Message, near: u64) -> Result<Outcome, StepError>
+        ensures tried { Tries self.old (Step.Repeat message.now) result self.new }
+        ensures run { IsRun self.new.count self.new.start self.new.moves }
+        ensures count { IsNodeNumber self.new.count }
+    {
+        kept_runs_go_on();
+        runs_go_on_where_steps_are_allowed();
+        let Some(_) = self.under_way.find(message, near) else {
+            return Err(StepError::NotUnderWay);
+        };
+        make_room(&mut self.under_way, &mut self.log, 1, 0)?;
+        // It is under way, and there is room for the copy.
+        self.under_way.again(message).unwrap();
+        let outcome = nothing(alloc);
+        self.log.push(&Step::Repeat(*message), &outcome);
         Ok(outcome)
     }
 
@@ -373,6 +396,7 @@ impl WorldOf<1> {
             requests: self.log.requests(),
             under_way: u128::from(self.under_way.len()),
             lost: u128::from(self.log.lost()),
+            repeated: u128::from(self.log.repeated()),
             waiting: waiting_at(&self.nodes),
             queued: queued_at(&self.nodes),
         })

@@ -1,9 +1,10 @@
 //! What `check` finds wrong in a text.
 use crate::helpers::{
-    Judged, ONE_LOCK, TWO_LOCKS, assert_judged, assert_rows, in_version_1, is_judged, printed,
+    Judged, ONE_LOCK, REPEATED_REQUEST, TWO_LOCKS, assert_judged, assert_rows, in_version_1,
+    is_judged, printed,
 };
 use Judged::{Invalid, Valid};
-use ra_trace::{Cause, TraceError, Verdict, check};
+use ra_trace::{Cause, TraceError, Verdict};
 use std::alloc::Global;
 use std::process::Abort;
 
@@ -163,6 +164,114 @@ fn each_line_is_judged_by_the_version_of_the_first(rt: HostRuntime) {
     assert_judged(&rt, ROWS);
 }
 
+/// Returns whether a trace of version 2 is wrong at this line in version 1, as that has no such line.
+fn is_newer(alloc: Global, text: &str, line: u64) -> bool {
+    let wanted = Verdict::Invalid {
+        line,
+        cause: Cause::Line,
+    };
+    match in_version_1(alloc, text) {
+        Some(old) => is_judged(alloc, &old, wanted),
+        None => false,
+    }
+}
+
+/// Texts of version 1 up to a line by which a message is repeated, also where it is not under way or a mark is due.
+const REPEATS_IN_1: &[Judged] = &[
+    Invalid(
+        "trace 1 2 0\nask 1 1 r X\nrequest 1 1 r X 1\nrepeat request 1 2 r X 1\n",
+        4,
+        Cause::Line,
+    ),
+    Invalid(
+        "trace 1 2 0\nask 1 1 r X\nrequest 1 1 r X 1\ndeliver request 1 2 r X 1\nrepeat reply 2 1 r 1\n",
+        5,
+        Cause::Line,
+    ),
+    Invalid("trace 1 2 0\nrepeat reply 2 1 r 1\n", 2, Cause::Line),
+    Invalid(
+        "trace 1 2 0\nask 1 1 r X\nrepeat request 1 2 r X 1\n",
+        3,
+        Cause::Line,
+    ),
+];
+
+#[test]
+fn version_1_has_no_repeats(rt: HostRuntime) {
+    assert_judged(&rt, REPEATS_IN_1);
+    assert!(rt; is_newer(rt.alloc(), REPEATED_REQUEST, 4));
+}
+
+/// Texts of version 2 that are wrong at a repeat, or behind one.
+const WRONG_REPEATS: &[Judged] = &[
+    // It was never sent.
+    Invalid("trace 2 2 0\nrepeat reply 2 1 r 1\n", 2, Cause::NotUnderWay),
+    Invalid(
+        "trace 2 2 0\nask 1 1 r X\nrequest 1 1 r X 1\nrepeat request 1 2 r X 2\n",
+        4,
+        Cause::NotUnderWay,
+    ),
+    Invalid(
+        "trace 2 2 0\nask 1 1 r X\nrequest 1 1 r X 1\nrepeat request 1 2 r S 1\n",
+        4,
+        Cause::NotUnderWay,
+    ),
+    Invalid(
+        "trace 2 2 0\nask 1 1 r X\nrequest 1 1 r X 1\nrepeat reply 2 1 r 1\n",
+        4,
+        Cause::NotUnderWay,
+    ),
+    // It was delivered already.
+    Invalid(
+        "trace 2 2 0\nask 1 1 r X\nrequest 1 1 r X 1\ndeliver request 1 2 r X 1\nrepeat request 1 2 r X 1\n",
+        5,
+        Cause::NotUnderWay,
+    ),
+    // It was lost, and so was its copy.
+    Invalid(
+        "trace 2 2 0
+ask 1 1 r X
+request 1 1 r X 1
+repeat request 1 2 r X 1
+lose request 1 2 r X 1
+lose request 1 2 r X 1
+repeat request 1 2 r X 1
+",
+        7,
+        Cause::NotUnderWay,
+    ),
+    // One copy is not two.
+    Invalid(
+        "trace 2 2 0
+ask 1 1 r X
+request 1 1 r X 1
+repeat request 1 2 r X 1
+deliver request 1 2 r X 1
+deliver request 1 2 r X 1
+deliver request 1 2 r X 1
+",
+        7,
+        Cause::NotUnderWay,
+    ),
+    // A mark is due.
+    Invalid(
+        "trace 2 2 0\nask 1 1 r X\nrepeat request 1 2 r X 1\n",
+        3,
+        Cause::Marks,
+    ),
+    // By a repeat nothing is marked.
+    Invalid(
+        "trace 2 2 0\nask 1 1 r X\nrequest 1 1 r X 1\nrepeat request 1 2 r X 1\nrequest 2 1 q X 1\n",
+        5,
+        Cause::Marks,
+    ),
+];
+
+#[test]
+fn messages_that_are_repeated_are_under_way(rt: HostRuntime) {
+    assert_judged(&rt, WRONG_REPEATS);
+}
+
 const ENDS: &[Case] = &[
     Case(ONE_LOCK, Replace(1, ""), 1),
     Case(ONE_LOCK, PutIn(2, "trace 1 2 0\n"), 2),
@@ -266,39 +375,27 @@ fn messages_that_are_taken_are_under_way(rt: HostRuntime) {
     assert_wrong(&rt, NOT_UNDER_WAY, Cause::NotUnderWay);
 }
 
-/// Returns whether some line of the text is wrong.
-fn has_wrong_line(alloc: Global, text: &[u8]) -> bool {
-    let mut reader = text;
-    matches!(check(alloc, &mut reader), Ok(Verdict::Invalid { .. }))
-}
-
-/// Returns how many lengths have fronts of a text that are wrong, from 0 up to the first that is not, or to that of the text.
+/// Returns how many lengths have fronts of a trace that are wrong at the line that is not whole, from 0 up to the first that is not so,
+/// or to that of the trace.
 fn wrong_fronts(alloc: Global, text: &[u8]) -> usize {
+    let mut line = 1u64;
     for length in 0..text.len() {
-        if !has_wrong_line(alloc, &text[..length]) {
+        let cause = Cause::Line;
+        if !is_judged(alloc, &text[..length], Verdict::Invalid { line, cause }) {
             return length;
+        }
+        if text[length] == b'\n' {
+            line = line.wrapping_add(1);
         }
     }
     text.len()
 }
 
-/// Returns whether the ninth line of a text is wrong where the last byte is missing.
-fn lacks_its_last_byte(alloc: Global, text: &[u8]) -> bool {
-    let wrong = Verdict::Invalid {
-        line: 9,
-        cause: Cause::Line,
-    };
-    match text.split_last() {
-        Some((_, front)) => is_judged(alloc, front, wrong),
-        None => false,
-    }
-}
-
 #[test]
 fn no_front_of_a_trace_is_valid(rt: HostRuntime) {
-    let text = ONE_LOCK.as_bytes();
-    assert_rows(&rt, wrong_fronts(rt.alloc(), text), text.len());
-    assert!(rt; lacks_its_last_byte(rt.alloc(), text));
+    for text in [ONE_LOCK, REPEATED_REQUEST] {
+        assert_rows(&rt, wrong_fronts(rt.alloc(), text.as_bytes()), text.len());
+    }
 }
 
 const NO_LINES: &[Case] = &[

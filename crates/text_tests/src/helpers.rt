@@ -54,6 +54,21 @@ leave 2 2 r X 1
 end
 ";
 
+/// The trace of one client whose REQUEST is repeated. The other node answers each copy, and the second REPLY is a stray.
+pub const REPEATED_REQUEST: &str = "trace 2 2 0
+ask 1 1 r X
+request 1 1 r X 1
+repeat request 1 2 r X 1
+deliver request 1 2 r X 1
+deliver request 1 2 r X 1
+deliver reply 2 1 r 1
+enter 1 1 r X 1
+deliver reply 2 1 r 1
+release 1 1 r
+leave 1 1 r X 1
+end
+";
+
 /// Returns a trace of version 2 as one of version 1, and any other text as it is.
 pub fn in_version_1(alloc: Global, text: &str) -> Option<Vec<u8>> {
     match text.strip_prefix("trace 2 ") {

@@ -38,6 +38,9 @@ const WORDS: &[&[u8]] = &[
     b"deliver answer 1 2 r X 1\n",
     b"drop reply 2 1 r 1\n",
     b"reply 2 1 r 1\n",
+    b"repeat 1 2 r X 1\n",
+    b"repeats request 1 2 r X 1\n",
+    b"repeat answer 1 2 r X 1\n",
 ];
 
 /// Fields are missing, left over, or not one space apart.
@@ -53,6 +56,8 @@ const FIELDS: &[&[u8]] = &[
     b"release 1 1 r X\n",
     b"deliver request 1 2 r 1\n",
     b"deliver reply 2 1 r X 1\n",
+    b"repeat request 1 2 r 1\n",
+    b"repeat reply 2 1 r X 1\n",
     b"enter 1 1 r X\n",
     b"enter 1 1 r X 1 1\n",
     b"trace 1 2\n",
@@ -88,6 +93,8 @@ const NUMBERS: &[&[u8]] = &[
     b"deliver request 0 1 r X 1\n",
     b"deliver request 65 1 r X 1\n",
     b"deliver reply 2 1 r 01\n",
+    b"repeat request 1 65 r X 1\n",
+    b"repeat reply 2 1 r 0\n",
 ];
 
 /// No names, and no modes.
@@ -120,6 +127,8 @@ const NEWER: &[&[u8]] = &[
     b"deliver reply 17 1 r 1\n",
     b"lose request 1 2 r IS 1\n",
     b"lose reply 1 17 r 1\n",
+    b"repeat request 1 2 r X 1\n",
+    b"repeat reply 2 1 r 1\n",
     b"request 17 1 r X 1\n",
     b"request 1 1 r SIX 1\n",
     b"enter 17 1 r X 1\n",
@@ -158,7 +167,7 @@ fn newer_lines(alloc: Global, texts: &[&[u8]]) -> usize {
 }
 
 #[test]
-fn version_1_has_fewer_nodes_and_modes(rt: HostRuntime) {
+fn version_1_has_fewer_nodes_and_modes_and_no_repeats(rt: HostRuntime) {
     assert_rows(&rt, newer_lines(rt.alloc(), NEWER), NEWER.len());
 }
 

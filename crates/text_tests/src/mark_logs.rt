@@ -214,6 +214,7 @@ fn lines_of_no_mark_are_wrong_where_they_stand(rt: HostRuntime) {
         Invalid("ask 1 1 r X\n", 1, MarkCause::Line),
         Invalid("release 1 1 r\n", 1, MarkCause::Line),
         Invalid("deliver reply 2 1 r 1\n", 1, MarkCause::Line),
+        Invalid("repeat reply 2 1 r 1\n", 1, MarkCause::Line),
         Invalid("request 1 1 r X 1\nend\n", 2, MarkCause::Line),
         // Fields out of their ranges, too many and too few.
         Invalid("request 0 1 r X 1\n", 1, MarkCause::Line),

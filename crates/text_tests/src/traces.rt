@@ -1,10 +1,10 @@
 use crate::helpers::{
-    Judged, ONE_LOCK, ONE_LOCK_LENGTH, TWO_LOCKS, all_kinds, assert_judged, assert_rows, failing,
-    printed, r,
+    Judged, ONE_LOCK, ONE_LOCK_LENGTH, REPEATED_REQUEST, TWO_LOCKS, all_kinds, assert_judged,
+    assert_rows, failing, printed, r,
 };
-use Act::{Ask, AskForAllKinds, AskIn, Deliver, Leave, Lose};
+use Act::{Ask, AskForAllKinds, AskIn, Deliver, Leave, Lose, Repeat};
 use Judged::{Invalid, Valid};
-use Wire::{Replies, Requests};
+use Wire::{Replies, RepliesNext, Requests, RequestsNext};
 use ra_stamp::{Message, Mode, Name, NodeId};
 use ra_trace::{Cause, WriteTraceError, write_trace};
 use ra_world::{NodeRefusal, RunError, Step, StepError, Steps};
@@ -13,11 +13,13 @@ use std::io;
 use std::process::Abort;
 use test_support::FailingWriter;
 
-/// A message of number 1 on `r`, of a writer where it is a REQUEST: its sender and its receiver.
+/// A message of number 1 on `r`, or of the next number, of a writer where it is a REQUEST: its sender and its receiver.
 #[derive(Clone, Copy)]
 enum Wire {
     Requests(u16, u16),
     Replies(u16, u16),
+    RequestsNext(u16, u16),
+    RepliesNext(u16, u16),
 }
 
 /// What happens in a run.
@@ -33,24 +35,26 @@ enum Act {
     AskForAllKinds,
     Deliver(Wire),
     Lose(Wire),
+    Repeat(Wire),
 }
 
 /// Returns the message, or `None` where a number is that of no node.
 fn message(wire: Wire) -> Option<Message> {
-    let (from, to) = match wire {
-        Requests(from, to) | Replies(from, to) => (from, to),
+    let (from, to, seq) = match wire {
+        Requests(from, to) | Replies(from, to) => (from, to, 1),
+        RequestsNext(from, to) | RepliesNext(from, to) => (from, to, 2),
     };
-    let (name, seq) = (r(), 1);
+    let name = r();
     match (NodeId::new(from), NodeId::new(to)) {
         (Some(from), Some(to)) => Some(match wire {
-            Requests(_, _) => Message::Request {
+            Requests(_, _) | RequestsNext(_, _) => Message::Request {
                 from,
                 to,
                 name,
                 mode: Mode::Exclusive,
                 seq,
             },
-            Replies(_, _) => Message::Reply {
+            Replies(_, _) | RepliesNext(_, _) => Message::Reply {
                 from,
                 to,
                 name,
@@ -102,6 +106,14 @@ fn lose(wire: Wire) -> Option<Step> {
     }
 }
 
+/// Returns the step by which a message is repeated, or `None` where there is no such message.
+fn repeat(wire: Wire) -> Option<Step> {
+    match message(wire) {
+        Some(message) => Some(Step::Repeat(message)),
+        None => None,
+    }
+}
+
 /// Returns the step of what happens, or `None` where a number is that of no node.
 fn step(act: Act) -> Option<Step> {
     match act {
@@ -111,6 +123,7 @@ fn step(act: Act) -> Option<Step> {
         AskForAllKinds => ask(64, 0, all_kinds(), Mode::Shared),
         Deliver(wire) => deliver(wire),
         Lose(wire) => lose(wire),
+        Repeat(wire) => repeat(wire),
     }
 }
 
@@ -261,6 +274,109 @@ fn a_loss_and_a_step_without_marks_have_their_lines(rt: HostRuntime) {
     assert_written(&rt, &[Written(2, LOSES_REPLY, LOST_REPLY)]);
 }
 
+/// What happens in the trace of one client whose REQUEST is repeated.
+const REPEATS_REQUEST: &[Act] = &[
+    Ask(1, 1),
+    Repeat(Requests(1, 2)),
+    Deliver(Requests(1, 2)),
+    Deliver(Requests(1, 2)),
+    Deliver(Replies(2, 1)),
+    Deliver(Replies(2, 1)),
+    Leave(1, 1),
+];
+
+/// The copy of a REQUEST comes when its client waits with the next number, and so does the REPLY to it.
+const LATE_COPY: &str = "trace 2 2 0
+ask 1 1 r X
+request 1 1 r X 1
+repeat request 1 2 r X 1
+deliver request 1 2 r X 1
+deliver reply 2 1 r 1
+enter 1 1 r X 1
+release 1 1 r
+leave 1 1 r X 1
+ask 1 1 r X
+request 1 1 r X 2
+deliver request 1 2 r X 1
+deliver reply 2 1 r 1
+deliver request 1 2 r X 2
+deliver reply 2 1 r 2
+enter 1 1 r X 2
+end
+";
+
+/// What happens in that trace.
+const COPIES_LATE: &[Act] = &[
+    Ask(1, 1),
+    Repeat(Requests(1, 2)),
+    Deliver(Requests(1, 2)),
+    Deliver(Replies(2, 1)),
+    Leave(1, 1),
+    Ask(1, 1),
+    Deliver(Requests(1, 2)),
+    Deliver(Replies(2, 1)),
+    Deliver(RequestsNext(1, 2)),
+    Deliver(RepliesNext(2, 1)),
+];
+
+/// A REQUEST and its copy are lost.
+const LOST_COPIES: &str = "trace 2 2 0
+ask 1 1 r X
+request 1 1 r X 1
+repeat request 1 2 r X 1
+lose request 1 2 r X 1
+lose request 1 2 r X 1
+end
+";
+
+/// What happens in that trace.
+const LOSES_COPIES: &[Act] = &[
+    Ask(1, 1),
+    Repeat(Requests(1, 2)),
+    Lose(Requests(1, 2)),
+    Lose(Requests(1, 2)),
+];
+
+/// A REPLY is repeated, and its copy is a stray.
+const REPEATED_REPLY: &str = "trace 2 2 0
+ask 1 1 r X
+request 1 1 r X 1
+deliver request 1 2 r X 1
+repeat reply 2 1 r 1
+deliver reply 2 1 r 1
+enter 1 1 r X 1
+deliver reply 2 1 r 1
+end
+";
+
+/// What happens in that trace.
+const REPEATS_REPLY: &[Act] = &[
+    Ask(1, 1),
+    Deliver(Requests(1, 2)),
+    Repeat(Replies(2, 1)),
+    Deliver(Replies(2, 1)),
+    Deliver(Replies(2, 1)),
+];
+
+/// A copy is no message that was sent, and so it is not counted.
+#[test]
+fn repeats_have_their_lines(rt: HostRuntime) {
+    const WRITTEN: &[Written] = &[
+        Written(2, REPEATS_REQUEST, REPEATED_REQUEST),
+        Written(2, COPIES_LATE, LATE_COPY),
+        Written(2, LOSES_COPIES, LOST_COPIES),
+        Written(2, REPEATS_REPLY, REPEATED_REPLY),
+    ];
+    const READ: &[Judged] = &[
+        Valid(REPEATED_REQUEST, 1, 3),
+        Valid(LATE_COPY, 2, 5),
+        Valid(LOST_COPIES, 1, 1),
+        Valid(REPEATED_REPLY, 1, 2),
+    ];
+    assert_written(&rt, WRITTEN);
+    assert_judged(&rt, READ);
+}
+
 /// What can't happen.
 const NO_RUNS: &[Refused] = &[
     Refused(
@@ -279,6 +395,21 @@ const NO_RUNS: &[Refused] = &[
         &[Ask(1, 1), Deliver(Requests(1, 2)), Deliver(Requests(1, 2))],
         RunError::Refused {
             place: 3,
+            cause: StepError::NotUnderWay,
+        },
+    ),
+    // A message can't be repeated where it and its copy are lost.
+    Refused(
+        2,
+        &[
+            Ask(1, 1),
+            Repeat(Requests(1, 2)),
+            Lose(Requests(1, 2)),
+            Lose(Requests(1, 2)),
+            Repeat(Requests(1, 2)),
+        ],
+        RunError::Refused {
+            place: 5,
             cause: StepError::NotUnderWay,
         },
     ),

@@ -3,11 +3,11 @@ ghost use Rattle.ra_stamp.specs.NodeId.{IsNodeNumber};
 
 use crate::helpers::{assert_rows, is_quiet_after, prints, r};
 use Act::{
-    Accepts, Ask, AskIn, Deliver, HasSteps, IsQuiet, Leave, LeavesWith, Lock, Lose, Refuses,
-    Rejects, Reports, UnderWay,
+    Accepts, Ask, AskIn, Deliver, HasRepeats, HasSteps, IsQuiet, Leave, LeavesWith, Lock, Lose,
+    Makes, MakesNear, MakesNothing, Refuses, Rejects, Repeat, Reports, UnderWay,
 };
 use Wire::{Replies, Requests};
-use Wish::{Asks, Delivers, Leaves, Loses};
+use Wish::{Asks, Delivers, Leaves, Loses, Repeats};
 use ra_stamp::{Mark, Memory, Message, Mode, Name, NodeId};
 use ra_world::{Report, Step, StepError, World, report_text};
 use std::alloc::Global;
@@ -31,6 +31,7 @@ pub enum Wish {
     Leaves,
     Delivers(Wire),
     Loses(Wire),
+    Repeats(Wire),
 }
 
 /// What happens in a world, or what it shows.
@@ -46,10 +47,18 @@ pub enum Act {
     Deliver(u32),
     /// The message that was sent first of those under way is lost.
     Lose,
+    /// The message that was sent first of those under way is repeated.
+    Repeat,
     /// So many times client 1 of node 1 asks for the name `r`, so many messages are delivered, and it leaves.
     Lock(u32, u32),
     /// Client 1 leaves the name `r` at node 1, with this one message and one mark, which is printed so.
     LeavesWith(Wire, &'static str),
+    /// It accepts and makes this step.
+    Makes(Wish),
+    /// It makes this step, whose message is looked for at this place first.
+    MakesNear(Wish, u64),
+    /// It accepts and makes this step, by which nothing is sent or marked.
+    MakesNothing(Wish),
     /// It neither accepts nor makes this step, for this cause.
     Refuses(Wish, StepError),
     /// It accepts this step.
@@ -62,6 +71,8 @@ pub enum Act {
     UnderWay(&'static [Wire]),
     /// Its report has this text.
     Reports(&'static str),
+    /// It reports so many repeats.
+    HasRepeats(u128),
     /// It reports so many marks, requests and messages, and no other total.
     IsQuiet(u64, u128, u128),
 }
@@ -141,6 +152,14 @@ fn lose(message: Option<Message>) -> Option<Step> {
     }
 }
 
+/// Returns the step by which a message is repeated, or `None` where there is none.
+fn repeat(message: Option<Message>) -> Option<Step> {
+    match message {
+        Some(message) => Some(Step::Repeat(message)),
+        None => None,
+    }
+}
+
 /// Returns the step, or `None` where a number is that of no node.
 pub fn step(wish: Wish) -> Option<Step> {
     match wish {
@@ -148,6 +167,7 @@ pub fn step(wish: Wish) -> Option<Step> {
         Leaves => leave(1, 1, b'r'),
         Delivers(wire) => deliver(message(wire)),
         Loses(wire) => lose(message(wire)),
+        Repeats(wire) => repeat(message(wire)),
     }
 }
 
@@ -156,6 +176,38 @@ fn makes(alloc: Global, world: &mut World, step: Option<Step>) -> bool {
     match step {
         Some(step) => world.step(alloc, &step).is_ok(),
         None => false,
+    }
+}
+
+/// Returns whether there is a step, and a world accepts and makes it.
+fn accepts_and_makes(alloc: Global, world: &mut World, step: Option<Step>) -> bool {
+    match step {
+        Some(step) => world.accepts(&step) && world.step(alloc, &step).is_ok(),
+        None => false,
+    }
+}
+
+/// Returns whether there is a step, and a world makes it, with its message looked for at this place first.
+fn makes_near(alloc: Global, world: &mut World, step: Option<Step>, near: u64) -> bool {
+    match step {
+        Some(step) => world.step_near(alloc, &step, near).is_ok(),
+        None => false,
+    }
+}
+
+/// Returns whether there is a step, and a world accepts it and makes it with no message and no mark.
+fn makes_nothing(alloc: Global, world: &mut World, step: Option<Step>) -> bool {
+    match step {
+        Some(step) => world.accepts(&step) && sends_nothing(alloc, world, &step),
+        None => false,
+    }
+}
+
+/// Returns whether a world makes a step with no message and no mark.
+fn sends_nothing(alloc: Global, world: &mut World, step: &Step) -> bool {
+    match world.step(alloc, step) {
+        Ok(outcome) => outcome.sends.as_slice().is_empty() && outcome.marks.as_slice().is_empty(),
+        Err(_) => false,
     }
 }
 
@@ -190,6 +242,12 @@ fn delivers(alloc: Global, world: &mut World, times: u32) -> bool {
 fn loses(alloc: Global, world: &mut World) -> bool {
     let first = world.message_at(0);
     makes(alloc, world, lose(first))
+}
+
+/// Repeats the message that was sent first of those under way. Returns whether there is one.
+fn repeats(alloc: Global, world: &mut World) -> bool {
+    let first = world.message_at(0);
+    makes(alloc, world, repeat(first))
 }
 
 /// Client 1 of node 1 asks for the name `r`, so many messages are delivered, and it leaves. Returns whether all of this happens.
@@ -276,6 +334,14 @@ fn reports(alloc: Global, world: &World, text: &str) -> bool {
     }
 }
 
+/// Returns whether a world reports so many repeats.
+fn has_repeats(alloc: Global, world: &World, repeats: u128) -> bool {
+    match world.report(alloc) {
+        Ok(report) => report.repeated == repeats,
+        Err(_) => false,
+    }
+}
+
 /// Returns whether a report has so many marks, requests and messages, and no other total.
 fn is_quiet(report: &Report, marks: u64, requests: u128, sent: u128) -> bool {
     report.marks.len() == marks && is_quiet_after(report, requests, sent)
@@ -297,6 +363,7 @@ fn shows(alloc: Global, world: &World, act: Act) -> bool {
         HasSteps(count) => world.steps() == count,
         UnderWay(wires) => are_under_way(world, wires),
         Reports(text) => reports(alloc, world, text),
+        HasRepeats(count) => has_repeats(alloc, world, count),
         IsQuiet(marks, requests, sent) => reports_quiet(alloc, world, marks, requests, sent),
         _ => false,
     }
@@ -310,8 +377,12 @@ fn does(alloc: Global, world: &mut World, act: Act) -> bool {
         Leave(number, client, letter) => makes(alloc, world, leave(number, client, letter)),
         Deliver(times) => delivers(alloc, world, times),
         Lose => loses(alloc, world),
+        Repeat => repeats(alloc, world),
         Lock(times, deliveries) => locks_often(alloc, world, times, deliveries),
         LeavesWith(wire, mark) => leaves_with(alloc, world, wire, mark),
+        Makes(wish) => accepts_and_makes(alloc, world, step(wish)),
+        MakesNear(wish, near) => makes_near(alloc, world, step(wish), near),
+        MakesNothing(wish) => makes_nothing(alloc, world, step(wish)),
         Refuses(wish, cause) => refuses(alloc, world, step(wish), cause),
         _ => shows(alloc, world, act),
     }

@@ -35,10 +35,13 @@ enum Act {
     Leave(u16),
     /// The message that was sent first of those under way is lost.
     Lose,
+    /// The message that was sent first of those under way is repeated.
+    Repeat,
 }
 
-/// Node 1 enters first, then node 2, and then the REQUEST of node 1 is lost.
-const ACTS: [Act; 10] = [
+/// Node 1 enters first, then node 2, and then the REQUEST of node 1 is repeated and lost. Its copy is repeated so often that there
+/// is no room left for one more.
+const ACTS: [Act; 18] = [
     Act::Ask(1),
     Act::Ask(2),
     Act::Deliver,
@@ -48,7 +51,15 @@ const ACTS: [Act; 10] = [
     Act::Deliver,
     Act::Leave(2),
     Act::Ask(1),
+    Act::Repeat,
     Act::Lose,
+    Act::Repeat,
+    Act::Repeat,
+    Act::Repeat,
+    Act::Repeat,
+    Act::Repeat,
+    Act::Repeat,
+    Act::Repeat,
 ];
 
 /// Returns the step that an act is in a world.
@@ -67,6 +78,7 @@ fn step_of(world: &World, act: Act) -> Option<Step> {
         }),
         Act::Deliver => world.message_at(0).map(Step::Deliver),
         Act::Lose => world.message_at(0).map(Step::Lose),
+        Act::Repeat => world.message_at(0).map(Step::Repeat),
     }
 }
 
@@ -98,6 +110,8 @@ fn is_report(report: &Report) -> bool {
         && report.sent == 5
         && report.requests == 3
         && report.lost == 1
+        && report.repeated == 8
+        && report.under_way == 8
         && report.waiting == 1
 }
 

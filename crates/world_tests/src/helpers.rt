@@ -33,12 +33,13 @@ pub fn assert_rows(rt: &impl Abort, so: usize, rows: usize) {
     assert!(rt; so == rows, "row {so}, counted from 0");
 }
 
-/// Returns whether so many requests and messages were made, and nothing is under way or lost, waits or is queued.
+/// Returns whether so many requests and messages were made, and nothing is under way, was lost or repeated, waits or is queued.
 pub fn is_quiet_after(report: &Report, requests: u128, sent: u128) -> bool {
     report.requests == requests
         && report.sent == sent
         && report.under_way == 0
         && report.lost == 0
+        && report.repeated == 0
         && report.waiting == 0
         && report.queued == 0
 }

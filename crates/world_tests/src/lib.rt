@@ -10,6 +10,8 @@ mod growth;
 #[cfg(test)]
 mod helpers;
 #[cfg(test)]
+mod many_repeats;
+#[cfg(test)]
 mod messages;
 #[cfg(test)]
 mod modes;
@@ -19,6 +21,8 @@ mod numbers;
 mod plans;
 #[cfg(test)]
 mod printing;
+#[cfg(test)]
+mod repeats;
 #[cfg(test)]
 mod runs;
 #[cfg(test)]

@@ -14,6 +14,9 @@ returns-clause-plan g c = done.plan c.args.script.now IsOfThreads c.run_in_order
 pub returns-clause-ended : goal.returns-clause-ended
 returns-clause-ended g c = done.ended c.args.script.now IsOfThreads c.run_in_order.result c.run_in_order.ensures
 
+pub returns-clause-unrepeated : goal.returns-clause-unrepeated
+returns-clause-unrepeated g c = done.unrepeated c.args.script.now IsOfThreads c.run_in_order.result c.run_in_order.ensures
+
 pub returns-clause-none_waits : goal.returns-clause-none_waits
 returns-clause-none_waits g c = done.none_waits c.args.script.now IsOfThreads c.run_in_order.result c.run_in_order.ensures
 

@@ -3,7 +3,7 @@ use Rattle.std.proofs.lemmas.Result.{err_from_is_err_and}
 use Rattle.ra_trace.specs.declared.line.Line.TheVariants.{First}
 use Rattle.ra_trace.specs.declared.version.Version.TheVariants.{Two}
 use Rattle.ra_trace.specs.TraceText.{IsTrace, line_text}
-use Rattle.ra_trace.proofs.Traced.{traced_none, traced_all}
+use Rattle.ra_trace.proofs.Traced.{traced_none, repeats_are_numbered, traced_all}
 use Rattle.ra_trace.proofs.writing.trace_run.Goals as goal
 
 pub returns-in_err-trace_steps : goal.returns-in_err-trace_steps
@@ -26,6 +26,8 @@ returns c empty opened =
     c.in_ok-push_first_line.ensures ∙ ap (λ (front : List ℕ). front ++ line_text (First Two n start)) empty in
     let traced = c.in_ok-trace_steps.ensures.traced n start (traced_none n start c.args.world.now (string_bytes c.push_first_line.new.text) opened first) in
     let longer : string_bytes c.push_str.new.self ≡ text ++ codes "end\n" = search rules in
+    let repeated = repeats_are_numbered c.fronts_of_runs_are_runs.ensures.moves c.messages_under_way_are_between_nodes.ensures.numbered n start traced.number
+    world.moves traced.run in
     let trace = traced_all n start c.args.steps.now.items world text traced (omega arith) (law.marks n start world.moves traced.number traced.run)
-    (law.taken n start world.moves traced.number traced.run) in
+    (law.taken n start world.moves traced.number traced.run) repeated in
     (world.moves, traced.made, subst (IsTrace n start world.moves) (sym longer) trace)

@@ -10,13 +10,19 @@ pub returns-clause-event : goal.returns-clause-event
 returns-clause-event c =
     let under = c.messages_under_way_are_between_nodes.ensures in
     let on = c.runs_go_on_by_events.ensures in
-    kept.after_event under.go_on on.event on.loss
+    kept.after_event under.go_on on.event on.loss on.copy
 
 pub returns-clause-loss : goal.returns-clause-loss
 returns-clause-loss c =
     let under = c.messages_under_way_are_between_nodes.ensures in
     let on = c.runs_go_on_by_events.ensures in
-    kept.after_loss under.go_on on.event on.loss
+    kept.after_loss under.go_on on.event on.loss on.copy
+
+pub returns-clause-copy : goal.returns-clause-copy
+returns-clause-copy c =
+    let under = c.messages_under_way_are_between_nodes.ensures in
+    let on = c.runs_go_on_by_events.ensures in
+    kept.after_copy under.go_on on.event on.loss on.copy
 
 pub returns-clause-is_taken : goal.returns-clause-is_taken
 returns-clause-is_taken c = kept.is_taken c.events_leave_other_names.ensures.node c.messages_under_way_are_between_nodes.ensures.between_nodes
@@ -26,9 +32,7 @@ returns-clause-counts c = kept.counts c.events_leave_other_names.ensures.node
 
 pub returns-clause-met : goal.returns-clause-met
 returns-clause-met c =
-    name_is_met c.messages_under_way_are_between_nodes.ensures.between_nodes
-    (λ n start moves count run message. (c.runs_go_on_where_steps_are_allowed.ensures.deliver n start moves count run message).1)
-    c.no_delivered_reply_is_a_stray.ensures
+    name_is_met c.messages_under_way_are_between_nodes.ensures.between_nodes c.messages_under_way_are_between_nodes.ensures.asked_for c.events_leave_other_names.ensures.node
 
 pub returns-clause-queued : goal.returns-clause-queued
 returns-clause-queued c = few_queued
@@ -36,5 +40,5 @@ returns-clause-queued c = few_queued
 pub returns-clause-at_all : goal.returns-clause-at_all
 returns-clause-at_all c = at_all
 
-pub returns-clause-taken_at : goal.returns-clause-taken_at
-returns-clause-taken_at c = kept.taken_at c.messages_of_runs_are_different.ensures
+pub returns-clause-taken : goal.returns-clause-taken
+returns-clause-taken c = kept.taken_first c.messages_of_runs_are_different.ensures

@@ -1,4 +1,4 @@
-use Rattle.ra_world.proofs.GoingOn.{event_goes_on, loss_goes_on}
+use Rattle.ra_world.proofs.GoingOn.{event_goes_on, loss_goes_on, copy_goes_on}
 use Rattle.ra_world.proofs.laws.runs_go_on_by_events.Goals as goal
 
 pub returns : goal.returns
@@ -6,4 +6,5 @@ returns c =
     record {
       event = λ n start moves nodes i event move new count run ends low high. event_goes_on c.events_go_on.ensures.joins n start moves nodes i event move new run ends;
       loss = loss_goes_on;
+      copy = copy_goes_on;
     }

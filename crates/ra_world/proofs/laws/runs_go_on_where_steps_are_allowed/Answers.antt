@@ -1,5 +1,5 @@
 use Rattle.ra_world.proofs.Runs.{nothing_happened}
-use Rattle.ra_world.proofs.GoingOn.{ask_goes_on, leave_goes_on, deliver_goes_on, lose_goes_on}
+use Rattle.ra_world.proofs.GoingOn.{ask_goes_on, leave_goes_on, deliver_goes_on, lose_goes_on, repeat_goes_on}
 use Rattle.ra_world.proofs.laws.runs_go_on_where_steps_are_allowed.Goals as goal
 
 pub returns : goal.returns
@@ -11,4 +11,5 @@ returns c =
       leave = λ n start moves. leave_goes_on laws n start moves;
       deliver = λ n start moves count run. deliver_goes_on laws n start moves run.ends.0 count run run.ends.1;
       lose = λ n start moves count run. lose_goes_on laws n start moves run.ends.0 count run run.ends.1;
+      repeat = λ n start moves count run. repeat_goes_on laws n start moves run.ends.0 count run run.ends.1;
     }

@@ -1,6 +1,6 @@
 use Rattle.std.proofs.Common.{◌≢◌, Err, refl, sym, ap, ◌∙◌}
 use Rattle.ra_world.specs.declared.error.StepError.TheVariants.{NoNode, NotUnderWay, Node, Memory}
-use Rattle.ra_trace.proofs.Taking.{step_not_allowed, step_is_taken, step_comes_early, step_is_refused, step_is_not_under_way, step_may_come, no_node_is_of_client, node_is_of_client, not_under_way_takes}
+use Rattle.ra_trace.proofs.Taking.{step_not_allowed, step_is_taken, step_comes_early, step_is_refused, step_is_not_under_way, step_may_come, no_node_is_of_client, node_is_of_client, not_under_way_is_of_message}
 use Rattle.ra_trace.proofs.checker.Checker.take_step.Goals as goal
 
 pub returns-then-not-allows_step : goal.returns-then-not-allows_step
@@ -24,7 +24,7 @@ returns-in-Err-NotUnderWay c =
     let because = (arm.ensures.refused NotUnderWay not_memory).0 (ap Err arm.field-0-is) in
     step_is_not_under_way c.args.self.now c.args.step.now (sym c.allows_step.ensures ∙ c.if-not-allows_step.false)
     (c.has_due.ensures.none c.if-has_due.false)
-    (not_under_way_takes w.count w.start w.moves c.args.step.now because)
+    (not_under_way_is_of_message w.count w.start w.moves c.args.step.now because)
     (λ goes. not_memory (sym arm.field-0-is ∙ arm.ensures.allowed.1 goes))
 
 pub returns-in-Err-NoNode : goal.returns-in-Err-NoNode

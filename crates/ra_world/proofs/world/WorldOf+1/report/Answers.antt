@@ -25,13 +25,14 @@ returns-clause-ok c =
       requests = c.requests.result;
       under_way = c.from.result;
       lost = c.from-2.result;
+      repeated = c.from-3.result;
       waiting = c.waiting_at.result;
       queued = c.queued_at.result;
     } in
     subst (λ (s : WorldState). Reports s.count s.start s.moves report) c.self.view_is
     (reported w.start w.nodes.items w.under_way.items w.log.moves report c.self.invariant c.kept_runs_go_on.ensures.at_all
     (c.in_ok-marks.ensures ∙ c.marks.ensures refl) c.sent.ensures c.requests.ensures
-    (c.from.ensures ∙ c.len.ensures) (c.from-2.ensures ∙ c.lost.ensures)
+    (c.from.ensures ∙ c.len.ensures) (c.from-2.ensures ∙ c.lost.ensures) (c.from-3.ensures ∙ c.repeated.ensures)
     (c.waiting_at.ensures ∙ ap (sum_by waiting_count) c.deref.ensures.value)
     (c.queued_at.ensures ∙ ap (sum_by queued_count) c.deref-2.ensures.value))
 

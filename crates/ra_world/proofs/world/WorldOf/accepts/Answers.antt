@@ -2,7 +2,7 @@ use Rattle.std.proofs.Common.{◌≡◌, ◌↔◌, ◌⊎◌, Contains, length,
 use Rattle.std.specs.Prelude.{IsTrue}
 use Rattle.ra_stamp.specs.declared.message.Message.{Message}
 use Rattle.ra_world.specs.declared.step.Step.{Step}
-use Rattle.ra_world.specs.declared.step.Step.TheVariants.{Deliver, Lose}
+use Rattle.ra_world.specs.declared.step.Step.TheVariants.{Deliver, Lose, Repeat}
 use Rattle.ra_world.specs.Run.{GoesOn}
 use Rattle.ra_world.specs.World.{WorldState}
 use Rattle.ra_world.proofs.Worlds.{accepted_message}
@@ -18,12 +18,13 @@ returns-in-Deliver-clause-value g c =
     let w = c.self.inside in
     let k = c.self.invariant in
     let laws = c.runs_go_on_where_steps_are_allowed.ensures in
-    let some : (m : Message) × ((c.args.step.now ≡ Deliver m) ⊎ (c.args.step.now ≡ Lose m)) × (IsTrue c.contains.result ↔ Contains w.under_way.items m) =
+    let some : (m : Message) × ((c.args.step.now ≡ Deliver m) ⊎ ((c.args.step.now ≡ Lose m) ⊎ (c.args.step.now ≡ Repeat m))) × (IsTrue c.contains.result ↔ Contains w.under_way.items m) =
     search rules in
     let m = some.0 in
     subst (λ (s : WorldState). IsTrue c.contains.result ↔ GoesOn s.count s.start s.moves c.args.step.now) c.self.view_is
     (accepted_message (length w.nodes.items) w.start w.log.moves w.under_way.items c.args.step.now m c.contains.result
     (laws.deliver (length w.nodes.items) w.start w.log.moves k.count k.run m)
     (laws.lose (length w.nodes.items) w.start w.log.moves k.count k.run m)
+    (laws.repeat (length w.nodes.items) w.start w.log.moves k.count k.run m)
     (c.kept_runs_go_on.ensures.under_way w.start w.nodes.items w.under_way.items w.log.moves m k)
     some.2 some.1)

@@ -12,7 +12,7 @@ use Rattle.ra_node.specs.Memory.{BringsNothing}
 use Rattle.ra_world.specs.declared.step.Step.TheVariants.{Deliver}
 use Rattle.ra_world.specs.declared.error.StepError.TheVariants.{NotUnderWay, Memory}
 use Rattle.ra_world.specs.Keeping.{nodes_of}
-use Rattle.ra_world.proofs.Trying.{shown, with_cause, short, same_nodes, at_node, node_here, took_one, room_here, kept_by, here, run_of}
+use Rattle.ra_world.proofs.Trying.{shown, with_cause, short, same_nodes, at_node, node_here, took_first, room_here, kept_by, here, run_of}
 use Rattle.ra_world.proofs.world.WorldOf.deliver.Goals as goal
 
 pub returns-in_default-clause-tried : goal.returns-in_default-clause-tried
@@ -99,15 +99,15 @@ invariant_of-self-2 g c =
     let number : place + 1 ≡ to_of message = c.in-Some-place_of.ensures.some.0 ∙ c.to.ensures in
     let within : place < length w.nodes.items = search rules in
     let at : old ≡ get_or w.nodes.items place old = search rules in
-    let takes : TakesFirst w.under_way.items message c.take_from.new.self.items =
-    took_one c.make_room_for.new.under_way.items w.under_way.items c.take_from.new.self.items message (c.make_room_for.ensures.messages ∙ ap (λ (b : Listed Message). b.items) c.in-Some.ensures.same)
-    c.take_from.ensures.taken
-    (λ place. c.kept_runs_go_on.ensures.taken_at w.start w.nodes.items w.under_way.items w.log.moves message place c.self.invariant) in
-    kept_by c.kept_runs_go_on.ensures.event w.start w.nodes.items w.under_way.items c.take_from.new.self.items c.keep.new.under_way.items w.log.moves c.make_room_for.new.log.moves c.keep.new.log.moves
+    let takes : TakesFirst w.under_way.items message c.take.new.under_way.items =
+    took_first c.make_room_for.new.under_way.items w.under_way.items c.take.new.under_way.items message w.log.moves c.make_room_for.new.log.moves (c.make_room_for.ensures.messages ∙ ap (λ (b : Listed Message). b.items) c.in-Some.ensures.same) c.make_room_for.ensures.moves
+    c.take.ensures.taken
+    (c.kept_runs_go_on.ensures.taken w.start w.nodes.items w.under_way.items c.take.new.under_way.items w.log.moves message c.self.invariant) in
+    kept_by c.kept_runs_go_on.ensures.event w.start w.nodes.items w.under_way.items c.take.new.under_way.items c.keep.new.under_way.items w.log.moves c.make_room_for.new.log.moves c.keep.new.log.moves
     (record { step = Deliver message; sends = outcome.sends.items; marks = outcome.marks.items })
     place (to_of message) (Received message) old c.receive.new.self c.self.invariant number within at
     (under.1 there) (here (to_of message) (Received message))
-    c.in-Ok.ensures.ok (c.take_from.new.self.items, takes, refl)
+    c.in-Ok.ensures.ok (c.take.new.under_way.items, takes, refl)
     c.keep.ensures.messages c.make_room_for.ensures.moves c.keep.ensures.moves
 
 pub returns-clause-run : goal.returns-clause-run
@@ -126,4 +126,4 @@ keep-requires g c =
     let at : old ≡ get_or w.nodes.items place old = search rules in
     let fits = room_here c.make_room_for.new.under_way.spare c.make_room_for.new.log c.args.message.now w.nodes.items place first old c.receive.new.self outcome.sends.items outcome.marks.items
     c.in_ok-make_room_for.ensures.room within at_first at c.in-Ok.ensures.ok in
-    (omega arith, (omega (arith, fits.0, c.take_from.ensures.spare), fits.1))
+    (omega arith, (omega (arith, fits.0, c.take.ensures.spare), fits.1))

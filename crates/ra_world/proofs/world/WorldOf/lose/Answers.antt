@@ -7,7 +7,7 @@ use Rattle.ra_world.specs.declared.step.Step.TheVariants.{Lose}
 use Rattle.ra_world.specs.declared.error.StepError.TheVariants.{NotUnderWay}
 use Rattle.ra_world.specs.Traffic.{Move}
 use Rattle.ra_world.specs.Keeping.{Keeps}
-use Rattle.ra_world.proofs.Trying.{shown, with_cause, short, took_one, one_more}
+use Rattle.ra_world.proofs.Trying.{shown, with_cause, short, took_first, one_more}
 use Rattle.ra_world.proofs.world.WorldOf.lose.Goals as goal
 
 pub returns-in_default-clause-tried : goal.returns-in_default-clause-tried
@@ -32,18 +32,18 @@ returns-in_err-make_room-clause-tried g c =
 pub invariant_of-self-2 : goal.invariant_of-self-2
 invariant_of-self-2 g c =
     let w = c.self.inside in
-    let takes : TakesFirst w.under_way.items c.args.message.now c.take_from.new.self.items =
-    took_one c.make_room.new.under_way.items w.under_way.items c.take_from.new.self.items c.args.message.now (c.make_room.ensures.messages ∙ ap (λ (b : Listed Message). b.items) c.in-Some.ensures.same)
-    c.take_from.ensures.taken
-    (λ place. c.kept_runs_go_on.ensures.taken_at w.start w.nodes.items w.under_way.items w.log.moves c.args.message.now place c.self.invariant) in
-    let left : c.keep.new.under_way.items ≡ c.take_from.new.self.items =
-    c.keep.ensures.messages ∙ ap (λ (ms : List Message). c.take_from.new.self.items ++ ms) c.nothing-outcome.ensures.0 ∙ append-nil c.take_from.new.self.items in
+    let takes : TakesFirst w.under_way.items c.args.message.now c.take.new.under_way.items =
+    took_first c.make_room.new.under_way.items w.under_way.items c.take.new.under_way.items c.args.message.now w.log.moves c.make_room.new.log.moves (c.make_room.ensures.messages ∙ ap (λ (b : Listed Message). b.items) c.in-Some.ensures.same) c.make_room.ensures.moves
+    c.take.ensures.taken
+    (c.kept_runs_go_on.ensures.taken w.start w.nodes.items w.under_way.items c.take.new.under_way.items w.log.moves c.args.message.now c.self.invariant) in
+    let left : c.keep.new.under_way.items ≡ c.take.new.under_way.items =
+    c.keep.ensures.messages ∙ ap (λ (ms : List Message). c.take.new.under_way.items ++ ms) c.nothing-outcome.ensures.0 ∙ append-nil c.take.new.under_way.items in
     let moves : c.keep.new.log.moves ≡ w.log.moves ++ record { step = Lose c.args.message.now; sends = []; marks = [] } ∷ [] =
     one_more w.log.moves c.make_room.new.log.moves c.keep.new.log.moves (Lose c.args.message.now) c.nothing-outcome.result.sends.items [] c.nothing-outcome.result.marks.items []
     c.keep.ensures.moves c.make_room.ensures.moves c.nothing-outcome.ensures.0 c.nothing-outcome.ensures.1 in
     subst (λ (ms : List Message). Keeps w.start w.nodes.items ms c.keep.new.log.moves) (sym left)
-    (subst (λ (ms : List Move). Keeps w.start w.nodes.items c.take_from.new.self.items ms) (sym moves)
-    (c.kept_runs_go_on.ensures.loss w.start w.nodes.items w.under_way.items c.take_from.new.self.items w.log.moves c.args.message.now c.self.invariant takes))
+    (subst (λ (ms : List Move). Keeps w.start w.nodes.items c.take.new.under_way.items ms) (sym moves)
+    (c.kept_runs_go_on.ensures.loss w.start w.nodes.items w.under_way.items c.take.new.under_way.items w.log.moves c.args.message.now c.self.invariant takes))
 
 pub returns-clause-run : goal.returns-clause-run
 returns-clause-run g c = (invariant_of-self-2 g c).run

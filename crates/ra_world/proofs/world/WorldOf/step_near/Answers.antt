@@ -31,3 +31,10 @@ returns-in-Lose g c =
     answers c.steps_have_one_cause.ensures.no_step c.steps_have_one_cause.ensures.one c.args.self.now c.lose.new.self c.args.step.now
     (kept_run w.start w.nodes.items w.under_way.items w.log.moves c.args.self.now c.self.invariant c.self.view_is) c.lose.ensures.run
     c.lose.result (subst (λ (s : Step). Tries c.args.self.now s c.lose.result c.lose.new.self) (sym c.in-Lose.is) c.lose.ensures.tried) c.lose.ensures.count
+
+pub returns-in-Repeat : goal.returns-in-Repeat
+returns-in-Repeat g c =
+    let w = c.self.inside in
+    answers c.steps_have_one_cause.ensures.no_step c.steps_have_one_cause.ensures.one c.args.self.now c.repeat.new.self c.args.step.now
+    (kept_run w.start w.nodes.items w.under_way.items w.log.moves c.args.self.now c.self.invariant c.self.view_is) c.repeat.ensures.run
+    c.repeat.result (subst (λ (s : Step). Tries c.args.self.now s c.repeat.result c.repeat.new.self) (sym c.in-Repeat.is) c.repeat.ensures.tried) c.repeat.ensures.count
