@@ -20,6 +20,8 @@ mod helpers;
 #[cfg(test)]
 mod mark_logs;
 #[cfg(test)]
+mod notes;
+#[cfg(test)]
 mod refused_frames;
 #[cfg(test)]
 mod refused_scripts;

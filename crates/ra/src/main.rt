@@ -1,7 +1,7 @@
 //! The program `ra`.
 #![tactic(auto)]
 
-use ra_cli::{CommandFault, refuse_words, serve};
+use ra_cli::{CommandFault, refuse_words_with_note, serve_with_notes};
 use std::io::BufReader;
 use std::process::ExitCode;
 use std::{env, io};
@@ -22,15 +22,28 @@ fn words(rt: &HostRuntime) -> Result<Vec<String>, CommandFault> {
 fn main(rt: HostRuntime) -> ExitCode {
     let alloc = rt.alloc();
     let mut writer = io::writer(&rt);
+    let mut notes = rt.stderr();
     let words = match words(&rt) {
         Ok(words) => words,
-        Err(fault) => return ExitCode::from(refuse_words(&mut writer, fault)),
+        Err(fault) => {
+            return ExitCode::from(refuse_words_with_note(&mut writer, fault, &mut notes));
+        }
     };
     // It is read in small pieces, which would else be a call of the system each.
     let mut reader = match BufReader::new(alloc, rt.reader()) {
         Ok(reader) => reader,
-        Err(_) => return ExitCode::from(refuse_words(&mut writer, CommandFault::Memory)),
+        Err(_) => {
+            let status = refuse_words_with_note(&mut writer, CommandFault::Memory, &mut notes);
+            return ExitCode::from(status);
+        }
     };
-    let status = serve(&rt, alloc, words.as_slice(), &mut reader, &mut writer);
+    let status = serve_with_notes(
+        &rt,
+        alloc,
+        words.as_slice(),
+        &mut reader,
+        &mut writer,
+        &mut notes,
+    );
     ExitCode::from(status)
 }

@@ -288,7 +288,7 @@ fn with_command<'a>(
 }
 
 /// Makes the command line that `ra` understands. The commands are listed in this order.
-fn command<'a>(alloc: Global) -> Result<Command<'a>, AllocError> {
+pub fn command<'a>(alloc: Global) -> Result<Command<'a>, AllocError> {
     let ra = with_command(program(alloc), answer_command(alloc))?;
     let ra = with_command(ra, sim_command(alloc))?;
     let ra = with_command(ra, Ok(cluster_command(alloc)))?;
@@ -304,7 +304,7 @@ fn text_in<'a>(word: &'a str, option: &str) -> Option<&'a str>
 }
 
 /// Returns the text that the words give an option, or `None`. The first word is the program's name. It does not allocate.
-fn text_of<'a>(words: &'a [String], option: &str) -> Option<&'a str>
+pub fn text_of<'a>(words: &'a [String], option: &str) -> Option<&'a str>
     ensures { IfSome result (λ text. GivesText (map string_bytes words.now) option.now text.now) }
 {
     for place in 1..words.len() {

@@ -14,6 +14,8 @@ ghost use Rattle.ra_cli.specs.Refusals.{IsOfReader, IsOfWriter, refused_line, wo
 use crate::command_line::{PolicyName, Task, parse};
 use crate::error::RunScriptError;
 use crate::marks_verdict::marks_verdict_text;
+use crate::notes::{write_note, write_words_note};
+use crate::outcome::{Outcome, Remark, marks_remark_of, remark_of};
 use crate::refusal::{Refusal, line_of};
 use crate::running::run_script;
 use crate::verdict::verdict_text;
@@ -78,25 +80,25 @@ fn is_of_the_reader(refusal: Refusal) -> bool
     )
 }
 
-/// Prints the line of a refusal and returns its status: 1 where the reader or the writer failed, and else 2. After a fault of the
-/// writer it prints nothing. It does not allocate.
-fn refuse<W: Write>(writer: &mut W, refusal: Refusal) -> u8
-    ensures range { result ≤ 2 }
-    ensures not_done { 1 ≤ result }
-    ensures unwritten { IsOfWriter refusal → (result ≡ 1) × (writer.new ≡ writer.old) }
-    ensures refused { result ≡ 2 → (IsOfReader refusal → ⊥) × (IsOfWriter refusal → ⊥)
+/// Prints the line of a refusal and returns what came of it, with status 1 where the reader or the writer failed, and else 2. After a
+/// fault of the writer it prints nothing. It does not allocate.
+fn refuse<W: Write>(writer: &mut W, refusal: Refusal) -> Outcome
+    ensures range { result.status ≤ 2 }
+    ensures not_done { 1 ≤ result.status }
+    ensures unwritten { IsOfWriter refusal → (result.status ≡ 1) × (writer.new ≡ writer.old) }
+    ensures refused { result.status ≡ 2 → (IsOfReader refusal → ⊥) × (IsOfWriter refusal → ⊥)
         × Appends (W.contents writer.old) (W.contents writer.new) (refused_line (word_of refusal)) }
-    ensures broken { result ≡ 1 → IsOfWriter refusal
+    ensures broken { result.status ≡ 1 → IsOfWriter refusal
         ⊎ ((IsOfWriter refusal → ⊥) × IsSaid refusal (W.contents writer.old) (W.contents writer.new)) }
 {
     if is_of_the_writer(refusal) {
-        return BROKEN;
+        return Outcome::refused(BROKEN, refusal);
     }
     let line = line_of(refusal).as_bytes();
     if is_of_the_reader(refusal) {
-        written(writer, line, BROKEN)
+        Outcome::refused(written(writer, line, BROKEN), refusal)
     } else {
-        written(writer, line, REFUSED)
+        Outcome::refused(written(writer, line, REFUSED), refusal)
     }
 }
 
@@ -111,6 +113,21 @@ pub fn refuse_words<W: Write>(writer: &mut W, fault: CommandFault) -> u8
         Ok(()) => REFUSED,
         Err(_) => BROKEN,
     }
+}
+
+/// Does as [`refuse_words`], and then writes a line for a person to `notes`. That it fails changes nothing else.
+pub fn refuse_words_with_note<W: Write, N: Write>(
+    writer: &mut W,
+    fault: CommandFault,
+    notes: &mut N,
+) -> u8
+    ensures { ((result ≡ 2) × Appends (W.contents writer.old) (W.contents writer.new) (spec.refusal_line fault))
+        ⊎ ((result ≡ 1) × (front : List ℕ) × (back : List ℕ) × (spec.refusal_line fault ≡ front ++ back) × (back ≢ [])
+        × Appends (W.contents writer.old) (W.contents writer.new) front) }
+{
+    let status = refuse_words(writer, fault);
+    write_words_note(fault, notes);
+    status
 }
 
 /// Returns the line that says why there are no words.
@@ -178,27 +195,27 @@ fn simulate<R: Read, W: Write>(
     trace: bool,
     reader: &mut R,
     writer: &mut W,
-) -> u8
-    ensures range { result ≤ 3 }
-    ensures done { result ≡ 0 → (policy : Policy) × IsNamed name choices.now policy
+) -> Outcome
+    ensures range { result.status ≤ 3 }
+    ensures done { result.status ≡ 0 → (policy : Policy) × IsNamed name choices.now policy
         × PerformsBy policy trace (R.remaining reader.old) (R.remaining reader.new)
         (W.contents writer.old) (W.contents writer.new) true }
-    ensures unfinished { result ≡ 3 → (policy : Policy) × IsNamed name choices.now policy
+    ensures unfinished { result.status ≡ 3 → (policy : Policy) × IsNamed name choices.now policy
         × PerformsBy policy trace (R.remaining reader.old) (R.remaining reader.new)
         (W.contents writer.old) (W.contents writer.new) false }
-    ensures refused { result ≡ 2 → IsRefused (W.contents writer.old) (W.contents writer.new) }
-    ensures broken { (words : List (List ℕ)) → result ≡ 1
+    ensures refused { result.status ≡ 2 → IsRefused (W.contents writer.old) (W.contents writer.new) }
+    ensures broken { (words : List (List ℕ)) → result.status ≡ 1
         → IsBroken words (R.remaining reader.old) (W.contents writer.old) (W.contents writer.new) }
     // Choices that are none are refused before anything is read.
-    ensures choices_first { choices_of choices.now ≡ None → (1 ≤ result) × (reader.new ≡ reader.old) }
+    ensures choices_first { choices_of choices.now ≡ None → (1 ≤ result.status) × (reader.new ≡ reader.old) }
 {
     let policy = match policy_of(alloc, name, choices) {
         Ok(policy) => policy,
         Err(fault) => return refuse(writer, Refusal::Choices(fault)),
     };
     match perform_as(alloc, reader, writer, &policy, trace) {
-        Ok(true) => DONE,
-        Ok(false) => UNFINISHED,
+        Ok(true) => Outcome::new(DONE, None),
+        Ok(false) => Outcome::new(UNFINISHED, Some(Remark::Unfinished)),
         Err(fault) => refuse(writer, Refusal::Perform(fault)),
     }
 }
@@ -214,14 +231,14 @@ fn status_of(verdict: &Verdict) -> u8
 }
 
 /// Checks the text of the reader, and writes the lines of its verdict.
-fn judge<R: BufRead, W: Write>(alloc: Global, reader: &mut R, writer: &mut W) -> u8
-    ensures range { result ≤ 3 }
-    ensures valid { result ≡ 0 → Checks (R.remaining reader.old) (R.remaining reader.new)
+fn judge<R: BufRead, W: Write>(alloc: Global, reader: &mut R, writer: &mut W) -> Outcome
+    ensures range { result.status ≤ 3 }
+    ensures valid { result.status ≡ 0 → Checks (R.remaining reader.old) (R.remaining reader.new)
         (W.contents writer.old) (W.contents writer.new) true }
-    ensures invalid { result ≡ 3 → Checks (R.remaining reader.old) (R.remaining reader.new)
+    ensures invalid { result.status ≡ 3 → Checks (R.remaining reader.old) (R.remaining reader.new)
         (W.contents writer.old) (W.contents writer.new) false }
-    ensures refused { result ≡ 2 → IsRefused (W.contents writer.old) (W.contents writer.new) }
-    ensures broken { (words : List (List ℕ)) → (HasMarksWord words → ⊥) → result ≡ 1
+    ensures refused { result.status ≡ 2 → IsRefused (W.contents writer.old) (W.contents writer.new) }
+    ensures broken { (words : List (List ℕ)) → (HasMarksWord words → ⊥) → result.status ≡ 1
         → IsBroken words (R.remaining reader.old) (W.contents writer.old) (W.contents writer.new) }
 {
     let verdict = match check_buffered(alloc, reader) {
@@ -229,7 +246,10 @@ fn judge<R: BufRead, W: Write>(alloc: Global, reader: &mut R, writer: &mut W) ->
         Err(fault) => return refuse(writer, Refusal::Check(fault)),
     };
     match verdict_text(alloc, &verdict) {
-        Ok(text) => written(writer, text.as_bytes(), status_of(&verdict)),
+        Ok(text) => {
+            let status = written(writer, text.as_bytes(), status_of(&verdict));
+            Outcome::new(status, remark_of(&verdict))
+        }
         Err(_) => refuse(writer, Refusal::Check(TraceError::Memory)),
     }
 }
@@ -245,14 +265,14 @@ fn marks_status_of(verdict: &MarksVerdict) -> u8
 }
 
 /// Checks the mark log of the reader, and writes the lines of its verdict.
-fn judge_marks<R: BufRead, W: Write>(alloc: Global, reader: &mut R, writer: &mut W) -> u8
-    ensures range { result ≤ 3 }
-    ensures valid { result ≡ 0 → ChecksMarks (R.remaining reader.old) (R.remaining reader.new)
+fn judge_marks<R: BufRead, W: Write>(alloc: Global, reader: &mut R, writer: &mut W) -> Outcome
+    ensures range { result.status ≤ 3 }
+    ensures valid { result.status ≡ 0 → ChecksMarks (R.remaining reader.old) (R.remaining reader.new)
         (W.contents writer.old) (W.contents writer.new) true }
-    ensures invalid { result ≡ 3 → ChecksMarks (R.remaining reader.old) (R.remaining reader.new)
+    ensures invalid { result.status ≡ 3 → ChecksMarks (R.remaining reader.old) (R.remaining reader.new)
         (W.contents writer.old) (W.contents writer.new) false }
-    ensures refused { result ≡ 2 → IsRefused (W.contents writer.old) (W.contents writer.new) }
-    ensures broken { (words : List (List ℕ)) → HasMarksWord words → result ≡ 1
+    ensures refused { result.status ≡ 2 → IsRefused (W.contents writer.old) (W.contents writer.new) }
+    ensures broken { (words : List (List ℕ)) → HasMarksWord words → result.status ≡ 1
         → IsBroken words (R.remaining reader.old) (W.contents writer.old) (W.contents writer.new) }
 {
     let verdict = match check_marks_buffered(alloc, reader) {
@@ -260,35 +280,38 @@ fn judge_marks<R: BufRead, W: Write>(alloc: Global, reader: &mut R, writer: &mut
         Err(fault) => return refuse(writer, Refusal::Check(fault)),
     };
     match marks_verdict_text(alloc, &verdict) {
-        Ok(text) => written(writer, text.as_bytes(), marks_status_of(&verdict)),
+        Ok(text) => {
+            let status = written(writer, text.as_bytes(), marks_status_of(&verdict));
+            Outcome::new(status, marks_remark_of(&verdict))
+        }
         Err(_) => refuse(writer, Refusal::Check(TraceError::Memory)),
     }
 }
 
-/// Does what the words ask for but the command `cluster`, and returns the exit status. Where they ask for that it does nothing,
+/// Does what the words ask for but the command `cluster`, and returns what came of it. Where they ask for that it does nothing,
 /// and returns `None`. It waits for nobody but the reader and the writer.
 fn serve_alone<R: BufRead, W: Write>(
     alloc: Global,
     words: &[String],
     reader: &mut R,
     writer: &mut W,
-) -> Option<u8>
-    ensures range { IfSome result (λ status. status ≤ 3) }
-    ensures done { IfSome result (λ status. status ≡ 0
+) -> Option<Outcome>
+    ensures range { IfSome result (λ outcome. outcome.status ≤ 3) }
+    ensures done { IfSome result (λ outcome. outcome.status ≡ 0
         → ((reader.new ≡ reader.old) × Any (λ word. IsHelpWord (string_bytes word)) words.now)
         ⊎ IsDone (map string_bytes words.now) (R.remaining reader.old) (R.remaining reader.new)
         (W.contents writer.old) (W.contents writer.new)) }
-    ensures unfinished { IfSome result (λ status. status ≡ 3
+    ensures unfinished { IfSome result (λ outcome. outcome.status ≡ 3
         → IsUnfinished (map string_bytes words.now) (R.remaining reader.old) (R.remaining reader.new)
         (W.contents writer.old) (W.contents writer.new)) }
-    ensures refused { IfSome result (λ status. status ≡ 2 → IsRefused (W.contents writer.old) (W.contents writer.new)) }
-    ensures broken { IfSome result (λ status. status ≡ 1
+    ensures refused { IfSome result (λ outcome. outcome.status ≡ 2 → IsRefused (W.contents writer.old) (W.contents writer.new)) }
+    ensures broken { IfSome result (λ outcome. outcome.status ≡ 1
         → IsBroken (map string_bytes words.now) (R.remaining reader.old) (W.contents writer.old) (W.contents writer.new)) }
     ensures untouched { IfNone result ((reader.new ≡ reader.old) × (writer.new ≡ writer.old)) }
 {
-    let status = match parse(alloc, words) {
+    let outcome = match parse(alloc, words) {
         Ok(Task::Answer { node, nodes }) => match answer(alloc, node, nodes, reader, writer) {
-            Ok(()) => DONE,
+            Ok(()) => Outcome::new(DONE, None),
             Err(fault) => refuse(writer, Refusal::Answer(fault)),
         },
         Ok(
@@ -301,10 +324,40 @@ fn serve_alone<R: BufRead, W: Write>(
         Ok(Task::Check) => judge(alloc, reader, writer),
         Ok(Task::CheckMarks) => judge_marks(alloc, reader, writer),
         Ok(Task::Cluster) => return None,
-        Ok(Task::Help(text)) => written(writer, text.as_bytes(), DONE),
+        Ok(Task::Help(text)) => Outcome::new(written(writer, text.as_bytes(), DONE), None),
         Err(fault) => refuse(writer, Refusal::Command(fault)),
     };
-    Some(status)
+    Some(outcome)
+}
+
+/// Does what the words ask for, and returns what came of it.
+fn outcome_of<T: Threads + Wait + Sync, R: BufRead, W: Write>(
+    rt: &T,
+    alloc: Global,
+    words: &[String],
+    reader: &mut R,
+    writer: &mut W,
+) -> Outcome
+    ensures range { result.status ≤ 3 }
+    ensures done { result.status ≡ 0
+        → ((reader.new ≡ reader.old) × Any (λ word. IsHelpWord (string_bytes word)) words.now)
+        ⊎ IsDone (map string_bytes words.now) (R.remaining reader.old) (R.remaining reader.new)
+        (W.contents writer.old) (W.contents writer.new)
+        ⊎ RunsCluster (R.remaining reader.old) (R.remaining reader.new) (W.contents writer.old) (W.contents writer.new) }
+    ensures unfinished { result.status ≡ 3
+        → IsUnfinished (map string_bytes words.now) (R.remaining reader.old) (R.remaining reader.new)
+        (W.contents writer.old) (W.contents writer.new) }
+    ensures refused { result.status ≡ 2 → IsRefused (W.contents writer.old) (W.contents writer.new) }
+    ensures broken { result.status ≡ 1
+        → IsBroken (map string_bytes words.now) (R.remaining reader.old) (W.contents writer.old) (W.contents writer.new) }
+{
+    if let Some(outcome) = serve_alone(alloc, words, reader, writer) {
+        return outcome;
+    }
+    match run_script(rt, alloc, reader, writer) {
+        Ok(()) => Outcome::new(DONE, None),
+        Err(fault) => refuse(writer, Refusal::Cluster(fault)),
+    }
 }
 
 /// Does what the words ask for, of which the first is the program's name, and returns the exit status: 0 done, 1 a fault of
@@ -337,11 +390,37 @@ pub fn serve<T: Threads + Wait + Sync, R: BufRead, W: Write>(
     ensures broken { result ≡ 1
         → IsBroken (map string_bytes words.now) (R.remaining reader.old) (W.contents writer.old) (W.contents writer.new) }
 {
-    if let Some(status) = serve_alone(alloc, words, reader, writer) {
-        return status;
+    outcome_of(rt, alloc, words, reader, writer).status
+}
+
+/// Does as [`serve`], and then writes a line for a person to `notes`, where something was refused, a text is no trace or a log is none,
+/// or a run ended with something left to do: what is wrong, and what would be right. The line begins with `ra: `. Nothing of it goes to
+/// `writer`, and it is left out where memory or `notes` fails, which changes nothing else.
+pub fn serve_with_notes<T: Threads + Wait + Sync, R: BufRead, W: Write, N: Write>(
+    rt: &T,
+    alloc: Global,
+    words: &[String],
+    reader: &mut R,
+    writer: &mut W,
+    notes: &mut N,
+) -> u8
+    // What is promised of the status, the reader and the writer is the same, whatever becomes of the note.
+    ensures range { result ≤ 3 }
+    ensures done { result ≡ 0
+        → ((reader.new ≡ reader.old) × Any (λ word. IsHelpWord (string_bytes word)) words.now)
+        ⊎ IsDone (map string_bytes words.now) (R.remaining reader.old) (R.remaining reader.new)
+        (W.contents writer.old) (W.contents writer.new)
+        ⊎ RunsCluster (R.remaining reader.old) (R.remaining reader.new) (W.contents writer.old) (W.contents writer.new) }
+    ensures unfinished { result ≡ 3
+        → IsUnfinished (map string_bytes words.now) (R.remaining reader.old) (R.remaining reader.new)
+        (W.contents writer.old) (W.contents writer.new) }
+    ensures refused { result ≡ 2 → IsRefused (W.contents writer.old) (W.contents writer.new) }
+    ensures broken { result ≡ 1
+        → IsBroken (map string_bytes words.now) (R.remaining reader.old) (W.contents writer.old) (W.contents writer.new) }
+{
+    let outcome = outcome_of(rt, alloc, words, reader, writer);
+    if let Some(remark) = &outcome.remark {
+        write_note(alloc, words, remark, notes);
     }
-    match run_script(rt, alloc, reader, writer) {
-        Ok(()) => DONE,
-        Err(fault) => refuse(writer, Refusal::Cluster(fault)),
-    }
+    outcome.status
 }

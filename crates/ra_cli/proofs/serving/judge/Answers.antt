@@ -31,8 +31,8 @@ checks limit (Some input) new before after verdict valid ok whole alone same out
 pub returns-in-Ok-verdict_text-clause-valid : goal.returns-in-Ok-verdict_text-clause-valid
 returns-in-Ok-verdict_text-clause-valid g c is =
     let before = g.W.Write.contents c.args.writer.now in
-    let after = g.W.Write.contents c.written.new.writer in
-    elim c.written.ensures.value [
+    let after = g.W.Write.contents c.written-status.new.writer in
+    elim c.written-status.ensures.value [
       | inl all ↦ elim c.status_of.ensures [
         | inl status ↦ checks 16777216 (g.R.Read.remaining c.args.reader.now) (g.R.Read.remaining c.check_buffered.new.reader) before after c.in-Ok.verdict true c.in-Ok.ensures.ok
             c.in-Ok.ensures.valid c.in-Ok.ensures.alone status.1 (subst (Appends before after) (c.as_bytes.ensures.value ∙ c.in-Ok-verdict_text.ensures) all.1)
@@ -44,8 +44,8 @@ returns-in-Ok-verdict_text-clause-valid g c is =
 pub returns-in-Ok-verdict_text-clause-invalid : goal.returns-in-Ok-verdict_text-clause-invalid
 returns-in-Ok-verdict_text-clause-invalid g c is =
     let before = g.W.Write.contents c.args.writer.now in
-    let after = g.W.Write.contents c.written.new.writer in
-    elim c.written.ensures.value [
+    let after = g.W.Write.contents c.written-status.new.writer in
+    elim c.written-status.ensures.value [
       | inl all ↦ elim c.status_of.ensures [
         | inl status ↦ absurd (omega (arith, all.0, status.0, is))
         | inr status ↦ checks 16777216 (g.R.Read.remaining c.args.reader.now) (g.R.Read.remaining c.check_buffered.new.reader) before after c.in-Ok.verdict false c.in-Ok.ensures.ok
@@ -81,7 +81,7 @@ returns-in-Err-verdict_text-clause-broken g c words trace one =
 
 pub returns-in-Ok-verdict_text-clause-refused : goal.returns-in-Ok-verdict_text-clause-refused
 returns-in-Ok-verdict_text-clause-refused g c two =
-    elim c.written.ensures.value [
+    elim c.written-status.ensures.value [
       | inl all ↦ elim c.status_of.ensures [
         | inl status ↦ absurd (omega (arith, all.0, status.0, two))
         | inr status ↦ absurd (omega (arith, all.0, status.0, two))
@@ -92,13 +92,13 @@ returns-in-Ok-verdict_text-clause-refused g c two =
 pub returns-in-Ok-verdict_text-clause-broken : goal.returns-in-Ok-verdict_text-clause-broken
 returns-in-Ok-verdict_text-clause-broken g c words trace one =
     let old = g.R.Read.remaining c.args.reader.now in
-    elim c.written.ensures.value [
+    elim c.written-status.ensures.value [
       | inl all ↦ elim c.status_of.ensures [
         | inl status ↦ absurd (omega (arith, all.0, status.0, one))
         | inr status ↦ absurd (omega (arith, all.0, status.0, one))
       ]
       | inr part ↦
           let (is_one, front, back, is, left, some) = part in
-          front_of words old (g.W.Write.contents c.args.writer.now) (g.W.Write.contents c.written.new.writer) (verdict_text c.in-Ok.verdict) front back
+          front_of words old (g.W.Write.contents c.args.writer.now) (g.W.Write.contents c.written-status.new.writer) (verdict_text c.in-Ok.verdict) front back
           (of_verdict words old c.in-Ok.verdict trace c.in-Ok.ensures.ok) (sym (c.as_bytes.ensures.value ∙ c.in-Ok-verdict_text.ensures) ∙ is) left some
     ]

@@ -34,49 +34,49 @@ returns-in-Ok-Help-clause-broken g c one =
     let words = map string_bytes c.args.words.now in
     let old = g.R.Read.remaining c.args.reader.now in
     let help = rw c.in-Ok-Help.field-0-is at c.in-Ok-Help.ensures.help in
-    elim c.written-status.ensures.value [
+    elim c.written.ensures.value [
       | inl all ↦ absurd (omega (arith, all.0, one))
       | inr part ↦
           let (is_one, front, back, is, left, some) = part in
-          front_of words old (g.W.Write.contents c.args.writer.now) (g.W.Write.contents c.written-status.new.writer) c.as_bytes.result.now front back
+          front_of words old (g.W.Write.contents c.args.writer.now) (g.W.Write.contents c.written.new.writer) c.as_bytes.result.now front back
           (of_help c.args.words.now old c.as_bytes.result.now help) is left some
     ]
 
 pub returns-in-Err-clause-refused : goal.returns-in-Err-clause-refused
 returns-in-Err-clause-refused g c two =
     let before = g.W.Write.contents c.args.writer.now in
-    refused (Command c.in-Err.fault) before before (g.W.Write.contents c.refuse-status.new.writer) (λ other. refl) (c.refuse-status.ensures.refused two)
+    refused (Command c.in-Err.fault) before before (g.W.Write.contents c.refuse-outcome.new.writer) (λ other. refl) (c.refuse-outcome.ensures.refused two)
 
 pub returns-in-Err-clause-broken : goal.returns-in-Err-clause-broken
 returns-in-Err-clause-broken g c one =
     let before = g.W.Write.contents c.args.writer.now in
     let never = none_of_command c.in-Err.fault in
-    broken (map string_bytes c.args.words.now) (g.R.Read.remaining c.args.reader.now) before before (g.W.Write.contents c.refuse-status.new.writer)
-    (Command c.in-Err.fault) (λ is. absurd (never is)) (λ is. absurd (never is)) (λ other. refl) (c.refuse-status.ensures.broken one)
+    broken (map string_bytes c.args.words.now) (g.R.Read.remaining c.args.reader.now) before before (g.W.Write.contents c.refuse-outcome.new.writer)
+    (Command c.in-Err.fault) (λ is. absurd (never is)) (λ is. absurd (never is)) (λ other. refl) (c.refuse-outcome.ensures.broken one)
 
 pub returns-in-Ok-Check-clause-done : goal.returns-in-Ok-Check-clause-done
 returns-in-Ok-Check-clause-done g c is =
-    let trace = rw c.in-Ok-Check.field-0-is at c.in-Ok-Check.ensures.marks in inr (inr (inr (inl (trace, c.judge-status.ensures.valid is))))
+    let trace = rw c.in-Ok-Check.field-0-is at c.in-Ok-Check.ensures.marks in inr (inr (inr (inl (trace, c.judge-outcome.ensures.valid is))))
 
 pub returns-in-Ok-Check-clause-unfinished : goal.returns-in-Ok-Check-clause-unfinished
 returns-in-Ok-Check-clause-unfinished g c is =
-    let trace = rw c.in-Ok-Check.field-0-is at c.in-Ok-Check.ensures.marks in inr (inl (trace, c.judge-status.ensures.invalid is))
+    let trace = rw c.in-Ok-Check.field-0-is at c.in-Ok-Check.ensures.marks in inr (inl (trace, c.judge-outcome.ensures.invalid is))
 
 pub returns-in-Ok-Check-clause-broken : goal.returns-in-Ok-Check-clause-broken
 returns-in-Ok-Check-clause-broken g c is =
     let trace = rw c.in-Ok-Check.field-0-is at c.in-Ok-Check.ensures.marks in
-    c.judge-status.ensures.broken (map string_bytes c.args.words.now) trace is
+    c.judge-outcome.ensures.broken (map string_bytes c.args.words.now) trace is
 
 pub returns-in-Ok-CheckMarks-clause-done : goal.returns-in-Ok-CheckMarks-clause-done
 returns-in-Ok-CheckMarks-clause-done g c is =
     let marks = rw c.in-Ok-CheckMarks.field-0-is at c.in-Ok-CheckMarks.ensures.marks in
-    inr (inr (inr (inr (marks, c.judge_marks-status.ensures.valid is))))
+    inr (inr (inr (inr (marks, c.judge_marks-outcome.ensures.valid is))))
 
 pub returns-in-Ok-CheckMarks-clause-unfinished : goal.returns-in-Ok-CheckMarks-clause-unfinished
 returns-in-Ok-CheckMarks-clause-unfinished g c is =
-    let marks = rw c.in-Ok-CheckMarks.field-0-is at c.in-Ok-CheckMarks.ensures.marks in inr (inr (marks, c.judge_marks-status.ensures.invalid is))
+    let marks = rw c.in-Ok-CheckMarks.field-0-is at c.in-Ok-CheckMarks.ensures.marks in inr (inr (marks, c.judge_marks-outcome.ensures.invalid is))
 
 pub returns-in-Ok-CheckMarks-clause-broken : goal.returns-in-Ok-CheckMarks-clause-broken
 returns-in-Ok-CheckMarks-clause-broken g c is =
     let marks = rw c.in-Ok-CheckMarks.field-0-is at c.in-Ok-CheckMarks.ensures.marks in
-    c.judge_marks-status.ensures.broken (map string_bytes c.args.words.now) marks is
+    c.judge_marks-outcome.ensures.broken (map string_bytes c.args.words.now) marks is

@@ -3,7 +3,7 @@ use Rattle.std.specs.Prelude.{map, string_bytes}
 use Rattle.ra_cli.specs.declared.refusal.Refusal.TheVariants.{Cluster}
 use Rattle.ra_cli.specs.Statuses.{IsBroken}
 use Rattle.ra_cli.proofs.Statuses.{of_run, of_cluster_run, refused, broken}
-use Rattle.ra_cli.proofs.serving.serve.Goals as goal
+use Rattle.ra_cli.proofs.serving.outcome_of.Goals as goal
 
 pub returns-in-Some-clause-done : goal.returns-in-Some-clause-done
 returns-in-Some-clause-done g c is =

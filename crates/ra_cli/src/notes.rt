@@ -1,0 +1,182 @@
+//! What is said to a person of what came of a command: one line, which begins with `ra: `.
+use crate::command_line::text_of;
+use crate::error::RunScriptError;
+use crate::note_texts::{
+    NO_INPUT, NO_MEMORY, NO_TEXT, cause_text, cluster_text, drive_text, frame_text,
+    mark_cause_text, script_text,
+};
+use crate::outcome::Remark;
+use crate::refusal::Refusal;
+use crate::usage::usage_text;
+use crate::{AnswerError, CommandFault};
+use ra_script::{ChoicesError, PerformError, read_choices};
+use ra_trace::TraceError;
+use ra_world::write_out;
+use std::alloc::{AllocError, Global};
+use std::io::Write;
+
+/// Writes the note on a remark, unless memory runs out. That the writer fails is passed over.
+pub fn write_note<N: Write>(alloc: Global, words: &[String], remark: &Remark, notes: &mut N) {
+    if let Ok(note) = note_of(alloc, words, remark) {
+        write_out(notes, note.as_bytes()).ok();
+    }
+}
+
+/// Writes the note on words that are not there. That the writer fails is passed over. It does not allocate.
+pub fn write_words_note<N: Write>(fault: CommandFault, notes: &mut N) {
+    let text = match fault {
+        CommandFault::Usage => NO_TEXT,
+        CommandFault::Memory => NO_MEMORY,
+    };
+    for part in ["ra: ", text, "\n"] {
+        if write_out(notes, part.as_bytes()).is_err() {
+            return;
+        }
+    }
+}
+
+/// Returns the line of a text.
+fn line_of(alloc: Global, text: &str) -> Result<String, AllocError> {
+    format!(in alloc; "ra: {text}\n")
+}
+
+/// Returns the note on a remark, which is empty where the writer failed: mostly nobody reads on then.
+fn note_of(alloc: Global, words: &[String], remark: &Remark) -> Result<String, AllocError> {
+    match remark {
+        Remark::Refused(refusal) => refusal_note(alloc, words, *refusal),
+        Remark::Unfinished => line_of(
+            alloc,
+            "the run ended with something left to do: an operation, or what waits, is queued or is under way",
+        ),
+        Remark::NoTrace { line, cause } => invalid_note(alloc, *line, cause_text(*cause)),
+        Remark::NoLog { line, cause } => invalid_note(alloc, *line, mark_cause_text(*cause)),
+    }
+}
+
+/// Returns the note on a wrong line.
+fn invalid_note(alloc: Global, line: u64, text: &str) -> Result<String, AllocError> {
+    format!(in alloc; "ra: line {line}: {text}\n")
+}
+
+/// Returns the note on a refusal.
+fn refusal_note(alloc: Global, words: &[String], refusal: Refusal) -> Result<String, AllocError> {
+    match refusal {
+        Refusal::Command(why) => command_note(alloc, words, why),
+        Refusal::Answer(why) => answer_note(alloc, words, why),
+        Refusal::Choices(why) => choices_note(alloc, words, why),
+        Refusal::Perform(why) => perform_note(alloc, why),
+        Refusal::Check(why) => trace_note(alloc, why),
+        Refusal::Cluster(why) => run_note(alloc, why),
+    }
+}
+
+/// Returns the note on words that ask for nothing.
+fn command_note(alloc: Global, words: &[String], why: CommandFault) -> Result<String, AllocError> {
+    match why {
+        CommandFault::Usage => {
+            let text = usage_text(alloc, words)?;
+            line_of(alloc, text.as_str())
+        }
+        CommandFault::Memory => line_of(alloc, NO_MEMORY),
+    }
+}
+
+/// Returns the note on a frame that is not answered.
+fn answer_note(alloc: Global, words: &[String], why: AnswerError) -> Result<String, AllocError> {
+    let node = text_of(words, "--node").unwrap_or("");
+    let nodes = text_of(words, "--nodes").unwrap_or("");
+    match why {
+        AnswerError::BadCount => {
+            format!(in alloc; "ra: there can't be {nodes} nodes: --nodes is 1 to 64\n")
+        }
+        AnswerError::BadNode => {
+            format!(in alloc; "ra: there is no node {node} among {nodes}: --node is 1 to {nodes}\n")
+        }
+        AnswerError::WrongNode => {
+            format!(in alloc; "ra: the frame is for another node than {node}\n")
+        }
+        AnswerError::Stranger => {
+            format!(in alloc;
+                "ra: the sender of the frame is node {node} itself, or none of the {nodes} nodes\n"
+            )
+        }
+        AnswerError::Write => Ok(String::new(alloc)),
+        why => line_of(alloc, answer_text(why)),
+    }
+}
+
+/// Returns what is said of a frame that is not answered, where it is the same whatever the words.
+fn answer_text(why: AnswerError) -> &'static str {
+    match why {
+        AnswerError::Read => NO_INPUT,
+        AnswerError::Line => {
+            "standard input is not one line: there are more than 256 bytes before a line feed, or bytes behind it"
+        }
+        AnswerError::Hex => {
+            "the line is no frame: it has an odd number of hexadecimal digits, or a byte that is none of them"
+        }
+        AnswerError::Frame(fault) => frame_text(fault),
+        AnswerError::ClockFull =>
+            "the clock of the frame is 2^62, so that there is none for an answer",
+        AnswerError::Memory => NO_MEMORY,
+        _ => "",
+    }
+}
+
+/// Returns the note on a list of choices that is none.
+fn choices_note(alloc: Global, words: &[String], why: ChoicesError) -> Result<String, AllocError> {
+    match why {
+        ChoicesError::Choice => {
+            let choices = text_of(words, "--choices").unwrap_or("");
+            let word = first_no_choice(alloc, choices);
+            format!(in alloc;
+                "ra: --choices: {word:?} is no choice: each is c, m or l and 1 to 9 digits, as c1, with no zeros before them, and one space between two\n"
+            )
+        }
+        ChoicesError::Memory => line_of(alloc, NO_MEMORY),
+    }
+}
+
+/// Returns the first word of a text that is no choice, or an empty one.
+fn first_no_choice(alloc: Global, text: &str) -> &str {
+    for word in text.split(' ') {
+        if word.is_empty() || read_choices(alloc, word).is_err() {
+            return word;
+        }
+    }
+    ""
+}
+
+/// Returns the note on a script that is not performed.
+fn perform_note(alloc: Global, why: PerformError) -> Result<String, AllocError> {
+    match why {
+        PerformError::Read => line_of(alloc, NO_INPUT),
+        PerformError::Script(fault) => line_of(alloc, script_text(fault)),
+        PerformError::Drive(fault) => line_of(alloc, drive_text(fault)),
+        PerformError::Memory => line_of(alloc, NO_MEMORY),
+        PerformError::Write => Ok(String::new(alloc)),
+    }
+}
+
+/// Returns the note on a text that has no verdict.
+fn trace_note(alloc: Global, why: TraceError) -> Result<String, AllocError> {
+    line_of(
+        alloc,
+        match why {
+            TraceError::Read => NO_INPUT,
+            TraceError::Limit => "standard input has more than 16777216 bytes",
+            TraceError::Memory => NO_MEMORY,
+        },
+    )
+}
+
+/// Returns the note on a script that threads do not run.
+fn run_note(alloc: Global, why: RunScriptError) -> Result<String, AllocError> {
+    match why {
+        RunScriptError::Read => line_of(alloc, NO_INPUT),
+        RunScriptError::Script(fault) => line_of(alloc, script_text(fault)),
+        RunScriptError::Cluster(fault) => line_of(alloc, cluster_text(fault)),
+        RunScriptError::Memory => line_of(alloc, NO_MEMORY),
+        RunScriptError::Write => Ok(String::new(alloc)),
+    }
+}

@@ -1,0 +1,57 @@
+//! What came of a command.
+ghost use Rattle.std.specs.Prelude.{◌≡◌};
+
+use crate::refusal::Refusal;
+use ra_trace::{Cause, MarkCause, MarksVerdict, Verdict};
+
+/// What there is to say to a person of what came of a command.
+#[derive(Debug, Drop)]
+pub enum Remark {
+    /// It was refused.
+    Refused(Refusal),
+    /// The run ended with something left to do.
+    Unfinished,
+    /// The text is no trace: its first wrong line, and why.
+    NoTrace { line: u64, cause: Cause },
+    /// The log is no run of the lock table: its first wrong line, and why.
+    NoLog { line: u64, cause: MarkCause },
+}
+
+/// What came of a command: its exit status, and what there is to say of it to a person, if anything.
+#[derive(Debug, Drop)]
+pub struct Outcome {
+    pub status: u8,
+    pub remark: Option<Remark>,
+}
+
+impl Outcome {
+    /// Makes it of its parts.
+    pub fn new(status: u8, remark: Option<Remark>) -> Outcome
+        ensures { result.status ≡ status }
+    {
+        Outcome { status, remark }
+    }
+
+    /// Makes that of a refusal.
+    pub fn refused(status: u8, refusal: Refusal) -> Outcome
+        ensures { result.status ≡ status }
+    {
+        Outcome::new(status, Some(Remark::Refused(refusal)))
+    }
+}
+
+/// Returns what there is to say of a verdict, which is nothing where the text is a trace.
+pub fn remark_of(verdict: &Verdict) -> Option<Remark> {
+    match *verdict {
+        Verdict::Valid { .. } => None,
+        Verdict::Invalid { line, cause } => Some(Remark::NoTrace { line, cause }),
+    }
+}
+
+/// Returns what there is to say of a verdict on a mark log, which is nothing where it is a run of the lock table.
+pub fn marks_remark_of(verdict: &MarksVerdict) -> Option<Remark> {
+    match *verdict {
+        MarksVerdict::Valid { .. } => None,
+        MarksVerdict::Invalid { line, cause } => Some(Remark::NoLog { line, cause }),
+    }
+}

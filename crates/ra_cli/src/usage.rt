@@ -1,0 +1,102 @@
+//! What the parser says of words that are no command line, on one line.
+use crate::command_line::command;
+use clap::error::ErrorKind;
+use clap::{Command, Error as ParseError};
+use std::alloc::{AllocError, Global};
+
+/// The commands, each of which reads standard input.
+const COMMANDS: [&str; 4] = ["answer", "sim", "cluster", "check"];
+
+/// Returns the command that the words name, or `None`.
+fn command_named(words: &[String]) -> Option<&str> {
+    let name = words.get(1)?.as_str();
+    if COMMANDS.contains(&name) {
+        Some(name)
+    } else {
+        None
+    }
+}
+
+/// Returns the word that the parser did not expect, where it is no option.
+fn unexpected_in(said: &str) -> Option<&str> {
+    let (_, rest) = said.split_once("unexpected argument '")?;
+    let (word, _) = rest.split_once("' found")?;
+    if word.starts_with('-') {
+        None
+    } else {
+        Some(word)
+    }
+}
+
+/// Adds a text without what would end the line.
+fn push_shown(text: &mut String, line: &str) -> Result<(), AllocError> {
+    for letter in line.chars() {
+        text.push(if letter.is_control() { '?' } else { letter })?;
+    }
+    Ok(())
+}
+
+/// Adds a line of what the parser says: a tip behind a semicolon, and any other behind a space.
+fn push_line(text: &mut String, line: &str) -> Result<(), AllocError> {
+    if line.is_empty() {
+        return Ok(());
+    }
+    if let Some(tip) = line.strip_prefix("tip: ") {
+        text.push_str("; ")?;
+        return push_shown(text, tip);
+    }
+    if !text.is_empty() {
+        text.push_str(" ")?;
+    }
+    push_shown(text, line)
+}
+
+/// Adds what the parser says, without the lines of the usage and what stands behind them.
+fn push_said(text: &mut String, said: &str) -> Result<(), AllocError> {
+    let said = said.strip_prefix("error: ").unwrap_or(said);
+    for line in said.lines() {
+        if line.starts_with("Usage:") || line.starts_with("For more information") {
+            return Ok(());
+        }
+        push_line(text, line.trim())?;
+    }
+    Ok(())
+}
+
+/// Adds where more is said, and for a word that names a file how it is read.
+fn push_advice(text: &mut String, words: &[String], said: &str) -> Result<(), AllocError> {
+    let Some(name) = command_named(words) else {
+        return text.push_str("; see ra --help");
+    };
+    if let Some(word) = unexpected_in(said) {
+        text.push_str("; a file is read as standard input: ra ")?;
+        text.push_str(name)?;
+        text.push_str(" < ")?;
+        push_shown(text, word)?;
+    }
+    write!(text, "; see ra {name} --help")
+}
+
+/// Returns what the parser says of words by its error, and where more is said.
+fn error_text(alloc: Global, words: &[String], error: &ParseError) -> Result<String, AllocError> {
+    let mut text = String::new(alloc);
+    if matches!(error.kind(), ErrorKind::DisplayHelp) {
+        text.push_str("-h stands for itself")?;
+        push_advice(&mut text, words, "")?;
+        return Ok(text);
+    }
+    let said = format!(in alloc; "{error}")?;
+    push_said(&mut text, said.as_str())?;
+    push_advice(&mut text, words, said.as_str())?;
+    Ok(text)
+}
+
+/// Returns what the parser says of words that are no command line of `ra`, with the nearest word where it knows one, and where more is
+/// said.
+pub fn usage_text<'a>(alloc: Global, words: &'a [String]) -> Result<String, AllocError> {
+    let command: Command<'a> = command(alloc)?;
+    match command.try_get_matches_from(words) {
+        Ok(_matches) => String::from_str(alloc, "there is no command"),
+        Err(error) => error_text(alloc, words, &error),
+    }
+}
