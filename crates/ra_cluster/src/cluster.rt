@@ -15,6 +15,7 @@ use crate::{Book, Gate, Grant, Post, Settled, Site, Stop};
 use ra_schedule::Script;
 use ra_stamp::Memory;
 use std::alloc::{AllocError, AllocFailed, Global};
+use std::fmt;
 use std::sync::{Mutex, Wait};
 use std::thread::Threads;
 use thiserror::Error;
@@ -23,29 +24,36 @@ use thiserror::Error;
 #[derive(Clone, Copy, Debug, PartialEq, Eq, Error)]
 pub enum ClusterError {
     /// A client locks a name that is not above each name that it holds then.
-    #[error("OutOfOrder")]
     OutOfOrder,
     /// A client holds a name at its end.
-    #[error("Unreleased")]
     Unreleased,
     /// A node was stopped, for this cause.
-    #[error("Fault")]
     Fault(Stop),
     /// What the nodes wrote down is no run of the cluster, or not one in which each grant was given, and once.
-    #[error("Settle")]
     Settle,
     /// What became of the clients' requests is not what the script says.
-    #[error("PlanUnmet")]
     PlanUnmet,
     /// A message was lost.
-    #[error("Lost")]
     Lost,
     /// A message is still under way.
-    #[error("UnderWay")]
     UnderWay,
     /// Memory ran out.
-    #[error("Memory")]
     Memory,
+}
+
+impl fmt::Display for ClusterError {
+    fn fmt<W: fmt::Write>(&self, f: &mut fmt::Formatter<W>) -> fmt::Result {
+        f.write_str(match self {
+            ClusterError::OutOfOrder => "OutOfOrder",
+            ClusterError::Unreleased => "Unreleased",
+            ClusterError::Fault(_) => "Fault",
+            ClusterError::Settle => "Settle",
+            ClusterError::PlanUnmet => "PlanUnmet",
+            ClusterError::Lost => "Lost",
+            ClusterError::UnderWay => "UnderWay",
+            ClusterError::Memory => "Memory",
+        })
+    }
 }
 
 impl From<Memory> for ClusterError {

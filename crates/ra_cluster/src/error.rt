@@ -4,38 +4,47 @@ use ra_frame::FrameError;
 use ra_node::AskError;
 use ra_stamp::Memory;
 use std::alloc::{AllocError, AllocFailed};
+use std::fmt;
 use thiserror::Error;
 
 /// Why an event was refused, in the order in which the causes are looked for.
 #[derive(Clone, Copy, Debug, PartialEq, Eq, Error)]
 pub enum BookError {
     /// The book has a fault.
-    #[error("Failed")]
     Failed,
     /// The bytes are no frame.
-    #[error(transparent)]
     Frame(FrameError),
     /// The client that asks waits, is queued or holds on that name here.
-    #[error("Busy")]
     Busy,
     /// No number is left for the name.
-    #[error("Exhausted")]
     Exhausted,
     /// The client that leaves does not hold the name here.
-    #[error("NotHeld")]
     NotHeld,
     /// The frame is for another node.
-    #[error("WrongNode")]
     WrongNode,
     /// The frame's sender is this node or above the number of nodes.
-    #[error("Stranger")]
     Stranger,
     /// The event's clock would pass 2^62.
-    #[error("ClockFull")]
     ClockFull,
     /// Memory ran out.
-    #[error("Memory")]
     Memory,
+}
+
+impl fmt::Display for BookError {
+    fn fmt<W: fmt::Write>(&self, f: &mut fmt::Formatter<W>) -> fmt::Result {
+        let word = match self {
+            BookError::Failed => "Failed",
+            BookError::Frame(cause) => return fmt::Display::fmt(cause, f),
+            BookError::Busy => "Busy",
+            BookError::Exhausted => "Exhausted",
+            BookError::NotHeld => "NotHeld",
+            BookError::WrongNode => "WrongNode",
+            BookError::Stranger => "Stranger",
+            BookError::ClockFull => "ClockFull",
+            BookError::Memory => "Memory",
+        };
+        f.write_str(word)
+    }
 }
 
 impl From<Memory> for BookError {
@@ -77,20 +86,27 @@ pub enum MarkLostError {
 #[derive(Clone, Copy, Debug, PartialEq, Eq, Error)]
 pub enum SettleError {
     /// A frame came that is not among the frames that its sender sent and that were not lost.
-    #[error("NotSent")]
     NotSent,
     /// A message came twice.
-    #[error("Twice")]
     Twice,
     /// A grant's entry was never granted at its node.
-    #[error("GrantMissing")]
     GrantMissing,
     /// Two grants are equal.
-    #[error("GrantTwice")]
     GrantTwice,
     /// Memory ran out.
-    #[error("Memory")]
     Memory,
+}
+
+impl fmt::Display for SettleError {
+    fn fmt<W: fmt::Write>(&self, f: &mut fmt::Formatter<W>) -> fmt::Result {
+        f.write_str(match self {
+            SettleError::NotSent => "NotSent",
+            SettleError::Twice => "Twice",
+            SettleError::GrantMissing => "GrantMissing",
+            SettleError::GrantTwice => "GrantTwice",
+            SettleError::Memory => "Memory",
+        })
+    }
 }
 
 impl From<Memory> for SettleError {

@@ -5,34 +5,50 @@ ghost use Rattle.ra_trace.specs.declared.error.WriteTraceError.TheVariants as wr
 use ra_stamp::Memory;
 use ra_world::{RunError, WriteFault};
 use std::alloc::AllocError;
+use std::fmt;
 use thiserror::Error;
 
 /// Why a text was not checked.
 #[derive(Clone, Copy, Debug, PartialEq, Eq, Error)]
 pub enum TraceError {
     /// The reader failed.
-    #[error("Read")]
     Read,
     /// The text has more bytes than it may have: 16,777,216 for `check`.
-    #[error("Limit")]
     Limit,
     /// Memory ran out.
-    #[error("Memory")]
     Memory,
+}
+
+impl fmt::Display for TraceError {
+    fn fmt<W: fmt::Write>(&self, f: &mut fmt::Formatter<W>) -> fmt::Result {
+        f.write_str(match self {
+            TraceError::Read => "Read",
+            TraceError::Limit => "Limit",
+            TraceError::Memory => "Memory",
+        })
+    }
 }
 
 /// Why a trace was not written.
 #[derive(Clone, Copy, Debug, PartialEq, Eq, Error)]
 pub enum WriteTraceError {
     /// The steps are no run: the number of nodes is not 1 to 64, or a step is refused. Never want of memory.
-    #[error(transparent)]
     Run(RunError),
     /// Memory ran out.
-    #[error("Memory")]
     Memory,
     /// The writer failed or took nothing, with bytes left to write.
-    #[error("Write")]
     Write,
+}
+
+impl fmt::Display for WriteTraceError {
+    fn fmt<W: fmt::Write>(&self, f: &mut fmt::Formatter<W>) -> fmt::Result {
+        let word = match self {
+            WriteTraceError::Run(cause) => return fmt::Display::fmt(cause, f),
+            WriteTraceError::Memory => "Memory",
+            WriteTraceError::Write => "Write",
+        };
+        f.write_str(word)
+    }
 }
 
 impl From<Memory> for TraceError {

@@ -1,29 +1,37 @@
+use std::fmt;
 use thiserror::Error;
 
 /// Why a line of a mark log is wrong. All but the first are the lock table's own.
 #[derive(Clone, Copy, Debug, PartialEq, Eq, Error)]
 pub enum MarkCause {
     /// It is the line of no mark, or has no line feed.
-    #[error("Line")]
     Line,
     /// A request, and its node waits or holds on its name.
-    #[error("NodeBusy")]
     NodeBusy,
     /// A request, and its number is not above that of each entry granted so far on its name.
-    #[error("NotAbove")]
     NotAbove,
     /// A grant of an entry that does not wait.
-    #[error("NotWaiting")]
     NotWaiting,
     /// A grant, and a conflicting entry on its name holds.
-    #[error("Held")]
     Held,
     /// A grant, and a conflicting entry on its name with an earlier stamp waits.
-    #[error("Earlier")]
     Earlier,
     /// A release of an entry that does not hold.
-    #[error("NotHeld")]
     NotHeld,
+}
+
+impl fmt::Display for MarkCause {
+    fn fmt<W: fmt::Write>(&self, f: &mut fmt::Formatter<W>) -> fmt::Result {
+        f.write_str(match self {
+            MarkCause::Line => "Line",
+            MarkCause::NodeBusy => "NodeBusy",
+            MarkCause::NotAbove => "NotAbove",
+            MarkCause::NotWaiting => "NotWaiting",
+            MarkCause::Held => "Held",
+            MarkCause::Earlier => "Earlier",
+            MarkCause::NotHeld => "NotHeld",
+        })
+    }
 }
 
 /// What is said of a mark log.

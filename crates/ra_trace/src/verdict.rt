@@ -1,3 +1,4 @@
+use std::fmt;
 use thiserror::Error;
 
 /// Why a line of a trace is wrong.
@@ -5,20 +6,27 @@ use thiserror::Error;
 pub enum Cause {
     /// It has none of the forms of a line of the trace's version, each field in its range, or no line feed, or stands where it
     /// may not: the first line is another one or stands again, or something is left behind the last one.
-    #[error("Line")]
     Line,
     /// The world refuses an ask or a release.
-    #[error("Refused")]
     Refused,
     /// A message that is delivered, lost or repeated is not under way.
-    #[error("NotUnderWay")]
     NotUnderWay,
     /// It is not the mark that comes next, or a mark of the step before has not come.
-    #[error("Marks")]
     Marks,
     /// The lock table refuses the mark.
-    #[error("Table")]
     Table,
+}
+
+impl fmt::Display for Cause {
+    fn fmt<W: fmt::Write>(&self, f: &mut fmt::Formatter<W>) -> fmt::Result {
+        f.write_str(match self {
+            Cause::Line => "Line",
+            Cause::Refused => "Refused",
+            Cause::NotUnderWay => "NotUnderWay",
+            Cause::Marks => "Marks",
+            Cause::Table => "Table",
+        })
+    }
 }
 
 /// What a checker says of a text.
