@@ -12,7 +12,7 @@ use Rattle.ra_world.proofs.Moves.{not_at}
 use Rattle.ra_schedule.specs.declared.script.Op.{Op}
 use Rattle.ra_schedule.specs.declared.script.Op.TheVariants.{Lock, Unlock}
 use Rattle.ra_schedule.specs.declared.choice.Choice.{Choice}
-use Rattle.ra_schedule.specs.declared.choice.Choice.TheVariants.{Client, Message, Lost}
+use Rattle.ra_schedule.specs.declared.choice.Choice.TheVariants.{Client, Message, Lost, Repeated}
 use Rattle.ra_schedule.specs.Script.{ScriptClient, ScriptState, client_at}
 use Rattle.ra_schedule.specs.Schedule.{steps_of, steps_in, steps_by, step_of, Asks, Enters, StandsFor, IsEnabled}
 use Rattle.ra_schedule.specs.Enabled.{IsFlag, AreFlags, AreFlagsElsewhere, node_of, node_at}
@@ -62,6 +62,7 @@ not_own script moves (Client c) step client means apart =
     )
 not_own script moves (Message place) step client (message, at, is) apart = (ap (steps_in client) is, λ asks. subst (Asks client) is asks)
 not_own script moves (Lost place) step client (message, at, is) apart = (ap (steps_in client) is, λ asks. subst (Asks client) is asks)
+not_own script moves (Repeated place) step client (message, at, is) apart = (ap (steps_in client) is, λ asks. subst (Asks client) is asks)
 
 -- ---- Who is enabled
 

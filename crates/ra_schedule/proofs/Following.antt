@@ -7,7 +7,7 @@ use Rattle.ra_world.specs.Traffic.{Move}
 use Rattle.ra_world.specs.Run.{IsRun}
 use Rattle.ra_schedule.specs.declared.choice.Choice.{Choice}
 use Rattle.ra_schedule.specs.declared.choice.Policy.{Policy}
-use Rattle.ra_schedule.specs.declared.driving.Recording.{Recording}
+use Rattle.ra_schedule.specs.declared.driving.Driven.{Driven}
 use Rattle.ra_schedule.specs.declared.error.DriveError.{DriveError}
 use Rattle.ra_schedule.specs.declared.error.DriveError.TheVariants.{TurnLimit, BadPlace, NotEnabled, Memory}
 use Rattle.ra_schedule.specs.Script.{ScriptState}
@@ -245,11 +245,11 @@ answers_err laws script policy limit fault count (inr (moves, follows, stops)) =
       absurd (none_some (one_ending laws script policy limit other moves None (Some fault) count follows' follows (ends, within) stops));
 }
 
-pub answers : LawsBelow → (script : ScriptState) (policy : Policy) (limit : ℕ) (records : Bool) (result : Result Recording DriveError)
+pub answers : LawsBelow → (script : ScriptState) (policy : Policy) (limit : ℕ) (records : Bool) (result : Result Driven DriveError)
     → IsNodeNumber script.nodes → IfOk result (Records script policy limit records) → IfErr result (IsStopped script policy limit)
     → Answers script policy limit result
-answers laws script policy limit records (Ok recording) count told none =
-    answers_ok laws script policy limit told.moves recording count told.follows told.ends told.within
+answers laws script policy limit records (Ok driven) count told none =
+    answers_ok laws script policy limit told.moves driven count told.follows told.ends told.within
 answers laws script policy limit records (Err fault) count none told = answers_err laws script policy limit fault count told
 
 -- where two lists of moves follow a policy to its end, they are one

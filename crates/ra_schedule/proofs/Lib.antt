@@ -15,3 +15,5 @@ mod Elsewhere
 mod LookingAgain
 mod NodesOfClients
 mod Unrepeated
+mod Tallying
+mod SeedBySeed

@@ -13,22 +13,23 @@ use Rattle.ra_world.specs.World.{WorldState, Reports}
 use Rattle.ra_world.specs.MainTheorem.{MainTheorem}
 use Rattle.ra_world.specs.Run.{IsRun, GoesOn}
 use Rattle.ra_schedule.specs.declared.driver.Driver.{Driver}
-use Rattle.ra_schedule.specs.declared.driving.Recording.{Recording}
+use Rattle.ra_schedule.specs.declared.driving.Driven.{Driven}
 use Rattle.ra_schedule.specs.declared.error.DriveError.{DriveError}
 use Rattle.ra_schedule.specs.declared.progress.Progress.{Progress}
 use Rattle.ra_schedule.specs.declared.choice.Choice.{Choice}
-use Rattle.ra_schedule.specs.declared.choice.Choice.TheVariants.{Client, Message, Lost}
+use Rattle.ra_schedule.specs.declared.choice.Choice.TheVariants.{Client, Message, Lost, Repeated}
 use Rattle.ra_schedule.specs.declared.choice.Policy.{Policy}
 use Rattle.ra_schedule.specs.Script.{ScriptClient, ScriptState, client_at, op_at}
 use Rattle.ra_schedule.specs.Schedule.{steps_of, steps_in, steps_by, Enters, IsEnabled, IsAtPlace, StandsFor, Picks, Follows, IsFinished}
 use Rattle.ra_schedule.specs.Progress.{IsProgress, Tracks, OfEach, IsProgressAfter, AreCountable, AreDone, IsStuck, AreStuck, NoneEnters, recorded}
-use Rattle.ra_schedule.specs.Drawing.{AreDraws, AreDrawsElsewhere, generator_at, generator_in}
+use Rattle.ra_schedule.specs.Drawing.{AreDraws, AreDrawsElsewhere, generator_at, generator_in, words_drawn, words_for}
 use Rattle.ra_schedule.specs.Driving.{IsDriven, IsReady, IsAtEnd, HasMade, Records}
 use Rattle.ra_schedule.specs.Below.{LawsBelow}
 use Rattle.ra_schedule.proofs.Waiting.{nobody_waits, goes_on}
 use Rattle.ra_schedule.proofs.Elsewhere.{flags_elsewhere}
 use Rattle.ra_schedule.proofs.Following.{follows_none, follows_more}
 use Rattle.ra_schedule.proofs.Choosing.{same_some}
+use Rattle.ra_schedule.proofs.Seeded.{none_drawn, more_drawn}
 
 abbrev pub opening_progress : Progress
 opening_progress = record { done = 0; waiting = false }
@@ -74,7 +75,7 @@ module _ (script : ScriptState) (world : WorldState) (is : world ≡ record { co
           steps = nothing_recorded driver.records driver.steps.items world.moves steps none_moved;
         };
         follows = subst (Follows script policy) (sym none_moved) (follows_none script policy (subst (IsRun script.nodes 0) none_moved run'));
-        drawn = drawn ∙ ap (λ (ms : List Move). generator_at policy (length ms)) (sym none_moved);
+        drawn = drawn ∙ ap (generator_at policy) (sym (none_drawn policy)) ∙ ap (λ (ms : List Move). generator_at policy (words_drawn policy ms)) (sym none_moved);
       }
 
 pub tracks_on : (script : ScriptState) (world next : WorldState) (clients new : List Progress) (move : Move) → Tracks script world clients
@@ -204,11 +205,12 @@ one_longer moves next move is = ap length is ∙ lists.length-append moves (move
 -- the policy chose, and its choice was made
 pub ready_more : (script : ScriptState) (policy : Policy) (world next : WorldState) (driver chosen new : Driver) (choice : Choice)
     → IsReady script policy world driver → Picks script policy world.moves choice
-    → generator_in chosen.draws ≡ generator_at policy (length world.moves + 1)
+    → generator_in chosen.draws ≡ generator_at policy (words_drawn policy world.moves + words_for policy choice)
     → HasMade script choice world chosen next new → IsReady script policy next new
 ready_more script policy world next driver chosen new choice ready picks drawn made =
     let (move, means, moves) = made.made in
-    let count : length next.moves ≡ length world.moves + 1 = one_longer world.moves next.moves move moves in
+    let count : words_drawn policy next.moves ≡ words_drawn policy world.moves + words_for policy choice =
+    ap (words_drawn policy) moves ∙ more_drawn script policy world.moves move choice means in
     record {
       driven = made.driven;
       follows = subst (Follows script policy) (sym moves)
@@ -264,6 +266,9 @@ can_be_done laws script moves (Message place) step count run (message, at, is) =
 can_be_done laws script moves (Lost place) step count run (message, at, is) =
     subst (GoesOn script.nodes 0 moves) (sym is)
     ((laws.lose script.nodes 0 moves count run message).1 (at_place_is_under_way moves place message at))
+can_be_done laws script moves (Repeated place) step count run (message, at, is) =
+    subst (GoesOn script.nodes 0 moves) (sym is)
+    ((laws.repeat script.nodes 0 moves count run message).1 (at_place_is_under_way moves place message at))
 
 -- ---- The end
 
@@ -301,16 +306,18 @@ are_done script world clients steps tracks are done k d within =
 
 -- what is recorded where no choice is left
 pub records_all : (script : ScriptState) (policy : Policy) (world : WorldState) (driver : Driver) (limit : ℕ) (records : Bool)
-    (result : Result Recording DriveError) → IsAtEnd script policy world driver → length world.moves ≤ limit → driver.records ≡ records
-    → IfOk result (λ recording. recording.steps.items ≡ driver.steps.items)
-    → IfOk result (λ recording. Reports script.nodes 0 world.moves recording.report)
-    → IfOk result (λ recording. MainTheorem script.nodes recording.report)
-    → IfOk result (λ recording. IsTrue recording.finished ↔ IsFinished script (steps_of world.moves) recording.report)
+    (result : Result Driven DriveError) → IsAtEnd script policy world driver → length world.moves ≤ limit → driver.records ≡ records
+    → IfOk result (λ driven. driven.steps.items ≡ driver.steps.items)
+    → IfOk result (λ driven. driven.turns ≡ length world.moves)
+    → IfOk result (λ driven. Reports script.nodes 0 world.moves driven.report)
+    → IfOk result (λ driven. MainTheorem script.nodes driven.report)
+    → IfOk result (λ driven. IsTrue driven.finished ↔ IsFinished script (steps_of world.moves) driven.report)
     → IfOk result (Records script policy limit records)
-records_all script policy world driver limit records (Err why) ends within same steps reports theorem finished = tt
-records_all script policy world driver limit records (Ok recording) ends within same steps reports theorem finished = record {
+records_all script policy world driver limit records (Err why) ends within same steps turns reports theorem finished = tt
+records_all script policy world driver limit records (Ok driven) ends within same steps turns reports theorem finished = record {
   moves = world.moves;
   steps = steps ∙ ends.steps ∙ ap (λ (b : Bool). recorded b world.moves) same;
+  turns = turns;
   follows = ends.follows;
   ends = ends.ends;
   within = within;

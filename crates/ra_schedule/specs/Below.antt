@@ -3,7 +3,7 @@ use Rattle.std.specs.Prelude.{◌≡◌, ◌↔◌, ℕ, List, [], ◌∷◌, �
 use Rattle.ra_stamp.specs.declared.message.Message.{Message}
 use Rattle.ra_stamp.specs.NodeId.{IsNodeNumber}
 use Rattle.ra_stamp.specs.declared.mode.Mode.{Mode}
-use Rattle.ra_world.specs.declared.step.Step.TheVariants.{Ask, Leave, Deliver, Lose}
+use Rattle.ra_world.specs.declared.step.Step.TheVariants.{Ask, Leave, Deliver, Lose, Repeat}
 use Rattle.ra_world.specs.Traffic.{Move, LeavesUnderWay, IsUnderWay}
 use Rattle.ra_world.specs.Run.{IsRun, GoesOn, events_at}
 
@@ -19,6 +19,8 @@ pub record LawsBelow : Type 0 where
       → (message : Message) → GoesOn n start moves (Deliver message) ↔ IsUnderWay moves message
   pub lose : (n start : ℕ) (moves : List Move) → IsNodeNumber n → IsRun n start moves
       → (message : Message) → GoesOn n start moves (Lose message) ↔ IsUnderWay moves message
+  pub repeat : (n start : ℕ) (moves : List Move) → IsNodeNumber n → IsRun n start moves
+      → (message : Message) → GoesOn n start moves (Repeat message) ↔ IsUnderWay moves message
   pub ask_stays : (n start : ℕ) (moves : List Move) (move : Move) → IsNodeNumber n → IsRun n start (moves ++ move ∷ [])
       → (node client : ℕ) (name : List ℕ) (mode : Mode) → events_at node move.step ≡ []
       → GoesOn n start moves (Ask node client name mode) ↔ GoesOn n start (moves ++ move ∷ []) (Ask node client name mode)

@@ -4,19 +4,53 @@ use Rattle.ra_stamp.specs.declared.entry.Mark.{Mark}
 use Rattle.ra_world.specs.declared.step.Step.{Step}
 use Rattle.ra_world.specs.Traffic.{Move}
 use Rattle.rand_pcg.specs.Lcg.{Lcg}
+use Rattle.ra_schedule.specs.declared.choice.Choice.{Choice}
+use Rattle.ra_schedule.specs.declared.choice.Choice.TheVariants.{Client, Message, Lost, Repeated}
 use Rattle.ra_schedule.specs.declared.choice.Policy.{Policy}
-use Rattle.ra_schedule.specs.declared.choice.Policy.TheVariants.{Oldest, Newest, Seeded, Listed}
+use Rattle.ra_schedule.specs.declared.choice.Policy.TheVariants.{Oldest, Newest, Seeded, Faulty, Listed}
 use Rattle.ra_schedule.specs.declared.draws.Draws.{Draws}
 use Rattle.ra_schedule.specs.Script.{ScriptState}
+use Rattle.ra_schedule.specs.Schedule.{steps_of, words_by}
 use Rattle.ra_schedule.specs.Seeds.{generator_after}
 use Rattle.ra_schedule.specs.Enabled.{AreFlags, AreFlagsElsewhere, AreRosters, numbers_from}
 
--- the generator of a policy after this many turns, where it has one
+-- the generator of a policy once it has given so many words, where the policy has one
 abbrev pub generator_at : Policy → ℕ → Option Lcg
-generator_at Oldest turns = None
-generator_at Newest turns = None
-generator_at (Seeded seed) turns = Some (generator_after seed turns)
-generator_at (Listed choices) turns = None
+generator_at Oldest words = None
+generator_at Newest words = None
+generator_at (Seeded seed) words = Some (generator_after seed words)
+generator_at (Faulty seed faults) words = Some (generator_after seed words)
+generator_at (Listed choices) words = None
+
+-- how many words a policy has drawn behind these moves
+abbrev pub words_drawn : Policy → List Move → ℕ
+words_drawn Oldest moves = 0
+words_drawn Newest moves = 0
+words_drawn (Seeded seed) moves = length moves
+words_drawn (Faulty seed faults) moves = words_by (steps_of moves)
+words_drawn (Listed choices) moves = 0
+
+-- how many words chance with faults draws for a choice
+abbrev pub words_of : Choice → ℕ
+words_of (Client client) = 1
+words_of (Message place) = 2
+words_of (Lost place) = 2
+words_of (Repeated place) = 2
+
+-- how many words a policy draws for a choice that it makes
+abbrev pub words_for : Policy → Choice → ℕ
+words_for Oldest choice = 0
+words_for Newest choice = 0
+words_for (Seeded seed) choice = 1
+words_for (Faulty seed faults) choice = words_of choice
+words_for (Listed choices) choice = 0
+
+-- a word names a client or a message, and faults befall what was named
+abbrev pub IsWithoutFault : Choice → Type 0
+IsWithoutFault (Client client) = Unit {0}
+IsWithoutFault (Message place) = Unit {0}
+IsWithoutFault (Lost place) = ⊥
+IsWithoutFault (Repeated place) = ⊥
 
 -- the generator that chance chooses by, where it does
 abbrev pub generator_in : Option Draws → Option Lcg

@@ -9,13 +9,13 @@ use Rattle.ra_schedule.specs.declared.choice.Choice.{Choice}
 use Rattle.ra_schedule.specs.declared.choice.Policy.{Policy}
 use Rattle.ra_world.specs.declared.step.Step.{Step}
 use Rattle.ra_schedule.specs.declared.driver.Driver.{Driver}
-use Rattle.ra_schedule.specs.declared.driving.Recording.{Recording}
+use Rattle.ra_schedule.specs.declared.driving.Driven.{Driven}
 use Rattle.ra_schedule.specs.declared.error.DriveError.{DriveError}
 use Rattle.ra_schedule.specs.declared.error.DriveError.TheVariants.{BadPlace, NotEnabled, Memory}
 use Rattle.ra_schedule.specs.Script.{ScriptState}
 use Rattle.ra_schedule.specs.Schedule.{steps_of, StandsFor, Picks, IsBadPlace, IsNotEnabled, Ends, Follows, Stops, IsFinished}
 use Rattle.ra_schedule.specs.Progress.{Tracks, AreStuck, recorded}
-use Rattle.ra_schedule.specs.Drawing.{AreDraws, generator_at, generator_in}
+use Rattle.ra_schedule.specs.Drawing.{AreDraws, generator_at, generator_in, words_drawn}
 
 -- the cluster has come so far with the script, whoever chose: this is how its clients stand, and what chance knows of them where it
 -- chooses
@@ -27,11 +27,11 @@ pub record IsDriven (script : ScriptState) (world : WorldState) (driver : Driver
   pub draws : IfSome driver.draws (AreDraws script world.moves)
   pub steps : driver.steps.items ≡ recorded driver.records world.moves
 
--- the policy has come so far with the script, and its generator has given a word for each turn
+-- the policy has come so far with the script, and its generator has given the words that were drawn
 pub record IsReady (script : ScriptState) (policy : Policy) (world : WorldState) (driver : Driver) : Type 0 where
   pub driven : IsDriven script world driver
   pub follows : Follows script policy world.moves
-  pub drawn : generator_in driver.draws ≡ generator_at policy (length world.moves)
+  pub drawn : generator_in driver.draws ≡ generator_at policy (words_drawn policy world.moves)
 
 -- the policy has no choice left
 pub record IsAtEnd (script : ScriptState) (policy : Policy) (world : WorldState) (driver : Driver) : Type 0 where
@@ -102,12 +102,13 @@ pub record Answers {X : Type 0} (script : ScriptState) (policy : Policy) (limit 
       → IsOkUnless result Memory
 
 -- what is recorded of a policy that has no choice left
-pub record Records (script : ScriptState) (policy : Policy) (limit : ℕ) (records : Bool) (recording : Recording) : Type 0 where
+pub record Records (script : ScriptState) (policy : Policy) (limit : ℕ) (records : Bool) (driven : Driven) : Type 0 where
   pub moves : List Move
-  pub steps : recording.steps.items ≡ recorded records moves
+  pub steps : driven.steps.items ≡ recorded records moves
+  pub turns : driven.turns ≡ length moves
   pub follows : Follows script policy moves
   pub ends : Ends script policy moves
   pub within : length moves ≤ limit
-  pub reports : Reports script.nodes 0 moves recording.report
-  pub finished : IsTrue recording.finished ↔ IsFinished script (steps_of moves) recording.report
-  pub main_theorem : MainTheorem script.nodes recording.report
+  pub reports : Reports script.nodes 0 moves driven.report
+  pub finished : IsTrue driven.finished ↔ IsFinished script (steps_of moves) driven.report
+  pub main_theorem : MainTheorem script.nodes driven.report

@@ -1,8 +1,10 @@
 pub mod Script
 pub mod Seeds
+pub mod Faults
 pub mod Schedule
 pub mod Progress
 pub mod Enabled
 pub mod Drawing
 pub mod Below
 pub mod Driving
+pub mod Survey

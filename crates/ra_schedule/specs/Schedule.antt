@@ -1,6 +1,6 @@
 -- Which choice comes next where a cluster follows a script, and the runs that a policy makes. All of it speaks of the steps
 -- so far, with what was sent and marked at each.
-use Rattle.std.specs.Prelude.{◌≡◌, ◌≢◌, ◌↔◌, ℕ, ◌+◌, ◌%◌, ◌<◌, List, [], ◌∷◌, ◌++◌, length, map, Some, None, slice_get, All, Contains, if◌then◌else◌, ◌==◌}
+use Rattle.std.specs.Prelude.{◌≡◌, ◌≢◌, ◌↔◌, ℕ, ◌+◌, ◌%◌, ◌<◌, nat_lt, List, [], ◌∷◌, ◌++◌, length, map, Some, None, slice_get, All, Contains, if◌then◌else◌, ◌==◌}
 use Rattle.std.specs.List.{range_with_len}
 use Rattle.std.specs.List.Sorted.{IsStrictlyIncreasing}
 use Rattle.ra_stamp.specs.declared.entry.Mark.{Mark}
@@ -14,13 +14,14 @@ use Rattle.ra_world.specs.Run.{IsRun, GoesOn, marks_of}
 use Rattle.ra_schedule.specs.declared.script.Op.{Op}
 use Rattle.ra_schedule.specs.declared.script.Op.TheVariants.{Lock, Unlock}
 use Rattle.ra_schedule.specs.declared.choice.Choice.{Choice}
-use Rattle.ra_schedule.specs.declared.choice.Choice.TheVariants.{Client, Message, Lost}
+use Rattle.ra_schedule.specs.declared.choice.Choice.TheVariants.{Client, Message, Lost, Repeated}
 use Rattle.ra_schedule.specs.declared.choice.Policy.{Policy}
-use Rattle.ra_schedule.specs.declared.choice.Policy.TheVariants.{Oldest, Newest, Seeded, Listed}
+use Rattle.ra_schedule.specs.declared.choice.Policy.TheVariants.{Oldest, Newest, Seeded, Faulty, Listed}
 use Rattle.ra_schedule.specs.declared.error.DriveError.{DriveError}
 use Rattle.ra_schedule.specs.declared.error.DriveError.TheVariants.{TurnLimit, BadPlace, NotEnabled, Memory}
 use Rattle.ra_schedule.specs.Script.{ScriptClient, ScriptState, client_at}
 use Rattle.ra_schedule.specs.Seeds.{word_of}
+use Rattle.ra_schedule.specs.Faults.{FaultRates}
 
 abbrev pub steps_of : List Move → List Step
 steps_of moves = map (λ move. move.step) moves
@@ -84,18 +85,21 @@ abbrev pub StandsFor : ScriptState → List Move → Choice → Step → Type 0
 StandsFor script moves (Client client) step = Enables script moves client step
 StandsFor script moves (Message place) step = (message : Sent) × IsAtPlace moves place message × (step ≡ Deliver message)
 StandsFor script moves (Lost place) step = (message : Sent) × IsAtPlace moves place message × (step ≡ Lose message)
+StandsFor script moves (Repeated place) step = (message : Sent) × IsAtPlace moves place message × (step ≡ Repeat message)
 
 -- the choice names a client or a message that there is not
 abbrev pub IsBadPlace : ScriptState → List Move → Choice → Type 0
 IsBadPlace script moves (Client client) = client_at script client ≡ None
 IsBadPlace script moves (Message place) = (message : Sent) → IsAtPlace moves place message → ⊥
 IsBadPlace script moves (Lost place) = (message : Sent) → IsAtPlace moves place message → ⊥
+IsBadPlace script moves (Repeated place) = (message : Sent) → IsAtPlace moves place message → ⊥
 
 -- the choice names a client that is not enabled
 abbrev pub IsNotEnabled : ScriptState → List Move → Choice → Type 0
 IsNotEnabled script moves (Client client) = (client_at script client ≢ None) × (IsEnabled script moves client → ⊥)
 IsNotEnabled script moves (Message place) = ⊥
 IsNotEnabled script moves (Lost place) = ⊥
+IsNotEnabled script moves (Repeated place) = ⊥
 
 -- the first enabled client in the order of the script
 abbrev pub IsFirstEnabled : ScriptState → List Move → ℕ → Type 0
@@ -119,17 +123,56 @@ AreChoices script moves choices = (clients : List ℕ) × (left : List Sent)
     × AreEnabled script moves clients × LeavesUnderWay moves left
     × (choices ≡ map Client clients ++ map Message (range_with_len 0 (length left)))
 
+-- this is the choice whose number among all of them, counted from 0, is the word modulo how many there are
+abbrev pub IsNamedBy : ℕ → ScriptState → List Move → Choice → Type 0
+IsNamedBy word script moves choice = (choices : List Choice) × AreChoices script moves choices
+    × (slice_get choices (word % length choices) ≡ Some choice)
+
+-- What becomes of a choice by a word: of a thousand numbers, the first are those by which a message is lost, and the next those by
+-- which it is repeated. Faults befall messages alone.
+abbrev pub with_fault : FaultRates → ℕ → Choice → Choice
+with_fault faults word (Client client) = Client client
+with_fault faults word (Message place) =
+    if nat_lt (word % 1000) faults.lose then Lost place
+    else if nat_lt (word % 1000) (faults.lose + faults.repeat) then Repeated place
+    else Message place
+with_fault faults word (Lost place) = Lost place
+with_fault faults word (Repeated place) = Repeated place
+
+-- how many words chance with faults drew for these steps: one for a client's, and one more for what becomes of a message
+abbrev pub words_in : Step → ℕ
+words_in (Ask node client name mode) = 1
+words_in (Leave node client name) = 1
+words_in (Deliver message) = 2
+words_in (Lose message) = 2
+words_in (Repeat message) = 2
+
+abbrev pub words_by : List Step → ℕ
+words_by [] = 0
+words_by (step ∷ steps) = words_in step + words_by steps
+
 -- the choice that a policy makes after these moves
 abbrev pub Picks : ScriptState → Policy → List Move → Choice → Type 0
 Picks script Oldest moves (Client client) = IsFirstEnabled script moves client
 Picks script Oldest moves (Message place) = (place ≡ 0) × ((count : ℕ) × LeavesMessages script moves (count + 1))
 Picks script Oldest moves (Lost place) = ⊥
+Picks script Oldest moves (Repeated place) = ⊥
 Picks script Newest moves (Client client) = IsFirstEnabled script moves client
 Picks script Newest moves (Message place) = LeavesMessages script moves (place + 1)
 Picks script Newest moves (Lost place) = ⊥
-Picks script (Seeded seed) moves choice = (choices : List Choice) × AreChoices script moves choices
-    × (slice_get choices (word_of seed (length moves) % length choices) ≡ Some choice)
+Picks script Newest moves (Repeated place) = ⊥
+Picks script (Seeded seed) moves choice = IsNamedBy (word_of seed (length moves)) script moves choice
+Picks script (Faulty seed faults) moves choice = (named : Choice) × IsNamedBy (word_of seed (words_by (steps_of moves))) script moves named
+    × (choice ≡ with_fault faults (word_of seed (words_by (steps_of moves) + 1)) named)
 Picks script (Listed choices) moves choice = slice_get choices.items (length moves) ≡ Some choice
+
+-- the policy repeats no message: it has no faults by which it would, or lists no repeat
+abbrev pub RepeatsNothing : Policy → Type 0
+RepeatsNothing Oldest = Unit {0}
+RepeatsNothing Newest = Unit {0}
+RepeatsNothing (Seeded seed) = Unit {0}
+RepeatsNothing (Faulty seed faults) = faults.repeat ≡ 0
+RepeatsNothing (Listed choices) = All (λ choice. (place : ℕ) → choice ≢ Repeated place) choices.items
 
 -- the policy has no choice left
 abbrev pub Ends : ScriptState → Policy → List Move → Type 0

@@ -1,4 +1,4 @@
--- The words of a seed, one for each turn. The generator is PCG XSL RR 128/64 (O'Neill, 2014), and the bytes of its state come
+-- The words of a seed, one after the other. The generator is PCG XSL RR 128/64 (O'Neill, 2014), and the bytes of its state come
 -- from the seed by words of PCG XSH RR 64/32.
 use Rattle.std.specs.Prelude.{ℕ, zero, suc}
 use Rattle.rand_core.specs.Pcg32Seed.{pcg32_seed}
@@ -10,6 +10,6 @@ unfoldable pub generator_after : ℕ → ℕ → Lcg
 generator_after seed zero = pcg64_of_seed (pcg32_seed 32 seed)
 generator_after seed (suc words) = (pcg64 (generator_after seed words)).1
 
--- the word of a turn, the turns counted from 0
+-- the word with this number, the words counted from 0
 unfoldable pub word_of : ℕ → ℕ → ℕ
-word_of seed turn = (pcg64 (generator_after seed turn)).0
+word_of seed number = (pcg64 (generator_after seed number)).0

@@ -1,3 +1,4 @@
+use crate::Faults;
 use ra_stamp::Sequence;
 
 /// What may come next in a cluster that follows a script.
@@ -9,6 +10,8 @@ pub enum Choice {
     Message(u64),
     /// The message at this place is lost.
     Lost(u64),
+    /// The message at this place is repeated: it stays under way, and comes once more behind all others.
+    Repeated(u64),
 }
 
 /// A list of choices.
@@ -27,6 +30,10 @@ pub enum Policy {
     /// 128/64 of this seed, and takes the choice whose number, counted from 0, is the word modulo the number of choices. Where
     /// there is no choice, no word is drawn and it ends. So a script and a seed have one run, the same on each machine.
     Seeded(u64),
+    /// The same chance, with faults: where the word names a message, the turn draws one word more, and that word modulo 1,000 says what
+    /// becomes of the message. Below the number of those that are lost it is lost, from there on below the sum of both numbers it is
+    /// repeated, and else it is delivered.
+    Faulty { seed: u64, faults: Faults },
     /// These choices, one after the other, and then the end.
     Listed(Choices),
 }

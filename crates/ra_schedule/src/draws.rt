@@ -25,7 +25,7 @@ pub struct Draws {
 }
 
 impl Draws {
-    /// Makes what chance begins with, or `None` where the policy is no seed's: then nothing is kept, and no memory taken.
+    /// Makes what chance begins with, or `None` where the policy has no seed: then nothing is kept, and no memory taken.
     ///
     /// # Errors
     ///
@@ -98,7 +98,9 @@ fn generator_of(policy: &Policy) -> Option<Lcg128Xsl64>
     ensures { result ≡ generator_at policy.now 0 }
 {
     match policy {
-        Policy::Seeded(seed) => Some(Lcg128Xsl64::seed_from_u64(*seed)),
+        Policy::Seeded(seed) | Policy::Faulty { seed, .. } => {
+            Some(Lcg128Xsl64::seed_from_u64(*seed))
+        }
         _ => None,
     }
 }

@@ -214,10 +214,11 @@ fn keep_step(steps: &mut Steps, records: bool, step: &Step) -> Result<(), Memory
 
 /// Returns the place of the message that a choice names, or 0 where it names a client.
 fn place_in(choice: Choice) -> u64
-    ensures { (place : ℕ) → (choice ≡ Choice.Message place) ⊎ (choice ≡ Choice.Lost place) → result ≡ place }
+    ensures { (place : ℕ) → (choice ≡ Choice.Message place) ⊎ (choice ≡ Choice.Lost place) ⊎ (choice ≡ Choice.Repeated place)
+        → result ≡ place }
 {
     match choice {
-        Choice::Message(place) | Choice::Lost(place) => place,
+        Choice::Message(place) | Choice::Lost(place) | Choice::Repeated(place) => place,
         Choice::Client(_) => 0,
     }
 }

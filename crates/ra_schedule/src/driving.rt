@@ -29,10 +29,21 @@ pub struct Recording {
 /// What a policy made of a script, but for its steps.
 #[derive(Debug, Drop)]
 pub struct Summary {
+    /// How many steps there were, one at each turn.
+    pub turns: u64,
     /// What came of the steps.
     pub report: Report,
     /// Whether every operation is done, and nothing waits, is queued or under way.
     pub finished: bool,
+}
+
+/// What a driver made of a script, with the steps where they were to be recorded.
+#[derive(Drop)]
+struct Driven {
+    steps: Steps,
+    turns: u64,
+    report: Report,
+    finished: bool,
 }
 
 /// Drives a cluster through a script, from numbers that begin at 0: at each turn the policy makes a choice, and what it
@@ -71,7 +82,17 @@ pub fn drive(
     ensures allowed { (moves : List Move) → Follows script.now policy.now moves → Ends script.now policy.now moves
         → length moves ≤ limit → IsOkUnless result DriveError.Memory }
 {
-    drive_through(alloc, script, policy, limit, true)
+    let Driven {
+        steps,
+        report,
+        finished,
+        ..
+    } = drive_through(alloc, script, policy, limit, true)?;
+    Ok(Recording {
+        steps,
+        report,
+        finished,
+    })
 }
 
 /// Does as [`drive`], and keeps no steps, so that it takes less time, and memory only for the world and for what it reports.
@@ -88,7 +109,7 @@ pub fn summarize(
     // There are steps, which are all that the policy chose until no choice was left, and the report is that of their run.
     ensures ok { IfOk result (λ summary. (moves : List Move)
         × Follows script.now policy.now moves × Ends script.now policy.now moves × (length moves ≤ limit)
-        × Reports script.now.nodes 0 moves summary.report
+        × (summary.turns ≡ length moves) × Reports script.now.nodes 0 moves summary.report
         × (IsTrue summary.finished ↔ IsFinished script.now (steps_of moves) summary.report)) }
     ensures main_theorem { IfOk result (λ summary. MainTheorem script.now.nodes summary.report) }
     // A refusal but want of memory comes where its cause stands, and where one stands nothing else is answered.
@@ -100,12 +121,17 @@ pub fn summarize(
     ensures allowed { (moves : List Move) → Follows script.now policy.now moves → Ends script.now policy.now moves
         → length moves ≤ limit → IsOkUnless result DriveError.Memory }
 {
-    let Recording {
+    let Driven {
+        turns,
         report,
         finished,
         ..
     } = drive_through(alloc, script, policy, limit, false)?;
-    Ok(Summary { report, finished })
+    Ok(Summary {
+        turns,
+        report,
+        finished,
+    })
 }
 
 /// Drives a cluster through a script, and records the steps, or none.
@@ -119,7 +145,7 @@ fn drive_through(
     policy: &Policy,
     limit: u64,
     records: bool,
-) -> Result<Recording, DriveError>
+) -> Result<Driven, DriveError>
     ensures ok { IfOk result (Records script.now policy.now limit records) }
     ensures answers { Answers script.now policy.now limit result }
 {
@@ -142,7 +168,7 @@ fn drive_world(
     limit: u64,
     records: bool,
     world: &mut World,
-) -> Result<Recording, DriveError>
+) -> Result<Driven, DriveError>
     requires run { IsRun world.old.count world.old.start world.old.moves }
     requires opened { world.old ≡ record { count = script.now.nodes; start = 0; moves = [] } }
     ensures ok { IfOk result (Records script.now policy.now limit records) }
@@ -153,7 +179,7 @@ fn drive_world(
     let mut driver = Driver::open(alloc, script, policy, world, records)?;
     driver.finish(alloc, script, policy, world, limit)?;
     let steps = driver.steps;
-    recording_of(alloc, script, world, &driver.clients, steps)
+    driven_of(alloc, script, world, &driver.clients, steps)
 }
 
 /// Reports what a policy made of a script.
@@ -161,25 +187,27 @@ fn drive_world(
 /// # Errors
 ///
 /// `Memory`.
-fn recording_of(
+fn driven_of(
     alloc: Global,
     script: &Script,
     world: &World,
     clients: &[Progress],
     steps: Steps,
-) -> Result<Recording, DriveError>
+) -> Result<Driven, DriveError>
     requires tracked { Tracks script.now world.now clients.now }
-    ensures steps { IfOk result (λ recording. recording.steps.items ≡ steps.items) }
-    ensures report { IfOk result (λ recording. Reports script.now.nodes 0 world.now.moves recording.report) }
-    ensures main_theorem { IfOk result (λ recording. MainTheorem script.now.nodes recording.report) }
-    ensures finished { IfOk result (λ recording.
-        IsTrue recording.finished ↔ IsFinished script.now (steps_of world.now.moves) recording.report) }
+    ensures steps { IfOk result (λ driven. driven.steps.items ≡ steps.items) }
+    ensures turns { IfOk result (λ driven. driven.turns ≡ length world.now.moves) }
+    ensures report { IfOk result (λ driven. Reports script.now.nodes 0 world.now.moves driven.report) }
+    ensures main_theorem { IfOk result (λ driven. MainTheorem script.now.nodes driven.report) }
+    ensures finished { IfOk result (λ driven.
+        IsTrue driven.finished ↔ IsFinished script.now (steps_of world.now.moves) driven.report) }
     ensures err { IfErr result (λ fault. fault ≡ DriveError.Memory) }
 {
     let report = world.report(alloc)?;
     let finished = has_nothing_left(&report) && are_done(script, clients);
-    Ok(Recording {
+    Ok(Driven {
         steps,
+        turns: world.steps(),
         report,
         finished,
     })

@@ -4,7 +4,7 @@ ghost use Rattle.ra_stamp.specs.NodeId.{IsNodeNumber};
 ghost use Rattle.ra_world.specs.Traffic.{Move, repeated_by};
 ghost use Rattle.ra_schedule.specs.declared.choice.Policy.{Policy};
 ghost use Rattle.ra_schedule.specs.Script.{ScriptState};
-ghost use Rattle.ra_schedule.specs.Schedule.{Follows, Ends};
+ghost use Rattle.ra_schedule.specs.Schedule.{Follows, Ends, RepeatsNothing};
 ghost use Rattle.ra_schedule.specs.Below.{LawsBelow};
 
 use ra_world::{
@@ -32,9 +32,9 @@ pub fn policies_lead_to_one_run()
     schedules_rest_on_runs();
 }
 
-/// No policy repeats a message: no choice stands for that. So what a report says of runs in which nothing was repeated holds of each
-/// that `drive` and `summarize` return.
+/// A policy repeats a message only by faults of which some are repeats, or where it lists one. So what a report says of runs in which
+/// nothing was repeated holds of each that `drive` and `summarize` return by another policy.
 pub fn policies_repeat_no_message()
-    ensures { (script : ScriptState) (policy : Policy) (moves : List Move) → Follows script policy moves
+    ensures { (script : ScriptState) (policy : Policy) (moves : List Move) → RepeatsNothing policy → Follows script policy moves
         → repeated_by moves ≡ [] }
 {}

@@ -7,9 +7,9 @@ ghost use Rattle.ra_schedule.specs.Script.{client_at, op_at};
 ghost use Rattle.ra_schedule.specs.Schedule.{Enables, IsEnabled, IsFirstEnabled, StandsFor, Picks, Ends, step_of};
 ghost use Rattle.ra_schedule.specs.Driving.{HasFault, IsMeaning};
 ghost use Rattle.ra_schedule.specs.Progress.{Tracks, IsProgress, AreStuck};
-ghost use Rattle.ra_schedule.specs.Drawing.{AreDraws, generator_at, generator_in};
+ghost use Rattle.ra_schedule.specs.Drawing.{AreDraws, generator_at, generator_in, words_drawn, words_for};
 
-use crate::drawing::draw;
+use crate::drawing::choose;
 use crate::draws::Draws;
 use crate::laws::schedules_rest_on_runs;
 use crate::progress::Progress;
@@ -109,11 +109,12 @@ pub fn pick(
     requires tracked { Tracks script.now world.now clients.now }
     requires stuck { AreStuck script.now clients.now first }
     requires draws { IfSome draws.old (AreDraws script.now world.now.moves) }
-    requires drawn { generator_in draws.old ≡ generator_at policy.now (length world.now.moves) }
+    requires drawn { generator_in draws.old ≡ generator_at policy.now (words_drawn policy.now world.now.moves) }
     ensures some { IfSome result (λ picked. Picks script.now policy.now world.now.moves picked.choice) }
     ensures meaning { IfSome result (λ picked. IsMeaning script.now world.now.moves picked.choice picked.meaning) }
     ensures none { IsNone result → Ends script.now policy.now world.now.moves }
-    ensures drawn { IsSome result → generator_in draws.new ≡ generator_at policy.now (length world.now.moves + 1) }
+    ensures drawn { IfSome result (λ picked. generator_in draws.new
+        ≡ generator_at policy.now (words_drawn policy.now world.now.moves + words_for policy.now picked.choice)) }
     ensures draws { IfSome draws.new (AreDraws script.now world.now.moves) }
 {
     schedules_rest_on_runs();
@@ -122,7 +123,7 @@ pub fn pick(
         return Some(with_meaning(script, world, clients, choice));
     }
     if let Some(draws) = draws {
-        let choice = draw(&mut draws.generator, script, world, &draws.enabled)?;
+        let choice = choose(policy, &mut draws.generator, script, world, &draws.enabled)?;
         return Some(with_meaning(script, world, clients, choice));
     }
     if let Some(found) = first_enabled(script, world, clients, first) {
@@ -175,6 +176,10 @@ fn meaning(
         },
         Choice::Lost(place) => match world.message_at(place) {
             Some(message) => Ok(Step::Lose(message)),
+            None => Err(DriveError::BadPlace),
+        },
+        Choice::Repeated(place) => match world.message_at(place) {
+            Some(message) => Ok(Step::Repeat(message)),
             None => Err(DriveError::BadPlace),
         },
     }

@@ -1,10 +1,12 @@
 //! What a policy makes of a script.
 use crate::helpers::is_quiet_after;
 use Drive::{
-    Differ, EndsAtOnce, Finish, Repeat, SixteenWritersEnd, SumsUpFourTurns, SumsUpNoThreeTurns,
-    TakesFourTurns, TakesMoreTurns,
+    Differ, EndsAtOnce, Finish, Goes, NamesNothing, Repeat, SixteenWritersEnd, SumsUpFourTurns,
+    SumsUpNoThreeTurns, TakesFourTurns, TakesMoreTurns,
 };
-use ra_schedule::{DriveError, Policy, Recording, Script, Summary, drive, summarize};
+use ra_schedule::{
+    Choice, Choices, DriveError, Faults, Policy, Recording, Script, Summary, drive, summarize,
+};
 use ra_stamp::Mark;
 use ra_world::{Report, Step};
 use std::alloc::Global;
@@ -16,6 +18,10 @@ pub enum Chooser {
     Newest,
     /// Chance, by this seed.
     Seeded(u64),
+    /// Chance with faults, by this seed: of 1,000 messages so many are lost, and so many repeated.
+    Faulty(u64, u16, u16),
+    /// These choices.
+    Listed(&'static [Choice]),
 }
 
 /// What a policy makes of a script.
@@ -25,6 +31,11 @@ pub enum Drive {
     TakesMoreTurns(Chooser, u64),
     /// The end is reached with no turn.
     EndsAtOnce(Chooser),
+    /// The end is reached by these steps, with so many messages sent, and it is finished or not. A digit is a step of the client with
+    /// that number, and by `d`, `l` or `r` a message is delivered, lost or repeated.
+    Goes(Chooser, &'static str, u128, bool),
+    /// A choice names a client or a message that there is not.
+    NamesNothing(Chooser),
     /// The oldest choices lead to the end in four turns, with one request, its two messages and three marks.
     TakesFourTurns,
     /// Three turns are too few to sum that up.
@@ -41,23 +52,55 @@ pub enum Drive {
     Differ,
 }
 
+/// Returns the policy of chance with faults, or `None` where there are no such faults.
+fn faulty(seed: u64, lose: u16, repeat: u16) -> Option<Policy> {
+    match Faults::new(lose, repeat) {
+        Some(faults) => Some(Policy::Faulty { seed, faults }),
+        None => None,
+    }
+}
+
+/// Returns the policy that makes these choices.
+fn listed(alloc: Global, choices: &[Choice]) -> Option<Policy> {
+    let mut list = Choices::new(alloc);
+    for choice in choices {
+        if list.push(*choice).is_err() {
+            return None;
+        }
+    }
+    Some(Policy::Listed(list))
+}
+
 /// Returns the policy.
-fn policy(chooser: Chooser) -> Policy {
+fn policy(alloc: Global, chooser: Chooser) -> Option<Policy> {
     match chooser {
-        Chooser::Oldest => Policy::Oldest,
-        Chooser::Newest => Policy::Newest,
-        Chooser::Seeded(seed) => Policy::Seeded(seed),
+        Chooser::Oldest => Some(Policy::Oldest),
+        Chooser::Newest => Some(Policy::Newest),
+        Chooser::Seeded(seed) => Some(Policy::Seeded(seed)),
+        Chooser::Faulty(seed, lose, repeat) => faulty(seed, lose, repeat),
+        Chooser::Listed(choices) => listed(alloc, choices),
     }
 }
 
 /// Makes the recording of a policy that comes to an end in so many turns.
 fn recorded(alloc: Global, script: &Script, chooser: Chooser, limit: u64) -> Option<Recording> {
-    drive(alloc, script, &policy(chooser), limit).ok()
+    match policy(alloc, chooser) {
+        Some(policy) => drive(alloc, script, &policy, limit).ok(),
+        None => None,
+    }
+}
+
+/// Returns why no end is reached in so many turns, where none is.
+fn refused(alloc: Global, script: &Script, chooser: Chooser, limit: u64) -> Option<DriveError> {
+    match policy(alloc, chooser) {
+        Some(policy) => drive(alloc, script, &policy, limit).err(),
+        None => None,
+    }
 }
 
 /// Returns whether no end is reached in so many turns.
 fn takes_more_turns(alloc: Global, script: &Script, chooser: Chooser, limit: u64) -> bool {
-    drive(alloc, script, &policy(chooser), limit).err() == Some(DriveError::TurnLimit)
+    refused(alloc, script, chooser, limit) == Some(DriveError::TurnLimit)
 }
 
 /// Returns whether a report is that of one request, its two messages and three marks.
@@ -82,6 +125,66 @@ fn takes_four_turns(alloc: Global, script: &Script) -> bool {
 fn ends_at_once(alloc: Global, script: &Script, chooser: Chooser) -> bool {
     match recorded(alloc, script, chooser, 0) {
         Some(recording) => has_ended(&recording, 0),
+        None => false,
+    }
+}
+
+/// Returns the letter of a step.
+fn letter(step: &Step) -> u8 {
+    match step {
+        Step::Ask { client: 1, .. } | Step::Leave { client: 1, .. } => b'1',
+        Step::Ask { .. } | Step::Leave { .. } => b'2',
+        Step::Deliver(_) => b'd',
+        Step::Lose(_) => b'l',
+        Step::Repeat(_) => b'r',
+    }
+}
+
+/// Returns whether steps have these letters.
+fn have_letters(steps: &[Step], letters: &[u8]) -> bool {
+    if steps.len() != letters.len() {
+        return false;
+    }
+    for place in 0..letters.len() {
+        if letter(&steps[place]) != letters[place] {
+            return false;
+        }
+    }
+    true
+}
+
+/// Returns how often a letter is among these.
+fn count(letters: &[u8], sought: u8) -> u128 {
+    let mut count = 0u128;
+    for letter in letters {
+        if *letter == sought {
+            count = count.saturating_add(1);
+        }
+    }
+    count
+}
+
+/// Returns whether the counts of a report are those of a run of these letters.
+fn counts(report: &Report, letters: &[u8]) -> bool {
+    report.lost == count(letters, b'l') && report.repeated == count(letters, b'r')
+}
+
+/// Returns whether the end is reached by steps of these letters, with so many messages sent, and it is finished or not.
+fn goes(
+    alloc: Global,
+    script: &Script,
+    chooser: Chooser,
+    letters: &[u8],
+    sent: u128,
+    finished: bool,
+) -> bool {
+    match recorded(alloc, script, chooser, letters.len() as u64) {
+        Some(recording) => {
+            have_letters(recording.steps.as_slice(), letters)
+                && counts(&recording.report, letters)
+                && recording.report.sent == sent
+                && recording.finished == finished
+        }
         None => false,
     }
 }
@@ -208,6 +311,12 @@ pub fn drives(alloc: Global, script: &Script, drive: Drive) -> bool {
     match drive {
         TakesMoreTurns(chooser, limit) => takes_more_turns(alloc, script, chooser, limit),
         EndsAtOnce(chooser) => ends_at_once(alloc, script, chooser),
+        Goes(chooser, letters, sent, finished) => {
+            goes(alloc, script, chooser, letters.as_bytes(), sent, finished)
+        }
+        NamesNothing(chooser) => {
+            refused(alloc, script, chooser, 100) == Some(DriveError::BadPlace)
+        }
         TakesFourTurns => takes_four_turns(alloc, script),
         SumsUpNoThreeTurns => sums_up_no_three_turns(alloc, script),
         SumsUpFourTurns => sums_up_four_turns(alloc, script),

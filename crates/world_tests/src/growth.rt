@@ -2,7 +2,8 @@
 use crate::acts::node;
 use crate::helpers::r;
 use ra_schedule::{
-    AddClientError, AddOpError, DriveError, NewScriptError, Op, Policy, Script, drive, summarize,
+    AddClientError, AddOpError, DriveError, Faults, NewScriptError, Op, Policy, Script, drive,
+    summarize,
 };
 use ra_stamp::{Entry, Mark, Memory, Mode, Name, NodeId, Stamp};
 use ra_world::{
@@ -389,6 +390,20 @@ fn growth_of_a_script_driven_in_order(rt: HostRuntime) {
 #[test]
 fn growth_of_a_script_driven_by_chance(rt: HostRuntime) {
     let (alloc, policy) = (rt.alloc(), Policy::Seeded(1));
+    end(
+        &rt,
+        again(try_script(alloc, &policy), try_script(alloc, &policy)),
+    );
+}
+
+/// Client 2 asks first, and a copy of the REPLY to it comes.
+#[test]
+fn growth_of_a_script_driven_by_chance_with_a_repeat(rt: HostRuntime) {
+    let alloc = rt.alloc();
+    let policy = match Faults::new(0, 100) {
+        Some(faults) => Policy::Faulty { seed: 2, faults },
+        None => Policy::Newest,
+    };
     end(
         &rt,
         again(try_script(alloc, &policy), try_script(alloc, &policy)),

@@ -6,6 +6,8 @@ mod acts;
 #[cfg(test)]
 mod drives;
 #[cfg(test)]
+mod faults;
+#[cfg(test)]
 mod growth;
 #[cfg(test)]
 mod helpers;

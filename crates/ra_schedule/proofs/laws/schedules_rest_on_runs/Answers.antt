@@ -9,6 +9,7 @@ returns c =
       a_list = c.messages_under_way_are_between_nodes.ensures.exist;
       deliver = c.runs_go_on_where_steps_are_allowed.ensures.deliver;
       lose = c.runs_go_on_where_steps_are_allowed.ensures.lose;
+      repeat = c.runs_go_on_where_steps_are_allowed.ensures.repeat;
       ask_stays = c.steps_elsewhere_leave_a_node.ensures.ask;
       leave_stays = c.steps_elsewhere_leave_a_node.ensures.leave;
     }

@@ -1,29 +1,29 @@
-use Rattle.std.proofs.Common.{rules, ◌≡◌, Option, Some, None, length, refl, sym, ap, ◌∙◌, subst}
+use Rattle.std.proofs.Common.{rules, ◌≡◌, Option, Some, None, ◌+◌, refl, sym, ap, ◌∙◌, subst}
 use Rattle.std.specs.Option.{IfSome}
 use Rattle.ra_schedule.specs.declared.choice.Choice.{Choice}
 use Rattle.ra_schedule.specs.declared.draws.Draws.{Draws}
 use Rattle.ra_schedule.specs.Schedule.{Picks}
-use Rattle.ra_schedule.specs.Drawing.{AreDraws, generator_in}
+use Rattle.ra_schedule.specs.Drawing.{AreDraws, generator_at, generator_in, words_drawn, words_for}
 use Rattle.ra_schedule.specs.Driving.{IsMeaning}
 use Rattle.ra_schedule.proofs.Choosing.{nothing_left, newest_message, oldest_message}
-use Rattle.ra_schedule.proofs.Seeded.{no_seed, drawn_is_picked, nothing_is_picked, goes_on, none_goes_on}
+use Rattle.ra_schedule.proofs.Seeded.{none_goes_on}
 use Rattle.ra_schedule.proofs.picking.pick.Goals as goal
 use Rattle.ra_schedule.proofs.picking.pick.Goals.{in-Newest, in_default-policy}
+
+pub choose-requires-clause-drawn : goal.choose-requires-clause-drawn
+choose-requires-clause-drawn c = sym (ap generator_in c.in-Some.is) ∙ c.requires.drawn
 
 pub returns-in_err-choice-2 : goal.returns-in_err-choice-2
 returns-in_err-choice-2 c =
     let script = c.args.script.now in
-    let policy = c.args.policy.now in
     let moves = c.args.world.now.moves in
-    let generator = c.in-Some.draws.generator in
-    let has : Some generator ≡ _ = sym (ap generator_in c.in-Some.is) ∙ c.requires.drawn in
     let draws : AreDraws script moves c.in-Some.draws = subst (λ (o : Option Draws). IfSome o (AreDraws script moves)) c.in-Some.is c.requires.draws in
     let is : c.from_residual-in_err-choice-2.result ≡ None = search rules in
     rw is (record {
       some = tt;
       meaning = tt;
-      none = λ e. nothing_is_picked script policy moves generator (c.schedules_rest_on_runs.ensures.one_list moves) has (c.in_err-choice-2.ensures.none refl);
-      drawn = λ e. absurd cc;
+      none = λ e. c.in_err-choice-2.ensures.none refl;
+      drawn = tt;
       draws = record { rosters = draws.rosters; flags = draws.flags; count = draws.count };
     })
 
@@ -32,16 +32,14 @@ returns-in-Some c =
     let script = c.args.script.now in
     let policy = c.args.policy.now in
     let moves = c.args.world.now.moves in
-    let generator = c.in-Some.draws.generator in
     let picked = c.with_meaning-in-Some in
-    let has : Some generator ≡ _ = sym (ap generator_in c.in-Some.is) ∙ c.requires.drawn in
     let draws : AreDraws script moves c.in-Some.draws = subst (λ (o : Option Draws). IfSome o (AreDraws script moves)) c.in-Some.is c.requires.draws in
     record {
-      some = subst (Picks script policy moves) (sym picked.ensures.choice)
-          (drawn_is_picked script policy moves generator c.in_ok-choice-2.choice has c.in_ok-choice-2.ensures.some);
+      some = subst (Picks script policy moves) (sym picked.ensures.choice) c.in_ok-choice-2.ensures.some;
       meaning = subst (λ (x : Choice). IsMeaning script moves x picked.result.meaning) (sym picked.ensures.choice) picked.ensures.meaning;
       none = λ e. absurd cc;
-      drawn = λ e. goes_on policy (length moves) generator c.draw.new.generator has (c.in_ok-choice-2.ensures.drawn refl);
+      drawn = subst (λ (x : Choice). Some c.choose.new.generator ≡ generator_at policy (words_drawn policy moves + words_for policy x))
+          (sym picked.ensures.choice) c.in_ok-choice-2.ensures.drawn;
       draws = record { rosters = draws.rosters; flags = draws.flags; count = draws.count };
     }
 
@@ -53,10 +51,9 @@ returns-then-messages-eq0 c =
     record {
       some = tt;
       meaning = tt;
-      none = λ e. nothing_left c.schedules_rest_on_runs.ensures.one_list c.args.script.now c.args.policy.now c.args.world.now.moves
-          c.in_default.not-Listed (no_seed c.args.policy.now (length c.args.world.now.moves) has)
-          (none, (left, leaves, sym is ∙ c.if-messages-eq0.true));
-      drawn = λ e. absurd cc;
+      none = λ e. nothing_left c.schedules_rest_on_runs.ensures.one_list c.args.script.now c.args.policy.now c.args.world.now.moves _
+          c.in_default.not-Listed has (none, (left, leaves, sym is ∙ c.if-messages-eq0.true));
+      drawn = tt;
       draws = c.requires.draws;
     }
 
@@ -76,13 +73,13 @@ returns c =
           (newest_message script policy moves c.under_way-messages.result w.in-Newest.is (λ zero. c.if-messages-eq0.false zero) (none, (left, leaves, sym is)))
       | in_default-policy w ↦
           subst (Picks script policy moves) (sym w.choice-is)
-          (oldest_message script policy moves c.under_way-messages.result c.in_default.not-Listed (no_seed policy (length moves) has) w.in_default-policy.not-Newest
+          (oldest_message script policy moves _ c.under_way-messages.result c.in_default.not-Listed has w.in_default-policy.not-Newest
           (λ zero. c.if-messages-eq0.false zero) (none, (left, leaves, sym is)))
     ] in
     record {
       some = subst (Picks script policy moves) (sym picked.ensures.choice) choice;
       meaning = subst (λ (x : Choice). IsMeaning script moves x picked.result.meaning) (sym picked.ensures.choice) picked.ensures.meaning;
       none = λ e. absurd cc;
-      drawn = λ e. ap generator_in c.in_default-draws.is ∙ none_goes_on policy (length moves) has;
+      drawn = ap generator_in c.in_default-draws.is ∙ none_goes_on policy _ _ has;
       draws = c.requires.draws;
     }

@@ -2,8 +2,8 @@ use Rattle.std.proofs.Common.{refl, sym, ◌∙◌}
 use Rattle.std.proofs.lemmas.Bool.{false≢true}
 use Rattle.ra_schedule.specs.Schedule.{steps_of}
 use Rattle.ra_schedule.proofs.Turns.{all_done, are_done}
-use Rattle.ra_schedule.proofs.driving.recording_of.Goals as goal
-use Rattle.ra_schedule.proofs.driving.recording_of.Goals.{then-has_nothing_left, else-has_nothing_left}
+use Rattle.ra_schedule.proofs.driving.driven_of.Goals as goal
+use Rattle.ra_schedule.proofs.driving.driven_of.Goals.{then-has_nothing_left, else-has_nothing_left}
 
 pub returns-clause-finished : goal.returns-clause-finished
 returns-clause-finished c =

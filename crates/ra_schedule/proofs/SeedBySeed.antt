@@ -1,0 +1,81 @@
+-- One more seed behind those that were tried.
+use Rattle.std.proofs.Common.{◌≡◌, ◌⊎◌, ℕ, zero, suc, ◌+◌, ◌<◌, ◌≤◌, Option, Some, List, [], ◌∷◌, ◌++◌, length, slice_get, refl, sym, ap, subst, ◌∙◌, arith, inl, inr}
+use Rattle.std.proofs.lemmas.List.{length-append}
+use Rattle.ra_schedule.specs.declared.outcomes.Outcome.{Outcome}
+use Rattle.ra_schedule.specs.declared.outcomes.Survey.{Survey}
+use Rattle.ra_schedule.specs.Faults.{FaultRates}
+use Rattle.ra_schedule.specs.Script.{ScriptState}
+use Rattle.ra_schedule.specs.Survey.{chance, IsOutcome, AreOutcomes, Tallies, IsSurvey}
+use Rattle.ra_schedule.proofs.Choosing.{same_some}
+
+-- what came of the seeds before this one
+pub record SoFar (script : ScriptState) (faults : Option FaultRates) (limit first seed : ℕ) (survey : Survey) : Type 0 where
+  pub outcomes : List Outcome
+  pub each : AreOutcomes script faults limit first outcomes
+  pub seeds : first + length outcomes ≡ seed
+  pub tallies : Tallies first outcomes survey
+
+pub none_yet : (script : ScriptState) (faults : Option FaultRates) (limit first : ℕ) (survey : Survey) → Tallies first [] survey → SoFar script faults limit first first survey
+none_yet script faults limit first survey t = record {
+  outcomes = [];
+  each = λ place outcome e. absurd cc;
+  seeds = omega arith;
+  tallies = t;
+}
+
+at_end : (xs : List Outcome) (x : Outcome) (place : ℕ) (y : Outcome) → slice_get (xs ++ x ∷ []) place ≡ Some y
+    → (slice_get xs place ≡ Some y) ⊎ ((place ≡ length xs) × (y ≡ x))
+at_end [] x zero y e = inr (refl, same_some e refl)
+at_end [] x (suc place) y e = absurd cc
+at_end (z ∷ xs) x zero y e = inl e
+at_end (z ∷ xs) x (suc place) y e =
+    elim (at_end xs x place y e) [
+      | inl before ↦ inl before
+      | inr last ↦ inr (omega (arith, last.0), last.1)
+    ]
+
+pub one_more_seed : (script : ScriptState) (faults : Option FaultRates) (limit first seed : ℕ) (survey new : Survey) (outcome : Outcome) → (so : SoFar script faults limit first seed survey)
+    → IsOutcome script (chance faults seed) limit outcome → Tallies first (so.outcomes ++ outcome ∷ []) new → SoFar script faults limit first (seed + 1) new
+one_more_seed script faults limit first seed survey new outcome so is t = record {
+  outcomes = so.outcomes ++ outcome ∷ [];
+  each = λ place o e.
+      elim (at_end so.outcomes outcome place o e) [
+        | inl before ↦ so.each place o before
+        | inr last ↦
+            let there : first + place ≡ seed = omega (arith, last.0, so.seeds) in
+            subst (λ (s : ℕ). IsOutcome script (chance faults s) limit o) (sym there)
+            (subst (λ (p : Outcome). IsOutcome script (chance faults seed) limit p) (sym last.1) is)
+      ];
+  seeds = omega (arith, so.seeds, length-append so.outcomes (outcome ∷ []));
+  tallies = t;
+}
+
+-- where the last one is tried, they are all
+pub all_seeds : (script : ScriptState) (faults : Option FaultRates) (limit first last : ℕ) (survey : Survey) → first ≤ last → SoFar script faults limit first (last + 1) survey
+    → IsSurvey script faults limit first last survey
+all_seeds script faults limit first last survey some so = record {
+  outcomes = so.outcomes;
+  each = so.each;
+  all = omega (arith, so.seeds);
+  tallies = so.tallies;
+}
+
+-- where the last one is below the first there are none
+pub no_seeds : (script : ScriptState) (faults : Option FaultRates) (limit first last : ℕ) (survey : Survey) → last < first → Tallies first [] survey
+    → IsSurvey script faults limit first last survey
+no_seeds script faults limit first last survey none t = record {
+  outcomes = [];
+  each = λ place outcome e. absurd cc;
+  all = omega arith;
+  tallies = t;
+}
+
+-- behind the loop the next seed is the last one
+pub at_last : (script : ScriptState) (faults : Option FaultRates) (limit first seed last : ℕ) (survey : Survey) → SoFar script faults limit first seed survey → seed ≡ last
+    → SoFar script faults limit first last survey
+at_last script faults limit first seed last survey so is = record {
+  outcomes = so.outcomes;
+  each = so.each;
+  seeds = so.seeds ∙ is;
+  tallies = so.tallies;
+}

@@ -1,0 +1,107 @@
+-- What comes of a script under many seeds.
+use Rattle.std.specs.Prelude.{◌≡◌, ◌↔◌, ℕ, ◌+◌, ◌-◌, ◌≤◌, Bool, true, false, List, [], ◌∷◌, length, map, filter, flat_map, Option, Some, None, option_map, slice_get, All, Contains, IsTrue}
+use Rattle.std.specs.List.{position_from}
+use Rattle.ra_world.specs.declared.report.Report.{Report}
+use Rattle.ra_world.specs.Traffic.{Move}
+use Rattle.ra_world.specs.World.{Reports}
+use Rattle.ra_schedule.specs.declared.choice.Policy.{Policy}
+use Rattle.ra_schedule.specs.declared.choice.Policy.TheVariants.{Seeded, Faulty}
+use Rattle.ra_schedule.specs.declared.error.DriveError.TheVariants.{TurnLimit}
+use Rattle.ra_schedule.specs.declared.outcomes.Figures.{Figures}
+use Rattle.ra_schedule.specs.declared.outcomes.Outcome.{Outcome}
+use Rattle.ra_schedule.specs.declared.outcomes.Outcome.TheVariants.{Finished, Stuck, Limit}
+use Rattle.ra_schedule.specs.declared.outcomes.Tally.{Tally}
+use Rattle.ra_schedule.specs.declared.outcomes.Spread.{Spread}
+use Rattle.ra_schedule.specs.declared.outcomes.Survey.{Survey}
+use Rattle.ra_schedule.specs.Faults.{FaultRates}
+use Rattle.ra_schedule.specs.Script.{ScriptState}
+use Rattle.ra_schedule.specs.Schedule.{steps_of, Follows, Ends, Stops, IsFinished}
+
+-- chance by a seed, with faults or without
+abbrev pub chance : Option FaultRates → ℕ → Policy
+chance None seed = Seeded seed
+chance (Some faults) seed = Faulty seed faults
+
+-- the policy was followed to its end, within the limit; so many turns were made, so many messages sent, and the run is finished, or not
+pub record HasEnded (script : ScriptState) (policy : Policy) (limit : ℕ) (figures : Figures) (finished : Bool) : Type 0 where
+  pub moves : List Move
+  pub follows : Follows script policy moves
+  pub ends : Ends script policy moves
+  pub within : length moves ≤ limit
+  pub report : Report
+  pub reports : Reports script.nodes 0 moves report
+  pub finished_is : IsTrue finished ↔ IsFinished script (steps_of moves) report
+  pub turns : figures.turns ≡ length moves
+  pub messages : figures.messages ≡ report.sent
+
+-- what came of a script under a policy, within so many turns
+abbrev pub IsOutcome : ScriptState → Policy → ℕ → Outcome → Type 0
+IsOutcome script policy limit (Finished figures) = HasEnded script policy limit figures true
+IsOutcome script policy limit (Stuck figures) = HasEnded script policy limit figures false
+IsOutcome script policy limit Limit = (moves : List Move) × Follows script policy moves × Stops script policy limit moves TurnLimit
+
+-- what came of it under each seed, from this one on
+abbrev pub AreOutcomes : ScriptState → Option FaultRates → (limit first : ℕ) → List Outcome → Type 0
+AreOutcomes script faults limit first outcomes = (place : ℕ) (outcome : Outcome) → slice_get outcomes place ≡ Some outcome
+    → IsOutcome script (chance faults (first + place)) limit outcome
+
+-- ---- Counted
+
+abbrev pub is_finished : Outcome → Bool
+is_finished (Finished figures) = true
+is_finished (Stuck figures) = false
+is_finished Limit = false
+
+abbrev pub is_stuck : Outcome → Bool
+is_stuck (Finished figures) = false
+is_stuck (Stuck figures) = true
+is_stuck Limit = false
+
+abbrev pub is_limit : Outcome → Bool
+is_limit (Finished figures) = false
+is_limit (Stuck figures) = false
+is_limit Limit = true
+
+-- the figures of a run that came to an end
+abbrev pub figures_of : Outcome → List Figures
+figures_of (Finished figures) = figures ∷ []
+figures_of (Stuck figures) = figures ∷ []
+figures_of Limit = []
+
+-- how many turns were made, and messages sent, in the runs that came to an end
+abbrev pub turns_of : List Outcome → List ℕ
+turns_of outcomes = map (λ figures. figures.turns) (flat_map figures_of outcomes)
+
+abbrev pub messages_of : List Outcome → List ℕ
+messages_of outcomes = map (λ figures. figures.messages) (flat_map figures_of outcomes)
+
+-- how many of the seeds from this one on came to such an end, and the first of them
+abbrev pub tally_of : (Outcome → Bool) → ℕ → List Outcome → Option Tally
+tally_of test first outcomes =
+    option_map (λ seed. record { seeds = length (filter test outcomes); first = seed }) (position_from test first outcomes)
+
+-- one more seed, behind those that were counted
+abbrev pub tally_with : Option Tally → ℕ → Tally
+tally_with None seed = record { seeds = 1; first = seed }
+tally_with (Some tally) seed = record tally { seeds = tally.seeds + 1 }
+
+-- the least and the most of these numbers, where there are any
+abbrev pub IsLeastAndMost : List ℕ → Option Spread → Type 0
+IsLeastAndMost numbers None = numbers ≡ []
+IsLeastAndMost numbers (Some spread) = Contains numbers spread.least × Contains numbers spread.most
+    × All (λ number. (spread.least ≤ number) × (number ≤ spread.most)) numbers
+
+-- the survey counts what came of the seeds from this one on
+pub record Tallies (first : ℕ) (outcomes : List Outcome) (survey : Survey) : Type 0 where
+  pub finished : survey.finished ≡ tally_of is_finished first outcomes
+  pub stuck : survey.stuck ≡ tally_of is_stuck first outcomes
+  pub limit : survey.limit ≡ tally_of is_limit first outcomes
+  pub turns : IsLeastAndMost (turns_of outcomes) survey.turns
+  pub messages : IsLeastAndMost (messages_of outcomes) survey.messages
+
+-- the survey of a script under chance, with faults or without, by each seed from the first to the last, both of them included
+pub record IsSurvey (script : ScriptState) (faults : Option FaultRates) (limit first last : ℕ) (survey : Survey) : Type 0 where
+  pub outcomes : List Outcome
+  pub each : AreOutcomes script faults limit first outcomes
+  pub all : length outcomes ≡ last + 1 - first
+  pub tallies : Tallies first outcomes survey
