@@ -12,8 +12,8 @@ use Rattle.std.specs.Char.{is_ascii_digit}
 use Rattle.std.specs.Fmt.{decimal}
 use Rattle.std.specs.List.{list_all, slice_split, join_with_byte}
 use Rattle.ra_schedule.specs.declared.choice.Choice.{Choice}
-use Rattle.ra_schedule.specs.declared.choice.Choice.TheVariants.{Client, Message, Lost}
-use Rattle.ra_script.specs.ChoicesText.{is_decimal, decimal_value, choice_with, choice_of, choices_in, choices_of, spelled, spelled_all, number_in, Lists}
+use Rattle.ra_schedule.specs.declared.choice.Choice.TheVariants.{Client, Message, Lost, Repeated}
+use Rattle.ra_script.specs.ChoicesText.{is_decimal, decimal_value, choice_with, choice_of, choices_in, choices_of, spelled, spelled_all, HasText, Lists}
 use Rattle.std.specs.Prelude.{MatchResult, IfOk, IfErr}
 use Rattle.ra_stamp.specs.Sequence.{Listed}
 use Rattle.ra_script.specs.declared.error.ChoicesError.{ChoicesError}
@@ -88,7 +88,7 @@ value_short digits h =
     let (some, few) = and_parts (nat_le 1 (length digits)) (nat_le (length digits) 9) lengths in
     digits_value_short own digits 9 each (leb-true (length digits) 9 few)
 
-number_short : (letter number : ℕ) (choice : Choice) → number < 10 ^ 9 → choice_with letter number ≡ Some choice → number_in choice < 10 ^ 9
+number_short : (letter number : ℕ) (choice : Choice) → number < 10 ^ 9 → choice_with letter number ≡ Some choice → HasText choice
 number_short letter number choice small e =
     elim (cases_Bool (letter == 99)) [
       | inl c ↦ let same : Client number ≡ choice = same_Some _ _ (rw c at e) in rw (sym same) small
@@ -103,7 +103,7 @@ number_short letter number choice small e =
           ]
     ]
 
-choice_short : (word : List ℕ) (choice : Choice) → choice_of word ≡ Some choice → number_in choice < 10 ^ 9
+choice_short : (word : List ℕ) (choice : Choice) → choice_of word ≡ Some choice → HasText choice
 choice_short [] choice e = absurd cc
 choice_short (letter ∷ digits) choice e =
     elim (cases_Bool (is_decimal digits)) [
@@ -111,19 +111,19 @@ choice_short (letter ∷ digits) choice e =
       | inr bad ↦ absurd (let clash : None ≡ Some choice = rw bad at e in cc)
     ]
 
-words_short : (words : List (List ℕ)) (choices : List Choice) → choices_in words ≡ Some choices → All (λ choice. number_in choice < 10 ^ 9) choices
-words_short [] choices e = let same : [] ≡ choices = same_Some _ _ e in rw (sym same) (All-nil (λ choice. number_in choice < 10 ^ 9))
+words_short : (words : List (List ℕ)) (choices : List Choice) → choices_in words ≡ Some choices → All HasText choices
+words_short [] choices e = let same : [] ≡ choices = same_Some _ _ e in rw (sym same) (All-nil HasText)
 words_short (word ∷ words) choices e =
     let w = held (λ (choice : Choice). option_map (λ (others : List Choice). choice ∷ others) (choices_in words)) (choice_of word) choices e in
     let v = mapped (λ (others : List Choice). w.0 ∷ others) (choices_in words) choices w.2 in
-    rw (sym v.2) (All-cons (λ choice. number_in choice < 10 ^ 9) w.0 v.0 (choice_short word w.0 w.1) (words_short words v.0 v.1))
+    rw (sym v.2) (All-cons HasText w.0 v.0 (choice_short word w.0 w.1) (words_short words v.0 v.1))
 
-text_short : (text : List ℕ) (choices : List Choice) → choices_of text ≡ Some choices → All (λ choice. number_in choice < 10 ^ 9) choices
-text_short [] choices e = let same : [] ≡ choices = same_Some _ _ e in rw (sym same) (All-nil (λ choice. number_in choice < 10 ^ 9))
+text_short : (text : List ℕ) (choices : List Choice) → choices_of text ≡ Some choices → All HasText choices
+text_short [] choices e = let same : [] ≡ choices = same_Some _ _ e in rw (sym same) (All-nil HasText)
 text_short (b ∷ text) choices e = words_short (slice_split (λ c. c == 32) (b ∷ text)) choices e
 
 pub lists : (text : List ℕ) (choices : List Choice) → choices_of text ≡ Some choices → Lists text choices
-lists text choices e = record { whole = text_spelled text choices e; short = text_short text choices e }
+lists text choices e = record { whole = text_spelled text choices e; written = text_short text choices e }
 
 -- a number is written without zeros before it
 no_zeros : (n : ℕ) (digits : List ℕ) → n < 10 ^ 9 → decimal n ≡ digits → get_or digits 0 0 ≡ 48 → length digits ≡ 1
@@ -156,10 +156,11 @@ with_number : (letter n : ℕ) → n < 10 ^ 9 → choice_of (letter ∷ decimal 
 with_number letter n small =
     let value : decimal_value (decimal n) ≡ n = digits_value-decimal own n (omega arith) in rw (is_decimal-decimal n small, value)
 
-choice_read : (choice : Choice) → number_in choice < 10 ^ 9 → choice_of (spelled choice) ≡ Some choice
+choice_read : (choice : Choice) → HasText choice → choice_of (spelled choice) ≡ Some choice
 choice_read (Client n) small = with_number 99 n small
 choice_read (Message n) small = with_number 109 n small
 choice_read (Lost n) small = with_number 108 n small
+choice_read (Repeated n) none = absurd none
 
 digit_no_space : (c : ℕ) → is_ascii_digit c ≡ true → (c == 32) ≡ false
 digit_no_space c h = let (low, high) = and_parts (nat_le 48 c) (nat_le c 57) h in let above = leb-true 48 c low in ne_eqb c 32 (omega arith)
@@ -170,36 +171,38 @@ digits_no_space (c ∷ digits) h =
     let (first, others) = and_parts (is_ascii_digit c) (list_all is_ascii_digit digits) h in
     All-cons (λ x. (x == 32) ≡ false) c digits (digit_no_space c first) (digits_no_space digits others)
 
-no_space : (choice : Choice) → number_in choice < 10 ^ 9 → All (λ c. (c == 32) ≡ false) (spelled choice)
+no_space : (choice : Choice) → HasText choice → All (λ c. (c == 32) ≡ false) (spelled choice)
 no_space (Client n) small = All-cons (λ c. (c == 32) ≡ false) 99 (decimal n) refl (digits_no_space (decimal n) (digits_decimal own n (omega arith)))
 no_space (Message n) small = All-cons (λ c. (c == 32) ≡ false) 109 (decimal n) refl (digits_no_space (decimal n) (digits_decimal own n (omega arith)))
 no_space (Lost n) small = All-cons (λ c. (c == 32) ≡ false) 108 (decimal n) refl (digits_no_space (decimal n) (digits_decimal own n (omega arith)))
+no_space (Repeated n) none = absurd none
 
-split_spelled : (choice : Choice) (choices : List Choice) → All (λ c. number_in c < 10 ^ 9) (choice ∷ choices) → slice_split (λ b. b == 32) (spelled_all (choice ∷ choices)) ≡ map spelled (choice ∷ choices)
-split_spelled choice [] short = slice_split_none (λ b. b == 32) (spelled choice) (no_space choice (All-head (λ c. number_in c < 10 ^ 9) choice [] short))
+split_spelled : (choice : Choice) (choices : List Choice) → All HasText (choice ∷ choices) → slice_split (λ b. b == 32) (spelled_all (choice ∷ choices)) ≡ map spelled (choice ∷ choices)
+split_spelled choice [] short = slice_split_none (λ b. b == 32) (spelled choice) (no_space choice (All-head HasText choice [] short))
 split_spelled choice (d ∷ choices) short =
-    slice_split_at (λ b. b == 32) (spelled choice) 32 (spelled_all (d ∷ choices)) (no_space choice (All-head (λ c. number_in c < 10 ^ 9) choice (d ∷ choices) short)) refl
-    ∙ ap (λ (others : List (List ℕ)). spelled choice ∷ others) (split_spelled d choices (All-tail (λ c. number_in c < 10 ^ 9) choice (d ∷ choices) short))
+    slice_split_at (λ b. b == 32) (spelled choice) 32 (spelled_all (d ∷ choices)) (no_space choice (All-head HasText choice (d ∷ choices) short)) refl
+    ∙ ap (λ (others : List (List ℕ)). spelled choice ∷ others) (split_spelled d choices (All-tail HasText choice (d ∷ choices) short))
 
-words_read : (choices : List Choice) → All (λ c. number_in c < 10 ^ 9) choices → choices_in (map spelled choices) ≡ Some choices
+words_read : (choices : List Choice) → All HasText choices → choices_in (map spelled choices) ≡ Some choices
 words_read [] short = refl
 words_read (choice ∷ choices) short =
-    rw (choice_read choice (All-head (λ c. number_in c < 10 ^ 9) choice choices short), words_read choices (All-tail (λ c. number_in c < 10 ^ 9) choice choices short))
+    rw (choice_read choice (All-head HasText choice choices short), words_read choices (All-tail HasText choice choices short))
 
-spelled_some : (choice : Choice) → 0 < length (spelled choice)
-spelled_some (Client n) = omega arith
-spelled_some (Message n) = omega arith
-spelled_some (Lost n) = omega arith
+spelled_some : (choice : Choice) → HasText choice → 0 < length (spelled choice)
+spelled_some (Client n) small = omega arith
+spelled_some (Message n) small = omega arith
+spelled_some (Lost n) small = omega arith
+spelled_some (Repeated n) none = absurd none
 
-all_some : (choice : Choice) (choices : List Choice) → 0 < length (spelled_all (choice ∷ choices))
-all_some choice [] = spelled_some choice
-all_some choice (d ∷ choices) = omega (arith, spelled_some choice, length-append (spelled choice) (32 ∷ spelled_all (d ∷ choices)))
+all_some : (choice : Choice) (choices : List Choice) → HasText choice → 0 < length (spelled_all (choice ∷ choices))
+all_some choice [] has = spelled_some choice has
+all_some choice (d ∷ choices) has = omega (arith, spelled_some choice has, length-append (spelled choice) (32 ∷ spelled_all (d ∷ choices)))
 
 -- a text of choices is read as these
 pub choices_of-spelled : (text : List ℕ) (choices : List Choice) → Lists text choices → choices_of text ≡ Some choices
 choices_of-spelled text [] h = rw h.whole
 choices_of-spelled text (choice ∷ choices) h =
-    rw h.whole (choices_of-some (spelled_all (choice ∷ choices)) (all_some choice choices) ∙ (ap choices_in (split_spelled choice choices h.short) ∙ words_read (choice ∷ choices) h.short))
+    rw h.whole (choices_of-some (spelled_all (choice ∷ choices)) (all_some choice choices (All-head HasText choice choices h.written)) ∙ (ap choices_in (split_spelled choice choices h.written) ∙ words_read (choice ∷ choices) h.written))
 
 -- and so by whatever answers what the text comes to
 pub only_choices : (text : List ℕ) (r : Result (Listed Choice) ChoicesError) → IfOk r (λ choices. choices_of text ≡ Some choices.items)

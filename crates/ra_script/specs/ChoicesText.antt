@@ -4,7 +4,7 @@ use Rattle.std.specs.Char.{is_ascii_digit}
 use Rattle.std.specs.Fmt.{decimal}
 use Rattle.std.specs.List.{list_all, slice_split, join_with_byte}
 use Rattle.ra_schedule.specs.declared.choice.Choice.{Choice}
-use Rattle.ra_schedule.specs.declared.choice.Choice.TheVariants.{Client, Message, Lost}
+use Rattle.ra_schedule.specs.declared.choice.Choice.TheVariants.{Client, Message, Lost, Repeated}
 
 -- 1 to 9 digits, of which the first of two or more is not `0`
 abbrev pub is_decimal : List ℕ → Bool
@@ -39,23 +39,25 @@ abbrev pub choices_of : List ℕ → Option (List Choice)
 choices_of [] = Some []
 choices_of (byte ∷ bytes) = choices_in (slice_split (λ b. b == 32) (byte ∷ bytes))
 
--- a choice as it is written
+-- a choice as it is written; no text stands for a repeat
 abbrev pub spelled : Choice → List ℕ
 spelled (Client number) = 99 ∷ decimal number
 spelled (Message place) = 109 ∷ decimal place
 spelled (Lost place) = 108 ∷ decimal place
+spelled (Repeated place) = []
 
 -- choices as they are written, with a space between each two
 abbrev pub spelled_all : List Choice → List ℕ
 spelled_all choices = join_with_byte 32 (map spelled choices)
 
--- the number of a choice
-abbrev pub number_in : Choice → ℕ
-number_in (Client number) = number
-number_in (Message place) = place
-number_in (Lost place) = place
+-- a choice can be written: its number has at most nine digits, and it is no repeat
+abbrev pub HasText : Choice → Type 0
+HasText (Client number) = number < 10 ^ 9
+HasText (Message place) = place < 10 ^ 9
+HasText (Lost place) = place < 10 ^ 9
+HasText (Repeated place) = ⊥
 
--- the text is these choices, each number of at most nine digits
+-- the text is these choices, each of which can be written
 pub record Lists (text : List ℕ) (choices : List Choice) : Type 0 where
   pub whole : text ≡ spelled_all choices
-  pub short : All (λ choice. number_in choice < 10 ^ 9) choices
+  pub written : All HasText choices

@@ -54,7 +54,7 @@ fn number_up_to(number: i64, most: u16) -> Option<u16>
 }
 
 /// Returns the integer at a key, if there is one. It does not allocate.
-fn integer_at(table: &Table, key: &str) -> Option<i64>
+pub fn integer_at(table: &Table, key: &str) -> Option<i64>
     ensures { result ≡ spec.integer_at key.now (table_view table.now) }
 {
     match table.get(key) {
@@ -64,7 +64,7 @@ fn integer_at(table: &Table, key: &str) -> Option<i64>
 }
 
 /// Returns the array at a key, if there is one. It does not allocate.
-fn array_at<'a>(table: &'a Table, key: &str) -> Option<&'a Array>
+pub fn array_at<'a>(table: &'a Table, key: &str) -> Option<&'a Array>
     ensures { option_map (λ items. array_view items.now) result ≡ spec.array_at key.now (table_view table.now) }
 {
     match table.get(key) {

@@ -5,12 +5,15 @@
 mod choices;
 mod document;
 mod error;
+mod explaining;
 mod format;
 mod operation;
 mod performing;
 mod reading;
+mod shape_note;
 
 pub use choices::read_choices;
 pub use error::{ChoicesError, PerformError, ScriptError};
+pub use explaining::explain_script;
 pub use performing::{perform, perform_trace};
 pub use reading::read_script;

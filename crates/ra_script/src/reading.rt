@@ -19,7 +19,7 @@ use std::alloc::Global;
 use toml::Table;
 
 /// The most bytes of a text.
-const MAX_TEXT: usize = 65_536;
+pub const MAX_TEXT: usize = 65_536;
 
 /// Returns the tree of a text.
 ///
@@ -60,7 +60,7 @@ fn tree_of(alloc: Global, text: &[u8]) -> Result<Table, ScriptError>
 /// 2. `NotHeld`: it unlocks a name that the client does not have then.
 /// 3. `AlreadyHeld`: it locks a name that the client has.
 /// 4. `Memory`.
-fn add_op(script: &mut Script, string: &str) -> Result<(), ScriptError>
+pub fn add_op(script: &mut Script, string: &str) -> Result<(), ScriptError>
     ensures ok { OnOk result ((base : ScriptState) (node : ℕ) (done : List Op)
         → script.old ≡ spec.with_last base (record { node = node; ops = done }) → length done < 1024
         → (op : Op) × (spec.next_op done string.now ≡ Ok op)

@@ -2,7 +2,7 @@ use Rattle.ra_script.proofs.performing.lines_of.Goals as goal
 
 pub returns-clause-ok : goal.returns-clause-ok
 returns-clause-ok c input is =
-    let (moves, follows, ends, most, reports, finished) = c.in_ok-summary.ensures.ok in
+    let (moves, follows, ends, most, turns, reports, finished) = c.in_ok-summary.ensures.ok in
     record {
       script = c.args.script.now;
       script_is = is;
