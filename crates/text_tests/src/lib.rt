@@ -18,6 +18,8 @@ mod mark_logs;
 #[cfg(test)]
 mod performing;
 #[cfg(test)]
+mod pictures;
+#[cfg(test)]
 mod readers;
 #[cfg(test)]
 mod scripts;

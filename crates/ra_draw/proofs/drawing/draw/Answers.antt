@@ -1,0 +1,18 @@
+use Rattle.std.proofs.Common.{rules}
+use Rattle.ra_draw.specs.Drawing.{IsInput}
+use Rattle.ra_draw.proofs.drawing.draw.Goals as goal
+
+pub returns-clause-too_long : goal.returns-clause-too_long
+returns-clause-too_long g c e =
+    let text = c.in_ok-text.text.items in
+    let input : IsInput (g.R.Read.remaining c.args.reader.now) (g.R.Read.remaining c.read_up_to.new.reader) text = search rules in
+    let refused = rw c.deref.ensures.value at c.draw_text.ensures.too_long in
+    let (requests, messages, verdict, long) = refused e in (text, requests, messages, input, verdict, long)
+
+pub returns-clause-front : goal.returns-clause-front
+returns-clause-front g c e =
+    let text = c.in_ok-text.text.items in
+    let input : IsInput (g.R.Read.remaining c.args.reader.now) (g.R.Read.remaining c.read_up_to.new.reader) text = search rules in
+    let broken = rw c.deref.ensures.value at c.draw_text.ensures.front in
+    let (requests, messages, front, back, verdict, picture, left, appends) = broken e in
+    (text, requests, messages, front, back, input, verdict, picture, left, appends)

@@ -1,0 +1,41 @@
+-- What is drawn of an input, and when.
+use Rattle.std.specs.Prelude.{◌≡◌, ℕ, ◌<◌, ◌≤◌, List, [], ◌++◌, Option, codes, length}
+use Rattle.std.specs.Io.KnownBytes.{Appends}
+use Rattle.ra_world.specs.Input.{Reads}
+use Rattle.ra_world.specs.declared.error.ReadFault.{ReadFault}
+use Rattle.ra_world.specs.declared.error.ReadFault.TheVariants as read
+use Rattle.ra_trace.specs.declared.verdict.Verdict.{Verdict}
+use Rattle.ra_trace.specs.declared.verdict.Verdict.TheVariants.{Valid, Invalid}
+use Rattle.ra_trace.specs.Verdict.{IsVerdict}
+use Rattle.ra_draw.specs.declared.error.DrawError.{DrawError}
+use Rattle.ra_draw.specs.declared.error.DrawError.TheVariants.{Read, Memory}
+use Rattle.ra_draw.specs.declared.part.Part.{Part}
+use Rattle.ra_draw.specs.Lines.{line_count, lines_between}
+
+-- the refusal of a fault of reading
+abbrev pub of_read : ReadFault → DrawError
+of_read read.Read = Read
+of_read read.Memory = Memory
+
+-- one element of SVG, and a line feed behind it
+abbrev pub IsPicture : List ℕ → Type 0
+IsPicture text = (inner : List ℕ) × (text ≡ codes "<svg xmlns=\"http://www.w3.org/2000/svg\"" ++ inner ++ codes "</svg>\n")
+
+-- the most lines that are drawn
+abbrev pub line_limit : ℕ
+line_limit = 4096
+
+-- how many lines of the text stand in the part
+abbrev pub drawn_lines : Part → List ℕ → ℕ
+drawn_lines part text = lines_between part.from part.to (line_count text)
+
+-- the input was read to its end, and is not too long
+pub record IsInput (old new : Option (List ℕ)) (input : List ℕ) : Type 0 where
+  pub reads : Reads old new 16777217 input
+  pub at_most : length input ≤ 16777216
+
+-- what is drawn where this is the verdict on the input: a picture, where it is the trace of a run
+abbrev pub Draws : Part → List ℕ → (before after : Option (List ℕ)) → Verdict → Type 0
+Draws part input before after (Valid requests messages) =
+    (drawn_lines part input ≤ line_limit) × (picture : List ℕ) × IsPicture picture × Appends before after picture
+Draws part input before after (Invalid line why) = Appends before after []

@@ -1,0 +1,163 @@
+ghost use Rattle.std.specs.Prelude.{◌≡◌, ◌≢◌, ◌⊎◌, ◌<◌, ◌≤◌, ℕ, List, [], ◌++◌, length, string_bytes, IfOk, IfErr, IsErrOf};
+ghost use Rattle.std.specs.Io.KnownBytes.{Appends, Consumes};
+ghost use Rattle.ra_trace.specs.declared.verdict.Cause.{Cause};
+ghost use Rattle.ra_trace.specs.Verdict.{IsVerdict};
+ghost use Rattle.ra_draw.specs.Drawing.{Draws, IsInput, IsPicture, drawn_lines, line_limit};
+ghost use Rattle.ra_draw.specs.Lines as spec;
+
+use crate::DrawError;
+use crate::part::Part;
+use crate::picture::{Totals, picture_of};
+use ra_trace::{TraceError, Verdict, check_within};
+use ra_world::{read_up_to, write_out};
+use std::alloc::Global;
+use std::io::{Read, Write};
+
+/// The most bytes that a text may have.
+const MAX_TEXT: usize = 16_777_216;
+
+/// The most lines that are drawn.
+const MAX_LINES: u64 = 4096;
+
+/// Returns how many line feeds a byte is.
+fn feed_count(byte: u8) -> u64
+    ensures value { result ≡ spec.feed_count byte }
+    ensures at_most { result ≤ 1 }
+{
+    if byte == b'\n' { 1 } else { 0 }
+}
+
+/// Returns how many lines a text has. It does not allocate.
+fn line_count(text: &[u8]) -> u64
+    ensures { result ≡ spec.line_count text.now }
+{
+    let mut lines = 0;
+    for byte in text {
+        lines += feed_count(*byte);
+    }
+    lines
+}
+
+/// Returns the verdict on a text.
+///
+/// # Errors
+///
+/// `Read`, `Memory`.
+fn verdict_on(alloc: Global, text: &[u8]) -> Result<Verdict, DrawError>
+    requires { length text.now ≤ 16777216 }
+    ensures ok { IfOk result (IsVerdict text.now) }
+    ensures err { IfErr result (λ fault. (fault ≡ DrawError.Read) ⊎ (fault ≡ DrawError.Memory)) }
+{
+    let mut reader = text;
+    match check_within(alloc, &mut reader, MAX_TEXT as u64) {
+        Ok(verdict) => Ok(verdict),
+        Err(TraceError::Read) => Err(DrawError::Read),
+        // The text has no more bytes than it may have.
+        Err(TraceError::Limit) => unreachable!(),
+        Err(TraceError::Memory) => Err(DrawError::Memory),
+    }
+}
+
+/// Returns the picture of a part of a trace, where it has no more lines than are drawn.
+///
+/// # Errors
+///
+/// `TooLong`, `Memory`.
+fn picture_within(
+    alloc: Global,
+    trace: &[u8],
+    part: Part,
+    totals: Totals,
+) -> Result<String, DrawError>
+    ensures ok { IfOk result (λ picture. IsPicture (string_bytes picture) × (drawn_lines part trace.now ≤ line_limit)) }
+    ensures err { IfErr result (λ fault. ((fault ≡ DrawError.TooLong) × (line_limit < drawn_lines part trace.now))
+        ⊎ (fault ≡ DrawError.Memory)) }
+{
+    if part.lines_of(line_count(trace)) > MAX_LINES {
+        return Err(DrawError::TooLong);
+    }
+    Ok(picture_of(alloc, trace, part, totals)?)
+}
+
+/// Draws a part of a text that was read, where it is a trace.
+///
+/// # Errors
+///
+/// Those of `draw`.
+fn draw_text<W: Write>(
+    alloc: Global,
+    text: &[u8],
+    writer: &mut W,
+    part: Part,
+) -> Result<Verdict, DrawError>
+    requires { length text.now ≤ 16777216 }
+    ensures ok { IfOk result (λ verdict. IsVerdict text.now verdict
+        × Draws part text.now (W.contents writer.old) (W.contents writer.new) verdict) }
+    ensures invalid { (line : ℕ) (why : Cause) → result ≡ Ok (Verdict.Invalid line why) → writer.new ≡ writer.old }
+    ensures unwritten { IfErr result (λ fault. fault ≢ DrawError.Write → writer.new ≡ writer.old) }
+    ensures no_limit { IfErr result (λ fault. fault ≢ DrawError.Limit) }
+    ensures too_long { IsErrOf result DrawError.TooLong → (requests messages : ℕ)
+        × IsVerdict text.now (Verdict.Valid requests messages) × (line_limit < drawn_lines part text.now) }
+    ensures front { IsErrOf result DrawError.Write → (requests messages : ℕ) × (front back : List ℕ)
+        × IsVerdict text.now (Verdict.Valid requests messages) × IsPicture (front ++ back) × (back ≢ [])
+        × Appends (W.contents writer.old) (W.contents writer.new) front }
+{
+    let verdict = verdict_on(alloc, text)?;
+    if let Verdict::Valid { requests, messages } = verdict {
+        let picture = picture_within(alloc, text, part, Totals { requests, messages })?;
+        write_out(writer, picture.as_bytes())?;
+    }
+    Ok(verdict)
+}
+
+/// Reads a text, and where it is the trace of a run of either version, writes a picture of a part of it: a space-time diagram in one SVG
+/// file, with no script in it, time downwards. It has a lane for each node, an arrow for each message from its sending to its delivery, a
+/// cross where one is lost, a loop where one is repeated, and beside the lanes bars for clients that wait and that are inside. A message
+/// that is under way at the end of the part has a dotted way, and one that is sent before the part and not taken in it none. Returns the
+/// verdict on the text, as `check` does; where it is no trace, nothing is written. No read or write that failed is tried again. Time and
+/// memory are linear in the text and in what `World::step` takes for its steps, and in the columns of bars beside a node.
+///
+/// # Errors
+///
+/// The first that holds, but that `Memory` may come before any:
+///
+/// 1. `Read`: the reader failed, before its end and before it gave 16,777,217 bytes.
+/// 2. `Limit`: the text has more than 16,777,216 bytes.
+/// 3. `TooLong`: it is a trace, and the part has more than 4,096 lines.
+/// 4. `Memory`: memory ran out.
+/// 5. `Write`: the writer failed or took nothing, with bytes left to write. A front of the picture was written.
+///
+/// After each of the others the writer is as before.
+pub fn draw<R: Read, W: Write>(
+    alloc: Global,
+    reader: &mut R,
+    writer: &mut W,
+    part: Part,
+) -> Result<Verdict, DrawError>
+    // The verdict is that of the whole input. A picture is written exactly where it is a trace, and nothing else is.
+    ensures ok { IfOk result (λ verdict. (input : List ℕ) × IsInput (R.remaining reader.old) (R.remaining reader.new) input
+        × IsVerdict input verdict × Draws part input (W.contents writer.old) (W.contents writer.new) verdict) }
+    ensures invalid { (line : ℕ) (why : Cause) → result ≡ Ok (Verdict.Invalid line why) → writer.new ≡ writer.old }
+
+    ensures failed { IsErrOf result DrawError.Read → (taken : List ℕ) × (length taken ≤ 16777216)
+        × Consumes (R.remaining reader.old) (R.remaining reader.new) taken }
+    ensures limit { IsErrOf result DrawError.Limit → (taken : List ℕ) × (length taken ≡ 16777217)
+        × Consumes (R.remaining reader.old) (R.remaining reader.new) taken }
+    ensures too_long { IsErrOf result DrawError.TooLong → (input : List ℕ) × (requests messages : ℕ)
+        × IsInput (R.remaining reader.old) (R.remaining reader.new) input
+        × IsVerdict input (Verdict.Valid requests messages) × (line_limit < drawn_lines part input) }
+    ensures at_most { (taken : List ℕ) × (length taken ≤ 16777217)
+        × Consumes (R.remaining reader.old) (R.remaining reader.new) taken }
+
+    ensures unwritten { IfErr result (λ fault. fault ≢ DrawError.Write → writer.new ≡ writer.old) }
+    // A fault of the writer comes only with something left to write.
+    ensures front { IsErrOf result DrawError.Write → (input : List ℕ) × (requests messages : ℕ) × (front back : List ℕ)
+        × IsInput (R.remaining reader.old) (R.remaining reader.new) input × IsVerdict input (Verdict.Valid requests messages)
+        × IsPicture (front ++ back) × (back ≢ []) × Appends (W.contents writer.old) (W.contents writer.new) front }
+{
+    let text = read_up_to(alloc, reader, MAX_TEXT + 1)?;
+    if text.len() > MAX_TEXT {
+        return Err(DrawError::Limit);
+    }
+    draw_text(alloc, &text, writer, part)
+}

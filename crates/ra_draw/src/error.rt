@@ -1,0 +1,57 @@
+ghost use Rattle.std.specs.Prelude.{◌≡◌};
+ghost use Rattle.ra_draw.specs.Drawing.{of_read};
+ghost use Rattle.ra_draw.specs.declared.error.DrawError.TheVariants as draw;
+
+use ra_stamp::Memory;
+use ra_world::{ReadFault, WriteFault};
+use thiserror::Error;
+
+/// Why no picture was drawn, in the order in which the causes are looked for.
+#[derive(Clone, Copy, Debug, PartialEq, Eq, Error)]
+pub enum DrawError {
+    /// The reader failed.
+    #[error("Read")]
+    Read,
+    /// The text has more than 16,777,216 bytes.
+    #[error("Limit")]
+    Limit,
+    /// More than 4,096 lines of the trace would be drawn.
+    #[error("TooLong")]
+    TooLong,
+    /// Memory ran out.
+    #[error("Memory")]
+    Memory,
+    /// The writer failed.
+    #[error("Write")]
+    Write,
+}
+
+impl From<ReadFault> for DrawError {
+    ghost from_gives = { λ fault e. e ≡ of_read fault };
+
+    /// Returns the refusal of the same word.
+    fn from(fault: ReadFault) -> DrawError {
+        match fault {
+            ReadFault::Read => DrawError::Read,
+            ReadFault::Memory => DrawError::Memory,
+        }
+    }
+}
+
+impl From<Memory> for DrawError {
+    ghost from_gives = { λ _ e. e ≡ draw.Memory };
+
+    /// Says that memory ran out.
+    fn from(_refused: Memory) -> DrawError {
+        DrawError::Memory
+    }
+}
+
+impl From<WriteFault> for DrawError {
+    ghost from_gives = { λ _ e. e ≡ draw.Write };
+
+    /// Says that the writer failed.
+    fn from(_fault: WriteFault) -> DrawError {
+        DrawError::Write
+    }
+}

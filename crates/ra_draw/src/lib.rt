@@ -1,0 +1,21 @@
+//! Pictures of runs: a space-time diagram of a trace, as one SVG file.
+#![tactic(auto)]
+
+mod columns;
+mod course;
+mod drawing;
+mod error;
+mod flights;
+mod legend;
+mod page;
+mod part;
+mod picture;
+mod reading;
+mod shapes;
+mod stays;
+mod svg;
+mod words;
+
+pub use drawing::draw;
+pub use error::DrawError;
+pub use part::Part;

@@ -1,0 +1,86 @@
+//! How long clients wait and are inside.
+use crate::flights::Moment;
+use crate::reading::Seat;
+use indexmap::IndexMap;
+use ra_stamp::{Memory, Mode};
+use std::alloc::Global;
+
+/// A client asks for a name, is granted it and gives it back, as far as the run goes.
+#[derive(Clone, Copy, Debug)]
+pub struct Stay {
+    pub seat: Seat,
+    pub mode: Mode,
+    pub asked: Moment,
+    pub entered: Option<Moment>,
+    pub left: Option<Moment>,
+}
+
+impl Stay {
+    /// Returns whether it reaches into the part that is drawn.
+    fn is_drawn(&self) -> bool {
+        match self.left {
+            Some(left) => left.row > 0,
+            None => true,
+        }
+    }
+}
+
+/// All stays, in the order in which they were asked for, and the places of those that are not over.
+#[derive(Drop)]
+pub struct Stays {
+    all: Vec<Stay>,
+    open: IndexMap<Seat, usize>,
+}
+
+impl Stays {
+    /// Makes those of a run in which nothing has happened yet.
+    pub fn new(alloc: Global) -> Stays {
+        Stays {
+            all: Vec::new(alloc),
+            open: IndexMap::new(alloc),
+        }
+    }
+
+    /// Notes that a client asks.
+    pub fn ask(&mut self, seat: &Seat, mode: Mode, asked: Moment) -> Result<(), Memory> {
+        let place = self.all.len();
+        self.open.insert(*seat, place)?;
+        self.all.push(Stay {
+            seat: *seat,
+            mode,
+            asked,
+            entered: None,
+            left: None,
+        })?;
+        Ok(())
+    }
+
+    /// Notes that a client is granted what it asked for.
+    pub fn enter(&mut self, seat: &Seat, entered: Moment) {
+        if let Some(place) = self.open.get(seat) {
+            if let Some(stay) = self.all.get_mut(*place) {
+                stay.entered = Some(entered);
+            }
+        }
+    }
+
+    /// Notes that a client gives back what it held.
+    pub fn leave(&mut self, seat: &Seat, left: Moment) {
+        if let Some(place) = self.open.swap_remove(seat) {
+            if let Some(stay) = self.all.get_mut(place) {
+                stay.left = Some(left);
+            }
+        }
+    }
+
+    /// Returns those that reach into the part that is drawn, in the order in which they were asked for.
+    pub fn drawn(&self, alloc: Global) -> Result<Vec<Stay>, Memory> {
+        let mut drawn = Vec::new(alloc);
+        for stay in &self.all {
+            if stay.is_drawn() {
+                drawn.push(*stay)?;
+            }
+        }
+        Ok(drawn)
+    }
+}

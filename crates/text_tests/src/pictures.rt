@@ -1,0 +1,305 @@
+//! Pictures of traces: what stands in them, in words, and when there is none.
+use crate::helpers::Part::{Text, Times};
+use crate::helpers::{ONE_LOCK, TWO_LOCKS, assert_rows, failing, text_of};
+use ra_draw::{DrawError, Part, draw};
+use ra_trace::{Cause, Verdict};
+use std::alloc::Global;
+use std::io;
+use std::process::Abort;
+use test_support::FailingReader;
+
+/// The trace of a request that is repeated, of which one is lost and the other is under way at the end.
+const LOST_AND_REPEATED: &str = "trace 2 2 0
+ask 1 7 disk.2 SIX
+request 1 7 disk.2 SIX 1
+repeat request 1 2 disk.2 SIX 1
+lose request 1 2 disk.2 SIX 1
+end
+";
+
+/// A part of a trace, and how often words stand in its picture.
+#[derive(Clone, Copy)]
+struct Row(&'static str, Part, &'static [(&'static str, u64)]);
+
+/// The lines from one to another.
+const fn lines(from: u64, to: u64) -> Part {
+    Part { from, to }
+}
+
+/// Returns how often words stand in a text.
+fn count_in(text: &str, words: &str) -> u64 {
+    let mut rest = text;
+    let mut count = 0;
+    for _ in 0..text.len() {
+        match rest.split_once(words) {
+            Some((_, behind)) => {
+                rest = behind;
+                count = u64::saturating_add(count, 1);
+            }
+            None => return count,
+        }
+    }
+    count
+}
+
+/// Returns the picture of a part of a trace.
+fn picture_of(alloc: Global, trace: &[u8], part: Part) -> Option<String> {
+    let mut reader = trace;
+    let mut picture = Vec::new(alloc);
+    match draw(alloc, &mut reader, &mut picture, part) {
+        Ok(Verdict::Valid { .. }) => String::from_utf8(picture).ok(),
+        _ => None,
+    }
+}
+
+/// Returns whether these words stand in a picture so often.
+fn have(picture: &str, words: &[(&str, u64)]) -> bool {
+    for (word, count) in words {
+        if count_in(picture, word) != *count {
+            return false;
+        }
+    }
+    true
+}
+
+/// Returns whether a row is so, and the picture is one element without a script or another file.
+fn is_so(alloc: Global, row: &Row) -> bool {
+    match picture_of(alloc, row.0.as_bytes(), row.1) {
+        Some(picture) => {
+            picture
+                .as_str()
+                .starts_with("<svg xmlns=\"http://www.w3.org/2000/svg\" ")
+                && picture.as_str().ends_with("</svg>\n")
+                && have(
+                    picture.as_str(),
+                    &[
+                        ("<svg", 1),
+                        ("</svg>", 1),
+                        ("<script", 0),
+                        ("href", 0),
+                        ("url(http", 0),
+                    ],
+                )
+                && have(picture.as_str(), row.2)
+        }
+        None => false,
+    }
+}
+
+/// Returns how many rows are so, up to the first that is not.
+fn are_so(alloc: Global, rows: &[Row]) -> usize {
+    for place in 0..rows.len() {
+        if !is_so(alloc, &rows[place]) {
+            return place;
+        }
+    }
+    rows.len()
+}
+
+#[test]
+fn each_shape_says_what_it_is(rt: HostRuntime) {
+    let rows = [
+        Row(
+            ONE_LOCK,
+            Part::WHOLE,
+            &[
+                ("<title>2 nodes, 1 request, 2 messages</title>", 1),
+                ("<title>node 1</title>", 1),
+                ("<title>node 2</title>", 1),
+                ("<title>client 1 at node 1 asks for r, exclusive</title>", 1),
+                (
+                    "<title>request 1 from node 1 to node 2 for r, exclusive, sent at line 2, delivered at line 4</title>",
+                    1,
+                ),
+                (
+                    "<title>reply 1 from node 2 to node 1 for r, sent at line 4, delivered at line 5</title>",
+                    1,
+                ),
+                (
+                    "<title>client 1 at node 1 waits for r, exclusive, from line 2 to line 5</title>",
+                    1,
+                ),
+                (
+                    "<title>client 1 at node 1 is inside r, exclusive, from line 5 to line 7</title>",
+                    1,
+                ),
+                ("<title>client 1 at node 1 leaves r</title>", 1),
+                (">request 1</text>", 1),
+                (">reply 1</text>", 1),
+            ],
+        ),
+        // The lower node goes first, and the REPLY to the other one waits until it leaves.
+        Row(
+            TWO_LOCKS,
+            Part::WHOLE,
+            &[
+                ("<title>3 nodes, 2 requests, 8 messages</title>", 1),
+                (", delivered at line ", 8),
+                ("<title>node ", 3),
+                (
+                    "<title>reply 1 from node 1 to node 2 for r, sent at line 13, delivered at line 16</title>",
+                    1,
+                ),
+                (
+                    "<title>client 1 at node 1 is inside r, exclusive, from line 11 to line 13</title>",
+                    1,
+                ),
+                (
+                    "<title>client 2 at node 2 waits for r, exclusive, from line 4 to line 16</title>",
+                    1,
+                ),
+                (", still under way", 0),
+                (", lost at ", 0),
+            ],
+        ),
+        Row(
+            LOST_AND_REPEATED,
+            Part::WHOLE,
+            &[
+                ("<title>2 nodes, 1 request, 1 message</title>", 1),
+                (
+                    "<title>request 1 from node 1 to node 2 for disk.2, shared and intent exclusive, sent at line 2, lost at line 5</title>",
+                    1,
+                ),
+                (
+                    "<title>request 1 from node 1 to node 2 for disk.2, shared and intent exclusive, repeated at line 4</title>",
+                    1,
+                ),
+                (
+                    "<title>request 1 from node 1 to node 2 for disk.2, shared and intent exclusive, repeated at line 4, still under way</title>",
+                    1,
+                ),
+                (
+                    "<title>client 7 at node 1 waits for disk.2, shared and intent exclusive, from line 2 on</title>",
+                    1,
+                ),
+                (" is inside ", 0),
+                (", delivered at ", 0),
+            ],
+        ),
+    ];
+    assert_rows(&rt, are_so(rt.alloc(), &rows), rows.len());
+}
+
+#[test]
+fn a_part_has_what_reaches_into_it(rt: HostRuntime) {
+    let rows = [
+        // What was sent before is drawn where it comes in the part, and what is sent in it and comes behind it is under way.
+        Row(
+            ONE_LOCK,
+            lines(4, 4),
+            &[
+                (
+                    "<title>2 nodes, 1 request, 2 messages, from line 4, to line 4</title>",
+                    1,
+                ),
+                (", sent at line 2, delivered at line 4</title>", 1),
+                (", sent at line 4, still under way</title>", 1),
+                (" waits for r, exclusive, from line 2 on</title>", 1),
+                (" asks for ", 0),
+                (" is inside ", 0),
+            ],
+        ),
+        // What came before, and a client that left before, are not drawn.
+        Row(
+            ONE_LOCK,
+            lines(8, 9),
+            &[
+                ("<title>request ", 0),
+                ("<title>reply ", 0),
+                (" leaves r", 0),
+            ],
+        ),
+        Row(
+            ONE_LOCK,
+            lines(0, 2),
+            &[(" asks for ", 1), (", still under way</title>", 1)],
+        ),
+        Row(
+            ONE_LOCK,
+            lines(20, 10),
+            &[("<title>node ", 2), (", from line 20, to line 10<", 2)],
+        ),
+    ];
+    assert_rows(&rt, are_so(rt.alloc(), &rows), rows.len());
+}
+
+/// Returns what comes of a text, and whether something is written.
+fn drawn(alloc: Global, text: &[u8], part: Part) -> (Result<Verdict, DrawError>, bool) {
+    let mut reader = text;
+    let mut picture = Vec::new(alloc);
+    let result = draw(alloc, &mut reader, &mut picture, part);
+    (result, !picture.is_empty())
+}
+
+/// Returns what comes of the trace of a message that is repeated so often, which has four lines more.
+fn drawn_repeats(
+    alloc: Global,
+    times: usize,
+    part: Part,
+) -> Option<(Result<Verdict, DrawError>, bool)> {
+    let text = text_of(
+        alloc,
+        &[
+            Text("trace 2 2 0\nask 1 1 r X\nrequest 1 1 r X 1\n"),
+            Times(b"repeat request 1 2 r X 1\n", times),
+            Text("end\n"),
+        ],
+    )?;
+    Some(drawn(alloc, &text, part))
+}
+
+#[test]
+fn a_text_that_is_no_trace_is_refused_with_its_line(rt: HostRuntime) {
+    let alloc = rt.alloc();
+    let wrong = b"trace 2 2 0\nask 1 1 r X\nrequest 1 1 r X 1\nenter 1 1 r X 1\nend\n";
+    let verdict = Verdict::Invalid {
+        line: 4,
+        cause: Cause::Marks,
+    };
+    assert!(rt; drawn(alloc, wrong, Part::WHOLE) == (Ok(verdict), false));
+    // A line that is not drawn counts as well.
+    assert!(rt; drawn(alloc, wrong, lines(1, 2)) == (Ok(verdict), false));
+}
+
+#[test]
+fn no_more_than_4096_lines_are_drawn(rt: HostRuntime) {
+    let alloc = rt.alloc();
+    let verdict = Verdict::Valid {
+        requests: 1,
+        messages: 1,
+    };
+    let (most, more) = (
+        Some((Ok(verdict), true)),
+        Some((Err(DrawError::TooLong), false)),
+    );
+    assert!(rt; drawn_repeats(alloc, 4092, Part::WHOLE) == most);
+    assert!(rt; drawn_repeats(alloc, 4093, Part::WHOLE) == more);
+    assert!(rt; drawn_repeats(alloc, 4093, lines(2, 4097)) == most);
+    assert!(rt; drawn_repeats(alloc, 4094, lines(2, 4098)) == more);
+}
+
+#[test]
+fn a_reader_that_fails_is_a_fault(rt: HostRuntime) {
+    let mut reader = FailingReader {
+        bytes: ONE_LOCK.as_bytes(),
+        size: 1,
+        before_fault: Some(139),
+        fault: io::ErrorKind::Interrupted,
+    };
+    let mut picture = Vec::new(rt.alloc());
+    let result = draw(rt.alloc(), &mut reader, &mut picture, Part::WHOLE);
+    assert!(rt; result == Err(DrawError::Read));
+    assert!(rt; reader.bytes.len() == 1);
+    assert!(rt; picture.is_empty());
+}
+
+#[test]
+fn a_writer_that_fails_is_a_fault(rt: HostRuntime) {
+    let mut reader = ONE_LOCK.as_bytes();
+    let mut writer = failing("<svg xmlns=", 7, Some(io::ErrorKind::Interrupted));
+    let result = draw(rt.alloc(), &mut reader, &mut writer, Part::WHOLE);
+    assert!(rt; result == Err(DrawError::Write));
+    assert!(rt; writer.left == b"lns=".as_slice());
+    assert!(rt; !writer.differs);
+}
