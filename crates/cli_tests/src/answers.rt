@@ -127,20 +127,26 @@ const ANSWER_HELP: &str = "Answer one frame, a line of hexadecimal digits, as an
 Usage: ra answer --node <node> --nodes <nodes>
 
 Options:
-      --node <node>    The number of the node that answers
+      --node <node>    The number of the node that answers, 1 to that of --nodes
       --nodes <nodes>  How many nodes there are, 1 to 64
   -h, --help           Print help
 
-The node has met no number before, and its clock was 0. A frame of version 1 or 2 is read, and the frames that the node sends are
-printed in version 2, a line each. The modes, and their bytes, of which version 1 has the first two:
+The node has met no number before, and its clock was 0. A frame of version 1 or
+2 is read, and the frames that the node sends are printed in version 2, a line
+each. The modes, and their bytes, of which version 1 has the first two:
   S    00  shared
   X    01  exclusive
   IS   02  intent shared
   IX   03  intent exclusive
   SIX  04  shared and intent exclusive
 
-Example, a REQUEST of node 1 for the name r, in version 1, answered by node 2 of 3:
-  echo 0101010201000000000000000100000000000000010172 | ra answer --node 2 --nodes 3
+Example, a REQUEST of node 1 for the name r, in version 1, answered by node 2
+of 3:
+  echo 0101010201000000000000000100000000000000010172 |
+    ra answer --node 2 --nodes 3
+
+Status 0: answered. Status 1: the input or the output failed. Status 2: the
+words or the frame are refused.
 ";
 
 #[test]

@@ -296,12 +296,13 @@ fn is_valid<T: AllocGlobal + Threads + Wait + Abort + Sync>(
     }
 }
 
-/// The words of four policies.
+/// The words of five policies.
 const POLICIES: &[&str] = &[
     "ra sim --trace --policy oldest",
     "ra sim --trace --policy newest",
     "ra sim --trace --policy seeded --seed 1",
     "ra sim --trace --policy seeded --seed 99",
+    "ra sim --trace --policy faulty --seed 1",
 ];
 
 /// Ends the test where it is not so with status 0 by one of them.
@@ -338,7 +339,8 @@ Options:
       --marks  Check the log of any lock service, which has marks alone
   -h, --help   Print help
 
-A trace, read from standard input, is the steps of a run, each on a line with its marks on the lines below it:
+A trace, read from standard input, is the steps of a run, each on a line with
+its marks on the lines below it:
   trace 2 2 0
   ask 1 1 r X
   request 1 1 r X 1
@@ -346,16 +348,20 @@ A trace, read from standard input, is the steps of a run, each on a line with it
   deliver reply 2 1 r 1
   enter 1 1 r X 1
   end
-The first line says which version of traces it is, how many nodes there are, and the number that each resource begins with. In
-version 2, which `ra sim --trace` prints, there are 1 to 64 nodes and five modes; version 1 has 1 to 16 nodes and the modes S and X:
+The first line says which version of traces it is, how many nodes there are, and
+the number that each resource begins with. In version 2, which `ra sim --trace`
+prints, there are 1 to 64 nodes and five modes; version 1 has 1 to 16 nodes and
+the modes S and X:
   S    shared
   X    exclusive
   IS   intent shared
   IX   intent exclusive
   SIX  shared and intent exclusive
-A line with `lose` in place of `deliver` says that a message is lost, and in version 2 one with `repeat` that it will come once more.
+A line with `lose` in place of `deliver` says that a message is lost, and in
+version 2 one with `repeat` that it will come once more.
 
-It prints `valid`, and how many requests and messages there were; or `invalid`, the first line that is wrong, and why:
+It prints `valid`, and how many requests and messages there were; or `invalid`,
+the first line that is wrong, and why:
   Line         it is none, or stands where it may not
   Refused      the client may not ask or leave
   NotUnderWay  nobody sent the message, or it was taken already
@@ -364,25 +370,29 @@ It prints `valid`, and how many requests and messages there were; or `invalid`, 
 
 Example: ra sim --trace < script.toml | ra check
 
-With --marks the text is a log of marks alone, a line for each request, grant and release of any lock service, with the number of
-a node, 1 to 64, a client, the name, the mode, and a number that is above each one granted on the name so far:
+With --marks the text is a log of marks alone, a line for each request, grant
+and release of any lock service, with the number of a node, 1 to 64, a client,
+the name, the mode, and a number that is above each one granted on the name so
+far:
   request 1 1 r X 1
   enter 1 1 r X 1
   leave 1 1 r X 1
-It prints `valid`, and how many requests and grants there were, where a lock table allows each mark; or `invalid`, the first line
-that is wrong, and why:
+It prints `valid`, and how many requests and grants there were, where a lock
+table allows each mark; or `invalid`, the first line that is wrong, and why:
   Line        it is no such line
   NodeBusy    a request, and its node waits or holds on the name
-  NotAbove    a request, and its number is not above each one granted on the name
+  NotAbove    a request, and its number is not above each one granted on the
+              name
   NotWaiting  a grant, and it was not requested, or was granted already
   Held        a grant, and one that conflicts holds
-  Earlier     a grant, and one that conflicts waits with a lower number, or the same at a lower node
+  Earlier     a grant, and one that conflicts waits with a lower number, or the
+              same at a lower node
   NotHeld     a release of what is not held
 
 Example: ra check --marks < service.log
 
-Status 0: it is a run. Status 3: it is not. Status 2: the words are refused, or it has more than 16777216 bytes. Status 1: the
-input or the output failed.
+Status 0: it is a run. Status 3: it is not. Status 2: the words are refused, or
+it has more than 16777216 bytes. Status 1: the input or the output failed.
 ";
 
 #[test]

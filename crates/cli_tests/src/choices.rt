@@ -177,6 +177,13 @@ const NO_CHOICES: &[Listed] = &[
         status: 2,
         output: "refused Choice\n",
     },
+    // No word stands for a repeat.
+    Listed {
+        choices: "c1 r0",
+        script: ONE_CLIENT,
+        status: 2,
+        output: "refused Choice\n",
+    },
     Listed {
         choices: " c1",
         script: ONE_CLIENT,

@@ -472,14 +472,15 @@ fn words_that_are_no_cluster_are_refused(rt: HostRuntime) {
     assert_refuses(&rt, NO_CLUSTERS);
 }
 
-const HELP: &str = "Run a script by threads, and print who asked, entered and left, and what it cost
+const HELP: &str = "Run a script by threads: who asked, entered and left
 
 Usage: ra cluster
 
 Options:
   -h, --help  Print help
 
-A script is read from standard input; `ra sim --help` says what it is. It has 1 to 64 nodes, and its modes are
+A script is read from standard input; `ra sim --help` says what it is. It has 1
+to 64 nodes and 1 to 64 clients, and its modes are
   S    shared
   X    exclusive
   IS   intent shared
@@ -493,21 +494,28 @@ This one has two clients that want the same name:
 
 Example: ra cluster < script.toml
 
-Each node and each client has a thread of its own. What happens first is up to the threads, so the marks may come in another
-order, and with other numbers, each time. When the threads have ended, what the nodes wrote down is put together into one run
-of the cluster, whose marks and totals are printed.
+Each node and each client has a thread of its own. What happens first is up to
+the threads, so the marks may come in another order, and with other numbers,
+each time. When the threads have ended, what the nodes wrote down is put
+together into one run of the cluster, whose marks and totals are printed.
 
-Two conditions on the script are checked before any thread starts, since a client that waits in vain keeps its thread, and
-so the program, waiting for ever:
-  OutOfOrder  a client locks a name that is not above, byte by byte, each name that it holds then. If one client locks b while
-              it holds a, and another locks a while it holds b, each waits for the other
-  Unreleased  a client holds a name at its end. Whoever asks for that name later waits for a client that is gone
+Two conditions on the script are checked before any thread starts, since a
+client that waits in vain keeps its thread, and so the program, waiting for
+ever:
+  OutOfOrder  a client locks a name that is not above, byte by byte, each name
+              that it holds then. If one client locks b while it holds a, and
+              another locks a while it holds b, each waits for the other
+  Unreleased  a client holds a name at its end. Whoever asks for that name later
+              waits for a client that is gone
 
-Nothing bounds how long a run takes. `ra sim` takes any script, and says who waits at the end.
+Nothing bounds how long a run takes. `ra sim` takes any script, and says who
+waits at the end.
 
-Status 0: each operation is done, and nothing waits, is queued, lost or under way. Status 1: the input or the output failed.
-Status 2: the words or the script are refused, or the run failed: Fault where a node was stopped, as for want of memory or of
-threads, and Settle, PlanUnmet, Lost or UnderWay where what the nodes wrote down is no run, or not that of the whole script.
+Status 0: each operation is done, and nothing waits, is queued, lost or under
+way. Status 1: the input or the output failed. Status 2: the words or the script
+are refused, or the run failed: Fault where a node was stopped, as for want of
+memory or of threads, and Settle, PlanUnmet, Lost or UnderWay where what the
+nodes wrote down is no run, or not that of the whole script.
 ";
 
 #[test]

@@ -66,6 +66,11 @@ const NO_COMMANDS: &[Refused] = &[
         input: REQUEST,
         word: "Usage",
     },
+    Refused {
+        words: "ra sim --version",
+        input: "",
+        word: "Usage",
+    },
 ];
 
 #[test]
@@ -79,21 +84,35 @@ Usage: ra <COMMAND>
 
 Commands:
   answer   Answer one frame, a line of hexadecimal digits, as an idle node does
-  sim      Drive a cluster through a script, and print who asked, entered and left, and what it cost
-  cluster  Run a script by threads, and print who asked, entered and left, and what it cost
+  sim      Drive a cluster through a script: who asked, entered and left
+  cluster  Run a script by threads: who asked, entered and left
   check    Check the trace of a run, or the log of a lock service, line by line
+  draw     Draw the trace of a run as an SVG file: its nodes, messages, and who waits and is inside
 
 Options:
-  -h, --help  Print help
+  -h, --help     Print help
+  -V, --version  Print version
 
-Status 0: done. Status 1: the input or the output failed. Status 2: refused, by one line with the word that says why.
-Status 3: a run that ended with something left to do, or a trace or a log that is none.
+Example: ra sim < script.toml
+
+Status 0: done. Status 1: the input or the output failed. Status 2: refused, by
+one line with the word that says why. Status 3: a run that ended with something
+left to do, or a trace or a log that is none.
 ";
 
 #[test]
 fn help_lists_the_commands(rt: HostRuntime) {
     assert_answers(&rt, "ra --help", "", 0, HELP);
     assert_answers(&rt, "ra -h", "", 0, HELP);
+}
+
+/// What is read and written: frames and traces of two versions.
+const VERSION: &str = "ra 0.1.0 (frames 1 and 2, traces 1 and 2)\n";
+
+#[test]
+fn the_version_says_what_is_read(rt: HostRuntime) {
+    assert_answers(&rt, "ra --version", "", 0, VERSION);
+    assert_answers(&rt, "ra -V", "", 0, VERSION);
 }
 
 /// Returns whether the fault of a command line that is not there is status 2, and printed so.

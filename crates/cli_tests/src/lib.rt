@@ -12,11 +12,17 @@ mod clusters;
 #[cfg(test)]
 mod commands;
 #[cfg(test)]
+mod drawings;
+#[cfg(test)]
+mod faults;
+#[cfg(test)]
 mod frames;
 #[cfg(test)]
 mod growth;
 #[cfg(test)]
 mod helpers;
+#[cfg(test)]
+mod many_seeds;
 #[cfg(test)]
 mod mark_logs;
 #[cfg(test)]

@@ -116,7 +116,14 @@ const USAGES: &[Noted] = &[
         input: ONE_CLIENT,
         status: 2,
         output: "refused Usage\n",
-        note: "ra: invalid value 'older' for '--policy <policy>' [possible values: oldest, newest, seeded, listed]; a similar value exists: 'oldest'; see ra sim --help\n",
+        note: "ra: invalid value 'older' for '--policy <policy>' [possible values: oldest, newest, seeded, faulty, listed]; a similar value exists: 'oldest'; see ra sim --help\n",
+    },
+    Noted {
+        words: "ra sim --policy faulty --lose 601 --repeat 400",
+        input: ONE_CLIENT,
+        status: 2,
+        output: "refused Usage\n",
+        note: "ra: --lose and --repeat are at most 1000 together, and --repeat is at most 400; see ra sim --help\n",
     },
 ];
 
@@ -288,13 +295,26 @@ fn a_reader_that_fails_is_said(rt: HostRuntime) {
     assert!(rt; notes.as_slice() == b"ra: standard input could not be read\n".as_slice());
 }
 
+/// Returns whether a fault of the writer behind 7 bytes gives status 1, and nothing is said of it.
+fn breaks_off_unsaid<T: AllocGlobal + Threads + Wait + Abort + Sync>(
+    rt: &T,
+    words: &str,
+    input: &str,
+    printed: &str,
+) -> bool {
+    let mut input = input.as_bytes();
+    let mut writer = failing_writer(printed.as_bytes(), 7, None);
+    let mut notes = Vec::new(rt.alloc());
+    let status = run_noted(rt, words, None, &mut input, &mut writer, &mut notes);
+    status == 1 && notes.is_empty() && writer.has_taken(printed.as_bytes(), 7)
+}
+
 #[test]
 fn nothing_is_said_where_the_writer_fails(rt: HostRuntime) {
-    let mut input = ONE_CLIENT.as_bytes();
-    let mut writer = failing_writer(ONE_CLIENT_PRINTED.as_bytes(), 7, None);
-    let mut notes = Vec::new(rt.alloc());
-    let status = run_noted(&rt, "ra sim", None, &mut input, &mut writer, &mut notes);
-    assert!(rt; status == 1 && notes.is_empty());
+    let invalid = "invalid 1 Line\n";
+    assert!(rt; breaks_off_unsaid(&rt, "ra sim", ONE_CLIENT, ONE_CLIENT_PRINTED));
+    assert!(rt; breaks_off_unsaid(&rt, "ra check", "", invalid));
+    assert!(rt; breaks_off_unsaid(&rt, "ra check --marks", "no mark\n", invalid));
 }
 
 /// What is said of a line that is no mark.

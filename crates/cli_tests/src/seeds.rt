@@ -99,6 +99,16 @@ const SEEDS: &[Pair] = &[
         other: "ra sim --policy seeded --seed 001",
         same: true,
     },
+    Pair {
+        one: "ra sim --policy faulty",
+        other: "ra sim --policy faulty --seed 0 --lose 0 --repeat 0",
+        same: true,
+    },
+    Pair {
+        one: "ra sim --policy seeded",
+        other: "ra sim --policy faulty",
+        same: false,
+    },
 ];
 
 #[test]
@@ -112,7 +122,7 @@ fn the_last_seed_is_taken(rt: HostRuntime) {
     assert!(rt; has_status(&rt, last, A_WRITER, 0));
 }
 
-/// Policies without and with a seed.
+/// Policies without and with a seed or faults.
 const POLICIES: &[Pair] = &[
     Pair {
         one: "ra sim",
@@ -134,10 +144,20 @@ const POLICIES: &[Pair] = &[
         other: "ra sim --policy listed --choices c2 --seed 1",
         same: true,
     },
+    Pair {
+        one: "ra sim",
+        other: "ra sim --lose 1000",
+        same: true,
+    },
+    Pair {
+        one: "ra sim --policy seeded --seed 1",
+        other: "ra sim --lose 600 --repeat 400 --policy seeded --seed 1",
+        same: true,
+    },
 ];
 
-/// A policy that draws no words does not look at the seed.
+/// A policy that draws no words does not look at the seed, and one without faults at none.
 #[test]
-fn another_policy_has_no_seed(rt: HostRuntime) {
+fn another_policy_has_no_seed_and_no_faults(rt: HostRuntime) {
     assert_so(&rt, POLICIES);
 }

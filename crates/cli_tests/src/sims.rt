@@ -326,20 +326,25 @@ fn names_that_are_locked_in_one_order_are_held_in_turn(rt: HostRuntime) {
     assert_answers(&rt, "ra sim", ONE_ORDER, 0, ONE_ORDER_PRINTED);
 }
 
-const HELP: &str =
-    "Drive a cluster through a script, and print who asked, entered and left, and what it cost
+const HELP: &str = "Drive a cluster through a script: who asked, entered and left
 
 Usage: ra sim [OPTIONS]
 
 Options:
-      --policy <policy>    Who chooses what comes next [default: oldest] [possible values: oldest, newest, seeded, listed]
-      --seed <seed>        The seed of the policy seeded [default: 0]
-      --choices <choices>  The choices of the policy listed
+      --policy <policy>    Who chooses what comes next [default: oldest]
+      --seed <seed>        The seed of chance, 0 to 2^64 - 1 [default: 0]
+      --lose <lose>        How many of 1000 messages faulty loses [default: 0]
+      --repeat <repeat>    How many it repeats, 0 to 400 [default: 0]
+      --choices <choices>  The choices of the policy listed, as below
+      --seeds <seeds>      Each of many seeds, as 1..1000: what came of them
       --trace              Print the trace of the run
   -h, --help               Print help
 
-A script, read from standard input, is a TOML document: how many nodes there are, 1 to 64, and for each client its node and what
-it does, in order. A mode and a name, as `X r`, lock the name in that mode, and `U r` unlocks it.
+A script, read from standard input, is a TOML document: how many nodes there
+are, 1 to 64, and for each of 1 to 64 clients its node and what it does, at most
+1024 operations, in order. A mode and a name, as `X r`, lock the name in that
+mode, and `U r` unlocks it. A name has 1 to 32 of A to Z, a to z, 0 to 9, _, -
+and .
   nodes = 2
   client = [{ node = 1, ops = [\"X r\", \"U r\"] },
             { node = 2, ops = [\"S r\", \"U r\"] }]
@@ -347,23 +352,44 @@ it does, in order. A mode and a name, as `X r`, lock the name in that mode, and 
 Modes:
   S    shared: to read it whole, beside S and IS
   X    exclusive: to change it whole, beside none
-  IS   intent shared: to read parts of it, which are locked S each, beside all but X
-  IX   intent exclusive: to change parts of it, which are locked X each, beside IS and IX
-  SIX  shared and intent exclusive: to read it whole, and change parts of it, which are locked X each, beside IS
+  IS   intent shared: to read parts of it, which are locked S each, beside all
+       but X
+  IX   intent exclusive: to change parts of it, which are locked X each, beside
+       IS and IX
+  SIX  shared and intent exclusive: to read it whole, and change parts of it,
+       which are locked X each, beside IS
 
 Policies:
-  oldest  the first client in the order of the script that can go on, and else the message that was sent first
+  oldest  the first client in the order of the script that can go on, and else
+          the message that was sent first
   newest  the same, with the message that was sent last
-  seeded  by chance: each turn takes one of the clients that can go on and the messages under way, by the next word of the
-          generator PCG XSL RR 128/64 of --seed. A script and a seed have one run, the same on each machine
-  listed  the words of --choices, one after the other: cK the next operation of client K, mI delivers and lI loses the
-          message at place I of those under way, counted from 0 in the order of sending, as in --choices \"c1 m0 m0 c1\"
+  seeded  by chance: each turn takes one of the clients that can go on and the
+          messages under way, by the next word of the generator PCG XSL RR
+          128/64 of --seed. A script and a seed have one run, the same on each
+          machine
+  faulty  the same, but where the word names a message one word more, modulo
+          1000, says what becomes of it: below --lose it is lost, below --lose
+          and --repeat together it is repeated, and comes once more, and else
+          it is delivered. The two are at most 1000 together
+  listed  the words of --choices, one after the other: cK the next operation of
+          client K, mI delivers and lI loses the message at place I of those
+          under way, counted from 0 in the order of sending, as in
+          --choices \"c1 m0 m0 c1\"
 
-With --trace it prints the steps of the run, each with its marks, in place of the marks and totals, as `ra check` reads them:
-  ra sim --trace < script.toml | ra check
+With --trace it prints the steps of the run, each with its marks, in place of
+the marks and totals, as `ra check` reads them.
 
-Status 0: each operation is done, and nothing waits, is queued or under way. Status 3: the run ended before that.
-Status 2: the words or the script are refused. Status 1: the input or the output failed.
+Example: ra sim --trace < script.toml | ra check
+
+With --seeds A..B and a policy of chance it runs the script by each seed from A
+to B, and prints how many of them ended finished, and stuck, and the first of
+each, and the least and the most of the turns and of the messages sent.
+
+Example: ra sim --policy seeded --seeds 1..1000 < script.toml
+
+Status 0: each operation is done, and nothing waits, is queued or under way.
+Status 3: the run ended before that. Status 2: the words or the script are
+refused. Status 1: the input or the output failed.
 ";
 
 #[test]

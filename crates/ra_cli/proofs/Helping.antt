@@ -1,5 +1,5 @@
 -- A text of help is printed where a word asks for it; and whether a word is `--marks`.
-use Rattle.std.proofs.Common.{◌≡◌, ◌↔◌, ℕ, zero, suc, ◌<◌, Option, Some, None, List, [], ◌∷◌, length, map, slice_index_or, String, Global, string_bytes, codes, refl, ap, ◌∙◌, inr, arith}
+use Rattle.std.proofs.Common.{◌≡◌, ◌↔◌, ℕ, zero, suc, ◌<◌, Option, Some, None, List, [], ◌∷◌, length, map, slice_index_or, String, Global, string_bytes, codes, refl, ap, ◌∙◌, inl, inr, arith}
 use Rattle.std.specs.Prelude.{IfSome, Any}
 use Rattle.ra_cli.specs.Statuses.{IsPrinted}
 use Rattle.ra_cli.specs.Words.{IsHelpWord, HasMarksWord}
@@ -21,7 +21,7 @@ asks_for_help words (k, word, less, is, help) = let at = help_at words k word le
 pub of_help : (words : List (String Global)) (old : Option (List ℕ)) (text : List ℕ) → Any (λ word. IsHelpWord (string_bytes word)) words
     → IfSome old (λ input. IsPrinted (map string_bytes words) input text)
 of_help words old text help =
-    for_each old (λ input. IsPrinted (map string_bytes words) input text) (λ input. inr (inr (inr (inr (inr (asks_for_help words help))))))
+    for_each old (λ input. IsPrinted (map string_bytes words) input text) (λ input. inr (inr (inr (inr (inr (inl (asks_for_help words help)))))))
 
 -- the word of which these are the bytes
 word_of : (words : List (String Global)) (k : ℕ) (bytes : List ℕ) → k < length (map string_bytes words)

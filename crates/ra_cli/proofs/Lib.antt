@@ -3,6 +3,8 @@ mod Replies
 mod Refusals
 mod Scripts
 mod ClusterRuns
+mod Surveys
 mod Options
 mod Statuses
 mod Helping
+mod Drawings

@@ -3,9 +3,12 @@ use Rattle.std.proofs.Common.{◌≡◌, ◌≢◌, ◌⊎◌, ℕ, Bool, List, 
 use Rattle.std.specs.Prelude.{IfSome}
 use Rattle.std.specs.Io.KnownBytes.{Appends}
 use Rattle.ra_schedule.specs.declared.choice.Policy.{Policy}
+use Rattle.ra_schedule.specs.Faults.{FaultRates}
 use Rattle.ra_script.specs.declared.error.ChoicesError.{ChoicesError}
 use Rattle.ra_script.specs.declared.error.PerformError.{PerformError}
 use Rattle.ra_script.specs.declared.error.PerformError.TheVariants as perform
+use Rattle.ra_draw.specs.declared.error.DrawError.{DrawError}
+use Rattle.ra_draw.specs.declared.error.DrawError.TheVariants as draw
 use Rattle.ra_trace.specs.declared.error.TraceError.{TraceError}
 use Rattle.ra_trace.specs.declared.verdict.Verdict.{Verdict}
 use Rattle.ra_trace.specs.Verdict.{IsVerdict}
@@ -17,13 +20,14 @@ use Rattle.ra_cli.specs.declared.error.AnswerError.TheVariants as answer
 use Rattle.ra_cli.specs.declared.error.RunScriptError.{RunScriptError}
 use Rattle.ra_cli.specs.declared.error.RunScriptError.TheVariants as run
 use Rattle.ra_cli.specs.declared.refusal.Refusal.{Refusal}
-use Rattle.ra_cli.specs.declared.refusal.Refusal.TheVariants.{Command, Answer, Choices, Perform, Check, Cluster}
+use Rattle.ra_cli.specs.declared.refusal.Refusal.TheVariants.{Command, Answer, Choices, Perform, Check, Draw, Cluster}
 use Rattle.ra_cli.specs.Answer.{IsAnswered}
 use Rattle.ra_cli.specs.Checks.{verdict_text, marks_verdict_text}
 use Rattle.ra_cli.specs.ClusterRun.{IsClusterRun}
 use Rattle.ra_cli.specs.Performs.{Prints}
 use Rattle.ra_cli.specs.Refusals.{IsOfReader, IsOfWriter, refused_line, word_of}
 use Rattle.ra_cli.specs.Statuses.{IsRefused, IsSaid, IsBroken, IsPrinted, BreaksOff}
+use Rattle.ra_cli.specs.Surveyed.{IsSurveyed}
 use Rattle.ra_cli.specs.Words.{GivesNode, HasMarksWord}
 use Rattle.ra_cli.proofs.ClusterRuns.{of_known}
 
@@ -36,32 +40,44 @@ for_each (Some input) P h = h input
 pub none_of_command : (fault : CommandFault) → IsOfWriter (Command fault) → ⊥
 none_of_command fault (inl is) = absurd cc
 none_of_command fault (inr (inl is)) = absurd cc
-none_of_command fault (inr (inr is)) = absurd cc
+none_of_command fault (inr (inr (inl is))) = absurd cc
+none_of_command fault (inr (inr (inr is))) = absurd cc
 
 pub none_of_choices : (fault : ChoicesError) → IsOfWriter (Choices fault) → ⊥
 none_of_choices fault (inl is) = absurd cc
 none_of_choices fault (inr (inl is)) = absurd cc
-none_of_choices fault (inr (inr is)) = absurd cc
+none_of_choices fault (inr (inr (inl is))) = absurd cc
+none_of_choices fault (inr (inr (inr is))) = absurd cc
 
 pub none_of_check : (fault : TraceError) → IsOfWriter (Check fault) → ⊥
 none_of_check fault (inl is) = absurd cc
 none_of_check fault (inr (inl is)) = absurd cc
-none_of_check fault (inr (inr is)) = absurd cc
+none_of_check fault (inr (inr (inl is))) = absurd cc
+none_of_check fault (inr (inr (inr is))) = absurd cc
 
 pub of_answer : (fault : AnswerError) → IsOfWriter (Answer fault) → fault ≡ answer.Write
 of_answer fault (inl is) = cc
 of_answer fault (inr (inl is)) = absurd cc
-of_answer fault (inr (inr is)) = absurd cc
+of_answer fault (inr (inr (inl is))) = absurd cc
+of_answer fault (inr (inr (inr is))) = absurd cc
 
 pub of_perform : (fault : PerformError) → IsOfWriter (Perform fault) → fault ≡ perform.Write
 of_perform fault (inl is) = absurd cc
 of_perform fault (inr (inl is)) = cc
-of_perform fault (inr (inr is)) = absurd cc
+of_perform fault (inr (inr (inl is))) = absurd cc
+of_perform fault (inr (inr (inr is))) = absurd cc
 
 pub of_run : (fault : RunScriptError) → IsOfWriter (Cluster fault) → fault ≡ run.Write
 of_run fault (inl is) = absurd cc
 of_run fault (inr (inl is)) = absurd cc
-of_run fault (inr (inr is)) = cc
+of_run fault (inr (inr (inl is))) = cc
+of_run fault (inr (inr (inr is))) = absurd cc
+
+pub of_draw : (fault : DrawError) → IsOfWriter (Draw fault) → fault ≡ draw.Write
+of_draw fault (inl is) = absurd cc
+of_draw fault (inr (inl is)) = absurd cc
+of_draw fault (inr (inr (inl is))) = absurd cc
+of_draw fault (inr (inr (inr is))) = cc
 
 -- ---- Status 2
 
@@ -76,7 +92,8 @@ line_of_reader : (refusal : Refusal) → IsOfReader refusal → refused_line (wo
 line_of_reader refusal (inl is) = ap (λ (r : Refusal). refused_line (word_of r)) is
 line_of_reader refusal (inr (inl is)) = ap (λ (r : Refusal). refused_line (word_of r)) is
 line_of_reader refusal (inr (inr (inl is))) = ap (λ (r : Refusal). refused_line (word_of r)) is
-line_of_reader refusal (inr (inr (inr is))) = ap (λ (r : Refusal). refused_line (word_of r)) is
+line_of_reader refusal (inr (inr (inr (inl is)))) = ap (λ (r : Refusal). refused_line (word_of r)) is
+line_of_reader refusal (inr (inr (inr (inr is)))) = ap (λ (r : Refusal). refused_line (word_of r)) is
 
 -- of a refusal that is none of the writer
 said : (words : List (List ℕ)) (old before after : Option (List ℕ)) (refusal : Refusal) → IsSaid refusal before after → IsBroken words old before after
@@ -139,3 +156,13 @@ of_cluster_run words old before after =
     of_known old (λ input. (front back : List ℕ) × IsClusterRun input (front ++ back) × (back ≢ []) × Appends before after front)
     (λ input. BreaksOff words input before after)
     (λ input (front, back, runs, left, some). (front, back, inr (inr (inr (inr (inl runs)))), left, some))
+
+pub of_surveyed : (words : List (List ℕ)) (faults : Option FaultRates) (first last : ℕ) (old before after : Option (List ℕ))
+    → IfSome old (λ input. (front back : List ℕ) × (finished : Bool) × IsSurveyed faults first last input (front ++ back) finished × (back ≢ [])
+    × Appends before after front)
+    → IfSome old (λ input. BreaksOff words input before after)
+of_surveyed words faults first last old before after =
+    of_known old (λ input. (front back : List ℕ) × (finished : Bool) × IsSurveyed faults first last input (front ++ back) finished × (back ≢ [])
+    × Appends before after front) (λ input. BreaksOff words input before after)
+    (λ input (front, back, finished, says, left, some).
+    (front, back, inr (inr (inr (inr (inr (inr (inr (faults, first, last, finished, says))))))), left, some))

@@ -4,5 +4,7 @@ pub mod Words
 pub mod Refusals
 pub mod Performs
 pub mod Checks
+pub mod Draws
 pub mod ClusterRun
+pub mod Surveyed
 pub mod Statuses

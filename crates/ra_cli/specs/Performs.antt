@@ -8,13 +8,14 @@ use Rattle.ra_schedule.specs.declared.choice.Policy.TheVariants as policies
 use Rattle.ra_script.specs.ChoicesText.{choices_of}
 use Rattle.ra_script.specs.Performed.{IsPerformed, IsTraced}
 use Rattle.ra_cli.specs.declared.command_line.PolicyName.{PolicyName}
-use Rattle.ra_cli.specs.declared.command_line.PolicyName.TheVariants.{Oldest, Newest, Seeded, Listed}
+use Rattle.ra_cli.specs.declared.command_line.PolicyName.TheVariants.{Oldest, Newest, Seeded, Faulty, Listed}
 
--- the policy of a name, with its seed, and of the text of its choices
+-- the policy of a name, with its seed and its faults, and of the text of its choices
 abbrev pub IsNamed : PolicyName → List ℕ → Policy → Type 0
 IsNamed Oldest text policy = policy ≡ policies.Oldest
 IsNamed Newest text policy = policy ≡ policies.Newest
 IsNamed (Seeded seed) text policy = policy ≡ policies.Seeded seed
+IsNamed (Faulty seed faults) text policy = policy ≡ policies.Faulty seed faults
 IsNamed Listed text policy = (choices : Listing Choice) × (choices_of text ≡ Some choices.items)
     × (policy ≡ policies.Listed choices)
 

@@ -18,10 +18,12 @@ use Rattle.ra_script.specs.declared.error.PerformError.{PerformError}
 use Rattle.ra_script.specs.declared.error.PerformError.TheVariants as perform
 use Rattle.ra_trace.specs.declared.error.TraceError.{TraceError}
 use Rattle.ra_trace.specs.declared.error.TraceError.TheVariants as trace
+use Rattle.ra_draw.specs.declared.error.DrawError.{DrawError}
+use Rattle.ra_draw.specs.declared.error.DrawError.TheVariants as draw
 use Rattle.ra_cli.specs.declared.error.RunScriptError.{RunScriptError}
 use Rattle.ra_cli.specs.declared.error.RunScriptError.TheVariants as run
 use Rattle.ra_cli.specs.declared.refusal.Refusal.{Refusal}
-use Rattle.ra_cli.specs.declared.refusal.Refusal.TheVariants.{Command, Answer, Choices, Perform, Check, Cluster}
+use Rattle.ra_cli.specs.declared.refusal.Refusal.TheVariants.{Command, Answer, Choices, Perform, Check, Draw, Cluster}
 
 abbrev pub frame_word : FrameError → List ℕ
 frame_word frame.Short = codes "Short"
@@ -97,6 +99,13 @@ trace_word trace.Read = codes "Read"
 trace_word trace.Limit = codes "Limit"
 trace_word trace.Memory = codes "Memory"
 
+abbrev pub draw_word : DrawError → List ℕ
+draw_word draw.Read = codes "Read"
+draw_word draw.Limit = codes "Limit"
+draw_word draw.TooLong = codes "TooLong"
+draw_word draw.Memory = codes "Memory"
+draw_word draw.Write = codes "Write"
+
 abbrev pub run_word : RunScriptError → List ℕ
 run_word run.Read = codes "Read"
 run_word (run.Script why) = script_word why
@@ -111,6 +120,7 @@ word_of (Answer why) = answer_word why
 word_of (Choices why) = choices_word why
 word_of (Perform why) = perform_word why
 word_of (Check why) = trace_word why
+word_of (Draw why) = draw_word why
 word_of (Cluster why) = run_word why
 
 -- the line of a word
@@ -120,8 +130,9 @@ refused_line word = codes "refused " ++ word ++ codes "\n"
 -- the reader failed
 abbrev pub IsOfReader : Refusal → Type 0
 IsOfReader refusal = (refusal ≡ Answer answer.Read) ⊎ (refusal ≡ Perform perform.Read) ⊎ (refusal ≡ Check trace.Read)
-    ⊎ (refusal ≡ Cluster run.Read)
+    ⊎ (refusal ≡ Cluster run.Read) ⊎ (refusal ≡ Draw draw.Read)
 
 -- the writer failed
 abbrev pub IsOfWriter : Refusal → Type 0
 IsOfWriter refusal = (refusal ≡ Answer answer.Write) ⊎ (refusal ≡ Perform perform.Write) ⊎ (refusal ≡ Cluster run.Write)
+    ⊎ (refusal ≡ Draw draw.Write)

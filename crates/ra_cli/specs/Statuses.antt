@@ -2,12 +2,15 @@
 use Rattle.std.specs.Prelude.{◌≡◌, ◌≢◌, ℕ, ◌⊎◌, List, [], ◌++◌, Bool, true, false, Option, IfSome, Any, codes}
 use Rattle.std.specs.Io.KnownBytes.{Consumes, Appends}
 use Rattle.ra_schedule.specs.declared.choice.Policy.{Policy}
+use Rattle.ra_schedule.specs.Faults.{FaultRates}
 use Rattle.ra_cli.specs.declared.refusal.Refusal.{Refusal}
 use Rattle.ra_cli.specs.Answer.{IsAnswered}
 use Rattle.ra_cli.specs.Words.{IsHelpWord, GivesNode}
 use Rattle.ra_cli.specs.Performs.{Performs, Prints}
 use Rattle.ra_cli.specs.Checks.{Judges, IsJudged}
 use Rattle.ra_cli.specs.ClusterRun.{IsClusterRun}
+use Rattle.ra_cli.specs.Draws.{IsDrawn, IsNoTrace, IsDrawing}
+use Rattle.ra_cli.specs.Surveyed.{IsSurveyed, Surveys}
 use Rattle.ra_cli.specs.Refusals.{IsOfReader, IsOfWriter, refused_line, word_of}
 
 -- the node of the words, of as many as they say, answered what was to be read, where it is known; it was read to its end, and the answer
@@ -16,14 +19,19 @@ abbrev pub Answers : (words : List (List ℕ)) → (old new before after : Optio
 Answers words old new before after = (node : ℕ) × (nodes : ℕ) × GivesNode words node nodes × IfSome old (λ input. (output : List ℕ)
     × IsAnswered node nodes input output × Consumes old new input × Appends before after output)
 
--- status 0: the input was answered, or performed to its end, or is the trace of a run, or the log of one of the lock table
+-- status 0: the input was answered, or performed to its end, under one seed or each of many, or is the trace of a run, or the log of one
+-- of the lock table, or was drawn
 abbrev pub IsDone : (words : List (List ℕ)) → (old new before after : Option (List ℕ)) → Type 0
 IsDone words old new before after =
     Answers words old new before after ⊎ Performs old new before after true ⊎ Judges words old new before after true
+    ⊎ IsDrawn old new before after ⊎ Surveys old new before after true
 
--- status 3: the input was performed and something is left to do, or is the trace of no run, or the log of none of the lock table
+-- status 3: the input was performed and something is left to do, under one seed or some of many, or is the trace of no run, which is not
+-- drawn, or the log of none of the lock table
 abbrev pub IsUnfinished : (words : List (List ℕ)) → (old new before after : Option (List ℕ)) → Type 0
-IsUnfinished words old new before after = Performs old new before after false ⊎ Judges words old new before after false
+IsUnfinished words old new before after =
+    Performs old new before after false ⊎ Judges words old new before after false ⊎ IsNoTrace old new before after
+    ⊎ Surveys old new before after false
 
 -- status 2: the line of a refusal was written and nothing else, and neither the reader nor the writer failed
 abbrev pub IsRefused : (before after : Option (List ℕ)) → Type 0
@@ -44,6 +52,8 @@ IsPrinted words input text =
     ⊎ IsJudged words input text
     ⊎ IsClusterRun input text
     ⊎ Any IsHelpWord words
+    ⊎ IsDrawing input text
+    ⊎ ((faults : Option FaultRates) × (first last : ℕ) × (finished : Bool) × IsSurveyed faults first last input text finished)
 
 -- a front of what is to be printed was written, and not all of it
 abbrev pub BreaksOff : (words : List (List ℕ)) → (input : List ℕ) → (before after : Option (List ℕ)) → Type 0

@@ -4,11 +4,11 @@ use Rattle.std.specs.Str.Parse.{IsNumeral, digits_value, without_leading_plus}
 use Rattle.ra_cli.specs.declared.command_line.CommandFault.{CommandFault}
 use Rattle.ra_cli.specs.declared.command_line.CommandFault.TheVariants.{Usage, Memory}
 use Rattle.ra_cli.specs.declared.command_line.Task.{Task}
-use Rattle.ra_cli.specs.declared.command_line.Task.TheVariants.{Answer, Sim, Check, CheckMarks, Cluster, Help}
+use Rattle.ra_cli.specs.declared.command_line.Task.TheVariants.{Answer, Sim, Survey, Check, CheckMarks, Draw, Cluster, Help}
 
--- the word is `--help` or `-h`
+-- the word is `--help` or `-h`, or `--version` or `-V`
 abbrev pub IsHelpWord : List ℕ → Type 0
-IsHelpWord word = (word ≡ codes "--help") ⊎ (word ≡ codes "-h")
+IsHelpWord word = (word ≡ codes "--help") ⊎ (word ≡ codes "-h") ⊎ (word ≡ codes "--version") ⊎ (word ≡ codes "-V")
 
 -- behind the program's name, a word is this option and the next one this text, or one word is both, with `=` between them
 abbrev pub GivesText : (words : List (List ℕ)) → (option text : List ℕ) → Type 0
@@ -28,17 +28,21 @@ GivesNode words node nodes = Gives words (codes "--node") node × Gives words (c
 abbrev pub OnAnswer : Task → (ℕ → ℕ → Type 0) → Type 0
 OnAnswer (Answer node nodes) P = P node nodes
 OnAnswer (Sim policy choices trace) P = ⊤
+OnAnswer (Survey faults first last) P = ⊤
 OnAnswer Check P = ⊤
 OnAnswer CheckMarks P = ⊤
+OnAnswer (Draw part) P = ⊤
 OnAnswer Cluster P = ⊤
 OnAnswer (Help text) P = ⊤
 
--- a fact for a text of help
+-- a fact for a text of help, or for the version
 abbrev pub OnHelp : Task → Type 0 → Type 0
 OnHelp (Answer node nodes) P = ⊤
 OnHelp (Sim policy choices trace) P = ⊤
+OnHelp (Survey faults first last) P = ⊤
 OnHelp Check P = ⊤
 OnHelp CheckMarks P = ⊤
+OnHelp (Draw part) P = ⊤
 OnHelp Cluster P = ⊤
 OnHelp (Help text) P = P
 
@@ -50,8 +54,10 @@ HasMarksWord words = Any (λ word. word ≡ codes "--marks") words
 abbrev pub ChecksBy : (words : List (List ℕ)) → Task → Type 0
 ChecksBy words (Answer node nodes) = ⊤
 ChecksBy words (Sim policy choices trace) = ⊤
+ChecksBy words (Survey faults first last) = ⊤
 ChecksBy words Check = HasMarksWord words → ⊥
 ChecksBy words CheckMarks = HasMarksWord words
+ChecksBy words (Draw part) = ⊤
 ChecksBy words Cluster = ⊤
 ChecksBy words (Help text) = ⊤
 

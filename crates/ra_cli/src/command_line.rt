@@ -3,29 +3,43 @@ ghost use Rattle.ra_cli.specs.Words.{ChecksBy, Gives, GivesNode, GivesText, IsHe
 
 use clap::error::ErrorKind;
 use clap::{Arg, ArgAction, ArgMatches, Command, Error as ParseError, value_parser};
+use ra_draw::Part;
+use ra_schedule::Faults;
 use std::alloc::{AllocError, Global};
 use thiserror::Error;
 
+/// The version of the program, and those of what it reads.
+const VERSION: &str = "0.1.0 (frames 1 and 2, traces 1 and 2)";
+
 /// The words for the policies.
-const POLICIES: &[&str] = &["oldest", "newest", "seeded", "listed"];
+const POLICIES: &[&str] = &["oldest", "newest", "seeded", "faulty", "listed"];
 
 /// What is said of the command `answer` below its options.
 const ANSWER_HELP: &str = "\
-The node has met no number before, and its clock was 0. A frame of version 1 or 2 is read, and the frames that the node sends are
-printed in version 2, a line each. The modes, and their bytes, of which version 1 has the first two:
+The node has met no number before, and its clock was 0. A frame of version 1 or
+2 is read, and the frames that the node sends are printed in version 2, a line
+each. The modes, and their bytes, of which version 1 has the first two:
   S    00  shared
   X    01  exclusive
   IS   02  intent shared
   IX   03  intent exclusive
   SIX  04  shared and intent exclusive
 
-Example, a REQUEST of node 1 for the name r, in version 1, answered by node 2 of 3:
-  echo 0101010201000000000000000100000000000000010172 | ra answer --node 2 --nodes 3";
+Example, a REQUEST of node 1 for the name r, in version 1, answered by node 2
+of 3:
+  echo 0101010201000000000000000100000000000000010172 |
+    ra answer --node 2 --nodes 3
+
+Status 0: answered. Status 1: the input or the output failed. Status 2: the
+words or the frame are refused.";
 
 /// What is said of the command `sim` below its options.
 const SIM_HELP: &str = "\
-A script, read from standard input, is a TOML document: how many nodes there are, 1 to 64, and for each client its node and what
-it does, in order. A mode and a name, as `X r`, lock the name in that mode, and `U r` unlocks it.
+A script, read from standard input, is a TOML document: how many nodes there
+are, 1 to 64, and for each of 1 to 64 clients its node and what it does, at most
+1024 operations, in order. A mode and a name, as `X r`, lock the name in that
+mode, and `U r` unlocks it. A name has 1 to 32 of A to Z, a to z, 0 to 9, _, -
+and .
   nodes = 2
   client = [{ node = 1, ops = [\"X r\", \"U r\"] },
             { node = 2, ops = [\"S r\", \"U r\"] }]
@@ -33,27 +47,49 @@ it does, in order. A mode and a name, as `X r`, lock the name in that mode, and 
 Modes:
   S    shared: to read it whole, beside S and IS
   X    exclusive: to change it whole, beside none
-  IS   intent shared: to read parts of it, which are locked S each, beside all but X
-  IX   intent exclusive: to change parts of it, which are locked X each, beside IS and IX
-  SIX  shared and intent exclusive: to read it whole, and change parts of it, which are locked X each, beside IS
+  IS   intent shared: to read parts of it, which are locked S each, beside all
+       but X
+  IX   intent exclusive: to change parts of it, which are locked X each, beside
+       IS and IX
+  SIX  shared and intent exclusive: to read it whole, and change parts of it,
+       which are locked X each, beside IS
 
 Policies:
-  oldest  the first client in the order of the script that can go on, and else the message that was sent first
+  oldest  the first client in the order of the script that can go on, and else
+          the message that was sent first
   newest  the same, with the message that was sent last
-  seeded  by chance: each turn takes one of the clients that can go on and the messages under way, by the next word of the
-          generator PCG XSL RR 128/64 of --seed. A script and a seed have one run, the same on each machine
-  listed  the words of --choices, one after the other: cK the next operation of client K, mI delivers and lI loses the
-          message at place I of those under way, counted from 0 in the order of sending, as in --choices \"c1 m0 m0 c1\"
+  seeded  by chance: each turn takes one of the clients that can go on and the
+          messages under way, by the next word of the generator PCG XSL RR
+          128/64 of --seed. A script and a seed have one run, the same on each
+          machine
+  faulty  the same, but where the word names a message one word more, modulo
+          1000, says what becomes of it: below --lose it is lost, below --lose
+          and --repeat together it is repeated, and comes once more, and else
+          it is delivered. The two are at most 1000 together
+  listed  the words of --choices, one after the other: cK the next operation of
+          client K, mI delivers and lI loses the message at place I of those
+          under way, counted from 0 in the order of sending, as in
+          --choices \"c1 m0 m0 c1\"
 
-With --trace it prints the steps of the run, each with its marks, in place of the marks and totals, as `ra check` reads them:
-  ra sim --trace < script.toml | ra check
+With --trace it prints the steps of the run, each with its marks, in place of
+the marks and totals, as `ra check` reads them.
 
-Status 0: each operation is done, and nothing waits, is queued or under way. Status 3: the run ended before that.
-Status 2: the words or the script are refused. Status 1: the input or the output failed.";
+Example: ra sim --trace < script.toml | ra check
+
+With --seeds A..B and a policy of chance it runs the script by each seed from A
+to B, and prints how many of them ended finished, and stuck, and the first of
+each, and the least and the most of the turns and of the messages sent.
+
+Example: ra sim --policy seeded --seeds 1..1000 < script.toml
+
+Status 0: each operation is done, and nothing waits, is queued or under way.
+Status 3: the run ended before that. Status 2: the words or the script are
+refused. Status 1: the input or the output failed.";
 
 /// What is said of the command `check` below its options.
 const CHECK_HELP: &str = "\
-A trace, read from standard input, is the steps of a run, each on a line with its marks on the lines below it:
+A trace, read from standard input, is the steps of a run, each on a line with
+its marks on the lines below it:
   trace 2 2 0
   ask 1 1 r X
   request 1 1 r X 1
@@ -61,16 +97,20 @@ A trace, read from standard input, is the steps of a run, each on a line with it
   deliver reply 2 1 r 1
   enter 1 1 r X 1
   end
-The first line says which version of traces it is, how many nodes there are, and the number that each resource begins with. In
-version 2, which `ra sim --trace` prints, there are 1 to 64 nodes and five modes; version 1 has 1 to 16 nodes and the modes S and X:
+The first line says which version of traces it is, how many nodes there are, and
+the number that each resource begins with. In version 2, which `ra sim --trace`
+prints, there are 1 to 64 nodes and five modes; version 1 has 1 to 16 nodes and
+the modes S and X:
   S    shared
   X    exclusive
   IS   intent shared
   IX   intent exclusive
   SIX  shared and intent exclusive
-A line with `lose` in place of `deliver` says that a message is lost, and in version 2 one with `repeat` that it will come once more.
+A line with `lose` in place of `deliver` says that a message is lost, and in
+version 2 one with `repeat` that it will come once more.
 
-It prints `valid`, and how many requests and messages there were; or `invalid`, the first line that is wrong, and why:
+It prints `valid`, and how many requests and messages there were; or `invalid`,
+the first line that is wrong, and why:
   Line         it is none, or stands where it may not
   Refused      the client may not ask or leave
   NotUnderWay  nobody sent the message, or it was taken already
@@ -79,29 +119,50 @@ It prints `valid`, and how many requests and messages there were; or `invalid`, 
 
 Example: ra sim --trace < script.toml | ra check
 
-With --marks the text is a log of marks alone, a line for each request, grant and release of any lock service, with the number of
-a node, 1 to 64, a client, the name, the mode, and a number that is above each one granted on the name so far:
+With --marks the text is a log of marks alone, a line for each request, grant
+and release of any lock service, with the number of a node, 1 to 64, a client,
+the name, the mode, and a number that is above each one granted on the name so
+far:
   request 1 1 r X 1
   enter 1 1 r X 1
   leave 1 1 r X 1
-It prints `valid`, and how many requests and grants there were, where a lock table allows each mark; or `invalid`, the first line
-that is wrong, and why:
+It prints `valid`, and how many requests and grants there were, where a lock
+table allows each mark; or `invalid`, the first line that is wrong, and why:
   Line        it is no such line
   NodeBusy    a request, and its node waits or holds on the name
-  NotAbove    a request, and its number is not above each one granted on the name
+  NotAbove    a request, and its number is not above each one granted on the
+              name
   NotWaiting  a grant, and it was not requested, or was granted already
   Held        a grant, and one that conflicts holds
-  Earlier     a grant, and one that conflicts waits with a lower number, or the same at a lower node
+  Earlier     a grant, and one that conflicts waits with a lower number, or the
+              same at a lower node
   NotHeld     a release of what is not held
 
 Example: ra check --marks < service.log
 
-Status 0: it is a run. Status 3: it is not. Status 2: the words are refused, or it has more than 16777216 bytes. Status 1: the
-input or the output failed.";
+Status 0: it is a run. Status 3: it is not. Status 2: the words are refused, or
+it has more than 16777216 bytes. Status 1: the input or the output failed.";
+
+/// What is said of the command `draw` below its options.
+const DRAW_HELP: &str = "\
+A trace is read from standard input, as `ra sim --trace` prints it and `ra check --help` says what it is. Its picture is one SVG
+file, which any browser shows: a lane for each node, time downwards, an arrow for each message from its sending to its delivery, a
+cross where one is lost, a loop where one is repeated, and beside the lanes bars for clients that wait and that are inside. Rest the
+pointer on a shape, and the browser says it in words.
+
+Example: ra sim --trace < script.toml | ra draw > run.svg
+
+At most 4096 lines of the trace are drawn. Of a longer one --from and --to say which, both counted from 1 and both among them; the
+lines before are followed and those behind are checked, but not drawn.
+
+Status 0: it is drawn. Status 3: the text is no trace, and its first wrong line is printed in place of the picture, as `ra check`
+prints it. Status 2: the words are refused, or it is TooLong, or has more than 16777216 bytes. Status 1: the input or the output
+failed.";
 
 /// What is said of the command `cluster` below its options.
 const CLUSTER_HELP: &str = "\
-A script is read from standard input; `ra sim --help` says what it is. It has 1 to 64 nodes, and its modes are
+A script is read from standard input; `ra sim --help` says what it is. It has 1
+to 64 nodes and 1 to 64 clients, and its modes are
   S    shared
   X    exclusive
   IS   intent shared
@@ -115,26 +176,36 @@ This one has two clients that want the same name:
 
 Example: ra cluster < script.toml
 
-Each node and each client has a thread of its own. What happens first is up to the threads, so the marks may come in another
-order, and with other numbers, each time. When the threads have ended, what the nodes wrote down is put together into one run
-of the cluster, whose marks and totals are printed.
+Each node and each client has a thread of its own. What happens first is up to
+the threads, so the marks may come in another order, and with other numbers,
+each time. When the threads have ended, what the nodes wrote down is put
+together into one run of the cluster, whose marks and totals are printed.
 
-Two conditions on the script are checked before any thread starts, since a client that waits in vain keeps its thread, and
-so the program, waiting for ever:
-  OutOfOrder  a client locks a name that is not above, byte by byte, each name that it holds then. If one client locks b while
-              it holds a, and another locks a while it holds b, each waits for the other
-  Unreleased  a client holds a name at its end. Whoever asks for that name later waits for a client that is gone
+Two conditions on the script are checked before any thread starts, since a
+client that waits in vain keeps its thread, and so the program, waiting for
+ever:
+  OutOfOrder  a client locks a name that is not above, byte by byte, each name
+              that it holds then. If one client locks b while it holds a, and
+              another locks a while it holds b, each waits for the other
+  Unreleased  a client holds a name at its end. Whoever asks for that name later
+              waits for a client that is gone
 
-Nothing bounds how long a run takes. `ra sim` takes any script, and says who waits at the end.
+Nothing bounds how long a run takes. `ra sim` takes any script, and says who
+waits at the end.
 
-Status 0: each operation is done, and nothing waits, is queued, lost or under way. Status 1: the input or the output failed.
-Status 2: the words or the script are refused, or the run failed: Fault where a node was stopped, as for want of memory or of
-threads, and Settle, PlanUnmet, Lost or UnderWay where what the nodes wrote down is no run, or not that of the whole script.";
+Status 0: each operation is done, and nothing waits, is queued, lost or under
+way. Status 1: the input or the output failed. Status 2: the words or the script
+are refused, or the run failed: Fault where a node was stopped, as for want of
+memory or of threads, and Settle, PlanUnmet, Lost or UnderWay where what the
+nodes wrote down is no run, or not that of the whole script.";
 
 /// What is said of the program below its commands.
 const STATUS_HELP: &str = "\
-Status 0: done. Status 1: the input or the output failed. Status 2: refused, by one line with the word that says why.
-Status 3: a run that ended with something left to do, or a trace or a log that is none.";
+Example: ra sim < script.toml
+
+Status 0: done. Status 1: the input or the output failed. Status 2: refused, by
+one line with the word that says why. Status 3: a run that ended with something
+left to do, or a trace or a log that is none.";
 
 /// Which policy the words name.
 #[derive(Clone, Copy, Debug)]
@@ -143,6 +214,8 @@ pub enum PolicyName {
     Newest,
     /// With its seed.
     Seeded(u64),
+    /// With its seed, and how often it loses and repeats a message.
+    Faulty { seed: u64, faults: Faults },
     Listed,
 }
 
@@ -160,13 +233,21 @@ pub enum Task<'a> {
         choices: &'a str,
         trace: bool,
     },
+    /// The command `sim` with many seeds: the faults of chance, where it has any, and the first and the last seed, both included.
+    Survey {
+        faults: Option<Faults>,
+        first: u64,
+        last: u64,
+    },
     /// The command `check`.
     Check,
     /// The command `check --marks`.
     CheckMarks,
+    /// The command `draw`, with the part of the trace.
+    Draw(Part),
     /// The command `cluster`.
     Cluster,
-    /// A text of help.
+    /// A text of help, or the version.
     Help(String),
 }
 
@@ -200,21 +281,52 @@ fn number<'a>(alloc: Global, name: &'a str, help: &'a str) -> Arg<'a> {
 fn policy_option<'a>(alloc: Global) -> Arg<'a> {
     valued(alloc, "policy", "Who chooses what comes next")
         .value_parser(POLICIES)
+        .hide_possible_values(true)
         .default_value("oldest")
 }
 
 /// Makes the option `--seed`.
 fn seed_option<'a>(alloc: Global) -> Arg<'a> {
-    valued(alloc, "seed", "The seed of the policy seeded")
+    valued(alloc, "seed", "The seed of chance, 0 to 2^64 - 1")
         .value_parser(value_parser!(u64))
         .default_value("0")
 }
 
+/// Makes an option for how many messages meet a fault.
+fn fault_option<'a>(alloc: Global, name: &'a str, help: &'a str) -> Arg<'a> {
+    valued(alloc, name, help)
+        .value_parser(value_parser!(u16))
+        .default_value("0")
+}
+
+/// Gives the command `sim` the options `--lose` and `--repeat`.
+fn with_fault_options<'a>(alloc: Global, sim: Command<'a>) -> Result<Command<'a>, AllocError> {
+    let (lose, repeat) = (
+        "How many of 1000 messages faulty loses",
+        "How many it repeats, 0 to 400",
+    );
+    sim.arg(fault_option(alloc, "lose", lose))?
+        .arg(fault_option(alloc, "repeat", repeat))
+}
+
 /// Makes the option `--choices`.
 fn choices_option<'a>(alloc: Global) -> Arg<'a> {
-    valued(alloc, "choices", "The choices of the policy listed")
-        .default_value("")
-        .hide_default_value(true)
+    valued(
+        alloc,
+        "choices",
+        "The choices of the policy listed, as below",
+    )
+    .default_value("")
+    .hide_default_value(true)
+}
+
+/// Makes the option `--seeds`.
+fn seeds_option<'a>(alloc: Global) -> Arg<'a> {
+    valued(
+        alloc,
+        "seeds",
+        "Each of many seeds, as 1..1000: what came of them",
+    )
 }
 
 /// Makes the option `--trace`.
@@ -230,20 +342,24 @@ fn answer_command<'a>(alloc: Global) -> Result<Command<'a>, AllocError> {
     Command::new(alloc, "answer")
         .about("Answer one frame, a line of hexadecimal digits, as an idle node does")
         .after_help(ANSWER_HELP)
-        .arg(number(alloc, "node", "The number of the node that answers"))?
+        .arg(number(
+            alloc,
+            "node",
+            "The number of the node that answers, 1 to that of --nodes",
+        ))?
         .arg(number(alloc, "nodes", "How many nodes there are, 1 to 64"))
 }
 
 /// Makes the command `sim`.
 fn sim_command<'a>(alloc: Global) -> Result<Command<'a>, AllocError> {
-    Command::new(alloc, "sim")
-        .about(
-            "Drive a cluster through a script, and print who asked, entered and left, and what it cost",
-        )
+    let sim = Command::new(alloc, "sim")
+        .about("Drive a cluster through a script: who asked, entered and left")
         .after_help(SIM_HELP)
         .arg(policy_option(alloc))?
-        .arg(seed_option(alloc))?
+        .arg(seed_option(alloc))?;
+    with_fault_options(alloc, sim)?
         .arg(choices_option(alloc))?
+        .arg(seeds_option(alloc))?
         .arg(trace_option(alloc))
 }
 
@@ -263,16 +379,43 @@ fn check_command<'a>(alloc: Global) -> Result<Command<'a>, AllocError> {
         .arg(marks_option(alloc))
 }
 
+/// Makes the option of the line with which the part of a trace begins.
+fn from_option<'a>(alloc: Global) -> Arg<'a> {
+    valued(alloc, "from", "The first line to draw")
+        .value_parser(value_parser!(u64))
+        .default_value("1")
+}
+
+/// Makes the option of the line with which it ends.
+fn to_option<'a>(alloc: Global) -> Arg<'a> {
+    valued(alloc, "to", "The last line to draw [default: the last one]")
+        .value_parser(value_parser!(u64))
+        .default_value("18446744073709551615")
+        .hide_default_value(true)
+}
+
+/// Makes the command `draw`.
+fn draw_command<'a>(alloc: Global) -> Result<Command<'a>, AllocError> {
+    Command::new(alloc, "draw")
+        .about(
+            "Draw the trace of a run as an SVG file: its nodes, messages, and who waits and is inside",
+        )
+        .after_help(DRAW_HELP)
+        .arg(from_option(alloc))?
+        .arg(to_option(alloc))
+}
+
 /// Makes the command `cluster`.
 fn cluster_command<'a>(alloc: Global) -> Command<'a> {
     Command::new(alloc, "cluster")
-        .about("Run a script by threads, and print who asked, entered and left, and what it cost")
+        .about("Run a script by threads: who asked, entered and left")
         .after_help(CLUSTER_HELP)
 }
 
 /// Makes the program without its commands.
 fn program<'a>(alloc: Global) -> Command<'a> {
     Command::new(alloc, "ra")
+        .version(VERSION)
         .about("Lock named resources by messages alone")
         .after_help(STATUS_HELP)
         .disable_help_subcommand(true)
@@ -292,7 +435,8 @@ pub fn command<'a>(alloc: Global) -> Result<Command<'a>, AllocError> {
     let ra = with_command(program(alloc), answer_command(alloc))?;
     let ra = with_command(ra, sim_command(alloc))?;
     let ra = with_command(ra, Ok(cluster_command(alloc)))?;
-    with_command(ra, check_command(alloc))
+    let ra = with_command(ra, check_command(alloc))?;
+    with_command(ra, draw_command(alloc))
 }
 
 /// Returns the text behind an option and `=` in a word, or `None` where it is no such word. It does not allocate.
@@ -340,13 +484,52 @@ fn answer_task<'a>(words: &[String]) -> Option<Task<'a>>
     Some(Task::Answer { node, nodes })
 }
 
-/// Returns the policy that the words of the command `sim` name.
+/// Returns the policy that the words of the command `sim` name, or `None` where there are no such faults, whatever the policy.
 fn policy_name(sim: &ArgMatches) -> Option<PolicyName> {
+    let seed = sim.get_one("seed")?;
+    let faults = Faults::new(sim.get_one("lose")?, sim.get_one("repeat")?)?;
     Some(match sim.get_str("policy")? {
         "newest" => PolicyName::Newest,
-        "seeded" => PolicyName::Seeded(sim.get_one("seed")?),
+        "seeded" => PolicyName::Seeded(seed),
+        "faulty" => PolicyName::Faulty { seed, faults },
         "listed" => PolicyName::Listed,
         _ => PolicyName::Oldest,
+    })
+}
+
+/// Returns the first and the last seed of a text, as of `1..1000`, or `None` where it is none, or the first is above the last. It does not
+/// allocate.
+fn seeds_of(text: &str) -> Option<(u64, u64)> {
+    let (first, rest) = text.split_once('.')?;
+    let last = rest.strip_prefix('.')?;
+    let first = first.parse().ok()?;
+    let last = last.parse().ok()?;
+    if first <= last {
+        Some((first, last))
+    } else {
+        None
+    }
+}
+
+/// Returns the task of the command `sim` with many seeds: under a policy of chance, and without a trace.
+fn survey_task<'a>(policy: PolicyName, seeds: &str, trace: bool) -> Option<Task<'a>>
+    ensures help { IfSome result (λ task. OnHelp task ⊥) }
+    ensures numbers { IfSome result (λ task. OnAnswer task (λ _ _. ⊥)) }
+    ensures marks { IfSome result (λ task. (any : List (List ℕ)) → ChecksBy any task) }
+{
+    let faults = match policy {
+        PolicyName::Seeded(_) => None,
+        PolicyName::Faulty { faults, .. } => Some(faults),
+        _ => return None,
+    };
+    if trace {
+        return None;
+    }
+    let (first, last) = seeds_of(seeds)?;
+    Some(Task::Survey {
+        faults,
+        first,
+        last,
     })
 }
 
@@ -359,11 +542,25 @@ fn sim_task<'a>(sim: &ArgMatches<'a>) -> Option<Task<'a>>
     let policy = policy_name(sim)?;
     let choices = sim.get_str("choices")?;
     let trace = sim.get_flag("trace");
+    if let Some(seeds) = sim.get_str("seeds") {
+        return survey_task(policy, seeds, trace);
+    }
     Some(Task::Sim {
         policy,
         choices,
         trace,
     })
+}
+
+/// Returns the task of the command `draw`.
+fn draw_task<'a>(given: &ArgMatches<'a>) -> Option<Task<'a>>
+    ensures help { IfSome result (λ task. OnHelp task ⊥) }
+    ensures numbers { IfSome result (λ task. OnAnswer task (λ _ _. ⊥)) }
+    ensures marks { IfSome result (λ task. (any : List (List ℕ)) → ChecksBy any task) }
+{
+    let from = given.get_one("from")?;
+    let to = given.get_one("to")?;
+    Some(Task::Draw(Part { from, to }))
 }
 
 /// Returns whether one of the words is this one. It does not allocate.
@@ -404,23 +601,31 @@ fn task_of<'a>(words: &[String], matches: &ArgMatches<'a>) -> Option<Task<'a>>
         "sim" => sim_task(given),
         "cluster" => Some(Task::Cluster),
         "check" => Some(check_task(words)),
+        "draw" => draw_task(given),
         _ => None,
     }
 }
 
-/// Returns whether a word asks for a text of help. It does not allocate.
+/// Returns whether a word asks for a text of help or for the version. It does not allocate.
+fn is_help_word(word: &str) -> bool
+    ensures { IsTrue result → IsHelpWord word.now }
+{
+    matches!(word, "--help" | "-h" | "--version" | "-V")
+}
+
+/// Returns whether one of the words asks for a text of help or for the version. It does not allocate.
 fn asks_for_help(words: &[String]) -> bool
     ensures { IsTrue result → Any (λ word. IsHelpWord (string_bytes word)) words.now }
 {
     for word in words {
-        if word.as_str() == "--help" || word.as_str() == "-h" {
+        if is_help_word(word.as_str()) {
             return true;
         }
     }
     false
 }
 
-/// Returns the task of the words, of which the first is the program's name. It is a text of help only where one of
+/// Returns the task of the words, of which the first is the program's name. It is a text of help, or the version, only where one of
 /// them asks for it.
 ///
 /// # Errors
@@ -441,7 +646,7 @@ pub fn parse<'a>(alloc: Global, words: &'a [String]) -> Result<Task<'a>, Command
     }
 }
 
-/// Returns the text of help for which the words ask, where that is why the parser stopped.
+/// Returns the text of help, or the version, for which the words ask, where that is why the parser stopped.
 ///
 /// # Errors
 ///
@@ -457,11 +662,13 @@ fn help_of<'a>(
     ensures marks { IfOk result (ChecksBy (map string_bytes words.now)) }
 {
     match error.kind() {
-        // No contract of the parser's says that it gives help only to those who ask.
-        ErrorKind::DisplayHelp if asks_for_help(words) => match format!(in alloc; "{error}") {
-            Ok(text) => Ok(Task::Help(text)),
-            Err(_) => Err(CommandFault::Memory),
-        },
+        // No contract of the parser's says that it gives these only to those who ask.
+        ErrorKind::DisplayHelp | ErrorKind::DisplayVersion if asks_for_help(words) => {
+            match format!(in alloc; "{error}") {
+                Ok(text) => Ok(Task::Help(text)),
+                Err(_) => Err(CommandFault::Memory),
+            }
+        }
         ErrorKind::OutOfMemory => Err(CommandFault::Memory),
         _ => Err(CommandFault::Usage),
     }

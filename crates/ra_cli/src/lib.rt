@@ -12,6 +12,8 @@ mod outcome;
 mod refusal;
 mod running;
 mod serving;
+mod survey_text;
+mod surveying;
 mod usage;
 mod verdict;
 

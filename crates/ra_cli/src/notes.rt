@@ -9,6 +9,7 @@ use crate::outcome::Remark;
 use crate::refusal::Refusal;
 use crate::usage::usage_text;
 use crate::{AnswerError, CommandFault};
+use ra_draw::DrawError;
 use ra_script::{ChoicesError, PerformError, read_choices};
 use ra_trace::TraceError;
 use ra_world::write_out;
@@ -48,6 +49,10 @@ fn note_of(alloc: Global, words: &[String], remark: &Remark) -> Result<String, A
             alloc,
             "the run ended with something left to do: an operation, or what waits, is queued or is under way",
         ),
+        Remark::SomeUnfinished => line_of(
+            alloc,
+            "the runs of some seeds ended with something left to do; --seed and --trace show one of them",
+        ),
         Remark::NoTrace { line, cause } => invalid_note(alloc, *line, cause_text(*cause)),
         Remark::NoLog { line, cause } => invalid_note(alloc, *line, mark_cause_text(*cause)),
     }
@@ -66,6 +71,7 @@ fn refusal_note(alloc: Global, words: &[String], refusal: Refusal) -> Result<Str
         Refusal::Choices(why) => choices_note(alloc, words, why),
         Refusal::Perform(why) => perform_note(alloc, why),
         Refusal::Check(why) => trace_note(alloc, why),
+        Refusal::Draw(why) => draw_note(alloc, why),
         Refusal::Cluster(why) => run_note(alloc, why),
     }
 }
@@ -168,6 +174,20 @@ fn trace_note(alloc: Global, why: TraceError) -> Result<String, AllocError> {
             TraceError::Memory => NO_MEMORY,
         },
     )
+}
+
+/// Returns the note on a trace that is not drawn.
+fn draw_note(alloc: Global, why: DrawError) -> Result<String, AllocError> {
+    match why {
+        DrawError::Read => line_of(alloc, NO_INPUT),
+        DrawError::Limit => line_of(alloc, "standard input has more than 16777216 bytes"),
+        DrawError::TooLong => line_of(
+            alloc,
+            "more than 4096 lines of the trace would be drawn: --from and --to say which ones",
+        ),
+        DrawError::Memory => line_of(alloc, NO_MEMORY),
+        DrawError::Write => Ok(String::new(alloc)),
+    }
 }
 
 /// Returns the note on a script that threads do not run.

@@ -4,6 +4,9 @@ ghost use Rattle.std.specs.Prelude.{◌≡◌};
 use crate::refusal::Refusal;
 use ra_trace::{Cause, MarkCause, MarksVerdict, Verdict};
 
+/// The run ended with something left to do, or the trace or the log is none.
+pub const UNFINISHED: u8 = 3;
+
 /// What there is to say to a person of what came of a command.
 #[derive(Debug, Drop)]
 pub enum Remark {
@@ -11,6 +14,8 @@ pub enum Remark {
     Refused(Refusal),
     /// The run ended with something left to do.
     Unfinished,
+    /// The run of some seed ended so.
+    SomeUnfinished,
     /// The text is no trace: its first wrong line, and why.
     NoTrace { line: u64, cause: Cause },
     /// The log is no run of the lock table: its first wrong line, and why.
@@ -37,6 +42,13 @@ impl Outcome {
         ensures { result.status ≡ status }
     {
         Outcome::new(status, Some(Remark::Refused(refusal)))
+    }
+
+    /// Makes that of a verdict. Of one that could not be printed there is nothing to say.
+    pub fn judged(status: u8, remark: Option<Remark>) -> Outcome
+        ensures { result.status ≡ status }
+    {
+        Outcome::new(status, if status == UNFINISHED { remark } else { None })
     }
 }
 

@@ -5,6 +5,7 @@ ghost use Rattle.ra_cli.specs.Refusals as spec;
 use crate::error::RunScriptError;
 use crate::{AnswerError, CommandFault};
 use ra_cluster::ClusterError;
+use ra_draw::DrawError;
 use ra_frame::FrameError;
 use ra_schedule::DriveError;
 use ra_script::{ChoicesError, PerformError, ScriptError};
@@ -18,6 +19,7 @@ pub enum Refusal {
     Choices(ChoicesError),
     Perform(PerformError),
     Check(TraceError),
+    Draw(DrawError),
     Cluster(RunScriptError),
 }
 
@@ -31,6 +33,7 @@ pub fn line_of(refusal: Refusal) -> &'static str
         Refusal::Choices(why) => choices_line(why),
         Refusal::Perform(why) => perform_line(why),
         Refusal::Check(why) => trace_line(why),
+        Refusal::Draw(why) => draw_line(why),
         Refusal::Cluster(why) => run_line(why),
     }
 }
@@ -160,6 +163,19 @@ fn trace_line(fault: TraceError) -> &'static str
         TraceError::Read => "refused Read\n",
         TraceError::Limit => "refused Limit\n",
         TraceError::Memory => "refused Memory\n",
+    }
+}
+
+/// Returns the line that says why a trace is not drawn. It does not allocate.
+fn draw_line(fault: DrawError) -> &'static str
+    ensures { result.now ≡ spec.refused_line (spec.draw_word fault) }
+{
+    match fault {
+        DrawError::Read => "refused Read\n",
+        DrawError::Limit => "refused Limit\n",
+        DrawError::TooLong => "refused TooLong\n",
+        DrawError::Memory => "refused Memory\n",
+        DrawError::Write => "refused Write\n",
     }
 }
 

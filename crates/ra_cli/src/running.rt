@@ -3,6 +3,7 @@ ghost use Rattle.std.specs.Prelude.{◌≡◌, ◌≢◌, ◌<◌, ◌≤◌, �
 ghost use Rattle.std.specs.Io.KnownBytes.{Consumes, Appends};
 ghost use Rattle.ra_world.specs.Lines as lines;
 ghost use Rattle.ra_script.specs.ScriptText.{script_of};
+ghost use Rattle.ra_cluster.specs.declared.cluster.ClusterError.{ClusterError};
 ghost use Rattle.ra_cli.specs.ClusterRun.{IsClusterRun, RunsCluster, RefusesRun};
 
 use crate::error::RunScriptError;
@@ -23,7 +24,7 @@ const MAX_INPUT: usize = 65_537;
 /// # Errors
 ///
 /// The first two and `Memory` of `run_script`.
-fn script_from<R: Read>(alloc: Global, reader: &mut R) -> Result<Script, RunScriptError>
+pub fn script_from<R: Read>(alloc: Global, reader: &mut R) -> Result<Script, RunScriptError>
     ensures ok { IfOk result (λ script. IfSome (R.remaining reader.old) (λ input.
         (script_of input ≡ Ok script) × Consumes (R.remaining reader.old) (R.remaining reader.new) input)) }
     // Where the reader tells nothing of its input, there still is one of which this holds.
@@ -31,6 +32,7 @@ fn script_from<R: Read>(alloc: Global, reader: &mut R) -> Result<Script, RunScri
     ensures refused { IfErr result (λ fault.
         IfSome (R.remaining reader.old) (λ input. RefusesRun input fault)) }
     ensures early { IfErr result (λ fault. fault ≢ RunScriptError.Write) }
+    ensures unrun { IfErr result (λ fault. (why : ClusterError) → fault ≢ RunScriptError.Cluster why) }
     ensures failed { IsErrOf result RunScriptError.Read → (taken : List ℕ) × (length taken < 65537)
         × Consumes (R.remaining reader.old) (R.remaining reader.new) taken }
     ensures at_most { (taken : List ℕ) × (length taken ≤ 65537)

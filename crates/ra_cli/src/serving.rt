@@ -1,11 +1,15 @@
-ghost use Rattle.std.specs.Prelude.{true, false, [], ◌++◌, None, ◌≢◌, ◌↔◌, Bool, IsErr, IsErrOf, IsTrue, IfOk, IfErr, IfNone, ◌≡◌, ◌≤◌, ◌⊎◌, List, ℕ, Any, map, IfSome, string_bytes};
+ghost use Rattle.std.specs.Prelude.{true, false, [], ◌++◌, None, ◌≢◌, ◌↔◌, Bool, IsErr, IsErrOf, IsTrue, IfOk, IfErr, IfNone, Option, ◌≡◌, ◌≤◌, ◌⊎◌, List, ℕ, Any, map, IfSome, string_bytes};
 ghost use Rattle.std.specs.Io.KnownBytes.{Consumes, Appends};
 ghost use Rattle.ra_cli.specs.Words.{HasMarksWord, IsHelpWord};
 ghost use Rattle.ra_cli.specs.Words as spec;
 ghost use Rattle.ra_cli.specs.Performs.{IsNamed, PerformsBy, Prints};
 ghost use Rattle.ra_cli.specs.Checks.{Checks, ChecksMarks, is_run, is_valid};
-ghost use Rattle.ra_cli.specs.Statuses.{IsBroken, IsDone, IsRefused, IsSaid, IsUnfinished};
+ghost use Rattle.ra_cli.specs.Checks.{verdict_text as spec_text};
+ghost use Rattle.ra_trace.specs.declared.verdict.Verdict.{Verdict};
+ghost use Rattle.ra_cli.specs.Draws.{IsDrawn, IsNoTrace};
+ghost use Rattle.ra_cli.specs.Statuses.{IsBroken, IsDone, IsPrinted, IsRefused, IsSaid, IsUnfinished};
 ghost use Rattle.ra_cli.specs.ClusterRun.{RunsCluster};
+ghost use Rattle.ra_cli.specs.Surveyed.{SurveysBy};
 ghost use Rattle.ra_script.specs.ChoicesText.{choices_of};
 ghost use Rattle.ra_schedule.specs.declared.choice.Policy.{Policy};
 ghost use Rattle.ra_cli.specs.declared.refusal.Refusal.{Refusal};
@@ -15,14 +19,16 @@ use crate::command_line::{PolicyName, Task, parse};
 use crate::error::RunScriptError;
 use crate::marks_verdict::marks_verdict_text;
 use crate::notes::{write_note, write_words_note};
-use crate::outcome::{Outcome, Remark, marks_remark_of, remark_of};
+use crate::outcome::{Outcome, Remark, UNFINISHED, marks_remark_of, remark_of};
 use crate::refusal::{Refusal, line_of};
 use crate::running::run_script;
+use crate::surveying::survey_script;
 use crate::verdict::verdict_text;
 use crate::{AnswerError, CommandFault, answer};
-use ra_schedule::Policy;
+use ra_draw::{DrawError, Part, draw};
+use ra_schedule::{Faults, Policy};
 use ra_script::{ChoicesError, PerformError, perform, perform_trace, read_choices};
-use ra_trace::{MarksVerdict, TraceError, Verdict, check_buffered, check_marks_buffered};
+use ra_trace::{Cause, MarksVerdict, TraceError, Verdict, check_buffered, check_marks_buffered};
 use ra_world::write_out;
 use std::alloc::Global;
 use std::io::{BufRead, Read, Write};
@@ -37,9 +43,6 @@ const BROKEN: u8 = 1;
 
 /// The words or the input were refused, memory ran out, or threads did not bring a script to its end.
 const REFUSED: u8 = 2;
-
-/// The run ended with something left to do, or the trace or the log is none.
-const UNFINISHED: u8 = 3;
 
 /// Writes a text and returns the status, or that of a fault where the writer fails. It does not allocate.
 fn written<W: Write>(writer: &mut W, text: &[u8], status: u8) -> u8
@@ -64,6 +67,7 @@ fn is_of_the_writer(refusal: Refusal) -> bool
         Refusal::Answer(AnswerError::Write)
             | Refusal::Perform(PerformError::Write)
             | Refusal::Cluster(RunScriptError::Write)
+            | Refusal::Draw(DrawError::Write)
     )
 }
 
@@ -77,6 +81,7 @@ fn is_of_the_reader(refusal: Refusal) -> bool
             | Refusal::Perform(PerformError::Read)
             | Refusal::Check(TraceError::Read)
             | Refusal::Cluster(RunScriptError::Read)
+            | Refusal::Draw(DrawError::Read)
     )
 }
 
@@ -157,6 +162,7 @@ fn policy_of(alloc: Global, name: PolicyName, choices: &str) -> Result<Policy, C
         PolicyName::Oldest => Policy::Oldest,
         PolicyName::Newest => Policy::Newest,
         PolicyName::Seeded(seed) => Policy::Seeded(seed),
+        PolicyName::Faulty { seed, faults } => Policy::Faulty { seed, faults },
         PolicyName::Listed => Policy::Listed(choices),
     })
 }
@@ -220,6 +226,31 @@ fn simulate<R: Read, W: Write>(
     }
 }
 
+/// Drives a cluster through the script of the reader under each of many seeds, and writes the lines of what came of them.
+fn survey_seeds<R: Read, W: Write>(
+    alloc: Global,
+    faults: Option<Faults>,
+    first: u64,
+    last: u64,
+    reader: &mut R,
+    writer: &mut W,
+) -> Outcome
+    ensures range { result.status ≤ 3 }
+    ensures done { result.status ≡ 0 → SurveysBy faults first last (R.remaining reader.old) (R.remaining reader.new)
+        (W.contents writer.old) (W.contents writer.new) true }
+    ensures unfinished { result.status ≡ 3 → SurveysBy faults first last (R.remaining reader.old) (R.remaining reader.new)
+        (W.contents writer.old) (W.contents writer.new) false }
+    ensures refused { result.status ≡ 2 → IsRefused (W.contents writer.old) (W.contents writer.new) }
+    ensures broken { (words : List (List ℕ)) → result.status ≡ 1
+        → IsBroken words (R.remaining reader.old) (W.contents writer.old) (W.contents writer.new) }
+{
+    match survey_script(alloc, faults, first, last, reader, writer) {
+        Ok(true) => Outcome::new(DONE, None),
+        Ok(false) => Outcome::new(UNFINISHED, Some(Remark::SomeUnfinished)),
+        Err(fault) => refuse(writer, Refusal::Cluster(fault)),
+    }
+}
+
 /// Returns the status of a verdict.
 fn status_of(verdict: &Verdict) -> u8
     ensures { ((result ≡ 0) × (is_valid verdict.now ≡ true)) ⊎ ((result ≡ 3) × (is_valid verdict.now ≡ false)) }
@@ -248,7 +279,7 @@ fn judge<R: BufRead, W: Write>(alloc: Global, reader: &mut R, writer: &mut W) ->
     match verdict_text(alloc, &verdict) {
         Ok(text) => {
             let status = written(writer, text.as_bytes(), status_of(&verdict));
-            Outcome::new(status, remark_of(&verdict))
+            Outcome::judged(status, remark_of(&verdict))
         }
         Err(_) => refuse(writer, Refusal::Check(TraceError::Memory)),
     }
@@ -282,9 +313,48 @@ fn judge_marks<R: BufRead, W: Write>(alloc: Global, reader: &mut R, writer: &mut
     match marks_verdict_text(alloc, &verdict) {
         Ok(text) => {
             let status = written(writer, text.as_bytes(), marks_status_of(&verdict));
-            Outcome::new(status, marks_remark_of(&verdict))
+            Outcome::judged(status, marks_remark_of(&verdict))
         }
         Err(_) => refuse(writer, Refusal::Check(TraceError::Memory)),
+    }
+}
+
+/// Prints the line of a text that is not drawn, since it is no trace: its first wrong line, and why.
+fn deny<W: Write>(alloc: Global, line: u64, cause: Cause, writer: &mut W) -> Outcome
+    ensures range { result.status ≤ 3 }
+    ensures not_done { 1 ≤ result.status }
+    ensures denied { result.status ≡ 3
+        → Appends (W.contents writer.old) (W.contents writer.new) (spec_text (Verdict.Invalid line cause)) }
+    ensures refused { result.status ≡ 2 → IsRefused (W.contents writer.old) (W.contents writer.new) }
+    ensures broken { (words : List (List ℕ)) (old : Option (List ℕ))
+        → IfSome old (λ input. IsPrinted words input (spec_text (Verdict.Invalid line cause))) → result.status ≡ 1
+        → IsBroken words old (W.contents writer.old) (W.contents writer.new) }
+{
+    let verdict = Verdict::Invalid { line, cause };
+    match verdict_text(alloc, &verdict) {
+        Ok(text) => {
+            let status = written(writer, text.as_bytes(), UNFINISHED);
+            Outcome::new(status, remark_of(&verdict))
+        }
+        Err(_) => refuse(writer, Refusal::Draw(DrawError::Memory)),
+    }
+}
+
+/// Draws a part of the trace of the reader, or writes the line of the verdict on it where it is none.
+fn paint<R: Read, W: Write>(alloc: Global, part: Part, reader: &mut R, writer: &mut W) -> Outcome
+    ensures range { result.status ≤ 3 }
+    ensures drawn { result.status ≡ 0 → IsDrawn (R.remaining reader.old) (R.remaining reader.new)
+        (W.contents writer.old) (W.contents writer.new) }
+    ensures no_trace { result.status ≡ 3 → IsNoTrace (R.remaining reader.old) (R.remaining reader.new)
+        (W.contents writer.old) (W.contents writer.new) }
+    ensures refused { result.status ≡ 2 → IsRefused (W.contents writer.old) (W.contents writer.new) }
+    ensures broken { (words : List (List ℕ)) → result.status ≡ 1
+        → IsBroken words (R.remaining reader.old) (W.contents writer.old) (W.contents writer.new) }
+{
+    match draw(alloc, reader, writer, part) {
+        Ok(Verdict::Valid { .. }) => Outcome::new(DONE, None),
+        Ok(Verdict::Invalid { line, cause }) => deny(alloc, line, cause, writer),
+        Err(fault) => refuse(writer, Refusal::Draw(fault)),
     }
 }
 
@@ -321,8 +391,16 @@ fn serve_alone<R: BufRead, W: Write>(
                 trace,
             },
         ) => simulate(alloc, policy, choices, trace, reader, writer),
+        Ok(
+            Task::Survey {
+                faults,
+                first,
+                last,
+            },
+        ) => survey_seeds(alloc, faults, first, last, reader, writer),
         Ok(Task::Check) => judge(alloc, reader, writer),
         Ok(Task::CheckMarks) => judge_marks(alloc, reader, writer),
+        Ok(Task::Draw(part)) => paint(alloc, part, reader, writer),
         Ok(Task::Cluster) => return None,
         Ok(Task::Help(text)) => Outcome::new(written(writer, text.as_bytes(), DONE), None),
         Err(fault) => refuse(writer, Refusal::Command(fault)),
@@ -374,8 +452,8 @@ pub fn serve<T: Threads + Wait + Sync, R: BufRead, W: Write>(
 ) -> u8
     ensures range { result ≤ 3 }
     // Status 0 comes only where the input was answered, or performed or run by threads to its end, or is the trace of a run, or with the
-    // word `--marks` the log of one of the lock table, or where a word asks for a text of help and nothing was read; and status 3 only
-    // where the input was performed and something is left to do, or is the trace or the log of no run.
+    // word `--marks` the log of one of the lock table, or where a word asks for a text of help or for the version and nothing was read;
+    // and status 3 only where the input was performed and something is left to do, or is the trace or the log of no run.
     ensures done { result ≡ 0
         → ((reader.new ≡ reader.old) × Any (λ word. IsHelpWord (string_bytes word)) words.now)
         ⊎ IsDone (map string_bytes words.now) (R.remaining reader.old) (R.remaining reader.new)

@@ -5,7 +5,11 @@ use clap::{Command, Error as ParseError};
 use std::alloc::{AllocError, Global};
 
 /// The commands, each of which reads standard input.
-const COMMANDS: [&str; 4] = ["answer", "sim", "cluster", "check"];
+const COMMANDS: [&str; 5] = ["answer", "sim", "cluster", "check", "draw"];
+
+/// What is said of faults that can't be.
+const FAULTS_TEXT: &str =
+    "--lose and --repeat are at most 1000 together, and --repeat is at most 400; see ra sim --help";
 
 /// Returns the command that the words name, or `None`.
 fn command_named(words: &[String]) -> Option<&str> {
@@ -80,8 +84,11 @@ fn push_advice(text: &mut String, words: &[String], said: &str) -> Result<(), Al
 /// Returns what the parser says of words by its error, and where more is said.
 fn error_text(alloc: Global, words: &[String], error: &ParseError) -> Result<String, AllocError> {
     let mut text = String::new(alloc);
-    if matches!(error.kind(), ErrorKind::DisplayHelp) {
-        text.push_str("-h stands for itself")?;
+    if matches!(
+        error.kind(),
+        ErrorKind::DisplayHelp | ErrorKind::DisplayVersion
+    ) {
+        text.push_str("-h and -V stand for themselves")?;
         push_advice(&mut text, words, "")?;
         return Ok(text);
     }
@@ -96,7 +103,8 @@ fn error_text(alloc: Global, words: &[String], error: &ParseError) -> Result<Str
 pub fn usage_text<'a>(alloc: Global, words: &'a [String]) -> Result<String, AllocError> {
     let command: Command<'a> = command(alloc)?;
     match command.try_get_matches_from(words) {
-        Ok(_matches) => String::from_str(alloc, "there is no command"),
+        // The parser finds nothing wrong with them, so it is what it does not look at.
+        Ok(_matches) => String::from_str(alloc, FAULTS_TEXT),
         Err(error) => error_text(alloc, words, &error),
     }
 }

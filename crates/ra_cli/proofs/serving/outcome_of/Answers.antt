@@ -17,7 +17,7 @@ returns-in-Err-clause-refused g c two =
     let untouched = c.in_default.ensures.untouched in
     refused (Cluster c.in-Err.fault) (g.W.Write.contents c.args.writer.now) (g.W.Write.contents c.run_script.new.writer)
     (g.W.Write.contents c.refuse.new.writer)
-    (λ other. ap g.W.Write.contents (c.in-Err.ensures.unwritten (λ e. other (inr (inr (ap Cluster e)))) ∙ untouched.1)) (c.refuse.ensures.refused two)
+    (λ other. ap g.W.Write.contents (c.in-Err.ensures.unwritten (λ e. other (inr (inr (inl (ap Cluster e))))) ∙ untouched.1)) (c.refuse.ensures.refused two)
 
 pub returns-in-Err-clause-broken : goal.returns-in-Err-clause-broken
 returns-in-Err-clause-broken g c one =
@@ -32,5 +32,5 @@ returns-in-Err-clause-broken g c one =
     (broken words old before between after (Cluster c.in-Err.fault)
     (λ is. of_cluster_run words old before between (c.in-Err.ensures.front (ap Err (of_run c.in-Err.fault is))))
     (λ is. ap g.W.Write.contents (c.refuse.ensures.unwritten is).1)
-    (λ other. ap g.W.Write.contents (c.in-Err.ensures.unwritten (λ e. other (inr (inr (ap Cluster e))))))
+    (λ other. ap g.W.Write.contents (c.in-Err.ensures.unwritten (λ e. other (inr (inr (inl (ap Cluster e)))))))
     (c.refuse.ensures.broken one)))

@@ -56,11 +56,11 @@ returns-in-Err-clause-broken g c one =
 
 pub returns-in-Ok-Check-clause-done : goal.returns-in-Ok-Check-clause-done
 returns-in-Ok-Check-clause-done g c is =
-    let trace = rw c.in-Ok-Check.field-0-is at c.in-Ok-Check.ensures.marks in inr (inr (inr (inl (trace, c.judge-outcome.ensures.valid is))))
+    let trace = rw c.in-Ok-Check.field-0-is at c.in-Ok-Check.ensures.marks in inr (inr (inr (inl (inl (trace, c.judge-outcome.ensures.valid is)))))
 
 pub returns-in-Ok-Check-clause-unfinished : goal.returns-in-Ok-Check-clause-unfinished
 returns-in-Ok-Check-clause-unfinished g c is =
-    let trace = rw c.in-Ok-Check.field-0-is at c.in-Ok-Check.ensures.marks in inr (inl (trace, c.judge-outcome.ensures.invalid is))
+    let trace = rw c.in-Ok-Check.field-0-is at c.in-Ok-Check.ensures.marks in inr (inl (inl (trace, c.judge-outcome.ensures.invalid is)))
 
 pub returns-in-Ok-Check-clause-broken : goal.returns-in-Ok-Check-clause-broken
 returns-in-Ok-Check-clause-broken g c is =
@@ -70,13 +70,22 @@ returns-in-Ok-Check-clause-broken g c is =
 pub returns-in-Ok-CheckMarks-clause-done : goal.returns-in-Ok-CheckMarks-clause-done
 returns-in-Ok-CheckMarks-clause-done g c is =
     let marks = rw c.in-Ok-CheckMarks.field-0-is at c.in-Ok-CheckMarks.ensures.marks in
-    inr (inr (inr (inr (marks, c.judge_marks-outcome.ensures.valid is))))
+    inr (inr (inr (inl (inr (marks, c.judge_marks-outcome.ensures.valid is)))))
 
 pub returns-in-Ok-CheckMarks-clause-unfinished : goal.returns-in-Ok-CheckMarks-clause-unfinished
 returns-in-Ok-CheckMarks-clause-unfinished g c is =
-    let marks = rw c.in-Ok-CheckMarks.field-0-is at c.in-Ok-CheckMarks.ensures.marks in inr (inr (marks, c.judge_marks-outcome.ensures.invalid is))
+    let marks = rw c.in-Ok-CheckMarks.field-0-is at c.in-Ok-CheckMarks.ensures.marks in inr (inl (inr (marks, c.judge_marks-outcome.ensures.invalid is)))
 
 pub returns-in-Ok-CheckMarks-clause-broken : goal.returns-in-Ok-CheckMarks-clause-broken
 returns-in-Ok-CheckMarks-clause-broken g c is =
     let marks = rw c.in-Ok-CheckMarks.field-0-is at c.in-Ok-CheckMarks.ensures.marks in
     c.judge_marks-outcome.ensures.broken (map string_bytes c.args.words.now) marks is
+
+pub returns-in-Ok-Draw-clause-done : goal.returns-in-Ok-Draw-clause-done
+returns-in-Ok-Draw-clause-done g c is = inr (inr (inr (inr (inl (c.paint-outcome.ensures.drawn is)))))
+
+pub returns-in-Ok-Draw-clause-unfinished : goal.returns-in-Ok-Draw-clause-unfinished
+returns-in-Ok-Draw-clause-unfinished g c is = inr (inr (inl (c.paint-outcome.ensures.no_trace is)))
+
+pub returns-in-Ok-Draw-clause-broken : goal.returns-in-Ok-Draw-clause-broken
+returns-in-Ok-Draw-clause-broken g c is = c.paint-outcome.ensures.broken (map string_bytes c.args.words.now) is

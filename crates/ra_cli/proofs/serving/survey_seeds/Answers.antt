@@ -1,0 +1,28 @@
+use Rattle.std.proofs.Common.{Err, refl, ap, inl, inr}
+use Rattle.ra_cli.specs.declared.refusal.Refusal.TheVariants.{Cluster}
+use Rattle.ra_cli.proofs.Statuses.{of_run, of_surveyed, refused, broken}
+use Rattle.ra_cli.proofs.serving.survey_seeds.Goals as goal
+
+pub returns-in-Ok-true-clause-done : goal.returns-in-Ok-true-clause-done
+returns-in-Ok-true-clause-done g c is = rw c.in-Ok-true.field-0-test at c.in-Ok-true.ensures.ok
+
+pub returns-in-Ok-false-clause-unfinished : goal.returns-in-Ok-false-clause-unfinished
+returns-in-Ok-false-clause-unfinished g c is = rw c.in-Ok-false.field-0-test at c.in-Ok-false.ensures.ok
+
+pub returns-in-Err-clause-refused : goal.returns-in-Err-clause-refused
+returns-in-Err-clause-refused g c two =
+    let fault = c.in-Err.fault in
+    refused (Cluster fault) (g.W.Write.contents c.args.writer.now) (g.W.Write.contents c.survey_script.new.writer) (g.W.Write.contents c.refuse.new.writer)
+    (λ other. ap g.W.Write.contents (c.in-Err.ensures.unwritten (λ e. other (inr (inr (inl (ap Cluster e))))))) (c.refuse.ensures.refused two)
+
+pub returns-in-Err-clause-broken : goal.returns-in-Err-clause-broken
+returns-in-Err-clause-broken g c words one =
+    let fault = c.in-Err.fault in
+    let old = g.R.Read.remaining c.args.reader.now in
+    let before = g.W.Write.contents c.args.writer.now in
+    let between = g.W.Write.contents c.survey_script.new.writer in
+    broken words old before between (g.W.Write.contents c.refuse.new.writer) (Cluster fault)
+    (λ is. of_surveyed words c.args.faults c.args.first c.args.last old before between (c.in-Err.ensures.front (ap Err (of_run fault is))))
+    (λ is. ap g.W.Write.contents (c.refuse.ensures.unwritten is).1)
+    (λ other. ap g.W.Write.contents (c.in-Err.ensures.unwritten (λ e. other (inr (inr (inl (ap Cluster e)))))))
+    (c.refuse.ensures.broken one)

@@ -1,0 +1,63 @@
+//! The lines of a survey.
+ghost use Rattle.std.specs.Prelude.{◌≡◌, ◌++◌, string_bytes, IfOk, OnOk};
+ghost use Rattle.ra_cli.specs.Surveyed as spec;
+
+use ra_schedule::{Spread, Survey, Tally};
+use ra_stamp::Memory;
+use ra_world::{push_field, push_number};
+use std::alloc::Global;
+
+/// Adds the line of an end, where a seed came to it.
+///
+/// # Errors
+///
+/// `Memory`: there is none for it. A prefix of it may have been added.
+fn push_tally(text: &mut String, word: &str, tally: Option<Tally>) -> Result<(), Memory>
+    ensures { OnOk result (string_bytes text.new ≡ string_bytes text.old ++ spec.tally_line word.now tally) }
+{
+    let Some(Tally { seeds, first }) = tally else {
+        return Ok(());
+    };
+    text.push_str(word)?;
+    push_number(text, seeds)?;
+    push_field(text, "first")?;
+    push_number(text, first)?;
+    text.push_str("\n")?;
+    Ok(())
+}
+
+/// Adds the line of a figure, where there is any.
+///
+/// # Errors
+///
+/// `Memory`: there is none for it. A prefix of it may have been added.
+fn push_spread(text: &mut String, word: &str, spread: Option<Spread>) -> Result<(), Memory>
+    ensures { OnOk result (string_bytes text.new ≡ string_bytes text.old ++ spec.spread_line word.now spread) }
+{
+    let Some(Spread { least, most }) = spread else {
+        return Ok(());
+    };
+    text.push_str(word)?;
+    push_number(text, least)?;
+    push_number(text, most)?;
+    text.push_str("\n")?;
+    Ok(())
+}
+
+/// Returns the lines of a survey: one for each end that came, with how many seeds came to it and the first of them, and one with the
+/// least and the most of each of two figures, the turns that were made and the messages that were sent.
+///
+/// # Errors
+///
+/// `Memory`: there is none for the text.
+pub fn survey_text(alloc: Global, survey: &Survey) -> Result<String, Memory>
+    ensures { IfOk result (λ text. string_bytes text ≡ spec.survey_text survey.now) }
+{
+    let mut text = String::new(alloc);
+    push_tally(&mut text, "finished", survey.finished)?;
+    push_tally(&mut text, "stuck", survey.stuck)?;
+    push_tally(&mut text, "limit", survey.limit)?;
+    push_spread(&mut text, "turns", survey.turns)?;
+    push_spread(&mut text, "messages", survey.messages)?;
+    Ok(text)
+}
