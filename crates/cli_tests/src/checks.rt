@@ -264,7 +264,7 @@ fn two_lines_that_are_exchanged_are_wrong_at_the_first(rt: HostRuntime) {
     assert_answers(&rt, "ra check", EXCHANGED, 3, "invalid 5 Marks\n");
 }
 
-/// The trace of the client alone, and a byte behind it.
+/// The trace of the client alone, and a byte after it.
 const FOLLOWED: &str = "trace 1 2 0
 ask 1 1 r X
 request 1 1 r X 1
@@ -444,7 +444,7 @@ fn push_ask(alloc: Global, trace: &mut String, client: u32) -> bool {
     }
 }
 
-/// Returns what is a front of a trace, and longer than a trace may be: one client enters, and many ask behind it.
+/// Returns what is a prefix of a trace, and longer than a trace may be: one client enters, and many ask after it.
 fn long_queue(alloc: Global) -> Option<String> {
     let mut trace = "trace 1 1 0
 ask 1 1 a_name_that_has_thirty_two_bytes X
@@ -461,7 +461,7 @@ enter 1 1 a_name_that_has_thirty_two_bytes X 1
     Some(trace)
 }
 
-/// Returns whether `ra check` refuses a trace as too long, and reads one byte behind the limit. No thread looks for its end, which
+/// Returns whether `ra check` refuses a trace as too long, and reads one byte after the limit. No thread looks for its end, which
 /// may come late.
 fn is_too_long<T: AllocGlobal + Threads + Wait + Sync>(rt: &T, trace: &[u8]) -> bool {
     let mut bytes = trace;

@@ -41,7 +41,7 @@ fn has_marks(output: &str, client: &str, fronts: &[&str]) -> bool {
     left.is_empty()
 }
 
-/// Returns whether behind each enter of a writer the next mark, but for requests, is its leave. So it is where there is one name.
+/// Returns whether after each enter of a writer the next mark, except for requests, is its leave. So it is where there is one name.
 fn writers_are_alone(output: &str) -> bool {
     let mut writer: Option<&str> = None;
     for line in output.split_terminator('\n') {
@@ -377,7 +377,7 @@ fn what_is_no_document_of_a_script_is_refused(rt: HostRuntime) {
     assert_refuses(&rt, NO_DOCUMENTS);
 }
 
-/// Ends the test where the fault of a reader that fails behind the last byte of a script is not printed.
+/// Ends the test where the fault of a reader that fails after the last byte of a script is not printed.
 fn assert_fails_at_the_end<T: AllocGlobal + Threads + Wait + Abort + Sync>(rt: &T, script: &str) {
     let (bytes, fault) = (script.as_bytes(), io::ErrorKind::Interrupted);
     assert!(rt;

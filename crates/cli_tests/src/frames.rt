@@ -9,7 +9,7 @@ pub const REQUEST: &str = "0101010201000000000000000100000000000000010172";
 /// The same with a line feed.
 pub const REQUEST_LINE: &str = "0101010201000000000000000100000000000000010172\n";
 
-/// The same with a digit behind that.
+/// The same with a digit after that.
 pub const FOLLOWED: &str = "0101010201000000000000000100000000000000010172\n0";
 
 /// The same with two line feeds.

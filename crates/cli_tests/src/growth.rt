@@ -64,7 +64,7 @@ impl Write for Page {
     }
 }
 
-/// Answers a frame. Where that is refused, returns whether memory was wanting and nothing was written.
+/// Answers a frame. Where that is refused, returns whether memory ran out and nothing was written.
 fn try_answer(alloc: Global) -> Result<Tried, bool> {
     let (mut reader, mut page) = (REQUEST.as_bytes(), Page::new());
     match answer(alloc, 2, 3, &mut reader, &mut page) {
@@ -79,13 +79,13 @@ fn growth_of_an_answer(rt: HostRuntime) {
     end(&rt, again(try_answer(rt.alloc()), try_answer(rt.alloc())));
 }
 
-/// Returns whether this is what `ra` prints where memory was wanting: of threads, of which that may stop one, a fault too.
+/// Returns whether this is what `ra` prints where memory ran out: of threads, of which that may stop one, a fault too.
 fn is_refused(line: &str, page: &Page) -> bool {
     page.has("refused Memory\n") || (line == "ra cluster" && page.has("refused Fault\n"))
 }
 
 /// Runs `ra` on the words of a line and an input. Where it does not print this text with status 0, returns whether it says that
-/// memory was wanting.
+/// memory ran out.
 fn try_line<T: AllocGlobal + Threads + Wait + Sync>(
     rt: &T,
     line: &str,

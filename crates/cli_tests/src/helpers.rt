@@ -250,7 +250,7 @@ pub const WRITER_FAULTS: [Option<io::ErrorKind>; 4] = [
     None,
 ];
 
-/// Returns whether the fault of a reader that fails once, behind so many of its bytes, is printed, and no byte is read after it.
+/// Returns whether the fault of a reader that fails once, after this many of its bytes, is printed, and no byte is read after it.
 pub fn is_read_fault<T: AllocGlobal + Threads + Wait + Abort + Sync>(
     rt: &T,
     line: &str,
@@ -268,7 +268,7 @@ pub fn is_read_fault<T: AllocGlobal + Threads + Wait + Abort + Sync>(
     is_answer(&answered, 1, "refused Read\n") && bytes.get(before_fault..) == Some(reader.bytes)
 }
 
-/// Ends the test where it is not so of the first fault behind one of the bytes, or before the first.
+/// Ends the test where it is not so of the first fault after one of the bytes, or before the first.
 pub fn assert_fails_at_each_byte<T: AllocGlobal + Threads + Wait + Abort + Sync>(
     rt: &T,
     line: &str,
@@ -282,7 +282,7 @@ pub fn assert_fails_at_each_byte<T: AllocGlobal + Threads + Wait + Abort + Sync>
     }
 }
 
-/// Returns whether `ra` answers this status where a writer fails once, or takes nothing once, behind so many bytes of what it
+/// Returns whether `ra` answers this status where a writer fails once, or takes nothing once, after this many bytes of what it
 /// prints, and whether the writer has those bytes and no more.
 fn leaves_a_front<T: AllocGlobal + Threads + Wait + Abort + Sync>(
     rt: &T,
@@ -299,7 +299,7 @@ fn leaves_a_front<T: AllocGlobal + Threads + Wait + Abort + Sync>(
         && writer.has_taken(printed, before_fault)
 }
 
-/// Ends the test where a fault of a writer, behind one of these bytes but the last, is not status 1 or does not leave a front of them.
+/// Ends the test where a fault of a writer, after one of these bytes but the last, is not status 1 or does not leave a prefix of them.
 pub fn assert_fails_in_fronts<T: AllocGlobal + Threads + Wait + Abort + Sync>(
     rt: &T,
     line: &str,
@@ -317,7 +317,7 @@ pub fn assert_fails_in_fronts<T: AllocGlobal + Threads + Wait + Abort + Sync>(
     }
 }
 
-/// Ends the test where a writer that would fail behind the last byte that `ra` prints does not get all, with this status.
+/// Ends the test where a writer that would fail after the last byte that `ra` prints does not get all, with this status.
 pub fn assert_written<T: AllocGlobal + Threads + Wait + Abort + Sync>(
     rt: &T,
     line: &str,

@@ -295,7 +295,7 @@ fn a_reader_that_fails_is_said(rt: HostRuntime) {
     assert!(rt; notes.as_slice() == b"ra: standard input could not be read\n".as_slice());
 }
 
-/// Returns whether a fault of the writer behind 7 bytes gives status 1, and nothing is said of it.
+/// Returns whether a fault of the writer after 7 bytes gives status 1, and nothing is said of it.
 fn breaks_off_unsaid<T: AllocGlobal + Threads + Wait + Abort + Sync>(
     rt: &T,
     words: &str,
@@ -321,7 +321,7 @@ fn nothing_is_said_where_the_writer_fails(rt: HostRuntime) {
 const NO_MARK: &str =
     "ra: line 1: it is no line of a mark: each is request, enter or leave, and then NODE CLIENT NAME MODE SEQ, with one space between two and a line feed alone at the end\n";
 
-/// Returns whether a fault of the writer of the notes, behind so many bytes, leaves the status and what is printed as they are.
+/// Returns whether a fault of the writer of the notes, after this many bytes, leaves the status and what is printed as they are.
 fn changes_nothing<T: AllocGlobal + Threads + Wait + Abort + Sync>(
     rt: &T,
     place: usize,

@@ -194,7 +194,7 @@ fn of_two_causes_the_first_is_named(rt: HostRuntime) {
     assert_refuses(&rt, TWO_CAUSES);
 }
 
-/// Numbers of no node, with an input that is a frame and one that is none.
+/// Numbers of no node, with an input that is a frame and one that is not one.
 const NUMBERS: &[Refused] = &[
     Refused {
         words: "ra answer --node 2 --nodes 65",
@@ -243,7 +243,7 @@ fn the_numbers_of_the_command_are_checked_before_the_input(rt: HostRuntime) {
     assert_refuses(&rt, NUMBERS);
 }
 
-/// Returns whether 256 digits are refused by this word with a text behind them.
+/// Returns whether 256 digits are refused by this word with a text after them.
 fn refuses_digits<T: AllocGlobal + Threads + Wait + Abort + Sync>(
     rt: &T,
     behind: &str,
@@ -264,7 +264,7 @@ fn assert_refuses_digits<T: AllocGlobal + Threads + Wait + Abort + Sync>(
     assert!(rt; refuses_digits(rt, behind, word), "{behind}");
 }
 
-/// Returns whether 256 digits are refused with 256 more behind a line feed.
+/// Returns whether 256 digits are refused with 256 more after a line feed.
 fn refuses_two_lines<T: AllocGlobal + Threads + Wait + Abort + Sync>(rt: &T) -> bool {
     match repeated(rt.alloc(), "\n", "0", 256, "") {
         Some(second) => refuses_digits(rt, second.as_str(), "Line"),
@@ -272,7 +272,7 @@ fn refuses_two_lines<T: AllocGlobal + Threads + Wait + Abort + Sync>(rt: &T) -> 
     }
 }
 
-/// Lines with something behind them.
+/// Lines with something after them.
 const FOLLOWED_LINES: &[Refused] = &[
     Refused {
         words: ANSWER,

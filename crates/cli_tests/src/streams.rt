@@ -14,7 +14,7 @@ use std::sync::Wait;
 use std::thread::Threads;
 use test_support::{FailingReader, failing_writer};
 
-/// Returns whether `answer` names the fault of a reader that fails once, behind so many of its bytes, reads no byte after it, and
+/// Returns whether `answer` names the fault of a reader that fails once, after this many of its bytes, reads no byte after it, and
 /// writes nothing.
 fn fails_to_read(alloc: Global, bytes: &[u8], before_fault: usize, fault: io::ErrorKind) -> bool {
     let mut reader = FailingReader {
@@ -57,7 +57,7 @@ fn a_reader_that_fails_once_at_any_byte_is_a_fault(rt: HostRuntime) {
     }
 }
 
-/// Returns whether a request is answered by a reader that would fail if it were asked behind its end.
+/// Returns whether a request is answered by a reader that would fail if it were asked after its end.
 fn reads_to_the_end(alloc: Global) -> bool {
     let mut reader = FailingReader {
         bytes: REQUEST_LINE.as_bytes(),
@@ -74,7 +74,7 @@ fn a_reader_is_not_asked_behind_its_end(rt: HostRuntime) {
     assert!(rt; reads_to_the_end(rt.alloc()));
 }
 
-/// Returns whether each fault behind 257 digits is one of `answer`, which `ra` prints.
+/// Returns whether each fault after 257 digits is one of `answer`, which `ra` prints.
 fn are_faults_behind_digits<T: AllocGlobal + Threads + Wait + Abort + Sync>(rt: &T) -> bool {
     match repeated(rt.alloc(), "", "0", 257, "") {
         Some(too_long) => are_faults(rt, too_long.as_bytes(), too_long.len()),
@@ -93,7 +93,7 @@ fn a_fault_of_the_reader_comes_before_what_is_wrong_with_the_line(rt: HostRuntim
     }
 }
 
-/// Returns whether `answer` names the fault of a writer that fails once, or takes nothing once, behind so many bytes of the REPLY,
+/// Returns whether `answer` names the fault of a writer that fails once, or takes nothing once, after this many bytes of the REPLY,
 /// and the writer has those and no more.
 fn fails_to_write(alloc: Global, before_fault: usize, fault: Option<io::ErrorKind>) -> bool {
     let mut reader = REQUEST.as_bytes();

@@ -43,7 +43,7 @@ pub fn is_done(alloc: Global, nodes: u16, settled: &Settled, requests: u128, sen
         && is_of_the_steps(alloc, nodes, settled)
 }
 
-/// Returns whether threads bring the script of so many nodes with these clients to its end behind a gate, with so many requests and
+/// Returns whether threads bring the script of this many nodes with these clients to its end behind a gate, with so many requests and
 /// messages.
 pub fn ends_behind<R: Threads + Wait + Abort + Sync, G: Gate>(
     rt: &R,

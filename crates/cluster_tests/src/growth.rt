@@ -1,4 +1,4 @@
-//! Each growth refused: the call answers want of memory and leaves all as it was, and does what it should when it is made again.
+//! Each growth refused: the call answers that memory ran out and leaves all as it was, and does what it should when it is made again.
 use crate::books::Call::Receive;
 use crate::books::Step::Takes;
 use crate::books::{ASK, Call, LEAVE, REPLIES, has, make};
@@ -36,7 +36,7 @@ fn end(rt: &(impl Abort), tried: Tried) {
 #[derive(Clone, Copy)]
 struct Kept(u64, u64, u64);
 
-/// Makes a call of a book. Where it is refused, returns whether memory was wanting.
+/// Makes a call of a book. Where it is refused, returns whether memory ran out.
 fn made_once(alloc: Global, book: &mut Book, name: Name, call: Call<'_>) -> Result<(), bool> {
     match make(alloc, book, name, call) {
         Ok(_) => Ok(()),
@@ -44,7 +44,7 @@ fn made_once(alloc: Global, book: &mut Book, name: Name, call: Call<'_>) -> Resu
     }
 }
 
-/// Makes a call of a book, and again where memory was wanting.
+/// Makes a call of a book, and again where memory ran out.
 fn try_call(alloc: Global, book: &mut Book, name: Name, call: Call<'_>, kept: Kept) -> Tried {
     match made_once(alloc, book, name, call) {
         Ok(()) => Tried::AtOnce,
@@ -125,7 +125,7 @@ const ONE_LOCK: &[Done] = &[
     At(1, Takes(LEAVE)),
 ];
 
-/// Settles two books. Where that is refused, returns whether memory was wanting.
+/// Settles two books. Where that is refused, returns whether memory ran out.
 fn try_settling(alloc: Global) -> Result<Tried, bool> {
     let Some(books) = books_after(alloc, &[ONE, TWO], ONE_LOCK) else {
         return Err(true);
@@ -145,7 +145,7 @@ fn try_settling(alloc: Global) -> Result<Tried, bool> {
 /// How often a client asks for `r` and leaves it in the book that is settled, with two events each time.
 const VERY_MANY: u64 = 50_000;
 
-/// Makes the book of one node alone in which very much happened, or `None` where memory was wanting.
+/// Makes the book of one node alone in which very much happened, or `None` where memory ran out.
 fn large_book(alloc: Global) -> Option<Book> {
     let (me, name) = (NodeId::new(1)?, r()?);
     let mut book = Book::new(alloc, me, 1, 0).ok()?;
@@ -156,14 +156,14 @@ fn large_book(alloc: Global) -> Option<Book> {
     Some(book)
 }
 
-/// Makes books of one node alone, or `None` where memory was wanting.
+/// Makes books of one node alone, or `None` where memory ran out.
 fn large_books(alloc: Global) -> Option<Vec<Book>> {
     let mut books = Vec::new(alloc);
     books.push(large_book(alloc)?).ok()?;
     Some(books)
 }
 
-/// Settles books in which very much happened. Where that is refused, returns whether memory was wanting.
+/// Settles books in which very much happened. Where that is refused, returns whether memory ran out.
 fn try_large_settling(alloc: Global) -> Result<Tried, bool> {
     let Some(books) = large_books(alloc) else {
         return Err(true);
@@ -215,7 +215,7 @@ fn try_send<R: Wait>(rt: &R, alloc: Global, post: &Post) -> Tried {
     }
 }
 
-/// Makes a post and sends a frame by it. Where there is none, returns whether memory was wanting.
+/// Makes a post and sends a frame by it. Where there is none, returns whether memory ran out.
 fn try_post<R: Wait>(rt: &R, alloc: Global) -> Result<Tried, bool> {
     match Post::new(alloc, 2) {
         Ok((post, _inboxes)) => Ok(try_send(rt, alloc, &post)),
@@ -229,7 +229,7 @@ fn growth_of_a_post(rt: HostRuntime) {
     end(&rt, again(try_post(&rt, alloc), try_post(&rt, alloc)));
 }
 
-/// Returns what became of a call of a site: whether it was taken, or where it was not, whether memory was wanting.
+/// Returns what became of a call of a site: whether it was taken, or where it was not, whether memory ran out.
 fn taken<T: Drop>(answer: Result<T, SiteError>) -> Result<(), bool> {
     match answer {
         Ok(_) => Ok(()),
@@ -278,7 +278,7 @@ fn call_at<R: Wait>(
     }
 }
 
-/// Makes a call of the one site, and again where memory was wanting and the site is as before.
+/// Makes a call of the one site, and again where memory ran out and the site is as before.
 fn try_at<R: Wait>(
     rt: &R,
     alloc: Global,
@@ -309,7 +309,7 @@ fn try_site<R: Wait>(rt: &R, alloc: Global, name: &Name, post: &Post, sites: &[S
     )
 }
 
-/// Makes a cluster of one site, at which a client locks `r` and unlocks it. Where there is none, memory was wanting.
+/// Makes a cluster of one site, at which a client locks `r` and unlocks it. Where there is none, memory ran out.
 fn try_sites<R: Wait>(rt: &R, alloc: Global) -> Result<Tried, bool> {
     let (Some(name), Some(sites)) = (r(), sites_of(alloc, 1, 0)) else {
         return Err(true);
@@ -342,7 +342,7 @@ fn is_wanting(fault: SiteError) -> bool {
 }
 
 /// A client of a node of a cluster locks `r`, does nothing and unlocks it. Where it is not let in, or the cluster was stopped, returns
-/// whether memory was wanting.
+/// whether memory ran out.
 fn try_work<R: Wait>(
     rt: &R,
     alloc: Global,
@@ -366,7 +366,7 @@ fn try_work<R: Wait>(
 }
 
 /// Makes a cluster of one node, at which a client works, and closes it, which takes no memory. Where there is none, returns whether
-/// memory was wanting.
+/// memory ran out.
 fn try_whole<R: Wait>(rt: &R, alloc: Global) -> Result<Tried, bool> {
     let (Some(node), Some(name)) = (NodeId::new(1), r()) else {
         return Ok(Tried::Wrong);
@@ -393,7 +393,7 @@ fn growth_of_a_whole_cluster(rt: HostRuntime) {
 }
 
 /// Has two threads carry the frames of a cluster of two nodes, while a client of node 1 works. Where it is not let in, or a thread is
-/// not started, returns whether memory was wanting.
+/// not started, returns whether memory ran out.
 fn try_between<R: Threads + Wait + Sync>(
     rt: &R,
     alloc: Global,
@@ -419,7 +419,7 @@ fn try_between<R: Threads + Wait + Sync>(
 }
 
 /// Makes a cluster of two nodes, at the first of which a client works, and closes it. Where there is none, or it was stopped, returns
-/// whether memory was wanting.
+/// whether memory ran out.
 fn try_two<R: Threads + Wait + Sync>(rt: &R, alloc: Global) -> Result<Tried, bool> {
     let (Some(one), Some(two), Some(name)) = (NodeId::new(1), NodeId::new(2), r()) else {
         return Ok(Tried::Wrong);
@@ -453,7 +453,7 @@ fn is_of_memory(fault: ClusterError) -> bool {
     )
 }
 
-/// Has threads do a script of two writers. Where they do not, returns whether memory was wanting. No thread of the test's own stands
+/// Has threads do a script of two writers. Where they do not, returns whether memory ran out. No thread of the test's own stands
 /// round it, since that would have growths of its own.
 fn try_threads<R: Threads + Wait + Sync>(
     rt: &R,
@@ -469,7 +469,7 @@ fn try_threads<R: Threads + Wait + Sync>(
     }
 }
 
-/// Makes a script, and has threads do it. Where there is none, memory was wanting.
+/// Makes a script, and has threads do it. Where there is none, memory ran out.
 fn try_cluster<R: Threads + Wait + Sync>(rt: &R, alloc: Global) -> Result<Tried, bool> {
     match script_of(alloc, 2, TWO_WRITERS) {
         Some(script) => try_threads(rt, alloc, &script),

@@ -109,7 +109,7 @@ pub fn assert_prints<R: Abort + AllocGlobal, T: Display>(rt: &R, rows: &[(T, &st
     }
 }
 
-/// Makes the site of a node of so many, from number `start`, and adds it to the others. Returns whether that succeeds.
+/// Makes the site of a node of this many, from number `start`, and adds it to the others. Returns whether that succeeds.
 fn adds_site(alloc: Global, sites: &mut Vec<Site>, number: u16, nodes: u16, start: u64) -> bool {
     let Some(node) = NodeId::new(number) else {
         return false;

@@ -7,7 +7,7 @@ use ra_frame::{Frame, encode};
 use ra_stamp::{Mode, Name, NodeId};
 use std::alloc::Global;
 
-/// A book in which nothing has happened: that of node `me` of so many, where each name begins with the number `start`.
+/// A book in which nothing has happened: that of node `me` of this many, where each name begins with the number `start`.
 #[derive(Clone, Copy)]
 pub struct Made {
     /// Its node.

@@ -25,7 +25,7 @@ const ASKS_LAST: [u8; 25] = [
     2, 1, 0, 1, 0, 2, 1, 0, 0, 0, 0, 0, 0, 0, 1, 0x40, 0, 0, 0, 0, 0, 0, 0, 1, b'r',
 ];
 
-/// Returns whether there is no book of this node of so many, for this reason.
+/// Returns whether there is no book of this node of this many, for this reason.
 fn is_no_book(alloc: Global, me: u16, nodes: u16, fault: NewError) -> bool {
     match NodeId::new(me) {
         Some(me) => match Book::new(alloc, me, nodes, 0) {

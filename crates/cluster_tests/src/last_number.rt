@@ -13,7 +13,7 @@ use std::thread::Threads;
 /// What a client gets that locks a name in a thread of its own.
 type Answer = Option<Result<Grant, SiteError>>;
 
-/// From here on two numbers are left: that of client 1, which holds the name, and the last one, that of client 2 behind it.
+/// From here on two numbers are left: that of client 1, which holds the name, and the last one, that of client 2 after it.
 const START: u64 = u64::MAX - 2;
 
 /// Has a client lock the name.

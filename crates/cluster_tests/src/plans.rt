@@ -95,7 +95,7 @@ fn adds_clients(alloc: Global, script: &mut Script, clients: &[Client]) -> bool 
     true
 }
 
-/// Makes the script of so many nodes with these clients.
+/// Makes the script of this many nodes with these clients.
 pub fn script_of(alloc: Global, nodes: u16, clients: &[Client]) -> Option<Script> {
     let mut script = Script::new(alloc, nodes).ok()?;
     if adds_clients(alloc, &mut script, clients) {

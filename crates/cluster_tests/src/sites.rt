@@ -16,10 +16,10 @@ use std::process::Abort;
 use std::sync::Wait;
 use std::thread::Threads;
 
-/// The last clock, behind which there is none for an event.
+/// The last clock, after which there is none for an event.
 const LAST_CLOCK: u64 = 1 << 62;
 
-/// Returns whether the post of so many nodes has as many inboxes, or there is no post for so many.
+/// Returns whether the post of this many nodes has as many inboxes, or there is no post for so many.
 fn is_post(alloc: Global, nodes: u16, is_there: bool) -> bool {
     match Post::new(alloc, nodes) {
         Ok((_post, inboxes)) => is_there && inboxes.len() == usize::from(nodes),

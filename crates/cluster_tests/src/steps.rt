@@ -25,7 +25,7 @@ pub enum Step {
     RefusesToSend(u16, u16, SendError),
     /// The post is closed.
     ClosesPost,
-    /// The inbox at this place is gone, and those behind it are at one place less.
+    /// The inbox at this place is gone, and those after it are at one place less.
     LosesInbox(usize),
     /// All inboxes are gone.
     LosesAllInboxes,
@@ -88,7 +88,7 @@ pub struct Cluster {
     gate: Counting,
 }
 
-/// Makes a cluster of so many nodes, whose numbers begin at `start` and whose gate lets so many steps pass.
+/// Makes a cluster of this many nodes, whose numbers begin at `start` and whose gate lets so many steps pass.
 pub fn make_cluster(alloc: Global, nodes: u16, start: u64, most: u64) -> Option<Cluster> {
     let sites = sites_of(alloc, nodes, start)?;
     let (post, inboxes) = Post::new(alloc, nodes).ok()?;
@@ -298,7 +298,7 @@ fn does_all<R: Wait>(rt: &R, alloc: Global, all: &mut Cluster, name: Name, steps
     true
 }
 
-/// Has a cluster do and show all of this, in order, and returns its books, or `None` where it does not. The cluster is of so many
+/// Has a cluster do and show all of this, in order, and returns its books, or `None` where it does not. The cluster is of this many
 /// nodes, its numbers begin at `start`, and its gate lets so many steps pass.
 fn books_of_steps<R: Wait>(
     rt: &R,

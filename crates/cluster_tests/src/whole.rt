@@ -12,10 +12,10 @@ use std::sync::{Mutex, Wait};
 use std::thread;
 use std::thread::Threads;
 
-/// How many nodes there are, and whether there is a cluster of so many.
+/// How many nodes there are, and whether there is a cluster of this many.
 const COUNTS: &[(u16, bool)] = &[(0, false), (65, false), (1, true), (64, true)];
 
-/// Returns whether there is a cluster of so many nodes, or none.
+/// Returns whether there is a cluster of this many nodes, or none.
 fn is_cluster_of(alloc: Global, nodes: u16, is_there: bool) -> bool {
     match Cluster::new(alloc, nodes, 7, OpenGate) {
         Ok(cluster) => {
@@ -197,7 +197,7 @@ fn settles(alloc: Global, cluster: Cluster<Counting>, grant: &Grant) -> bool {
     }
 }
 
-/// Returns whether client 2 held the name while it worked, with the number behind that of client 1, and gave it back; and the books
+/// Returns whether client 2 held the name while it worked, with the number after that of client 1, and gave it back; and the books
 /// settle.
 fn hands_over<R: Threads + Wait + Abort + Sync>(rt: &R, alloc: Global) -> Option<bool> {
     let name = r()?;

@@ -1,4 +1,4 @@
-//! Why bytes are no frame: the first wrong field of each version is named.
+//! Why bytes are not a frame: the first wrong field of each version is named.
 use crate::frames::{ASKS_1, ASKS_2, Change, is_refused, with};
 use crate::helpers::{assert_none_wrong, assert_rows};
 use ra_frame::FrameError;
@@ -223,7 +223,7 @@ fn a_field_is_short_at_its_place_in_version_2(rt: HostRuntime) {
     assert_rows(&rt, fronts_met(&ASKS_2, FRONTS_2), FRONTS_2.len());
 }
 
-/// Returns whether the REQUESTs with this byte behind them are refused.
+/// Returns whether the REQUESTs with this byte after them are refused.
 fn is_trailing(after: u8) -> bool {
     let (mut first, mut second) = ([after; 24], [after; 26]);
     first[..23].copy_from_slice(&ASKS_1);

@@ -64,7 +64,7 @@ fn looks_so(automaton: &Automaton, look: Look) -> bool {
         && automaton.deferred(node(2)) == deferred
 }
 
-/// Has the automaton take a message about its resource. Where it does not, returns whether memory was wanting.
+/// Has the automaton take a message about its resource. Where it does not, returns whether memory ran out.
 fn take(alloc: Global, automaton: &mut Automaton, is_reply: bool, seq: u64) -> Result<(), bool> {
     let (from, to, name) = (node(2), node(1), automaton.name());
     let message = if is_reply {
@@ -90,7 +90,7 @@ fn take(alloc: Global, automaton: &mut Automaton, is_reply: bool, seq: u64) -> R
     }
 }
 
-/// Makes a call. Where it is refused, returns whether memory was wanting.
+/// Makes a call. Where it is refused, returns whether memory ran out.
 fn make(alloc: Global, automaton: &mut Automaton, call: Call) -> Result<(), bool> {
     match call {
         Ask => match automaton.request(alloc, Mode::Exclusive) {
@@ -111,7 +111,7 @@ fn make(alloc: Global, automaton: &mut Automaton, call: Call) -> Result<(), bool
     }
 }
 
-/// Makes a call, and again where memory was wanting.
+/// Makes a call, and again where memory ran out.
 fn try_call(alloc: Global, automaton: &mut Automaton, call: Call) -> Tried {
     let before = look(automaton);
     match make(alloc, automaton, call) {
@@ -132,7 +132,7 @@ fn try_calls(alloc: Global, automaton: &mut Automaton) -> Tried {
     tried
 }
 
-/// Makes an automaton and all calls of it. Where there is none, returns whether memory was wanting.
+/// Makes an automaton and all calls of it. Where there is none, returns whether memory ran out.
 fn try_automaton(alloc: Global, name: Name) -> Result<Tried, bool> {
     match Automaton::new(alloc, node(1), 2, name, 0) {
         Ok(mut automaton) => Ok(try_calls(alloc, &mut automaton)),
@@ -140,7 +140,7 @@ fn try_automaton(alloc: Global, name: Name) -> Result<Tried, bool> {
     }
 }
 
-/// Encodes a frame. Where there are no bytes, memory was wanting.
+/// Encodes a frame. Where there are no bytes, memory ran out.
 fn try_frame(alloc: Global, name: Name) -> Result<Tried, bool> {
     let frame = Frame {
         clock: 1,

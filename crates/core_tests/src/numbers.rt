@@ -1,4 +1,4 @@
-//! The highest number that a node has met: where it begins, and that nobody asks behind the greatest one.
+//! The highest number that a node has met: where it begins, and that nobody asks after the greatest one.
 use crate::helpers::node;
 use crate::steps::{Answer, Step, follow};
 use Answer::Reply;

@@ -31,13 +31,13 @@ enum Step {
     Puts(&'static [Wire]),
     /// So many requests are put into it, with the numbers from the first one given up.
     PutsNumbers(u64, u64),
-    /// A copy of the message is put behind all others.
+    /// A copy of the message is put after all others.
     Copies(Wire),
     /// There is none to be copied.
     CopiesNone(Wire),
     /// So many requests are copied, with the numbers from the first one given up.
     CopiesNumbers(u64, u64),
-    /// The request with the first number given is copied so many times, behind nine others each time, whose numbers go on from the
+    /// The request with the first number given is copied so many times, after nine others each time, whose numbers go on from the
     /// second one.
     CopiesAmong(u64, u64, u64),
     /// The first message that is equal to this one is taken.
@@ -126,7 +126,7 @@ fn copies_numbers(bag: &mut Bag, first: u64, count: u64) -> bool {
     true
 }
 
-/// Returns whether a request was copied so many times, behind nine others each time.
+/// Returns whether a request was copied so many times, after nine others each time.
 fn copies_among(alloc: Global, bag: &mut Bag, copied: u64, first: u64, count: u64) -> bool {
     let mut seq = first;
     for _ in 0..count {
@@ -320,7 +320,7 @@ fn a_message_is_taken_where_it_is_found(rt: HostRuntime) {
     follow(&rt, STEPS);
 }
 
-/// Of 200 requests those with even numbers are taken, and then those with odd ones but the first, with 100 more behind them meanwhile.
+/// Of 200 requests those with even numbers are taken, and then those with odd ones but the first, with 100 more after them meanwhile.
 /// The others always stand in their order.
 #[test]
 fn many_messages_stay_in_order_while_others_are_taken(rt: HostRuntime) {
@@ -500,7 +500,7 @@ fn room_changes_no_message(rt: HostRuntime) {
     follow(&rt, STEPS);
 }
 
-/// The messages stay, with the next one behind them.
+/// The messages stay, with the next one after them.
 #[test]
 fn more_room_than_there_is_is_refused(rt: HostRuntime) {
     const STEPS: &[Step] = &[

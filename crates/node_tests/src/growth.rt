@@ -66,7 +66,7 @@ fn looks_so(node: &Node, look: Look) -> bool {
         && node.holder(&r()) == holder
 }
 
-/// Has a node take a message. Where it does not, returns whether memory was wanting.
+/// Has a node take a message. Where it does not, returns whether memory ran out.
 fn take(alloc: Global, node: &mut Node, message: &Message) -> Result<(), bool> {
     match node.receive(alloc, message) {
         Ok(_) => Ok(()),
@@ -74,7 +74,7 @@ fn take(alloc: Global, node: &mut Node, message: &Message) -> Result<(), bool> {
     }
 }
 
-/// Makes a call. Where it is refused, returns whether memory was wanting.
+/// Makes a call. Where it is refused, returns whether memory ran out.
 fn make(alloc: Global, node: &mut Node, call: Call) -> Result<(), bool> {
     match call {
         Ask(client) => match node.ask(alloc, client, r(), Mode::Exclusive) {
@@ -90,7 +90,7 @@ fn make(alloc: Global, node: &mut Node, call: Call) -> Result<(), bool> {
     }
 }
 
-/// Makes a call, and again where memory was wanting.
+/// Makes a call, and again where memory ran out.
 fn try_call(alloc: Global, node: &mut Node, call: Call) -> Tried {
     let before = look(node);
     match make(alloc, node, call) {
@@ -123,7 +123,7 @@ fn growth_of_a_node(rt: HostRuntime) {
     end(&rt, try_node(rt.alloc()));
 }
 
-/// Puts the request with this number into a list, and again where memory was wanting.
+/// Puts the request with this number into a list, and again where memory ran out.
 fn try_push(list: &mut Messages, seq: u64) -> Tried {
     let before = list.len();
     if list.push(request(1, 2, seq)).is_ok() {
@@ -135,7 +135,7 @@ fn try_push(list: &mut Messages, seq: u64) -> Tried {
     }
 }
 
-/// Puts a list of messages into a bag, and again where memory was wanting.
+/// Puts a list of messages into a bag, and again where memory ran out.
 fn try_put(bag: &mut Bag, list: &Messages) -> Tried {
     let (before, last) = (bag.len(), bag.at(0));
     if bag.put_all(list).is_ok() {
@@ -147,7 +147,7 @@ fn try_put(bag: &mut Bag, list: &Messages) -> Tried {
     }
 }
 
-/// Makes room in a bag, and again where memory was wanting.
+/// Makes room in a bag, and again where memory ran out.
 fn try_reserve(bag: &mut Bag, more: u64) -> Tried {
     let before = bag.len();
     if bag.reserve(more).is_ok() {
@@ -159,7 +159,7 @@ fn try_reserve(bag: &mut Bag, more: u64) -> Tried {
     }
 }
 
-/// Puts a copy of a message that is in a bag behind the others, and again where memory was wanting.
+/// Puts a copy of a message that is in a bag after the others, and again where memory ran out.
 fn try_copy(bag: &mut Bag, message: &Message) -> Tried {
     let before = bag.len();
     if bag.again(message) == Ok(true) {
@@ -206,7 +206,7 @@ fn try_bag_calls(alloc: Global, bag: &mut Bag) -> Tried {
     }
 }
 
-/// Makes a bag and all calls of it. Where there is none, memory was wanting.
+/// Makes a bag and all calls of it. Where there is none, memory ran out.
 fn try_bag(alloc: Global) -> Result<Tried, bool> {
     match Bag::new(alloc) {
         Ok(mut bag) => Ok(try_bag_calls(alloc, &mut bag)),
@@ -228,7 +228,7 @@ fn stands(table: &Table, entry: &Entry) -> (bool, bool, bool) {
     )
 }
 
-/// Makes a request, and again where memory was wanting.
+/// Makes a request, and again where memory ran out.
 fn try_request(table: &mut Table, entry: &Entry) -> Tried {
     let before = stands(table, entry);
     match table.request(*entry) {
@@ -239,7 +239,7 @@ fn try_request(table: &mut Table, entry: &Entry) -> Tried {
     }
 }
 
-/// Grants a request, and again where memory was wanting.
+/// Grants a request, and again where memory ran out.
 fn try_enter(table: &mut Table, entry: &Entry) -> Tried {
     let before = stands(table, entry);
     match table.enter(entry) {
@@ -265,7 +265,7 @@ fn try_table_calls(table: &mut Table) -> Tried {
     }
 }
 
-/// Makes a table and all calls of it. Where there is none, memory was wanting.
+/// Makes a table and all calls of it. Where there is none, memory ran out.
 fn try_table(alloc: Global) -> Result<Tried, bool> {
     match Table::new(alloc) {
         Ok(mut table) => Ok(try_table_calls(&mut table)),

@@ -94,7 +94,7 @@ fn a_thousand_names_are_apart(rt: HostRuntime) {
     assert!(rt; knows(rt.alloc(), Padded));
 }
 
-/// Returns the name `n` with this number behind it, of one to three digits.
+/// Returns the name `n` with this number after it, of one to three digits.
 fn unpadded(number: u16) -> Option<Name> {
     let (hundreds, tens, ones) = (digit(number / 100), digit(number / 10), digit(number));
     if number < 10 {
@@ -159,7 +159,7 @@ fn leaves(alloc: Global, node: &mut Node, number: u16) -> bool {
     }
 }
 
-/// Returns whether client 1 holds each of these names but that of the number `left`.
+/// Returns whether client 1 holds each of these names except that of the number `left`.
 fn are_held(node: &Node, left: Option<u16>) -> bool {
     for number in 0..1000 {
         let Some(entry) = on_unpadded(number) else {

@@ -1,4 +1,4 @@
-//! The greatest numbers of requests: they are given out, and behind them nobody asks.
+//! The greatest numbers of requests: they are given out, and after them nobody asks.
 use crate::helpers::id;
 use crate::steps::{Step, Turn, Wire, follow};
 use Mode::Exclusive;
@@ -36,7 +36,7 @@ fn the_greatest_number_but_one_is_given_out(rt: HostRuntime) {
     follow(&rt, id(1), 2, START, STEPS);
 }
 
-/// A client of node 2 enters with the greatest number, behind a REQUEST with the greatest but one.
+/// A client of node 2 enters with the greatest number, after a REQUEST with the greatest but one.
 #[test]
 fn the_greatest_number_is_given_out(rt: HostRuntime) {
     const STEPS: &[Step] = &[

@@ -69,9 +69,9 @@ pub enum Step {
     HasHighestOfOther(u64),
     /// Writers ask, from client 1 up, and so many of them.
     WritersAsk(u32),
-    /// Each of so many is told that it is busy, and no client before them or behind them is.
+    /// Each of so many is told that it is busy, and no client before them or after them is.
     WritersAreBusy(u32),
-    /// Each of so many holds at node 1 by its own number, leaves and may ask again, while the last one is still busy.
+    /// Each of this many holds at node 1 by its own number, leaves and may ask again, while the last one is still busy.
     WritersTakeTurns(u32),
 }
 
@@ -282,7 +282,7 @@ fn takes_its_turn(alloc: Global, node: &mut Node, client: u32, last: u32) -> boo
         && node.may_ask(client, &r()).is_ok()
 }
 
-/// Returns whether each of so many writers takes its turn.
+/// Returns whether each of this many writers takes its turn.
 fn writers_take_turns(alloc: Global, node: &mut Node, count: u32) -> bool {
     for client in 1..=count {
         if !takes_its_turn(alloc, node, client, count) {

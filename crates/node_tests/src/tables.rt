@@ -295,7 +295,7 @@ const PAIRS: &[Pair] = &[
     Pair("X at X", Exclusive, Exclusive, false),
 ];
 
-/// Returns whether a later request goes beside an earlier one, waiting or held, or goes behind it, as a pair says.
+/// Returns whether a later request goes beside an earlier one, waiting or held, or goes after it, as a pair says.
 fn goes_as_said(alloc: Global, pair: &Pair) -> bool {
     let (earlier, later) = (In(pair.1, 1, 1, 1), In(pair.2, 2, 2, 2));
     let held = if pair.3 {

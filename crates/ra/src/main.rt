@@ -10,7 +10,7 @@ use std::{env, io};
 ///
 /// # Errors
 ///
-/// `Usage`: a word is no UTF-8. `Memory`: there is none for the words.
+/// `Usage`: a word is not UTF-8. `Memory`: there is none for the words.
 fn words(rt: &HostRuntime) -> Result<Vec<String>, CommandFault> {
     match env::args(rt) {
         Ok(words) => words.collect(rt.alloc()).or(Err(CommandFault::Memory)),

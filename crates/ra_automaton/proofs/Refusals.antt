@@ -74,7 +74,7 @@ module _ {X : Type 0} (s : State) where
 not_held_apart : leaving.NotHeld ≡ leaving.Memory → ⊥
 not_held_apart e = cc
 
--- a node that is inside is refused for want of memory alone
+-- a node that is inside is refused only because memory ran out
 pub left_tells : {X : Type 0} (result : Result X LeaveError) (s : State) → IsInside s.phase → IfErr result (λ fault. fault ≡ leaving.Memory) → IsErrOf result leaving.NotHeld ↔ (IsInside s.phase → ⊥)
 left_tells (Ok x) s inside memory = (λ e. absurd (ok_apart x leaving.NotHeld e), λ outside. absurd (outside inside))
 left_tells (Err fault) s inside memory = (λ e. absurd (not_held_apart (sym (same_error fault leaving.NotHeld e) ∙ memory)), λ outside. absurd (outside inside))

@@ -8,7 +8,7 @@ use Rattle.ra_automaton.specs.declared.cases.Answer.TheVariants.{Defer, Reply}
 use Rattle.ra_automaton.specs.declared.cases.Comparison.{Comparison}
 use Rattle.ra_automaton.specs.Cases.{is_later, answer_of, IsAnswer}
 
--- a row's answer tells whether the modes conflict and the REQUEST is behind
+-- a row's answer tells whether the modes conflict and the REQUEST is after
 pub row_is_answer : (own wanted : Mode) (comparison : Comparison) → IsAnswer own wanted comparison (answer_of own wanted comparison)
 row_is_answer own wanted comparison = decided (conflicts own wanted) (is_later comparison)
   where

@@ -1,4 +1,4 @@
--- Which comparisons say that a REQUEST is behind the node's own request, and which answers fit that.
+-- Which comparisons say that a REQUEST is after the node's own request, and which answers fit that.
 use Rattle.std.specs.Prelude.{Bool, true, false, ◌&&◌, cond, IsTrue}
 use Rattle.ra_stamp.specs.declared.mode.Mode.{Mode}
 use Rattle.ra_stamp.specs.Mode.{conflicts, Conflict}
@@ -14,7 +14,7 @@ is_later LowerNode = false
 is_later HigherNode = true
 is_later HigherNumber = true
 
--- the answer of a table's row: the REPLY is deferred exactly where the modes conflict and the REQUEST is behind
+-- the answer of a table's row: the REPLY is deferred exactly where the modes conflict and the REQUEST is after
 abbrev pub answer_of : Mode → Mode → Comparison → Answer
 answer_of own wanted comparison = cond (conflicts own wanted && is_later comparison) Defer Reply
 

@@ -59,7 +59,7 @@ macro_rules! table {
     };
 }
 
-/// Returns how the other stamp compares with the own one. The two are of different nodes.
+/// Returns how the other stamp compares with the node's own. The two are of different nodes.
 pub fn compare(other: Stamp, own: Stamp) -> Comparison
     ensures { IsTrue (is_later result) ↔ IsEarlier own other }
 {

@@ -18,7 +18,7 @@ in_both xs ys = filter_map-append (λ slot. slot) xs ys
 abbrev pub before : List (Option Message) → ℕ → List Message
 before slots i = messages_in (take i slots)
 
--- and behind it
+-- and after it
 abbrev pub behind : List (Option Message) → ℕ → List Message
 behind slots i = messages_in (drop (suc i) slots)
 
@@ -202,7 +202,7 @@ in_neither front back m no_front no_back there =
       | inr near ↦ no_front (k, near.1, sym (get_or_append_left front back (Some m) k near.1) ∙ is)
     ]
 
--- ---- What is put behind
+-- ---- What is put after
 
 pub put_behind : (slots : List (Option Message)) (ms : List Message) → messages_in (slots ++ map Some ms) ≡ messages_in slots ++ ms
 put_behind slots ms = in_both slots (map Some ms) ∙ ap (λ (l : List Message). messages_in slots ++ l) (in_filled ms)

@@ -109,7 +109,7 @@ module _ (eq : Message → Message → Bool) (exact : (a b : Message) → IsTrue
       subst (Tells eq new) (sym (take_more slots i (Some m) lt ∙ ap (λ (x : Option Message). take i slots ++ x ∷ []) at))
       (tells_more eq exact old new (take i slots) m number learns (omega (arith, first, is, length-take-le i slots (omega (arith, lt)))) tells)
 
-  -- a message that is put behind
+  -- a message that is put after
   pub next_message : (ms : List Message) (slots : List (Option Message)) → number ≡ old.first + (length slots + i) → i < length ms → get_or ms i m ≡ m
       → Tells eq old (slots ++ map Some (take i ms)) → Tells eq new (slots ++ map Some (take (i + 1) ms))
   next_message ms slots is lt at tells =

@@ -49,7 +49,7 @@ abbrev pub KeepsOthers : (Message → Message → Bool) → Places → Message �
 KeepsOthers eq old message new =
     (other : Message) (numbers : List ℕ) → eq message other ≡ false → Has eq old other numbers → Has eq new other numbers
 
--- the message has one number more, behind those that it had
+-- the message has one number more, after those that it had
 abbrev pub Learns : (Message → Message → Bool) → Places → Message → ℕ → Places → Type 0
 Learns eq old message number new =
     (new.first ≡ old.first) × KeepsOthers eq old message new

@@ -134,7 +134,7 @@ impl Bag {
         Ok(())
     }
 
-    /// Puts messages under way, in order, behind all others, in amortized time linear in the number of these
+    /// Puts messages under way, in order, after all others, in amortized time linear in the number of these
     /// messages. Where there is room for them it cannot fail.
     ///
     /// # Errors
@@ -150,8 +150,8 @@ impl Bag {
         self.put(messages.as_slice())
     }
 
-    /// Puts one more message under way that is equal to this one, behind all others, and returns true, or returns false where there
-    /// is none and leaves the bag. The cost is that of `find`, and amortized constant beside it. Where there is room it cannot fail.
+    /// Puts one more message under way that is equal to this one, after all others, and returns true, or returns false where there
+    /// is none and leaves the bag. The cost is that of `find`, plus amortized constant time. Where there is room it cannot fail.
     ///
     /// # Errors
     ///
@@ -192,7 +192,7 @@ impl Bag {
     ///
     /// The cost is constant where it is the oldest of all. Else it is amortized constant on average: many messages are looked through
     /// once, and then it is known where each stands, equal ones too. Where there is none such, or no memory to know that, it is linear
-    /// in the number of messages. That memory is wanting is not answered.
+    /// in the number of messages. That memory ran out is not answered.
     pub fn take(&mut self, message: &Message) -> Option<Message>
         ensures taken { IfSome result (λ taken. (taken ≡ message.now)
             × TakesFirst self.old.items message.now self.new.items) }

@@ -103,7 +103,7 @@ impl Places {
         Ok(())
     }
 
-    /// Learns the slots of these messages, which are put behind so many others, where those of the others are known.
+    /// Learns the slots of these messages, which are put after this many others, where those of the others are known.
     #[inline(always)]
     pub fn follow(&mut self, slot: usize, messages: &[Message])
         ensures { (slots : List (Option Message)) → length slots ≡ slot
@@ -115,7 +115,7 @@ impl Places {
         }
     }
 
-    /// Adds the slots of these messages, which are put behind so many others.
+    /// Adds the slots of these messages, which are put after this many others.
     ///
     /// # Errors
     ///
@@ -134,7 +134,7 @@ impl Places {
         Ok(())
     }
 
-    /// Adds the number of a slot that has a message, behind the others that have it.
+    /// Adds the number of a slot that has a message, after the others that have it.
     ///
     /// # Errors
     ///
@@ -213,7 +213,7 @@ impl Places {
     }
 }
 
-/// Adds a number of a message behind its later ones.
+/// Adds a number of a message after its later ones.
 ///
 /// # Errors
 ///

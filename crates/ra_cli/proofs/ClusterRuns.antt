@@ -58,7 +58,7 @@ runs_cluster old new before after script report known some brings appends = (
   (some.0, report_text report, runs some.0 script report some.1 brings, appends),
 )
 
--- a refusal that is none of the two first
+-- a refusal that is not one of the two first
 may_run : {X : Type 0} (script : ScriptState) (result : Result X ClusterError) → (IsErrOf result cluster.OutOfOrder → ⊥) → (IsErrOf result cluster.Unreleased → ⊥)
     → IsErrOf result cluster.OutOfOrder ↔ IsOutOfOrder script
     → IsErrOf result cluster.Unreleased ↔ ((IsOutOfOrder script → ⊥) × IsUnreleased script) → MayRun script

@@ -22,7 +22,7 @@ verdict_of_input : (input taken : List ℕ) (new : Option (List ℕ)) (verdict :
     → IsVerdict input verdict
 verdict_of_input input taken new verdict read is = subst (λ (xs : List ℕ). IsVerdict xs verdict) (sym (same_input input taken new read)) is
 
--- a picture of which the writer took a front
+-- a picture of which the writer took a prefix
 pub of_picture : (words : List (List ℕ)) (old new before after : Option (List ℕ))
     → ((input : List ℕ) × (requests messages : ℕ) × (front back : List ℕ) × IsInput old new input × IsVerdict input (Valid requests messages)
     × IsPicture (front ++ back) × (back ≢ []) × Appends before after front)

@@ -18,7 +18,7 @@ one_before : (c x : ℕ) (xs : List ℕ) (n : ℕ) (b : Bool) → (b ≡ true �
 one_before c x xs n true same rest h = ap (λ y. y ∷ xs) (same refl)
 one_before c x xs n false same rest h = rw (one-add, add-one) (ap (λ ys. x ∷ ys) (rw add-one at rest (omega arith)))
 
--- a text is what stands before the first of a byte, the byte, and what stands behind it
+-- a text is what stands before the first of a byte, the byte, and what stands after it
 pub cut : (c : ℕ) (xs : List ℕ) → position_or_len (λ b. eqb b c) xs < length xs
     → xs ≡ before_first (λ b. eqb b c) xs ++ c ∷ after_first (λ b. eqb b c) xs
 cut c [] h = absurd (omega arith)

@@ -17,7 +17,7 @@ no_long_line input line long h =
       | inr feed ↦ let short : length line ≤ 256 = h.short in absurd (omega (arith, ap length feed, length-append line (10 ∷ [])))
     ]
 
--- a refusal that needs a line is none of an input that is too long
+-- a refusal that needs a line is not one of an input that is too long
 too_long : (node nodes : ℕ) (taken input : List ℕ) (why : AnswerError) → why ≢ fault.Write → 258 ≤ length taken → 258 ≤ length input → Refuses node nodes taken why → Refuses node nodes input why
 too_long node nodes taken input fault.BadCount early t i h = h
 too_long node nodes taken input fault.BadNode early t i h = h

@@ -1,4 +1,4 @@
--- What a refusal comes to, and a text of which the writer took a front, as the statuses tell it.
+-- What a refusal comes to, and a text of which the writer took a prefix, as the statuses tell it.
 use Rattle.std.proofs.Common.{◌≡◌, ◌≢◌, ◌⊎◌, ℕ, Bool, List, [], ◌++◌, Option, Some, None, sym, ap, subst, refl, inl, inr, codes}
 use Rattle.std.specs.Prelude.{IfSome}
 use Rattle.std.specs.Io.KnownBytes.{Appends}
@@ -95,7 +95,7 @@ line_of_reader refusal (inr (inr (inl is))) = ap (λ (r : Refusal). refused_line
 line_of_reader refusal (inr (inr (inr (inl is)))) = ap (λ (r : Refusal). refused_line (word_of r)) is
 line_of_reader refusal (inr (inr (inr (inr is)))) = ap (λ (r : Refusal). refused_line (word_of r)) is
 
--- of a refusal that is none of the writer
+-- of a refusal that is not the writer's
 said : (words : List (List ℕ)) (old before after : Option (List ℕ)) (refusal : Refusal) → IsSaid refusal before after → IsBroken words old before after
 said words old before after refusal (inl (reader, all)) = inl (subst (Appends before after) (line_of_reader refusal reader) all)
 said words old before after refusal (inr (front, back, is, left, some)) =
@@ -111,7 +111,7 @@ broken words old before between after refusal fails stays same (inl writer) =
 broken words old before between after refusal fails stays same (inr (other, says)) =
     said words old before after refusal (subst (λ (o : Option (List ℕ)). IsSaid refusal o after) (same other) says)
 
--- of a text of which the writer took a front
+-- of a text of which the writer took a prefix
 pub front_of : (words : List (List ℕ)) (old before after : Option (List ℕ)) (text front back : List ℕ) → IfSome old (λ input. IsPrinted words input text)
     → text ≡ front ++ back → back ≢ [] → Appends before after front → IsBroken words old before after
 front_of words old before after text front back printed is left some =

@@ -66,7 +66,7 @@ pub record IsAnswered (node nodes : ℕ) (input output : List ℕ) : Type 0 wher
   pub reacts : Reacts node nodes frame.message sends entered
   pub lines : AreLines (clock_after 0 frame.clock) sends output
 
--- where each refusal may come: its cause stands, and the cause of none before it. Want of memory and faults of the
+-- where each refusal may come: its cause stands, and the cause of none before it. `Memory` and faults of the
 -- reader and the writer come from outside, but the writer fails only where there is something to write.
 abbrev pub Refuses : ℕ → ℕ → List ℕ → AnswerError → Type 0
 Refuses node nodes input fault.BadCount = IsNodeNumber nodes → ⊥

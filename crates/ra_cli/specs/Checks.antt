@@ -33,7 +33,7 @@ is_valid (Valid requests messages) = true
 is_valid (Invalid line cause) = false
 
 -- What was to be read, where it is known, has a verdict, valid or not, and the lines of the verdict were written and nothing else.
--- It was read from its front, and to its end where it is valid. Where it is not known, there still is such a text.
+-- It was read from its beginning, and to its end where it is valid. Where it is not known, there still is such a text.
 abbrev pub Checks : (old new before after : Option (List ℕ)) → Bool → Type 0
 Checks old new before after valid =
     IfSome old (λ input. (verdict : Verdict) × IsVerdict input verdict × (is_valid verdict ≡ valid)

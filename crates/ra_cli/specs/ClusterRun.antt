@@ -49,7 +49,7 @@ RunsCluster old new before after =
 abbrev pub MayRun : ScriptState → Type 0
 MayRun script = (IsOutOfOrder script → ⊥) × (IsUnreleased script → ⊥)
 
--- which scripts each refusal is for; want of memory is named elsewhere
+-- which scripts each refusal is for; `Memory` is named elsewhere
 abbrev pub StopsAt : ScriptState → ClusterError → Type 0
 StopsAt script cluster.OutOfOrder = IsOutOfOrder script
 StopsAt script cluster.Unreleased = (IsOutOfOrder script → ⊥) × IsUnreleased script
@@ -60,7 +60,7 @@ StopsAt script cluster.Lost = MayRun script
 StopsAt script cluster.UnderWay = MayRun script
 StopsAt script cluster.Memory = ⊥
 
--- where each refusal may come: its cause stands, and none before it. Want of memory and faults of the reader and the writer come
+-- where each refusal may come: its cause stands, and none before it. `Memory` and faults of the reader and the writer come
 -- from outside.
 abbrev pub RefusesRun : List ℕ → RunScriptError → Type 0
 RefusesRun input fault.Read = Unit {0}

@@ -1,4 +1,4 @@
--- What `ra` prints where it does not do what it is asked: the word of each refusal, behind `refused`, as one line.
+-- What `ra` prints where it does not do what it is asked: the word of each refusal, after `refused`, as one line.
 use Rattle.std.specs.Prelude.{◌≡◌, ℕ, ◌⊎◌, List, ◌++◌, codes}
 use Rattle.ra_frame.specs.declared.error.FrameError.{FrameError}
 use Rattle.ra_frame.specs.declared.error.FrameError.TheVariants as frame

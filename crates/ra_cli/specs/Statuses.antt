@@ -38,7 +38,7 @@ abbrev pub IsRefused : (before after : Option (List ℕ)) → Type 0
 IsRefused before after = (refusal : Refusal) × (IsOfReader refusal → ⊥) × (IsOfWriter refusal → ⊥)
     × Appends before after (refused_line (word_of refusal))
 
--- of a refusal that is none of the writer: the reader failed and the line was written, or the writer failed at the line
+-- of a refusal that is not the writer's: the reader failed and the line was written, or the writer failed at the line
 abbrev pub IsSaid : Refusal → (before after : Option (List ℕ)) → Type 0
 IsSaid refusal before after = (IsOfReader refusal × Appends before after (refused_line (word_of refusal)))
     ⊎ ((front back : List ℕ) × (refused_line (word_of refusal) ≡ front ++ back) × (back ≢ []) × Appends before after front)
@@ -55,12 +55,12 @@ IsPrinted words input text =
     ⊎ IsDrawing input text
     ⊎ ((faults : Option FaultRates) × (first last : ℕ) × (finished : Bool) × IsSurveyed faults first last input text finished)
 
--- a front of what is to be printed was written, and not all of it
+-- a prefix of what is to be printed was written, and not all of it
 abbrev pub BreaksOff : (words : List (List ℕ)) → (input : List ℕ) → (before after : Option (List ℕ)) → Type 0
 BreaksOff words input before after = (front back : List ℕ) × IsPrinted words input (front ++ back) × (back ≢ [])
     × Appends before after front
 
--- status 1: the reader failed and the line that says so was written, or the writer failed; where what was to be read is known, a front
+-- status 1: the reader failed and the line that says so was written, or the writer failed; where what was to be read is known, a prefix
 -- of what is printed was written then
 abbrev pub IsBroken : (words : List (List ℕ)) → (old before after : Option (List ℕ)) → Type 0
 IsBroken words old before after =

@@ -10,7 +10,7 @@ use Rattle.ra_cli.specs.declared.command_line.Task.TheVariants.{Answer, Sim, Sur
 abbrev pub IsHelpWord : List ℕ → Type 0
 IsHelpWord word = (word ≡ codes "--help") ⊎ (word ≡ codes "-h") ⊎ (word ≡ codes "--version") ⊎ (word ≡ codes "-V")
 
--- behind the program's name, a word is this option and the next one this text, or one word is both, with `=` between them
+-- after the program's name, a word is this option and the next one this text, or one word is both, with `=` between them
 abbrev pub GivesText : (words : List (List ℕ)) → (option text : List ℕ) → Type 0
 GivesText words option text = (place : ℕ) × (1 ≤ place) × (((slice_get words place ≡ Some option) × (slice_get words (place + 1) ≡ Some text))
     ⊎ (slice_get words place ≡ Some (option ++ 61 ∷ text)))

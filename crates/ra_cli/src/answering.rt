@@ -61,7 +61,7 @@ fn bytes_of(alloc: Global, digits: &[u8]) -> Result<Vec<u8>, AnswerError>
 ///
 /// # Errors
 ///
-/// The first that holds, but that `Memory` may come before `Hex` and `Frame`:
+/// The first that holds, except that `Memory` may come before `Hex` and `Frame`:
 ///
 /// 1. `Line`: the input is no line.
 /// 2. `Hex`: the line is no even number of hexadecimal digits.
@@ -87,7 +87,7 @@ fn frame_in(alloc: Global, input: &[u8]) -> Result<Frame, AnswerError>
 ///
 /// # Errors
 ///
-/// `Memory`: a front of the line may be there.
+/// `Memory`: a prefix of the line may be there.
 fn push_line(alloc: Global, text: &mut Vec<u8>, frame: &Frame) -> Result<(), Memory>
     requires { Fits frame.now }
     ensures ok { OnOk result ((bytes : List ℕ) × IsWrittenText bytes frame.now
@@ -175,19 +175,19 @@ fn answer_to(alloc: Global, me: NodeId, nodes: u16, input: &[u8]) -> Result<Vec<
 ///
 /// # Errors
 ///
-/// The first that holds, but that `Memory` may come before any that stands behind `BadNode`:
+/// The first that holds, except that `Memory` may come before any that stands after `BadNode`:
 ///
 /// 1. `BadCount`: there are not 1 to 64 nodes.
 /// 2. `BadNode`: the node is not 1 to `nodes`.
 /// 3. `Read`: the reader failed, before its end and before it gave 258 bytes.
-/// 4. `Line`: more than 256 bytes stand before a line feed, or bytes behind it.
+/// 4. `Line`: more than 256 bytes stand before a line feed, or bytes after it.
 /// 5. `Hex`: the line is no even number of hexadecimal digits.
 /// 6. `Frame`: the bytes are no frame.
 /// 7. `WrongNode`: the message is for another node.
 /// 8. `Stranger`: the sender is the node itself, or there is no such node.
 /// 9. `ClockFull`: the node's clock would pass 2^62.
 /// 10. `Memory`: memory ran out.
-/// 11. `Write`: the writer failed or took nothing, with bytes left to write. A front of the text was written.
+/// 11. `Write`: the writer failed or took nothing, with bytes left to write. A prefix of the text was written.
 ///
 /// After each of the others the writer is as before, and after `BadCount` and `BadNode` the reader is too.
 pub fn answer<R: Read, W: Write>(

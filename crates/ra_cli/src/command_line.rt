@@ -439,7 +439,7 @@ pub fn command<'a>(alloc: Global) -> Result<Command<'a>, AllocError> {
     with_command(ra, draw_command(alloc))
 }
 
-/// Returns the text behind an option and `=` in a word, or `None` where it is no such word. It does not allocate.
+/// Returns the text after an option and `=` in a word, or `None` where it is no such word. It does not allocate.
 fn text_in<'a>(word: &'a str, option: &str) -> Option<&'a str>
     ensures { IfSome result (λ text. word.now ≡ option.now ++ 61 ∷ text.now) }
 {

@@ -23,7 +23,7 @@ pub enum AnswerError {
     /// The reader failed.
     #[error("Read")]
     Read,
-    /// There are more than 256 bytes before a line feed, or bytes behind it.
+    /// There are more than 256 bytes before a line feed, or bytes after it.
     #[error("Line")]
     Line,
     /// The line is no even number of hexadecimal digits.
@@ -55,10 +55,10 @@ pub enum RunScriptError {
     /// The reader failed.
     #[error("Read")]
     Read,
-    /// What was read is no script. It is never want of memory.
+    /// What was read is not a script. It is never that memory ran out.
     #[error(transparent)]
     Script(ScriptError),
-    /// Threads may not run it, or did not bring it to its end. It is never want of memory.
+    /// Threads may not run it, or did not bring it to its end. It is never that memory ran out.
     #[error(transparent)]
     Cluster(ClusterError),
     /// Memory ran out.

@@ -23,11 +23,11 @@ fn word_of(cause: MarkCause) -> &'static str
     }
 }
 
-/// Adds the lines of a log whose marks are a run of the lock table, of so many requests and grants.
+/// Adds the lines of a log whose marks are a run of the lock table, of this many requests and grants.
 ///
 /// # Errors
 ///
-/// `Memory`: there is none for them. A front of them may have been added.
+/// `Memory`: there is none for them. A prefix of them may have been added.
 fn push_valid(text: &mut String, requests: u64, grants: u64) -> Result<(), Memory>
     ensures { OnOk result
         (string_bytes text.new ≡ string_bytes text.old ++ spec.marks_verdict_text (MarksVerdict.Valid requests grants)) }
@@ -44,7 +44,7 @@ fn push_valid(text: &mut String, requests: u64, grants: u64) -> Result<(), Memor
 ///
 /// # Errors
 ///
-/// `Memory`: there is none for it. A front of it may have been added.
+/// `Memory`: there is none for it. A prefix of it may have been added.
 fn push_invalid(text: &mut String, line: u64, cause: MarkCause) -> Result<(), Memory>
     ensures { OnOk result
         (string_bytes text.new ≡ string_bytes text.old ++ spec.marks_verdict_text (MarksVerdict.Invalid line cause)) }
@@ -60,7 +60,7 @@ fn push_invalid(text: &mut String, line: u64, cause: MarkCause) -> Result<(), Me
 ///
 /// # Errors
 ///
-/// `Memory`: there is none for them. A front of them may have been added.
+/// `Memory`: there is none for them. A prefix of them may have been added.
 fn push_verdict(text: &mut String, verdict: &MarksVerdict) -> Result<(), Memory>
     ensures { OnOk result (string_bytes text.new ≡ string_bytes text.old ++ spec.marks_verdict_text verdict.now) }
 {

@@ -129,7 +129,7 @@ fn answer_text(why: AnswerError) -> &'static str {
     }
 }
 
-/// Returns the note on a list of choices that is none.
+/// Returns the note on a list of choices that is not one.
 fn choices_note(alloc: Global, words: &[String], why: ChoicesError) -> Result<String, AllocError> {
     match why {
         ChoicesError::Choice => {

@@ -47,7 +47,7 @@ pub fn script_from<R: Read>(alloc: Global, reader: &mut R) -> Result<Script, Run
 ///
 /// # Errors
 ///
-/// `Memory`: there is none for the lines, and the writer is as before. `Write`: the writer failed or took nothing, and a front
+/// `Memory`: there is none for the lines, and the writer is as before. `Write`: the writer failed or took nothing, and a prefix
 /// of the lines was written.
 fn write_report<W: Write>(
     alloc: Global,
@@ -72,13 +72,13 @@ fn write_report<W: Write>(
 ///
 /// # Errors
 ///
-/// The first that holds, but that `Memory` may come before any:
+/// The first that holds, except that `Memory` may come before any:
 ///
 /// 1. `Read`: the reader failed, before its end and before it gave 65,537 bytes.
 /// 2. `Script`: the input is no script.
 /// 3. `Cluster`: threads may not run the script, for which no thread was started, or did not bring it to its end.
 /// 4. `Memory`: memory ran out.
-/// 5. `Write`: the writer failed or took nothing, with bytes left to write. A front of the lines was written.
+/// 5. `Write`: the writer failed or took nothing, with bytes left to write. A prefix of the lines was written.
 ///
 /// After each of the others the writer is as before.
 pub fn run_script<T: Threads + Wait + Sync, R: Read, W: Write>(

@@ -212,7 +212,7 @@ fn simulate<R: Read, W: Write>(
     ensures refused { result.status ≡ 2 → IsRefused (W.contents writer.old) (W.contents writer.new) }
     ensures broken { (words : List (List ℕ)) → result.status ≡ 1
         → IsBroken words (R.remaining reader.old) (W.contents writer.old) (W.contents writer.new) }
-    // Choices that are none are refused before anything is read.
+    // Choices that are not are refused before anything is read.
     ensures choices_first { choices_of choices.now ≡ None → (1 ≤ result.status) × (reader.new ≡ reader.old) }
 {
     let policy = match policy_of(alloc, name, choices) {
@@ -340,7 +340,7 @@ fn deny<W: Write>(alloc: Global, line: u64, cause: Cause, writer: &mut W) -> Out
     }
 }
 
-/// Draws a part of the trace of the reader, or writes the line of the verdict on it where it is none.
+/// Draws a part of the trace of the reader, or writes the line of the verdict on it where it is not one.
 fn paint<R: Read, W: Write>(alloc: Global, part: Part, reader: &mut R, writer: &mut W) -> Outcome
     ensures range { result.status ≤ 3 }
     ensures drawn { result.status ≡ 0 → IsDrawn (R.remaining reader.old) (R.remaining reader.new)
@@ -439,7 +439,7 @@ fn outcome_of<T: Threads + Wait + Sync, R: BufRead, W: Write>(
 }
 
 /// Does what the words ask for, of which the first is the program's name, and returns the exit status: 0 done, 1 a fault of
-/// the input or the output, 2 refused, 3 a run that ended with something left to do, or a trace or a log that is none. A refusal is
+/// the input or the output, 2 refused, 3 a run that ended with something left to do, or a trace or a log that is not one. A refusal is
 /// printed as one line, `refused` and its word. No read or write that failed is tried again, and after a fault of the output
 /// nothing more is written. It waits for nobody but the reader and the writer, and with the command `cluster` for the threads
 /// that it starts.
@@ -462,8 +462,8 @@ pub fn serve<T: Threads + Wait + Sync, R: BufRead, W: Write>(
     ensures unfinished { result ≡ 3
         → IsUnfinished (map string_bytes words.now) (R.remaining reader.old) (R.remaining reader.new)
         (W.contents writer.old) (W.contents writer.new) }
-    // Status 2 comes only with the line of a refusal that is none of the reader and none of the writer; and status 1 only where one of
-    // these failed: with the line that says so of the reader, or a front of what is printed.
+    // Status 2 comes only with the line of a refusal that is neither the reader's nor the writer's; and status 1 only where one of
+    // these failed: with the line that says so of the reader, or a prefix of what is printed.
     ensures refused { result ≡ 2 → IsRefused (W.contents writer.old) (W.contents writer.new) }
     ensures broken { result ≡ 1
         → IsBroken (map string_bytes words.now) (R.remaining reader.old) (W.contents writer.old) (W.contents writer.new) }

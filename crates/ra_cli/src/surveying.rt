@@ -27,7 +27,7 @@ fn all_finished(survey: &Survey) -> bool
 ///
 /// # Errors
 ///
-/// The first that holds, but that `Memory` may come before any:
+/// The first that holds, except that `Memory` may come before any:
 ///
 /// 1. `Read`: the reader failed, before its end and before it gave 65,537 bytes.
 /// 2. `Script`: the input is no script.

@@ -40,7 +40,7 @@ fn push_shown(text: &mut String, line: &str) -> Result<(), AllocError> {
     Ok(())
 }
 
-/// Adds a line of what the parser says: a tip behind a semicolon, and any other behind a space.
+/// Adds a line of what the parser says: a tip after a semicolon, and any other after a space.
 fn push_line(text: &mut String, line: &str) -> Result<(), AllocError> {
     if line.is_empty() {
         return Ok(());
@@ -55,7 +55,7 @@ fn push_line(text: &mut String, line: &str) -> Result<(), AllocError> {
     push_shown(text, line)
 }
 
-/// Adds what the parser says, without the lines of the usage and what stands behind them.
+/// Adds what the parser says, without the lines of the usage and what stands after them.
 fn push_said(text: &mut String, said: &str) -> Result<(), AllocError> {
     let said = said.strip_prefix("error: ").unwrap_or(said);
     for line in said.lines() {

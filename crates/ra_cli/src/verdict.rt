@@ -21,11 +21,11 @@ fn word_of(cause: Cause) -> &'static str
     }
 }
 
-/// Adds the lines of a text that is a trace, of so many requests and messages.
+/// Adds the lines of a text that is a trace, of this many requests and messages.
 ///
 /// # Errors
 ///
-/// `Memory`: there is none for them. A front of them may have been added.
+/// `Memory`: there is none for them. A prefix of them may have been added.
 fn push_valid(text: &mut String, requests: u128, messages: u128) -> Result<(), Memory>
     ensures { OnOk result
         (string_bytes text.new ≡ string_bytes text.old ++ spec.verdict_text (Verdict.Valid requests messages)) }
@@ -38,11 +38,11 @@ fn push_valid(text: &mut String, requests: u128, messages: u128) -> Result<(), M
     Ok(())
 }
 
-/// Adds the line of a text that is none, with its first wrong line and why.
+/// Adds the line of a text that is not one, with its first wrong line and why.
 ///
 /// # Errors
 ///
-/// `Memory`: there is none for it. A front of it may have been added.
+/// `Memory`: there is none for it. A prefix of it may have been added.
 fn push_invalid(text: &mut String, line: u64, cause: Cause) -> Result<(), Memory>
     ensures { OnOk result
         (string_bytes text.new ≡ string_bytes text.old ++ spec.verdict_text (Verdict.Invalid line cause)) }
@@ -58,7 +58,7 @@ fn push_invalid(text: &mut String, line: u64, cause: Cause) -> Result<(), Memory
 ///
 /// # Errors
 ///
-/// `Memory`: there is none for them. A front of them may have been added.
+/// `Memory`: there is none for them. A prefix of them may have been added.
 fn push_verdict(text: &mut String, verdict: &Verdict) -> Result<(), Memory>
     ensures { OnOk result (string_bytes text.new ≡ string_bytes text.old ++ spec.verdict_text verdict.now) }
 {
@@ -68,7 +68,7 @@ fn push_verdict(text: &mut String, verdict: &Verdict) -> Result<(), Memory>
     }
 }
 
-/// Returns the lines of a verdict: that the text is a trace, and how many requests and messages there are, or that it is none,
+/// Returns the lines of a verdict: that the text is a trace, and how many requests and messages there are, or that it is not one,
 /// and its first wrong line and why.
 ///
 /// # Errors

@@ -1,4 +1,4 @@
--- The steps of the settled order, and the losses behind them, fit together: so they are a run.
+-- The steps of the settled order, and the losses after them, fit together: so they are a run.
 use Rattle.std.proofs.Common.{◌≡◌, ◌⊎◌, ℕ, ◌+◌, ◌-◌, ◌<◌, ◌≤◌, List, [], ◌∷◌, ◌++◌, map, length, get_or, None, refl, sym, ap, ◌∙◌, subst, arith, inl, inr}
 use Rattle.std.specs.Prelude.{All, Contains}
 use Rattle.std.specs.List.{flat_map}
@@ -149,7 +149,7 @@ module _ (books : List BookState) (placed : List Placed) (cluster : IsCluster bo
       ∙ ap (λ (es : List Event). flat_map (events_at i) (steps_of placed) ++ es) (sym (nothing_by_losses i ms))
       ∙ sym (flat_map-append (events_at i) (steps_of placed) (losses ms))
 
-  -- behind all events all that happened at a node has happened
+  -- after all events all that happened at a node has happened
   all_done : (i : ℕ) → 1 ≤ i → i ≤ n → (ms : List Message) → happened_by (happens i) i (steps_of placed ++ losses ms) ≡ happens i
   all_done i low high ms =
       take_all (length (flat_map (events_at i) (steps_of placed ++ losses ms))) (happens i)
@@ -159,7 +159,7 @@ module _ (books : List BookState) (placed : List Placed) (cluster : IsCluster bo
   abbrev WentOut : Message → Type 0
   WentOut m = (i : ℕ) × (1 ≤ i) × (i ≤ n) × Contains (sent_in (happens i)) m
 
-  -- so a message that went out is lost behind its sending
+  -- so a message that went out is lost after its sending
   loss_in_time : (before : List Message) (m : Message) → WentOut m → All (WasSentBy n happens (steps_of placed ++ losses before)) (m ∷ [])
   loss_in_time before m out =
       let P : Message → Type 0 = WasSentBy n happens (steps_of placed ++ losses before) in

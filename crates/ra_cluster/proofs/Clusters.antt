@@ -10,7 +10,7 @@ use Rattle.ra_cluster.specs.Book.{BookState}
 use Rattle.ra_cluster.specs.Settled.{IsCluster, start_of}
 use Rattle.ra_cluster.proofs.Merging.{number_at}
 
--- the book is that of the node with this place, of so many nodes and from this start
+-- the book is that of the node with this place, of this many nodes and from this start
 abbrev pub IsMember : BookState → ℕ → ℕ → ℕ → Type 0
 IsMember b place count start = (b.me ≡ place + 1) × (b.nodes ≡ count) × (b.start ≡ start)
 

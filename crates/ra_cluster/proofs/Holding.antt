@@ -13,7 +13,7 @@ at_seam : {X : Type 0} (xs ys : List X) (x : X) → slice_get (xs ++ x ∷ ys) (
 at_seam [] ys x = refl
 at_seam (y ∷ xs) ys x = at_seam xs ys x
 
--- what stands behind a seam
+-- what stands after a seam
 behind_seam : {X : Type 0} (xs ys : List X) (x : X) (n k : ℕ) → n ≡ suc (length xs + k) → slice_get (xs ++ x ∷ ys) n ≡ slice_get ys k
 behind_seam [] ys x zero k e = absurd (omega arith)
 behind_seam [] ys x (suc n) k e = ap (slice_get ys) (omega arith)

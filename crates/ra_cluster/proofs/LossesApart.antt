@@ -49,7 +49,7 @@ lost_is_sent (s ∷ sent) m is =
       | inr behind ↦ later (message_in s) (map message_in sent) m (lost_is_sent sent m behind)
     ]
 
--- a message of a frame that was kept is none of a frame that was lost
+-- a message of a frame that was kept is not one of a frame that was lost
 kept_or_lost : (sent : List Sent) (f : Frame) → AreDifferent (map message_in sent) → Contains sent (record { frame = f; lost = false }) → Contains (lost_among sent) f.message → ⊥
 kept_or_lost [] f different kept lost = omega (arith, kept.1)
 kept_or_lost (s ∷ sent) f different kept lost =

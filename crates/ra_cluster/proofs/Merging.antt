@@ -1,4 +1,4 @@
--- All events in one list, after so many of each book are taken.
+-- All events in one list, after this many of each book are taken.
 use Rattle.std.proofs.Common.{◌≡◌, ◌≢◌, ◌⊎◌, ℕ, zero, suc, ◌+◌, ◌-◌, ◌<◌, ◌≤◌, Bool, true, false, cond, eqb, List, [], ◌∷◌, ◌++◌, map, length, get_or, set, take, replicate, Some, None, slice_index, refl, sym, ap, ◌∙◌, subst, inl, inr, arith, add-one}
 use Rattle.std.specs.Prelude.{All, AllPairs, slice_get}
 use Rattle.std.specs.List.{filter}
@@ -80,7 +80,7 @@ module _ (books : List BookState) (taken : List ℕ) (placed : List Placed) (tur
   is_this : IsNext books taken k turn.event
   is_this = (book, at, here)
 
-  -- what comes next at a place afterwards: it came next before, or it is the event behind this one
+  -- what comes next at a place afterwards: it came next before, or it is the event after this one
   next_then : (j : ℕ) (e : BookEvent) → j ≢ k → IsNext books new j e → IsNext books taken j e
   next_then j e apart is = (is.0, is.1, subst (λ (m : ℕ). slice_get is.0.events m ≡ Some e) (same_taken j apart) is.2)
 
@@ -196,7 +196,7 @@ one_less (b ∷ books) (n ∷ taken) (suc k) e low is =
 
 -- ---- One turn of the loop
 
--- the earliest event is taken, and the step that it is comes behind the others; fewer events are left then
+-- the earliest event is taken, and the step that it is comes after the others; fewer events are left then
 pub turn_taken : (books : List BookState) (taken seen : List ℕ) (placed : List Placed) (turn : Turn) (book : BookState) (written node : ℕ) (step : Step) (steps steps' : List Step)
     → IsCluster books → Merges books taken placed → seen ≡ taken → IsEarliest books seen (length books) (Some turn) → book ≡ get_or books turn.place book → HasHistory book
     → written ≡ get_or taken turn.place written → node ≡ book.me → step ≡ step_at node turn.event.kind → steps ≡ steps_of placed → steps' ≡ steps ++ step ∷ []

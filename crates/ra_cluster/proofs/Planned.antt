@@ -113,7 +113,7 @@ other_mark client mark marks not =
 
 -- ---- The loop over the marks
 
--- What is left to follow after so many marks, where those so far were the marks of the operations before a place, and
+-- What is left to follow after this many marks, where those so far were the marks of the operations before a place, and
 -- `requested` says whether the one there is requested already.
 abbrev pub SameLeft : ℕ → Option ScriptClient → ℕ → List Mark → Bool → ℕ → ℕ → Type 0
 SameLeft node o client marks requested place i =
@@ -246,7 +246,7 @@ filter_none p (x ∷ xs) none =
 abbrev pub NamesOf : ℕ → Mark → Type 0
 NamesOf count mark = (1 ≤ client_of_mark mark) × (client_of_mark mark ≤ count)
 
--- a client that is none of these has no marks
+-- a client that is not one of these has no marks
 no_marks : (marks : List Mark) (count client : ℕ) → All (NamesOf count) marks → ((1 ≤ client) × (client ≤ count) → ⊥) → marks_of_client client marks ≡ []
 no_marks marks count client all other =
     filter_none (λ mark. client_of_mark mark == client) marks (λ k d less.

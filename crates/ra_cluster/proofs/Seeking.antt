@@ -20,7 +20,7 @@ clock_of_it frame s is = ap (λ (f : Frame). f.clock) is
 clock_of_kept : (frame : Frame) (s : Sent) → IsKeptOf frame s → s.frame.clock ≡ frame.clock
 clock_of_kept frame s is = ap (λ (x : Sent). x.frame.clock) is
 
--- it is none of those before the place
+-- it is not one of those before the place
 abbrev pub NoneBefore : (Sent → Type 0) → List Sent → ℕ → Type 0
 NoneBefore P sent place = (k : ℕ) (d : Sent) → k < place → P (get_or sent k d) → ⊥
 

@@ -28,7 +28,7 @@ one_at_most i step = at step
     at (Lose message) = inl refl
     at (Repeat message) = inl refl
 
--- of different elements in two parts one of the first is none of the second
+-- of different elements in two parts one of the first is not one of the second
 across : {X : Type 0} (xs ys : List X) → AreDifferent (xs ++ ys) → (k : ℕ) (d : X) → k < length xs → All (λ y. get_or xs k d ≢ y) ys
 across [] ys different k d low = absurd (omega (arith, low))
 across (x ∷ xs) ys different zero d low = all_right (λ y. x ≢ y) xs ys (pairs_first (λ a b. a ≢ b) x (xs ++ ys) different)

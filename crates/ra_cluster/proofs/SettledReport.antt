@@ -58,7 +58,7 @@ pub from_zero : (books : List BookState) → 1 ≤ length books → All (λ b. b
 from_zero [] some all = absurd (omega (arith, some))
 from_zero (b ∷ books) some all = all 0 b (omega arith)
 
--- a settled run of so many books from 0 is a run of so many nodes from 0
+-- a settled run of this many books from 0 is a run of this many nodes from 0
 pub run_from_zero : (books : List BookState) (nodes : ℕ) (steps : List Step) (report : Report) → IsCluster books → length books ≡ nodes → All (λ b. b.start ≡ 0) books
     → (moves : List Move) × (map (λ move. move.step) moves ≡ steps) × IsSettledRun books moves × Reports (length books) (start_of books) moves report → HasRun nodes 0 steps report
 run_from_zero books nodes steps report cluster count zero (moves, steps_are, settled, reports) =

@@ -14,7 +14,7 @@ use Rattle.ra_cluster.specs.Settled.{IsCluster, start_of}
 pub count_of : (n : ℕ) (sites : List ℕ) → sites ≡ range_with_len 1 n → length sites ≡ n
 count_of n sites are = ap length are ∙ length-range_with_len 1 n
 
--- the site that is found at a place has the number behind it
+-- the site that is found at a place has the number after it
 pub found_at : (n node place : ℕ) (sites : List ℕ) (found : Option (Bor ℕ)) → sites ≡ range_with_len 1 n → place + 1 ≡ node
     → is_some found ≡ ltb place (length sites) → IfSome found (λ s. s.now ≡ get_or sites place s.now) → IfSome found (λ s. s.now ≡ node)
 found_at n node place sites None are is within at = tt
@@ -23,7 +23,7 @@ found_at n node place sites (Some s) are is within at =
     let e : 1 + place ≡ node = omega arith in
     at ∙ ap (λ (xs : List ℕ). get_or xs place s.now) are ∙ get_or-range_with_len 1 n place s.now low ∙ e
 
--- one more number stands behind those that there are
+-- one more number stands after those that there are
 numbers_from : (a n : ℕ) → range_with_len a (suc n) ≡ range_with_len a n ++ (a + n) ∷ []
 numbers_from a zero = let e : a ≡ a + 0 = omega arith in ap (λ (x : ℕ). x ∷ []) e
 numbers_from a (suc n) =
@@ -60,7 +60,7 @@ pub how_many : (n start : ℕ) (books : List BookState) (left : List ℕ) → Cl
 how_many n start books left c =
     omega (arith, ap length c.numbers, length-append (numbers_of books) left, length-map books (λ (b : BookState). b.me), length-range_with_len 1 n)
 
--- the next one is the node behind those that are closed
+-- the next one is the node after those that are closed
 pub next_is : (n start : ℕ) (books : List BookState) (me : ℕ) (left : List ℕ) → Closes n start books (me ∷ left) → me ≡ length books + 1
 next_is n start books me left c =
     let front = numbers_of books in

@@ -72,13 +72,13 @@ abbrev pub answers_to : Message → ℕ
 answers_to (Request from to name mode seq) = 1
 answers_to (Reply from to name seq) = 0
 
--- how many a node of so many sends at most where this happens
+-- how many a node of this many sends at most where this happens
 abbrev pub sends_by : ℕ → BookKind → ℕ
 sends_by nodes (Asked client name mode) = nodes
 sends_by nodes (Gave client name) = 2 * nodes
 sends_by nodes (Got frame) = answers_to frame.message
 
--- the event happened at the node, and stands behind the events so far, and its frames behind those so far
+-- the event happened at the node, and stands after the events so far, and its frames after those so far
 pub record Happens (old new : NodeState) (events events' : List BookEvent) (sent sent' : List Sent) (event : BookEvent)
     (posted : Posted) : Type 0 where
   pub sends : List Message
@@ -94,7 +94,7 @@ pub record Stays (old new : NodeState) (events events' : List BookEvent) (sent s
   pub events_are : events' ≡ events
   pub sent_are : sent' ≡ sent
 
--- what a check answers before an event: what is said of what comes next, or a refusal that is not for want of memory
+-- what a check answers before an event: what is said of what comes next, or a refusal that is not `Memory`
 pub record IsChecked {T : Type 0} (book : BookState) (Next : T → Type 0) (answer : Result T BookError) : Type 0 where
   pub history : HasHistory book
   pub next : IfOk answer Next
@@ -102,7 +102,7 @@ pub record IsChecked {T : Type 0} (book : BookState) (Next : T → Type 0) (answ
 
 -- ---- Refusals
 
--- an ask is answered as `Book::ask` says, where want of memory is the one other error
+-- an ask is answered as `Book::ask` says, where `Memory` is the one other error
 pub record AnswersAsk {T : Type 0} (book : BookState) (client : ℕ) (name : List ℕ) (mode : Mode) (answer : Result T BookError)
     : Type 0 where
   pub failed : IsErrOf answer Failed ↔ IsSome book.fault
@@ -136,7 +136,7 @@ pub record AnswersReceive {T : Type 0} (book : BookState) (bytes : List ℕ) (an
   pub allowed : IsOkUnless answer Memory
       ↔ Hears book bytes (λ f. IsForNode book.me book.nodes f.message × HasClock book (Got f))
 
--- the frame of bytes, which is for this one of so many nodes, and fits
+-- the frame of bytes, which is for this one of this many nodes, and fits
 pub record IsFrameFor (me nodes : ℕ) (bytes : List ℕ) (frame : Frame) : Type 0 where
   pub text : IsFrameText bytes frame
   pub for_it : IsForNode me nodes frame.message
@@ -155,7 +155,7 @@ NotHeard me nodes clock bytes Exhausted = ⊥
 NotHeard me nodes clock bytes NotHeld = ⊥
 NotHeard me nodes clock bytes Memory = ⊥
 
--- bytes are heard at this one of so many nodes, after this clock: as a frame for it and the clock after it, or not
+-- bytes are heard at this one of this many nodes, after this clock: as a frame for it and the clock after it, or not
 pub record IsHeard (me nodes clock : ℕ) (bytes : List ℕ) (answer : Result (Frame × ℕ) BookError) : Type 0 where
   pub heard : IfOk answer (λ h. IsFrameFor me nodes bytes h.0 × (h.1 ≡ clock_after clock (Got h.0)) × (h.1 ≤ 2 ^ 62))
   pub refused : IfErr answer (NotHeard me nodes clock bytes)
@@ -164,7 +164,7 @@ pub record IsHeard (me nodes clock : ℕ) (bytes : List ℕ) (answer : Result (F
 
 -- ---- A loss
 
--- no frame has a greater clock than one that stands behind it
+-- no frame has a greater clock than one that stands after it
 abbrev pub Ascends : List Sent → Type 0
 Ascends sent = IsNonDecreasingBy (λ s. s.frame.clock) sent
 

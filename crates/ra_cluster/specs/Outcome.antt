@@ -38,7 +38,7 @@ pub record AreSound (books : List BookState) (grants : List Grant) : Type 0 wher
   pub once : AllPairs (λ a b. a ≢ b) grants
 
 -- What the books of a script's nodes settle into: the steps are those of these very books in the settled order, with their losses
--- behind them, and the report is that of the run of these steps. As there is one settled order, there is one such outcome.
+-- after them, and the report is that of the run of these steps. As there is one settled order, there is one such outcome.
 pub record IsOutcome (script : ScriptState) (books : List BookState) (grants : List Grant) (settled : Settled) : Type 0 where
   pub are : AreOf script books
   pub sound : AreSound books grants
@@ -68,7 +68,7 @@ RefusesReport script report Memory = ⊥
 abbrev pub IsReported : ScriptState → List BookState → List Grant → ClusterError → Type 0
 IsReported script books grants fault = (settled : Settled) × IsOutcome script books grants settled × RefusesReport script settled.report fault
 
--- Why a script was not brought to its end, where no book has a fault. Memory may be wanting only once the books are those of the
+-- Why a script was not brought to its end, where no book has a fault. Memory may run out only once the books are those of the
 -- script's nodes.
 abbrev pub RefusesSound : ScriptState → List BookState → List Grant → ClusterError → Type 0
 RefusesSound script books grants OutOfOrder = ⊥

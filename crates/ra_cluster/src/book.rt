@@ -19,7 +19,7 @@ use std::marker::Model;
 /// history of its node.
 ///
 /// A book keeps its events and the frames that it sent. Each of `ask`, `leave` and `receive` costs what the call of the node
-/// costs, and beside that amortized time linear in the number of nodes.
+/// costs, plus amortized time linear in the number of nodes.
 #[derive(Debug, Drop)]
 pub struct Book {
     me: NodeId,
@@ -357,7 +357,7 @@ impl Book {
     ///
     /// # Errors
     ///
-    /// Those of `ask`, but for `Memory`.
+    /// Those of `ask`, except for `Memory`.
     fn check_ask(&self, client: u32, name: Name, mode: Mode) -> Result<u64, BookError>
         ensures checked { IsChecked self.now
             (λ clock. ComesNext self.now clock (BookKind.Asked client name mode)) result }
@@ -375,7 +375,7 @@ impl Book {
     ///
     /// # Errors
     ///
-    /// Those of `leave`, but for `Memory`.
+    /// Those of `leave`, except for `Memory`.
     fn check_leave(&self, client: u32, name: Name) -> Result<u64, BookError>
         ensures checked { IsChecked self.now (λ clock. ComesNext self.now clock (BookKind.Gave client name)) result }
         ensures answers { AnswersLeave self.now client name result }
@@ -394,7 +394,7 @@ impl Book {
     ///
     /// # Errors
     ///
-    /// Those of `receive`, but for `Memory`.
+    /// Those of `receive`, except for `Memory`.
     fn check_receive(&self, bytes: &[u8]) -> Result<(Frame, u64), BookError>
         ensures checked { IsChecked self.now
             (λ heard. IsFrameText bytes.now heard.0 × ComesNext self.now heard.1 (BookKind.Got heard.0)) result }

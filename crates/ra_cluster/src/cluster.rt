@@ -79,7 +79,7 @@ impl From<Memory> for ClusterError {
 ///
 /// # Errors
 ///
-/// The first that holds, but that `Memory` may come before any but the first two:
+/// The first that holds, except that `Memory` may come before any but the first two:
 ///
 /// 1. `OutOfOrder`: a client locks a name that is not above, by bytes, each name that it holds then. No thread was started.
 /// 2. `Unreleased`: a client holds a name at its end. No thread was started.
@@ -120,7 +120,7 @@ pub fn run_cluster<R: Threads + Wait + Sync, G: Gate>(
 ///
 /// # Errors
 ///
-/// Those of `run_cluster`, but for the first two.
+/// Those of `run_cluster`, except for the first two.
 fn run_in_order<R: Threads + Wait + Sync, G: Gate>(
     rt: &R,
     alloc: Global,
@@ -154,7 +154,7 @@ fn run_at<R: Threads + Wait + Sync, G: Gate>(
     sites: &[Site],
     gate: &G,
 ) -> Result<Vec<Grant>, Memory> {
-    // The nodes of a script are 1 to 64, so only memory can be wanting.
+    // The nodes of a script are 1 to 64, so only `Memory` can come.
     let Ok((post, inboxes)) = Post::new(alloc, script.nodes()) else {
         return Err(Memory);
     };

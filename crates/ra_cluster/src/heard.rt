@@ -6,7 +6,7 @@ use crate::{BookError, BookKind};
 use ra_frame::{Frame, decode};
 use ra_stamp::NodeId;
 
-/// Returns the frame that the bytes are the text of, which is for this one of so many nodes, from another one, and the clock
+/// Returns the frame that the bytes are the text of, which is for this one of this many nodes, from another one, and the clock
 /// that its coming has after this clock.
 ///
 /// # Errors

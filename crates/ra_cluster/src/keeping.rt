@@ -42,7 +42,7 @@ pub fn clock_after(clock: u64, kind: &BookKind) -> Result<u64, BookError>
     }
 }
 
-/// Makes an event happen at a node, one of so many, and keeps it behind the events so far, and its frames behind those so far.
+/// Makes an event happen at a node, one of this many, and keeps it after the events so far, and its frames after those so far.
 ///
 /// # Errors
 ///
@@ -69,7 +69,7 @@ pub fn add(
     Ok(keep(events, sent, frames, event, outcome))
 }
 
-/// Returns how many messages an event sends at most, at one of so many nodes.
+/// Returns how many messages an event sends at most, at one of this many nodes.
 fn most_sends(nodes: u16, kind: &BookKind) -> u64
     ensures { result ≡ sends_by nodes kind.now }
 {

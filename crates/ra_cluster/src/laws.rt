@@ -13,7 +13,7 @@ ghost use Rattle.ra_cluster.specs.Book.{as_sent};
 use ra_node::{events_are_determined, events_go_on};
 
 /// A node that has met nothing has the history in which nothing happened. A history goes on with each event of its node for
-/// which a clock is left; what the event sends is sent behind the frames so far.
+/// which a clock is left; what the event sends is sent after the frames so far.
 pub fn histories_go_on()
     ensures opening { (me n start : ℕ) → IsHistory me n start [] [] (opening_node me n start) }
     ensures event { (me n start : ℕ) (events : List BookEvent) (sent : List Sent) (old new : NodeState)

@@ -8,7 +8,7 @@ use crate::Book;
 use ra_stamp::Memory;
 use ra_world::{Step, Steps};
 
-/// Puts the loss of each frame that is flagged lost behind the steps, by node and then in order of sending.
+/// Puts the loss of each frame that is flagged lost after the steps, by node and then in order of sending.
 pub fn push_losses(steps: &mut Steps, books: &[Book]) -> Result<(), Memory>
     ensures ok { OnOk result (steps.new.items ≡ steps.old.items ++ map (λ m. Step.Lose m) (all_lost books.now)) }
     ensures histories { OnOk result (All HasHistory books.now) }
@@ -19,7 +19,7 @@ pub fn push_losses(steps: &mut Steps, books: &[Book]) -> Result<(), Memory>
     Ok(())
 }
 
-/// Puts the loss of each frame of a book that is flagged lost behind the steps, in order of sending.
+/// Puts the loss of each frame of a book that is flagged lost after the steps, in order of sending.
 fn push_losses_of(steps: &mut Steps, book: &Book) -> Result<(), Memory>
     ensures ok { OnOk result (steps.new.items ≡ steps.old.items ++ map (λ m. Step.Lose m) (lost_among book.now.sent)) }
     ensures history { HasHistory book.now }

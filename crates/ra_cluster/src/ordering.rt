@@ -42,7 +42,7 @@ pub fn steps_in_order(alloc: Global, books: &[Book]) -> Result<Steps, Memory>
     Ok(steps)
 }
 
-/// Returns a list of so many zeros.
+/// Returns a list of this many zeros.
 fn none_taken(alloc: Global, count: usize) -> Result<Vec<u64>, Memory>
     ensures { IfOk result (λ taken. taken.items ≡ replicate count 0) }
 {
@@ -52,7 +52,7 @@ fn none_taken(alloc: Global, count: usize) -> Result<Vec<u64>, Memory>
     }
 }
 
-/// Returns the next event of all books, where so many of each are taken already: the one with the least clock, and of those the
+/// Returns the next event of all books, where this many of each are taken already: the one with the least clock, and of those the
 /// one at the least node. Returns `None` where all are taken. Of the other events it reads the clock alone.
 fn earliest(books: &[Book], taken: &[u64]) -> Option<Turn>
     requires { length taken.now ≡ length books.now }

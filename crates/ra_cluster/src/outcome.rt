@@ -12,12 +12,12 @@ use std::alloc::Global;
 
 /// Settles the books of the nodes that did a script, with what its clients were granted, and checks that the script was brought
 /// to its end. Then nobody waits or is queued, no message was lost or is under way, there are as many requests as locks in the
-/// script, and with N nodes 2(N-1) times as many messages. The cost is that of `settle` and beside it, for each client, linear
+/// script, and with N nodes 2(N-1) times as many messages. The cost is that of `settle` plus, for each client, linear
 /// in the number of marks.
 ///
 /// # Errors
 ///
-/// The first that holds, but that `Memory` may come before any but the first two:
+/// The first that holds, except that `Memory` may come before any but the first two:
 ///
 /// 1. `Fault`: a node was stopped, with the cause in the first such book.
 /// 2. `Settle`: the books are not those of the script's nodes with numbers that begin at 0, in order.
@@ -57,7 +57,7 @@ pub fn settle_script(
 ///
 /// # Errors
 ///
-/// Those of `settle_script`, but for `Fault`.
+/// Those of `settle_script`, except for `Fault`.
 fn settle_sound(
     alloc: Global,
     script: &Script,

@@ -23,7 +23,7 @@ pub fn meets_plan(script: &Script, marks: &[Mark]) -> bool
     true
 }
 
-/// Returns whether each mark names one of so many clients.
+/// Returns whether each mark names one of this many clients.
 fn name_clients(marks: &[Mark], count: u32) -> bool
     ensures { IsTrue result
         ↔ All (λ mark. (1 ≤ client_of_mark mark) × (client_of_mark mark ≤ count)) marks.now }
@@ -31,7 +31,7 @@ fn name_clients(marks: &[Mark], count: u32) -> bool
     marks.iter().all(|mark| names_a_client(mark, count))
 }
 
-/// Returns whether a mark names one of so many clients.
+/// Returns whether a mark names one of this many clients.
 fn names_a_client(mark: &Mark, count: u32) -> bool
     ensures { IsTrue result ↔ ((1 ≤ client_of_mark mark.now) × (client_of_mark mark.now ≤ count)) }
 {

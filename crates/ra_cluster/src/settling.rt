@@ -36,7 +36,7 @@ pub fn is_cluster(books: &[Book]) -> bool
     true
 }
 
-/// Returns whether a book is that of the node with this place, counted from 0, of so many nodes and from this start.
+/// Returns whether a book is that of the node with this place, counted from 0, of this many nodes and from this start.
 fn is_member(book: &Book, place: usize, count: usize, start: u64) -> bool
     ensures { IsTrue result ↔ ((book.now.me ≡ place + 1) × (book.now.nodes ≡ count) × (book.now.start ≡ start)) }
 {
@@ -47,8 +47,8 @@ fn is_member(book: &Book, place: usize, count: usize, start: u64) -> bool
 
 /// Settles the books of a cluster into one run of it: the events of all books by clock, and those of one clock by node, and then
 /// the loss of each frame that is flagged lost, by node and then in order of sending. So what [`run`] says of its steps holds of
-/// what happened at the nodes. Books settle, memory aside, exactly where none of the first four errors below holds. With n
-/// events and frames sent, m grants and k books the cost is that of the run, and n log n, m log m and k n beside it. That of the
+/// what happened at the nodes. Books settle, unless memory runs out, exactly where none of the first four errors below holds. With n
+/// events and frames sent, m grants and k books the cost is that of the run, plus n log n, m log m and k n. That of the
 /// run is linear in n, on average. Where there was no memory to know the clients of a long queue, each ask looks through its
 /// name's queue, too; and where there was none to know where each message under way stands, each frame that came looks through
 /// those under way.
@@ -82,9 +82,9 @@ pub fn settle(alloc: Global, books: &[Book], grants: &[Grant]) -> Result<Settled
         × Any (λ grant. IsGranted books.now grant.entry → ⊥) grants.now }
     ensures grant_twice { IsErrOf result SettleError.GrantTwice → BooksFit books.now × Repeats grants.now
         × All (λ grant. IsGranted books.now grant.entry) grants.now }
-    // Want of memory comes only where each frame that came was sent: to find that out takes no memory.
+    // `Memory` comes only where each frame that came was sent: to find that out takes no memory.
     ensures memory { IsErrOf result SettleError.Memory → HasUnsent books.now → ⊥ }
-    // And where the cause of a refusal stands it comes, but that want of memory may come before it.
+    // And where the cause of a refusal stands it comes, except that `Memory` may come before it.
     ensures found_unsent { HasUnsent books.now → IsErrOf result SettleError.NotSent }
     ensures found_twice { HasTwice books.now → (HasUnsent books.now → ⊥)
         → IsErrOf result SettleError.Twice ⊎ IsErrOf result SettleError.Memory }
@@ -104,7 +104,7 @@ pub fn settle(alloc: Global, books: &[Book], grants: &[Grant]) -> Result<Settled
 ///
 /// # Errors
 ///
-/// Those of `settle`, but for what came.
+/// Those of `settle`, except for what came.
 fn settle_with(alloc: Global, books: &[Book], grants: &[Grant]) -> Result<Settled, SettleError>
     requires cluster { IsCluster books.now }
     requires fit { BooksFit books.now }
@@ -137,7 +137,7 @@ fn settle_books(alloc: Global, books: &[Book]) -> Result<Settled, SettleError>
     }
 }
 
-/// Returns why books do not settle where their run is refused. That of books which fit together is refused for want of memory
+/// Returns why books do not settle where their run is refused. That of books which fit together is refused where memory ran out
 /// alone, so that `settle` never has `NotSent` from here.
 fn refusal_of(refused: RunError) -> SettleError
     ensures memory { refused ≡ RunError.Memory → result ≡ SettleError.Memory }

@@ -211,7 +211,7 @@ impl Site {
         book
     }
 
-    /// Does the same for a site that is one of so many, from this start. No contract tells what lies under a lock, so the book is
+    /// Does the same for a site that is one of this many, from this start. No contract tells what lies under a lock, so the book is
     /// looked at; were it another one, as it never is, there would be an empty book of the node, which is stopped.
     pub(crate) fn close_as(self, alloc: Global, nodes: u16, start: u64) -> Book
         requires count { IsNodeNumber nodes }

@@ -21,7 +21,7 @@ pub fn make_sites(alloc: Global, nodes: u16, start: u64) -> Result<Vec<Site>, Me
     Ok(sites)
 }
 
-/// Makes the site of the node with this number, one of so many, and puts it behind the others.
+/// Makes the site of the node with this number, one of this many, and puts it after the others.
 fn push_site(
     alloc: Global,
     sites: &mut Vec<Site>,

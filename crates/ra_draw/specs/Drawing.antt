@@ -17,7 +17,7 @@ abbrev pub of_read : ReadFault → DrawError
 of_read read.Read = Read
 of_read read.Memory = Memory
 
--- one element of SVG, and a line feed behind it
+-- one element of SVG, and a line feed after it
 abbrev pub IsPicture : List ℕ → Type 0
 IsPicture text = (inner : List ℕ) × (text ≡ codes "<svg xmlns=\"http://www.w3.org/2000/svg\"" ++ inner ++ codes "</svg>\n")
 

@@ -55,6 +55,6 @@ pub fn short(place: usize) -> u16 {
 pub struct Bar {
     pub stay: Stay,
     pub column: u16,
-    /// The last row that it has, which is that behind the part where it is not over.
+    /// The last row that it has, which is that after the part where it is not over.
     pub end: u32,
 }

@@ -60,7 +60,7 @@ struct Follower {
 }
 
 impl Follower {
-    /// Makes one for a cluster of so many nodes in which nothing has happened yet, or `None` where there is none of so many.
+    /// Makes one for a cluster of this many nodes in which nothing has happened yet, or `None` where there is none of this many.
     fn new(alloc: Global, nodes: u16, start: u64) -> Result<Option<Follower>, Memory> {
         match MarklessWorld::new(alloc, nodes, start) {
             Ok(world) => Ok(Some(Follower {

@@ -119,13 +119,13 @@ fn draw_text<W: Write>(
 ///
 /// # Errors
 ///
-/// The first that holds, but that `Memory` may come before any:
+/// The first that holds, except that `Memory` may come before any:
 ///
 /// 1. `Read`: the reader failed, before its end and before it gave 16,777,217 bytes.
 /// 2. `Limit`: the text has more than 16,777,216 bytes.
 /// 3. `TooLong`: it is a trace, and the part has more than 4,096 lines.
 /// 4. `Memory`: memory ran out.
-/// 5. `Write`: the writer failed or took nothing, with bytes left to write. A front of the picture was written.
+/// 5. `Write`: the writer failed or took nothing, with bytes left to write. A prefix of the picture was written.
 ///
 /// After each of the others the writer is as before.
 pub fn draw<R: Read, W: Write>(

@@ -106,7 +106,7 @@ impl Page {
         Ok(())
     }
 
-    /// Places the lanes from left to right, each behind its bars.
+    /// Places the lanes from left to right, each after its bars.
     fn place_lanes(&mut self) {
         let gap = self.gap();
         let mut x: u32 = LEFT as u32;
@@ -142,7 +142,7 @@ impl Page {
         if self.is_wide() { 24 } else { 12 }
     }
 
-    /// Returns the row behind the last one.
+    /// Returns the row after the last one.
     pub fn end(&self) -> u32
         ensures { result < 2 ^ 17 }
     {

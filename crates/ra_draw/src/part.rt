@@ -18,7 +18,7 @@ impl Part {
         to: u64::MAX,
     };
 
-    /// Returns how many lines of a text of so many are to be drawn.
+    /// Returns how many lines of a text of this many are to be drawn.
     pub fn lines_of(self, lines: u64) -> u64
         ensures { result ≡ spec.lines_between self.from self.to lines }
     {

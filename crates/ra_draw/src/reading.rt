@@ -110,7 +110,7 @@ impl<'a> Fields<'a> {
         }
     }
 
-    /// Takes what stands behind the word `trace`.
+    /// Takes what stands after the word `trace`.
     fn first(&mut self) -> Option<Line> {
         let _version = self.next();
         let nodes = self.node()?;
@@ -121,7 +121,7 @@ impl<'a> Fields<'a> {
         })
     }
 
-    /// Takes what stands behind the word `ask`.
+    /// Takes what stands after the word `ask`.
     fn ask(&mut self) -> Option<Step> {
         let Seat { node, client, name } = self.seat()?;
         let mode = self.mode()?;
@@ -133,7 +133,7 @@ impl<'a> Fields<'a> {
         })
     }
 
-    /// Takes what stands behind the word `release`.
+    /// Takes what stands after the word `release`.
     fn leave(&mut self) -> Option<Step> {
         let Seat { node, client, name } = self.seat()?;
         Some(Step::Leave { node, client, name })

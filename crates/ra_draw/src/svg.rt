@@ -64,7 +64,7 @@ pub fn push_loop(text: &mut String, center: Point) -> Result<(), Memory> {
     Ok(())
 }
 
-/// Adds a text without its end: what it says stands behind it.
+/// Adds a text without its end: what it says stands after it.
 pub fn begin_label(text: &mut String, place: Point, look: &str) -> Result<(), Memory> {
     write!(text, "<text x=\"{}\" y=\"{}\" {look}>", place.x, place.y)?;
     Ok(())
@@ -76,7 +76,7 @@ pub fn end_label(text: &mut String) -> Result<(), Memory> {
     Ok(())
 }
 
-/// Adds the beginning of a shape: what it says in words stands behind it.
+/// Adds the beginning of a shape: what it says in words stands after it.
 pub fn begin_shape(text: &mut String) -> Result<(), Memory> {
     text.push_str("<g><title>")?;
     Ok(())

@@ -92,7 +92,7 @@ spelled_of V2 (b0 ∷ b1 ∷ b2 ∷ b3 ∷ b4 ∷ b5 ∷ rest) fits long version
     (rest_again rest (IsBytes-drop 6 bytes fits) (omega (arith, long)))
 spelled_of format bytes fits long version = absurd (omega (arith, long))
 
--- the name is what stands behind its length
+-- the name is what stands after its length
 name_whole : (place len : ℕ) (bytes : List ℕ) → length bytes ≡ place + len → slice_range bytes place (place + len) ≡ drop place bytes
 name_whole place len bytes long = take_all ((place + len) - place) (drop place bytes) (omega (arith, length-drop place bytes))
 

@@ -58,7 +58,7 @@ checks_of format bytes =
     record { end = end; is_right = list_all is_name_byte (slice_range bytes name end); fault = NameByte } ∷
     record { end = end; is_right = length bytes == end; fault = Trailing } ∷ []
 
--- the first field behind the version that is short or not right, in the order of the fields, or None where all are right
+-- the first field after the version that is short or not right, in the order of the fields, or None where all are right
 abbrev pub first_fault_of : Format → List ℕ → Option FrameError
 first_fault_of format bytes = first_failing (length bytes) (checks_of format bytes)
 

@@ -19,7 +19,7 @@ abbrev pub node_bytes : Format → ℕ → List ℕ
 node_bytes V1 node = node ∷ []
 node_bytes V2 node = to_be_bytes w16 node
 
--- where the receiver and the mode stand: the sender stands behind the version and the kind
+-- where the receiver and the mode stand: the sender stands after the version and the kind
 abbrev pub to_place : Format → ℕ
 to_place format = 2 + node_width format
 

@@ -20,8 +20,8 @@ mode_byte IntentShared = 2
 mode_byte IntentExclusive = 3
 mode_byte SharedIntentExclusive = 4
 
--- The bytes have these fields, in this order, each in the range that it has in this version, and nothing behind the name. The
--- sequence number and the clock are eight bytes, the highest first, and the name stands behind its length.
+-- The bytes have these fields, in this order, each in the range that it has in this version, and nothing after the name. The
+-- sequence number and the clock are eight bytes, the highest first, and the name stands after its length.
 pub record HasFields (format : Format) (bytes : List ℕ) (kind from to mode seq clock : ℕ) (name : List ℕ) : Type 0 where
   pub from_range : (1 ≤ from) × (from ≤ greatest_node format)
   pub to_range : (1 ≤ to) × (to ≤ greatest_node format)

@@ -40,7 +40,7 @@ fn number_at(bytes: &[u8], place: usize) -> u64
     u64::from_be_bytes(eight)
 }
 
-/// Returns whether a number is one of a range, whose ends count. It does not allocate.
+/// Returns whether a number is in a range, both ends included. It does not allocate.
 fn is_within(low: u64, high: u64, n: u64) -> bool
     ensures { result ≡ spec.is_within low high n }
 {
@@ -139,7 +139,7 @@ fn name_fault(format: Format, bytes: &[u8]) -> Option<FrameError>
     }
 }
 
-/// Returns the fault of the first field behind the version that is short or not right, in the order of the fields, or
+/// Returns the fault of the first field after the version that is short or not right, in the order of the fields, or
 /// `None` where all are right. It does not allocate.
 fn first_fault(format: Format, bytes: &[u8]) -> Option<FrameError>
     ensures { result ≡ spec.first_fault_of format bytes.now }
@@ -162,7 +162,7 @@ fn node_at(format: Format, bytes: &[u8], place: usize) -> NodeId
     NodeId::new(node_number_at(format, bytes, place)).unwrap()
 }
 
-/// Returns the name, which stands behind its length. It does not allocate.
+/// Returns the name, which stands after its length. It does not allocate.
 fn name_at(format: Format, bytes: &[u8]) -> Name
     requires { IsChecked format bytes.now }
     ensures { result ≡ name_in format bytes.now }
@@ -204,7 +204,7 @@ fn message_of(format: Format, bytes: &[u8]) -> Message
 ///
 /// # Errors
 ///
-/// The fields are looked at in their order, and the first that is not right is named. One of which a byte is missing is
+/// The fields are looked at in their order, and the first that is not right is named. One with a byte missing is
 /// `Short` at its place in that order; the name is one field, and is looked at once all of it is there.
 ///
 /// 1. `Version`: the version is neither 1 nor 2.
@@ -216,7 +216,7 @@ fn message_of(format: Format, bytes: &[u8]) -> Message
 /// 7. `Seq`: the sequence number is 0.
 /// 8. `Clock`: the clock is not 1 to 2^62.
 /// 9. `NameLength`: the length of the name is not 1 to 32.
-/// 10. `NameByte`: a byte of the name is none that a name may have.
+/// 10. `NameByte`: a byte of the name is not one that a name may have.
 /// 11. `Trailing`: bytes follow the name.
 pub fn decode(bytes: &[u8]) -> Result<Frame, FrameError>
     // It is Ok exactly on frame texts of both versions, and gives their frame.

@@ -1,7 +1,7 @@
 use std::fmt;
 use thiserror::Error;
 
-/// Why bytes are no frame: the first field, in their order, that is not all there or not in its range.
+/// Why bytes are not a frame: the first field, in their order, that is not all there or not in its range.
 #[derive(Clone, Copy, Debug, PartialEq, Eq, Error)]
 pub enum FrameError {
     /// A byte of the field is missing.
@@ -16,7 +16,7 @@ pub enum FrameError {
     To,
     /// The sender is the receiver.
     SameNode,
-    /// The mode is none that this kind may have in this version.
+    /// The mode is not one that this kind may have in this version.
     Mode,
     /// The sequence number is 0.
     Seq,
@@ -24,7 +24,7 @@ pub enum FrameError {
     Clock,
     /// The length of the name is not 1 to 32.
     NameLength,
-    /// A byte of the name is none that names may have.
+    /// A byte of the name is not one that names may have.
     NameByte,
     /// Bytes follow the name.
     Trailing,

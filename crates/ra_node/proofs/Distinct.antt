@@ -68,7 +68,7 @@ asks_once r c may nobody h =
     (λ k d lt e. apart (map (λ q. q.client) r.queue) c (λ at. may.not_busy (subst (λ (cs : List ℕ). Contains cs c) (sym waiting) at)) k d lt (sym e))
     (subst Once waiting h)
 
--- or stands behind all others
+-- or stands after all others
 pub queues_once : (r : Resource) (c : ℕ) (q : Queued) → q.client ≡ c → MayAsk r c → Once (clients_of r) → Once (standing r.client (r.queue ++ q ∷ []))
 queues_once r c q is may h =
     let ends : standing r.client (r.queue ++ q ∷ []) ≡ clients_of r ++ c ∷ [] =

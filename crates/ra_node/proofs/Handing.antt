@@ -58,7 +58,7 @@ parts_handed_over state state' client queue queue' old next taken sends entered 
 -- ---- How a leave ends
 
 module _ (result : Result Outcome LeaveError) (old new : Resource) (client : ℕ) (held : Entry) (holds : Holds old client held) where
-  -- what a call did, or that memory was wanting and nothing changed
+  -- what a call did, or that memory ran out and nothing changed
   abbrev Ended : (Outcome → Type 0) → Type 0
   Ended Did = MatchResult result (λ o. Did o × IsConsistent new.state) (λ fault. (fault ≡ Memory) × (new ≡ old))
 

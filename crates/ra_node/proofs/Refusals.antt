@@ -47,7 +47,7 @@ ok_apart x e h = cc
 none_left : (r : Resource) (client : ℕ) → MayAsk r client → r.state.highest ≡ greatest_number → ⊥
 none_left r client may is = omega (arith, may.number_left, is)
 
--- a client that may ask is refused for want of memory alone
+-- a client that may ask is refused only because memory ran out
 pub asked_tells : {X : Type 0} (result : Result X AskError) (r : Resource) (client : ℕ) (P : X → Type 0) (Same : Type 0) → MayAsk r client → MatchResult result P (λ fault. (fault ≡ asking.Memory) × Same) → AskTells result r client
 asked_tells (Ok x) r client P Same may ended =
     record {
@@ -120,7 +120,7 @@ holds_before : (old : Resource) (client : ℕ) (sends : List Message) (marks : L
 holds_before old client sends marks new (inl to_nobody) = (to_nobody.entry, to_nobody.leaves.holds)
 holds_before old client sends marks new (inr to_next) = (to_next.entry, to_next.leaves.holds)
 
--- a client leaves where it holds and memory is not wanting
+-- a client leaves where it holds and memory does not run out
 pub left_tells : (result : Result Outcome LeaveError) (old : Resource) (client : ℕ) (new : Resource) (Same : Type 0)
     → MatchResult result (λ o. LeaveTurn old client o.sends.items o.marks.items new × IsConsistent new.state) (λ fault. IsLeaveRefusal old client fault × Same) → LeaveTells result old client
 left_tells (Ok x) r client new Same ended =

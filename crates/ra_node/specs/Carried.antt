@@ -30,7 +30,7 @@ pub record IsMark (me : ℕ) (name : List ℕ) (mark : Mark) : Type 0 where
   pub name_is : (entry_in mark).name ≡ name
   pub numbered : 1 ≤ (entry_in mark).stamp.seq
 
--- what an event sends at most, at one of so many nodes
+-- what an event sends at most, at one of this many nodes
 abbrev pub sends_at_most : ℕ → Event → ℕ
 sends_at_most nodes (Ask client name mode) = nodes
 sends_at_most nodes (Leave client name) = 2 * nodes

@@ -20,7 +20,7 @@ abbrev pub leave_error_of : LeaveRefusal → LeaveError
 leave_error_of leave.NotHeld = leaving.NotHeld
 leave_error_of leave.Memory = leaving.Memory
 
--- a client does not leave where it does not hold, or where it does and memory is wanting
+-- a client does not leave where it does not hold, or where it does and memory runs out
 abbrev pub IsLeaveRefusal : Resource → ℕ → LeaveError → Type 0
 IsLeaveRefusal r client leaving.NotHeld = (entry : Entry) → Holds r client entry → ⊥
 IsLeaveRefusal r client leaving.Memory = (entry : Entry) × Holds r client entry

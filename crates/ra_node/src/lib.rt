@@ -3,10 +3,10 @@
 //!
 //! # What a host does
 //!
-//! The program round a node, its host, knows the clients and the network.
+//! The program around a node, its host, knows the clients and the network.
 //!
 //! - It makes each node once, with [`Node::new`], and all nodes with the same count of nodes and the same start.
-//! - At a client's wish it calls [`Node::ask`] or [`Node::leave`], and at a message [`Node::receive`].
+//! - For a client it calls [`Node::ask`] or [`Node::leave`], and for a message [`Node::receive`].
 //! - It sends each of the messages that the [`Outcome`] has, to the node that the message is for.
 //! - It heeds the marks of the outcome. A client has the lock from its mark Entered until it leaves, and the mark may
 //!   come with its own ask, with a message, or with the leave of another client of the node.

@@ -38,7 +38,7 @@ pub fn marks_for(alloc: Global, room: u64) -> Result<Marks, Memory>
     Ok(marks)
 }
 
-/// Makes the list of the marks of a leave, with room for those of a request that is made and granted behind it.
+/// Makes the list of the marks of a leave, with room for those of a request that is made and granted after it.
 ///
 /// # Errors
 ///

@@ -16,7 +16,7 @@ use std::marker::Model;
 /// A client is any number, which means nothing to another node. A name that a client asked for or a message was about is
 /// kept for ever, since the highest number that the node has met on it must never fall.
 ///
-/// Each call about a name finds it by a hash, in expected constant time however many names the node has met, and takes beside
+/// Each call about a name finds it by a hash, in expected constant time however many names the node has met, and takes besides
 /// that what it says. The first call about a name may move all of them into a larger table, which is constant on average. The
 /// hash is a fixed one: among names that someone picked so that they collide, each look-up is linear in their number. A client
 /// is found in a long queue by such a hash, too, and among few clients by looking at each.
@@ -130,7 +130,7 @@ impl Node {
     }
 
     /// Asks for a name for a client. Where no client of this node uses the name the request is made: a REQUEST to each
-    /// other node, and the mark Requested, with the mark Entered behind it where there is no other node. Else the client
+    /// other node, and the mark Requested, with the mark Entered after it where there is no other node. Else the client
     /// queues, and nothing is sent or marked. The cost is linear in the number of nodes, too, and for the client that queues
     /// amortized constant on average. Where there was no memory to know the clients of a long queue, it is linear in the length
     /// of the name's queue, too.
@@ -212,7 +212,7 @@ impl Node {
     }
 
     /// Takes a message from another node. By the last REPLY that it awaits the node's request enters, with the mark
-    /// Entered. A REPLY that is not awaited is a stray, which is taken and changes nothing but that its name counts as met.
+    /// Entered. A REPLY that is not awaited is a stray, which is taken and changes nothing except that its name counts as met.
     /// The cost is constant, too, and linear in the number of nodes where the name was not met before.
     ///
     /// # Errors
@@ -276,7 +276,7 @@ impl Node {
         }
     }
 
-    /// Returns whether a client may ask for a name now, as `ask` would answer, memory aside. It does not allocate. The cost
+    /// Returns whether a client may ask for a name now, as `ask` would answer, unless memory runs out. It does not allocate. The cost
     /// is constant on average, too, and linear in the length of the name's queue where there was no memory to know the
     /// clients of a long one.
     ///

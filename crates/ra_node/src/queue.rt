@@ -74,7 +74,7 @@ impl Queue {
         self.clients.front().copied()
     }
 
-    /// Puts a client behind all others, in amortized constant time on average, or in time linear in the length of the queue where
+    /// Puts a client after all others, in amortized constant time on average, or in time linear in the length of the queue where
     /// there was no memory to know its clients.
     ///
     /// # Errors
@@ -100,7 +100,7 @@ impl Queue {
     }
 }
 
-/// Learns the last client, which was put behind the others, or all where they are many and were not known.
+/// Learns the last client, which was put after the others, or all where they are many and were not known.
 fn learn_last(known: &mut IndexSet<u32>, clients: &VecDeque<Queued>, last: &Queued)
     ensures { (before : List Queued) → clients.now.items ≡ before ++ last.now ∷ []
         → IsKnown known.old.keys before → IsKnown known.new.keys clients.now.items }
@@ -112,7 +112,7 @@ fn learn_last(known: &mut IndexSet<u32>, clients: &VecDeque<Queued>, last: &Queu
     }
 }
 
-/// Learns all clients, of which none is known, or none where memory is wanting.
+/// Learns all clients, of which none is known, or none where memory runs out.
 fn learn_all(known: &mut IndexSet<u32>, clients: &VecDeque<Queued>)
     requires { known.old.keys ≡ [] }
     ensures { IsKnown known.new.keys clients.now.items }
@@ -125,7 +125,7 @@ fn learn_all(known: &mut IndexSet<u32>, clients: &VecDeque<Queued>)
     }
 }
 
-/// Learns one client more, or forgets all where memory is wanting.
+/// Learns one client more, or forgets all where memory runs out.
 fn learn(known: &mut IndexSet<u32>, client: u32)
     ensures { (before : List Queued) (last : Queued) → last.client ≡ client
         → IsKnown known.old.keys before → known.old.keys ≢ [] → IsKnown known.new.keys (before ++ last ∷ []) }

@@ -17,7 +17,7 @@ pub struct Slot {
     automaton: Automaton,
     /// The client whose request waits or is granted.
     client: Option<u32>,
-    /// The clients behind it, the first one next.
+    /// The clients after it, the first one next.
     queue: Queue,
 }
 
@@ -61,7 +61,7 @@ impl Slot {
         ensures { IfOk result (λ slot. slot ≡ unmet me nodes name start) }
     {
         let Ok(automaton) = Automaton::new(alloc, me, nodes, name, start) else {
-            // Only memory can be wanting here.
+            // Only `Memory` can come here.
             return Err(Memory);
         };
         Ok(Slot {
@@ -112,7 +112,7 @@ impl Slot {
         self.client == Some(client) || self.queue.has(client)
     }
 
-    /// Returns whether the client may ask here, memory aside, in expected constant time, or in time linear in the length of the
+    /// Returns whether the client may ask here, unless memory runs out, in expected constant time, or in time linear in the length of the
     /// queue where there was no memory to know its clients.
     ///
     /// # Errors
@@ -176,7 +176,7 @@ impl Slot {
         };
         let requested = self.next_entry(client, mode);
         let Ok(reaction) = self.automaton.request(alloc, mode) else {
-            // Only memory can be wanting where the node is idle and a number is left.
+            // Only `Memory` can come where the node is idle and a number is left.
             return Err(AskError::Memory);
         };
         self.client = Some(client);
@@ -187,7 +187,7 @@ impl Slot {
         })
     }
 
-    /// Queues a client behind all others, while the resource is in use.
+    /// Queues a client after all others, while the resource is in use.
     ///
     /// # Errors
     ///
@@ -246,7 +246,7 @@ impl Slot {
             return Err(LeaveError::Memory);
         };
         let Ok(reaction) = self.automaton.leave(alloc) else {
-            // Only memory can be wanting where a client holds.
+            // Only `Memory` can come where a client holds.
             return Err(LeaveError::Memory);
         };
         self.client = None;
@@ -307,7 +307,7 @@ impl Slot {
             (λ fault. (fault ≡ LeaveError.Memory) × (self.new ≡ self.old)) }
     {
         let Ok(handed) = self.automaton.leave_and_request(alloc, next.mode) else {
-            // Only memory can be wanting where a client holds.
+            // Only `Memory` can come where a client holds.
             return Err(LeaveError::Memory);
         };
         self.queue.pop_front();

@@ -1,4 +1,4 @@
--- Who is enabled behind one more move: who is not at its node and did not enter by it is so where it was before.
+-- Who is enabled after one more move: who is not at its node and did not enter by it is so where it was before.
 use Rattle.std.proofs.Common.{◌≡◌, ◌≢◌, ◌↔◌, ℕ, ◌+◌, Bool, Some, List, [], ◌∷◌, ◌++◌, All, slice_get, slice_index_or, refl, sym, ap, ◌∙◌, subst, arith, inl, inr}
 use Rattle.std.specs.Prelude.{if◌then◌else◌, option_map}
 use Rattle.std.proofs.lemmas.Bool.{ne_eqb}
@@ -107,7 +107,7 @@ module _ (laws : LawsBelow) (script : ScriptState) (moves : List Move) (move : M
         },
       )
 
--- behind a move that was chosen the flags are still right elsewhere
+-- after a move that was chosen the flags are still right elsewhere
 pub flags_elsewhere : LawsBelow → (script : ScriptState) (moves next : List Move) (move : Move) (choice : Choice) (flags : List Bool)
     → IsNodeNumber script.nodes → next ≡ moves ++ move ∷ [] → IsRun script.nodes 0 next → StandsFor script moves choice move.step
     → AreFlags script moves flags → AreFlagsElsewhere move.step move.marks script next flags

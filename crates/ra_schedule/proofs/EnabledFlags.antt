@@ -45,7 +45,7 @@ count_set flags place on d within =
     let sum = sum_by-set bit flags place on d within in
     omega arith
 
--- one more behind them
+-- one more after them
 pub count_push : (n : ℕ) (flags : List Bool) (on : Bool)
     → length (numbers_from n (flags ++ on ∷ [])) ≡ length (numbers_from n flags) + bit on
 count_push n [] true = refl

@@ -18,7 +18,7 @@ use Rattle.ra_schedule.proofs.Lists.{split_last, at_place}
 use Rattle.ra_schedule.proofs.Waiting.{steps_of-append}
 use Rattle.ra_schedule.proofs.Choosing.{means_one, picks_one, no_bad_place, not_refused, one_fault}
 
--- behind no move a policy is followed
+-- after no move a policy is followed
 pub follows_none : (script : ScriptState) (policy : Policy) → IsRun script.nodes 0 [] → Follows script policy []
 follows_none script policy run = record { run = run; each = λ before after move is. absurd (nothing before after move is) }
   where
@@ -43,7 +43,7 @@ follows_more script policy moves move choice follows picks means run =
       ];
     }
 
--- what was chosen behind the first n moves
+-- what was chosen after the first n moves
 chosen : (script : ScriptState) (policy : Policy) (moves : List Move) (n : ℕ) → Follows script policy moves → n < length moves
     → (move : Move) × (choice : Choice) × Picks script policy (take n moves) choice × StandsFor script (take n moves) choice move.step
     × (take (suc n) moves ≡ take n moves ++ move ∷ [])
@@ -52,7 +52,7 @@ chosen script policy moves n follows within =
     let (choice, picks, means) = follows.each (take n moves) (drop (suc n) moves) move whole in
     (move, choice, picks, means, front)
 
--- a front of a run is one
+-- a prefix of a run is one
 front_runs : LawsBelow → (n start k : ℕ) (moves : List Move) → IsRun n start moves → IsRun n start (take k moves)
 front_runs laws n start k moves run =
     laws.fronts n start (take k moves) (drop k moves) (subst (IsRun n start) (sym (lists.take-append-drop k moves)) run)
@@ -82,7 +82,7 @@ same_moves laws script policy a b count f g e =
     sym (lists.take_all (length a) a (omega arith)) ∙ same_front laws script policy a b count f g (length a) (omega arith) (omega arith)
     ∙ lists.take_all (length a) b (omega arith)
 
--- behind the shorter of two lists a choice was made that stands for a step
+-- after the shorter of two lists a choice was made that stands for a step
 pub goes_further : LawsBelow → (script : ScriptState) (policy : Policy) (a b : List Move) → IsNodeNumber script.nodes
     → Follows script policy a → Follows script policy b → length a < length b
     → (choice : Choice) × (step : Step) × Picks script policy a choice × StandsFor script a choice step

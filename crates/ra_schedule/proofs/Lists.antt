@@ -16,7 +16,7 @@ split_last (w ∷ xs) x (z ∷ before) after y e =
       | inr h ↦ let same = h.2 in inr (h.0, h.1, cc)
     ]
 
--- the item at a place, with what is before it and behind it
+-- the item at a place, with what is before it and after it
 pub at_place : {X : Type 0} (n : ℕ) (xs : List X) → n < length xs
     → (x : X) × (xs ≡ take n xs ++ x ∷ drop (suc n) xs) × (take (suc n) xs ≡ take n xs ++ x ∷ [])
 at_place n [] less = absurd (omega arith)

@@ -11,7 +11,7 @@ use Rattle.ra_schedule.specs.Script.{ScriptState}
 use Rattle.ra_schedule.specs.Schedule.{AreEnabled, AreChoices}
 use Rattle.ra_schedule.proofs.EnabledLists.{enabled_are_one}
 
--- the choices of so many clients and so many messages
+-- the choices of this many clients and so many messages
 abbrev choices : List ℕ → ℕ → List Choice
 choices clients messages = map Client clients ++ map Message (range_with_len 0 messages)
 

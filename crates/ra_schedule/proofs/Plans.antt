@@ -1,11 +1,11 @@
--- Operations that fit one behind the other.
+-- Operations that fit one after the other.
 use Rattle.std.proofs.Common.{◌≡◌, ◌<◌, ℕ, List, [], ◌∷◌, ◌++◌, sym, ap, ◌∙◌, subst, inl, inr, length, length-append, arith}
 use Rattle.std.proofs.lemmas.List.{same_from_push}
 use Rattle.ra_schedule.specs.declared.script.Op.{Op}
 use Rattle.ra_schedule.specs.Script.{ScriptClient, Fits, IsPlan, IsScriptClient}
 use Rattle.ra_schedule.proofs.Held.{ends, before_last}
 
--- an operation that fits behind a plan makes a plan
+-- an operation that fits after a plan makes a plan
 pub plan_pushed : (ops : List Op) (op : Op) → IsPlan ops → Fits ops op → IsPlan (ops ++ op ∷ [])
 plan_pushed ops op plan fits before after x e =
     elim (ends after) [

@@ -1,4 +1,4 @@
--- One more seed behind those that were tried.
+-- One more seed after those that were tried.
 use Rattle.std.proofs.Common.{◌≡◌, ◌⊎◌, ℕ, zero, suc, ◌+◌, ◌<◌, ◌≤◌, Option, Some, List, [], ◌∷◌, ◌++◌, length, slice_get, refl, sym, ap, subst, ◌∙◌, arith, inl, inr}
 use Rattle.std.proofs.lemmas.List.{length-append}
 use Rattle.ra_schedule.specs.declared.outcomes.Outcome.{Outcome}
@@ -70,7 +70,7 @@ no_seeds script faults limit first last survey none t = record {
   tallies = t;
 }
 
--- behind the loop the next seed is the last one
+-- after the loop the next seed is the last one
 pub at_last : (script : ScriptState) (faults : Option FaultRates) (limit first seed last : ℕ) (survey : Survey) → SoFar script faults limit first seed survey → seed ≡ last
     → SoFar script faults limit first last survey
 at_last script faults limit first seed last survey so is = record {

@@ -32,7 +32,7 @@ begins seed = refl
 
 -- ---- Words
 
--- the word that the generator gives after so many
+-- the word that the generator gives after this many
 pub next_word : (seed words : ℕ) (generator : Lcg) → generator ≡ generator_after seed words → (pcg64 generator).0 ≡ word_of seed words
 unfolding word_of
 next_word seed words generator at = ap (λ (g : Lcg). (pcg64 g).0) at
@@ -42,7 +42,7 @@ pub after_word : (seed words : ℕ) (generator : Lcg) → generator ≡ generato
 unfolding generator_after
 after_word seed words generator at = ap (λ (g : Lcg). (pcg64 g).1) at ∙ ap (generator_after seed) (sym (add-one words))
 
--- behind no move no word was drawn
+-- after no move no word was drawn
 pub none_drawn : (policy : Policy) → words_drawn policy [] ≡ 0
 none_drawn Oldest = refl
 none_drawn Newest = refl
@@ -67,7 +67,7 @@ words_behind : (moves : List Move) (move : Move) → words_by (steps_of (moves +
 words_behind [] move = let e : words_in move.step + 0 ≡ 0 + words_in move.step = omega arith in e
 words_behind (m ∷ moves) move = let rest = words_behind moves move in omega arith
 
--- behind one more move there are the words of its choice more
+-- after one more move there are the words of its choice more
 pub more_drawn : (script : ScriptState) (policy : Policy) (moves : List Move) (move : Move) (choice : Choice) → StandsFor script moves choice move.step
     → words_drawn policy (moves ++ move ∷ []) ≡ words_drawn policy moves + words_for policy choice
 more_drawn script Oldest moves move choice means = refl

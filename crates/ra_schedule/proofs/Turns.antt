@@ -117,7 +117,7 @@ nothing_left script client done n e =
       | Some who ↦ λ h. past_the_end who.ops done n h
     ] e
 
--- who waits or has nothing left to do is so still behind a move by which it did not enter
+-- who waits or has nothing left to do is so still after a move by which it did not enter
 stuck_after : (script : ScriptState) (client : ℕ) (move : Move) (old new : Progress) → IsStuck script client old
     → IsProgressAfter move client old new → All (λ mark. Enters client mark → ⊥) move.marks → IsStuck script client new
 stuck_after script client move old new (inl waits) (between, step, marks) none = inl (marks.waiting.1 (step.waiting.1 (inr waits), none))

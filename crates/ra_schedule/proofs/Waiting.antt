@@ -44,7 +44,7 @@ right_part : (client : ℕ) (xs ys : List Mark) → NoneEnters client (xs ++ ys)
 right_part client [] ys all = all
 right_part client (x ∷ xs) ys all = right_part client xs ys (elements.All-tail (λ mark. Enters client mark → ⊥) x (xs ++ ys) all)
 
--- a client waits behind one more move where none of its marks says that it entered, and it asks by the move or waited before
+-- a client waits after one more move where none of its marks says that it entered, and it asks by the move or waited before
 pub waits_on : (client : ℕ) (moves : List Move) (move : Move) → NoneEnters client move.marks
     → Asks client move.step ⊎ IsWaiting client moves → IsWaiting client (moves ++ move ∷ [])
 waits_on client moves move none (inl asks) =

@@ -22,7 +22,7 @@ generator_at (Seeded seed) words = Some (generator_after seed words)
 generator_at (Faulty seed faults) words = Some (generator_after seed words)
 generator_at (Listed choices) words = None
 
--- how many words a policy has drawn behind these moves
+-- how many words a policy has drawn after these moves
 abbrev pub words_drawn : Policy → List Move → ℕ
 words_drawn Oldest moves = 0
 words_drawn Newest moves = 0
@@ -56,13 +56,13 @@ IsWithoutFault (Repeated place) = ⊥
 abbrev pub generator_in : Option Draws → Option Lcg
 generator_in draws = option_map (λ d. d.generator) draws
 
--- chance knows the clients of each node, and who is enabled behind these moves
+-- chance knows the clients of each node, and who is enabled after these moves
 pub record AreDraws (script : ScriptState) (moves : List Move) (draws : Draws) : Type 0 where
   pub rosters : AreRosters script draws.rosters.items
   pub flags : AreFlags script moves draws.enabled.flags.items
   pub count : draws.enabled.count ≡ length (numbers_from 1 draws.enabled.flags.items)
 
--- the same, but that it has not looked yet at the clients at the node of a step and at those that entered by its marks
+-- the same, except that it has not looked yet at the clients at the node of a step and at those that entered by its marks
 pub record AreDrawsElsewhere (step : Step) (marks : List Mark) (script : ScriptState) (moves : List Move) (draws : Draws) : Type 0 where
   pub rosters : AreRosters script draws.rosters.items
   pub alike : length draws.enabled.flags.items ≡ length script.clients

@@ -47,7 +47,7 @@ pub record HasMade (script : ScriptState) (choice : Choice) (world : WorldState)
   pub records : new.records ≡ driver.records
   pub made : (move : Move) × StandsFor script world.moves choice move.step × (next.moves ≡ world.moves ++ move ∷ [])
 
--- behind a turn that went on there is one more move, and behind one that did not no choice is left
+-- after a turn that went on there is one more move, and after one that did not no choice is left
 abbrev pub AfterTurn : ScriptState → Policy → WorldState → Driver → WorldState → Driver → Bool → Type 0
 AfterTurn script policy world driver next new true = (length next.moves ≡ length world.moves + 1) × (new.records ≡ driver.records)
     × IsReady script policy next new
@@ -63,15 +63,15 @@ pub record IsMeaning (script : ScriptState) (moves : List Move) (choice : Choice
   pub ok : IfOk meaning (StandsFor script moves choice)
   pub err : IfErr meaning (HasFault script moves choice)
 
--- want of memory keeps a choice from being made, or a fault of its own
+-- memory that runs out keeps a choice from being made, or a fault of its own
 abbrev pub CannotBeMade : ScriptState → List Move → Choice → DriveError → Type 0
 CannotBeMade script moves choice fault = (fault ≡ Memory) ⊎ HasFault script moves choice fault
 
--- behind these moves the choice of the policy cannot be made
+-- after these moves the choice of the policy cannot be made
 abbrev pub IsRefused : ScriptState → Policy → List Move → DriveError → Type 0
 IsRefused script policy moves fault = (choice : Choice) × Picks script policy moves choice × CannotBeMade script moves choice fault
 
--- behind these moves the policy has a choice that can be made
+-- after these moves the policy has a choice that can be made
 abbrev pub MayGoOn : ScriptState → Policy → List Move → Type 0
 MayGoOn script policy moves = (choice : Choice) × (step : Step) × Picks script policy moves choice × StandsFor script moves choice step
 
@@ -81,17 +81,17 @@ pub record IsHeldUp (script : ScriptState) (policy : Policy) (limit : ℕ) (move
   pub within : length moves < limit
   pub goes_on : MayGoOn script policy moves
 
--- where memory may be wanting: before the first turn, at a turn whose choice can be made, or for the report, where no choice is left
+-- where memory may run out: before the first turn, at a turn whose choice can be made, or for the report, where no choice is left
 abbrev pub MayWantMemory : ScriptState → Policy → ℕ → List Move → Type 0
 MayWantMemory script policy limit moves = (moves ≡ []) ⊎ IsHeldUp script policy limit moves
     ⊎ (Follows script policy moves × Ends script policy moves × (length moves ≤ limit))
 
--- want of memory stops the policy, or a cause that stands
+-- memory that runs out stops the policy, or a cause that stands
 abbrev pub IsStopped : ScriptState → Policy → ℕ → DriveError → Type 0
 IsStopped script policy limit fault = (fault ≡ Memory)
     ⊎ ((moves : List Move) × Follows script policy moves × Stops script policy limit moves fault)
 
--- what public contracts promise of refusals: one but want of memory comes where its cause stands, and where one stands nothing else
+-- what public contracts promise of refusals: one other than `Memory` comes where its cause stands, and where one stands nothing else
 -- is answered
 pub record Answers {X : Type 0} (script : ScriptState) (policy : Policy) (limit : ℕ) (result : Result X DriveError) : Type 0 where
   pub refused : (cause : DriveError) → cause ≢ Memory → IsErrOf result cause

@@ -1,4 +1,4 @@
--- Which clients are enabled, as the driver keeps it from turn to turn where chance chooses. No public contract speaks of it.
+-- Which clients are enabled, as the driver keeps it from turn to turn where the choice is random. No public contract speaks of it.
 use Rattle.std.specs.Prelude.{◌≡◌, ◌≢◌, ◌↔◌, ℕ, ◌+◌, ◌-◌, ◌<◌, Bool, List, [], ◌∷◌, length, slice_index_or, Option, Some, None, option_map, IsTrue, All, Contains, if◌then◌else◌}
 use Rattle.ra_stamp.specs.declared.entry.Mark.{Mark}
 use Rattle.ra_stamp.specs.Message.{to_of}

@@ -26,7 +26,7 @@ pub record IsAfterStep (client : ℕ) (step : Step) (old new : Progress) : Type 
   pub done : new.done ≡ old.done + steps_in client step
   pub waiting : IsTrue new.waiting ↔ (Asks client step ⊎ IsTrue old.waiting)
 
--- a client waits on behind these marks where it waited and none of them says that it entered
+-- a client waits on after these marks where it waited and none of them says that it entered
 pub record IsAfterMarks (client : ℕ) (marks : List Mark) (old new : Progress) : Type 0 where
   pub done : new.done ≡ old.done
   pub waiting : IsTrue new.waiting ↔ (IsTrue old.waiting × All (λ mark. Enters client mark → ⊥) marks)
@@ -39,7 +39,7 @@ OfEach R old new = (k : ℕ) (d : Progress) → k < length old → R (k + 1) (sl
 abbrev pub AreCountable : List Progress → Type 0
 AreCountable list = All (λ progress. progress.done + 1 < 2 ^ 64) list
 
--- where a client stands behind one more move
+-- where a client stands after one more move
 abbrev pub IsProgressAfter : Move → ℕ → Progress → Progress → Type 0
 IsProgressAfter move client old new = (between : Progress) × IsAfterStep client move.step old between
     × IsAfterMarks client move.marks between new

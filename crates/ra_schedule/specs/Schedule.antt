@@ -184,7 +184,7 @@ pub record Follows (script : ScriptState) (policy : Policy) (moves : List Move) 
   pub each : (before after : List Move) (move : Move) → moves ≡ before ++ move ∷ after
       → (choice : Choice) × Picks script policy before choice × StandsFor script before choice move.step
 
--- why a policy can't go on behind these moves, of which there may be so many
+-- why a policy can't go on after these moves, of which there may be so many
 abbrev pub Stops : ScriptState → Policy → ℕ → List Move → DriveError → Type 0
 Stops script policy limit moves TurnLimit = (length moves ≡ limit) × ((choice : Choice) × Picks script policy moves choice)
 Stops script policy limit moves BadPlace = (length moves < limit)

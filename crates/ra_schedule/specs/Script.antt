@@ -20,12 +20,12 @@ abbrev pub IsHeldAfter : List Op → List ℕ → Type 0
 IsHeldAfter ops name = (before after : List Op) × (mode : Mode)
     × (ops ≡ before ++ Lock name mode ∷ after) × All (λ op. op ≢ Unlock name) after
 
--- an operation fits behind these: a name is locked where the client does not have it, and unlocked where it does
+-- an operation fits after these: a name is locked where the client does not have it, and unlocked where it does
 abbrev pub Fits : List Op → Op → Type 0
 Fits ops (Lock name mode) = IsHeldAfter ops name → ⊥
 Fits ops (Unlock name) = IsHeldAfter ops name
 
--- each operation fits behind those before it
+-- each operation fits after those before it
 abbrev pub IsPlan : List Op → Type 0
 IsPlan ops = (before after : List Op) (op : Op) → ops ≡ before ++ op ∷ after → Fits before op
 

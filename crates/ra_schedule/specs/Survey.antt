@@ -80,7 +80,7 @@ abbrev pub tally_of : (Outcome → Bool) → ℕ → List Outcome → Option Tal
 tally_of test first outcomes =
     option_map (λ seed. record { seeds = length (filter test outcomes); first = seed }) (position_from test first outcomes)
 
--- one more seed, behind those that were counted
+-- one more seed, after those that were counted
 abbrev pub tally_with : Option Tally → ℕ → Tally
 tally_with None seed = record { seeds = 1; first = seed }
 tally_with (Some tally) seed = record tally { seeds = tally.seeds + 1 }

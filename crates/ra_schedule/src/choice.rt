@@ -10,7 +10,7 @@ pub enum Choice {
     Message(u64),
     /// The message at this place is lost.
     Lost(u64),
-    /// The message at this place is repeated: it stays under way, and comes once more behind all others.
+    /// The message at this place is repeated: it stays under way, and comes once more after all others.
     Repeated(u64),
 }
 
@@ -25,7 +25,7 @@ pub enum Policy {
     Oldest,
     /// The same, with the message that was sent last.
     Newest,
-    /// Chance, by a seed. The choices of a turn are the clients that are enabled, in the order of the script, and behind them
+    /// At random, from a seed. The choices of a turn are the clients that are enabled, in the order of the script, and after them
     /// the messages under way, in the order of sending. The turn draws one word, the next one of the PCG generator XSL RR
     /// 128/64 of this seed, and takes the choice whose number, counted from 0, is the word modulo the number of choices. Where
     /// there is no choice, no word is drawn and it ends. So a script and a seed have one run, the same on each machine.

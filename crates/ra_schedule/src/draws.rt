@@ -1,4 +1,4 @@
-//! What chance keeps from turn to turn.
+//! What the random choice keeps from turn to turn.
 ghost use Rattle.std.specs.Prelude.{◌≡◌, IfOk, IfSome};
 ghost use Rattle.ra_schedule.specs.Drawing.{AreDraws, AreDrawsElsewhere, generator_at, generator_in};
 ghost use Rattle.ra_schedule.specs.Progress.{Tracks};
@@ -13,7 +13,7 @@ use rand_core::SeedableRng;
 use rand_pcg::Lcg128Xsl64;
 use std::alloc::Global;
 
-/// What chance chooses by.
+/// What the random choice is made by.
 #[derive(Drop)]
 pub struct Draws {
     /// The one generator of a run.
@@ -25,7 +25,7 @@ pub struct Draws {
 }
 
 impl Draws {
-    /// Makes what chance begins with, or `None` where the policy has no seed: then nothing is kept, and no memory taken.
+    /// Makes what the random choice begins with, or `None` where the policy has no seed: then nothing is kept, and no memory taken.
     ///
     /// # Errors
     ///
@@ -74,7 +74,7 @@ impl Draws {
     }
 }
 
-/// Notes a step that was made with these marks, where chance chooses.
+/// Notes a step that was made with these marks, where the choice is random.
 pub fn note_step_in(
     draws: &mut Option<Draws>,
     script: &Script,

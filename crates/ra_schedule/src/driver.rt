@@ -20,12 +20,12 @@ use ra_stamp::{Marks, Memory};
 use ra_world::{Step, Steps, World};
 use std::alloc::Global;
 
-/// What is kept from turn to turn beside the cluster.
+/// What is kept from turn to turn besides the cluster.
 #[derive(Drop)]
 pub struct Driver {
     /// Where each client stands.
     pub clients: Vec<Progress>,
-    /// What chance chooses by, where it does.
+    /// What the random choice is made by, where there is one.
     draws: Option<Draws>,
     /// Each client before this place waits or has nothing left to do, so that most turns need not look at all clients.
     first: u32,
@@ -107,7 +107,7 @@ impl Driver {
     ///
     /// # Errors
     ///
-    /// Those of `drive`, but for `TurnLimit`.
+    /// Those of `drive`, except for `TurnLimit`.
     fn turn(
         &mut self,
         alloc: Global,
@@ -120,7 +120,7 @@ impl Driver {
         ensures ok { IfOk result (AfterTurn script.now policy.now world.old self.old world.new self.new) }
         ensures err { IfErr result (IsRefused script.now policy.now world.old.moves) }
         ensures same { OnErr result (world.new ≡ world.old) }
-        // Where the choice can't be made, that is the answer, and not want of memory.
+        // Where the choice can't be made, that is the answer, and not that memory ran out.
         ensures memory { IsErrOf result DriveError.Memory → MayGoOn script.now policy.now world.old.moves }
     {
         self.first = first_free(script, &self.clients, self.first);
@@ -142,7 +142,7 @@ impl Driver {
     ///
     /// # Errors
     ///
-    /// Those of `drive`, but for `TurnLimit`.
+    /// Those of `drive`, except for `TurnLimit`.
     fn follow(
         &mut self,
         alloc: Global,
@@ -156,7 +156,7 @@ impl Driver {
         ensures ok { OnOk result (HasMade script.now picked.choice world.old self.old world.new self.new) }
         ensures err { IfErr result (CannotBeMade script.now world.old.moves picked.choice) }
         ensures same { OnErr result (world.new ≡ world.old) }
-        // Where the choice can't be made, that is the answer, and not want of memory.
+        // Where the choice can't be made, that is the answer, and not that memory ran out.
         ensures memory { IsErrOf result DriveError.Memory
             → (step : Step) × StandsFor script.now world.old.moves picked.choice step }
     {

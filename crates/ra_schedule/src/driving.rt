@@ -26,7 +26,7 @@ pub struct Recording {
     pub finished: bool,
 }
 
-/// What a policy made of a script, but for its steps.
+/// What a policy made of a script, except for its steps.
 #[derive(Debug, Drop)]
 pub struct Summary {
     /// How many steps there were, one at each turn.
@@ -73,7 +73,7 @@ pub fn drive(
     ensures main_theorem { IfOk result (λ recording. MainTheorem script.now.nodes recording.report) }
     ensures finished { IfOk result (λ recording.
         IsTrue recording.finished ↔ IsFinished script.now recording.steps.items recording.report) }
-    // A refusal but want of memory comes where its cause stands, and where one stands nothing else is answered.
+    // A refusal other than `Memory` comes where its cause stands, and where one stands nothing else is answered.
     ensures refused { (cause : DriveError) → cause ≢ DriveError.Memory → IsErrOf result cause
         → (moves : List Move) × Follows script.now policy.now moves × Stops script.now policy.now limit moves cause }
     ensures exact { (cause : DriveError) (moves : List Move) → Follows script.now policy.now moves
@@ -112,7 +112,7 @@ pub fn summarize(
         × (summary.turns ≡ length moves) × Reports script.now.nodes 0 moves summary.report
         × (IsTrue summary.finished ↔ IsFinished script.now (steps_of moves) summary.report)) }
     ensures main_theorem { IfOk result (λ summary. MainTheorem script.now.nodes summary.report) }
-    // A refusal but want of memory comes where its cause stands, and where one stands nothing else is answered.
+    // A refusal other than `Memory` comes where its cause stands, and where one stands nothing else is answered.
     ensures refused { (cause : DriveError) → cause ≢ DriveError.Memory → IsErrOf result cause
         → (moves : List Move) × Follows script.now policy.now moves × Stops script.now policy.now limit moves cause }
     ensures exact { (cause : DriveError) (moves : List Move) → Follows script.now policy.now moves
@@ -173,7 +173,7 @@ fn drive_world(
     requires opened { world.old ≡ record { count = script.now.nodes; start = 0; moves = [] } }
     ensures ok { IfOk result (Records script.now policy.now limit records) }
     ensures err { IfErr result (IsStopped script.now policy.now limit) }
-    // So a turn's refusal is never passed over for want of memory at that turn.
+    // So a turn's refusal is never passed over because memory ran out at that turn.
     ensures memory { IsErrOf result DriveError.Memory → MayWantMemory script.now policy.now limit world.new.moves }
 {
     let mut driver = Driver::open(alloc, script, policy, world, records)?;

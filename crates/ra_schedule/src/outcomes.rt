@@ -97,7 +97,7 @@ pub fn no_survey() -> Survey
     }
 }
 
-/// Counts what came of one more seed, the one behind those that were counted.
+/// Counts what came of one more seed, the one after those that were counted.
 pub fn with_outcome(survey: Survey, seed: u64, outcome: Outcome) -> Survey
     requires { (first : ℕ) × (outcomes : List Outcome) × Tallies first outcomes survey × (first + length outcomes ≡ seed) }
     ensures { (first : ℕ) (outcomes : List Outcome) → Tallies first outcomes survey → first + length outcomes ≡ seed

@@ -33,11 +33,11 @@ impl Model for Client {
 }
 
 impl Client {
-    /// Adds an operation behind the others, in time linear in the number of these.
+    /// Adds an operation after the others, in time linear in the number of these.
     ///
     /// # Errors
     ///
-    /// Those of `Script::add_op`, but for `Clients`.
+    /// Those of `Script::add_op`, except for `Clients`.
     fn add_op(&mut self, op: Op) -> Result<(), AddOpError>
         ensures ok { OnOk result (self.new ≡ record self.old { ops = self.old.ops ++ op ∷ [] }) }
         ensures clients { ¬ IsErrOf result AddOpError.Clients }
@@ -109,7 +109,7 @@ impl Script {
         })
     }
 
-    /// Adds a client at this node, behind the others, with nothing to do yet, in amortized constant time.
+    /// Adds a client at this node, after the others, with nothing to do yet, in amortized constant time.
     ///
     /// # Errors
     ///
@@ -137,7 +137,7 @@ impl Script {
         Ok(())
     }
 
-    /// Adds an operation of the last client, behind its others, in time linear in the number of these.
+    /// Adds an operation of the last client, after its others, in time linear in the number of these.
     ///
     /// # Errors
     ///
@@ -243,11 +243,11 @@ impl Script {
     }
 }
 
-/// Checks whether the operation fits behind these, and they are fewer than a client may have.
+/// Checks whether the operation fits after these, and they are fewer than a client may have.
 ///
 /// # Errors
 ///
-/// Those of `Script::add_op`, but for `Clients` and `Memory`.
+/// Those of `Script::add_op`, except for `Clients` and `Memory`.
 fn check_op(ops: &[Op], op: &Op) -> Result<(), AddOpError>
     ensures allowed { IsOk result ↔ ((length ops.now < 1024) × Fits ops.now op.now) }
     ensures limit { IsErrOf result AddOpError.Limit ↔ (1024 ≤ length ops.now) }

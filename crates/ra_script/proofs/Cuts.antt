@@ -1,4 +1,4 @@
--- What stands before and behind a space.
+-- What stands before and after a space.
 use Rattle.std.proofs.Common.{◌≡◌, ◌≢◌, ℕ, zero, suc, ◌+◌, ◌-◌, ◌<◌, length-drop, add-one, ◌∙◌, ◌==◌, true, false, List, [], ◌∷◌, ◌++◌, length, get_or, take, drop, All, Option, Some, None, option_map, refl, sym, ap, arith, inl, inr, eq-eqb}
 use Rattle.std.proofs.lemmas.Bool.{ne_eqb, cases_Bool, eqb-true}
 use Rattle.std.proofs.lemmas.List.{take_all}

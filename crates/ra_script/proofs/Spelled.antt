@@ -220,7 +220,7 @@ pub choices_of-none : (text : List ℕ) → length text ≡ 0 → choices_of tex
 choices_of-none [] none = refl
 choices_of-none (b ∷ text) none = absurd (omega arith)
 
--- a text with a word that is none
+-- a text with a word that is not one
 pub refused_word : (text : List ℕ) (place : ℕ) (done : List Choice) (word : List ℕ) (why : ChoicesError) → 0 < length text → place < length (slice_split (λ b. b == 32) text)
     → word ≡ get_or (slice_split (λ b. b == 32) text) place word → ((why ≡ fault.Choice) × (choice_of word ≡ None)) ⊎ (why ≡ fault.Memory)
     → IsChosenTo (slice_split (λ b. b == 32) text) place done → ((why ≡ fault.Choice) × (choices_of text ≡ None)) ⊎ (why ≡ fault.Memory)

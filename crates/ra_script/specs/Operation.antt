@@ -27,12 +27,12 @@ op_with word name =
     else if bytes_eq word (codes "U") then Some (Unlock name)
     else None
 
--- what stands before and behind the first space
+-- what stands before and after the first space
 abbrev pub cut : List ℕ → Option (List ℕ × List ℕ)
 cut [] = None
 cut (b ∷ bs) = if b == 32 then Some ([], bs) else option_map (λ parts. (b ∷ parts.0, parts.1)) (cut bs)
 
--- the operation of the word before the first space and the name behind it
+-- the operation of the word before the first space and the name after it
 abbrev pub op_of : List ℕ → Option Op
 op_of text = option_and_then (λ parts. option_and_then (op_with parts.0) (name_of parts.1)) (cut text)
 

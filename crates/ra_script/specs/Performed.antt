@@ -20,7 +20,7 @@ use Rattle.ra_script.specs.ScriptText.{script_of}
 abbrev pub turn_limit : ℕ
 turn_limit = 16777216
 
--- the output says this of a run of so many nodes: the lines of its report, or its trace
+-- the output says this of a run of this many nodes: the lines of its report, or its trace
 abbrev pub Says : Format → ℕ → List Move → Report → List ℕ → Type 0
 Says Lines nodes moves report output = output ≡ report_text report
 Says Trace nodes moves report output = IsTrace nodes 0 moves output
@@ -48,7 +48,7 @@ IsPerformed policy input output finished = IsPerformedAs Lines policy input outp
 abbrev pub IsTraced : Policy → List ℕ → List ℕ → Bool → Type 0
 IsTraced policy input output finished = IsPerformedAs Trace policy input output finished
 
--- where each refusal may come: its cause stands. Want of memory and faults of the reader and the writer come from outside, but
+-- where each refusal may come: its cause stands. `Memory` and faults of the reader and the writer come from outside, but
 -- the writer fails only where there is something to write.
 abbrev pub RefusesAs : Format → Policy → List ℕ → PerformError → Type 0
 RefusesAs format policy input fault.Read = Unit {0}

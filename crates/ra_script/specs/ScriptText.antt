@@ -40,16 +40,16 @@ is_held_from held (Unlock unlocked ∷ ops) name = is_held_from (if bytes_eq unl
 abbrev pub is_held_after : List Op → List ℕ → Bool
 is_held_after ops name = is_held_from false ops name
 
--- an operation behind those that are done: a name is locked where the client does not have it, and unlocked where it does
+-- an operation after those that are done: a name is locked where the client does not have it, and unlocked where it does
 abbrev pub fitting : List Op → Op → Result Op ScriptError
 fitting done (Lock name mode) = if is_held_after done name then Err fault.AlreadyHeld else Ok (Lock name mode)
 fitting done (Unlock name) = if is_held_after done name then Ok (Unlock name) else Err fault.NotHeld
 
--- the operation of a string behind those that are done
+-- the operation of a string after those that are done
 abbrev pub next_op : List Op → List ℕ → Result Op ScriptError
 next_op done string = result_and_then (fitting done) (ok_or (op_of string) fault.Op)
 
--- the operations of strings behind those that are done, and these
+-- the operations of strings after those that are done, and these
 abbrev pub ops_behind : List Op → List (List ℕ) → Result (List Op) ScriptError
 ops_behind done [] = Ok done
 ops_behind done (string ∷ strings) = result_and_then (λ op. ops_behind (done ++ op ∷ []) strings) (next_op done string)
@@ -62,7 +62,7 @@ script_ops strings = if nat_lt 1024 (length strings) then Err fault.Limit else o
 abbrev pub script_client : ClientTable → Result ScriptClient ScriptError
 script_client client = result_and_then (λ ops. Ok (record { node = natural client.node; ops = ops })) (script_ops client.ops)
 
--- the clients behind those that are done, and these
+-- the clients after those that are done, and these
 abbrev pub clients_behind : List ScriptClient → List ClientTable → Result (List ScriptClient) ScriptError
 clients_behind done [] = Ok done
 clients_behind done (client ∷ clients) = result_and_then (λ c. clients_behind (done ++ c ∷ []) clients) (script_client client)

@@ -108,14 +108,14 @@ fn push_choices(choices: &mut Choices, text: &str) -> Result<(), ChoicesError>
 ///
 /// The first that holds:
 ///
-/// 1. `Choice`: a word is none of these.
+/// 1. `Choice`: a word is not one of these.
 /// 2. `Memory`, which may come before it.
 pub fn read_choices(alloc: Global, text: &str) -> Result<Choices, ChoicesError>
     ensures ok { IfOk result (λ choices. spec.choices_of text.now ≡ Some choices.items) }
     ensures refused { IfErr result (λ fault. ((fault ≡ ChoicesError.Choice) × (spec.choices_of text.now ≡ None))
         ⊎ (fault ≡ ChoicesError.Memory)) }
 
-    // It is read as choices only where it is how they are written, and where it is, only memory can be wanting.
+    // It is read as choices only where it is how they are written, and where it is, only `Memory` can come.
     ensures lists { IfOk result (λ choices. Lists text.now choices.items) }
     ensures only { (choices : List Choice) → Lists text.now choices
         → MatchResult result (λ read. read.items ≡ choices) (λ fault. fault ≡ ChoicesError.Memory) }

@@ -11,7 +11,7 @@ use ra_world::{ReadFault, WriteFault};
 use std::alloc::AllocFailed;
 use thiserror::Error;
 
-/// Why a text is no script.
+/// Why a text is not a script.
 #[derive(Clone, Copy, Debug, PartialEq, Eq, Error)]
 pub enum ScriptError {
     /// It is not UTF-8, or no TOML document.
@@ -43,7 +43,7 @@ pub enum ScriptError {
     Memory,
 }
 
-/// Why a text is no list of choices.
+/// Why a text is not a list of choices.
 #[derive(Clone, Copy, Debug, PartialEq, Eq, Error)]
 pub enum ChoicesError {
     /// A word is no choice, or there is not one space between two.
@@ -60,10 +60,10 @@ pub enum PerformError {
     /// The reader failed.
     #[error("Read")]
     Read,
-    /// What was read is no script. It is never want of memory.
+    /// What was read is not a script. It is never that memory ran out.
     #[error(transparent)]
     Script(ScriptError),
-    /// The policy could not go on. It is never want of memory.
+    /// The policy could not go on. It is never that memory ran out.
     #[error(transparent)]
     Drive(DriveError),
     /// Memory ran out.

@@ -1,4 +1,4 @@
-//! Why a text is no script, said to a person on one line. No clause speaks of what is said.
+//! Why a text is not a script, said to a person on one line. No clause speaks of what is said.
 use crate::ScriptError;
 use crate::document::{ClientRef, DocumentRef, document_of};
 use crate::reading::{MAX_TEXT, add_op};

@@ -16,7 +16,7 @@ pub fn operation(string: &str) -> Option<Op>
     operation_of(string.as_bytes())
 }
 
-/// Returns the operation of the word before the first space and the name behind it, or `None` where they say none. It does not
+/// Returns the operation of the word before the first space and the name after it, or `None` where they say none. It does not
 /// allocate.
 fn operation_of(text: &[u8]) -> Option<Op>
     ensures { result ≡ spec.op_of text.now }
@@ -26,7 +26,7 @@ fn operation_of(text: &[u8]) -> Option<Op>
     operation_with(word, name)
 }
 
-/// Returns what stands before and behind the first space, or `None` where there is none. It does not allocate.
+/// Returns what stands before and after the first space, or `None` where there is none. It does not allocate.
 fn cut(text: &[u8]) -> Option<(&[u8], &[u8])>
     ensures { MatchOption result (spec.cut text.now ≡ None) (λ parts. spec.cut text.now ≡ Some (parts.0.now, parts.1.now)) }
 {
@@ -41,7 +41,7 @@ fn name_of(bytes: &[u8]) -> Option<Name>
     Name::new(bytes).ok()
 }
 
-/// Returns the operation of a word and a name, or `None` where the word is none of the six. It does not allocate.
+/// Returns the operation of a word and a name, or `None` where the word is not one of the six. It does not allocate.
 fn operation_with(word: &[u8], name: Name) -> Option<Op>
     ensures { result ≡ spec.op_with word.now name }
 {

@@ -29,7 +29,7 @@ struct Printed {
 ///
 /// # Errors
 ///
-/// The first that holds, but that `Memory` may come before the other:
+/// The first that holds, except that `Memory` may come before the other:
 ///
 /// 1. `Drive`: the policy can't go on.
 /// 2. `Memory`.
@@ -52,7 +52,7 @@ fn lines_of(alloc: Global, policy: &Policy, script: &Script) -> Result<Printed, 
 ///
 /// # Errors
 ///
-/// The first that holds, but that `Memory` may come before the other:
+/// The first that holds, except that `Memory` may come before the other:
 ///
 /// 1. `Drive`: the policy can't go on.
 /// 2. `Memory`.
@@ -65,7 +65,7 @@ fn trace_of(alloc: Global, policy: &Policy, script: &Script) -> Result<Printed, 
 {
     runs_are_determined();
     let recording = drive(alloc, script, policy, MAX_TURNS)?;
-    // The steps are a run, so only memory can be wanting.
+    // The steps are a run, so only `Memory` can come.
     let Ok(text) = trace_text(alloc, script.nodes(), 0, &recording.steps) else {
         return Err(PerformError::Memory);
     };
@@ -79,7 +79,7 @@ fn trace_of(alloc: Global, policy: &Policy, script: &Script) -> Result<Printed, 
 ///
 /// # Errors
 ///
-/// The first that holds, but that `Memory` may come before the others:
+/// The first that holds, except that `Memory` may come before the others:
 ///
 /// 1. `Script`: the input is no script.
 /// 2. `Drive`: the policy can't go on.
@@ -106,7 +106,7 @@ fn make_printed(
 ///
 /// # Errors
 ///
-/// Those of `perform`, but that of the writer.
+/// Those of `perform`, except that of the writer.
 fn read_printed<R: Read>(
     alloc: Global,
     reader: &mut R,
@@ -183,13 +183,13 @@ fn perform_as<R: Read, W: Write>(
 ///
 /// # Errors
 ///
-/// The first that holds, but that `Memory` may come before any:
+/// The first that holds, except that `Memory` may come before any:
 ///
 /// 1. `Read`: the reader failed, before its end and before it gave 65,537 bytes.
 /// 2. `Script`: the input is no script.
 /// 3. `Drive`: a choice is left after the last turn, or can't be made.
 /// 4. `Memory`: memory ran out.
-/// 5. `Write`: the writer failed or took nothing, with bytes left to write. A front of the text was written.
+/// 5. `Write`: the writer failed or took nothing, with bytes left to write. A prefix of the text was written.
 ///
 /// After each of the others the writer is as before.
 pub fn perform<R: Read, W: Write>(
@@ -227,17 +227,17 @@ pub fn perform<R: Read, W: Write>(
 }
 
 /// Does as [`perform`], and writes the trace of the run in place of the lines of its report. It keeps the steps, and makes them a
-/// second time for their marks, so that it costs about twice as much, and beside that time and memory linear in the trace.
+/// second time for their marks, so that it costs about twice as much, plus time and memory linear in the trace.
 ///
 /// # Errors
 ///
-/// The first that holds, but that `Memory` may come before any:
+/// The first that holds, except that `Memory` may come before any:
 ///
 /// 1. `Read`: the reader failed, before its end and before it gave 65,537 bytes.
 /// 2. `Script`: the input is no script.
 /// 3. `Drive`: a choice is left after the last turn, or can't be made.
 /// 4. `Memory`: memory ran out.
-/// 5. `Write`: the writer failed or took nothing, with bytes left to write. A front of the trace was written.
+/// 5. `Write`: the writer failed or took nothing, with bytes left to write. A prefix of the trace was written.
 ///
 /// After each of the others the writer is as before.
 pub fn perform_trace<R: Read, W: Write>(

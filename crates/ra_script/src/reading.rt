@@ -81,7 +81,7 @@ pub fn add_op(script: &mut Script, string: &str) -> Result<(), ScriptError>
 ///
 /// # Errors
 ///
-/// The first that holds, but that `Memory` may come before any but `Limit`:
+/// The first that holds, except that `Memory` may come before any but `Limit`:
 ///
 /// 1. `Limit`: there are more than 1,024 operations.
 /// 2. For the first operation that is refused, `Op`, `NotHeld` or `AlreadyHeld`, as at `add_op`.
@@ -132,7 +132,7 @@ fn are_at_nodes(nodes: u16, clients: &[ClientRef<'_>]) -> bool
 ///
 /// # Errors
 ///
-/// The first that holds, but that `Memory` may come before any behind `Clients`:
+/// The first that holds, except that `Memory` may come before any after `Clients`:
 ///
 /// 1. `Nodes`: the number of nodes is not 1 to 64.
 /// 2. `Clients`: there are not 1 to 64 clients, or one is at none of the nodes.
@@ -183,7 +183,7 @@ fn script_with(alloc: Global, nodes: u16, clients: &[ClientRef<'_>]) -> Result<S
 ///
 /// # Errors
 ///
-/// The first that holds, but that `Memory` may come before any behind these two: that the text is too long, and that it is not UTF-8.
+/// The first that holds, except that `Memory` may come before any after these two: that the text is too long, and that it is not UTF-8.
 ///
 /// 1. `Limit`: the text has more than 65,536 bytes.
 /// 2. `Toml`: it is not UTF-8, or no TOML document.
@@ -198,11 +198,11 @@ pub fn read_script(alloc: Global, text: &[u8]) -> Result<Script, ScriptError>
     ensures ok { IfOk result (λ script. spec.script_of text.now ≡ Ok script) }
     ensures refused { IfErr result (IsRefusal (spec.script_of text.now)) }
     ensures limit { 65536 < length text.now → IsErrOf result ScriptError.Limit }
-    // Memory is wanting only for a text that is not too long and is UTF-8: what is decided before it is parsed.
+    // Memory runs out only for a text that is not too long and is UTF-8: what is decided before it is parsed.
     ensures memory { IsErrOf result ScriptError.Memory → IsText text.now }
     ensures script { IfOk result IsScript }
 
-    // It is read as a script only where it is a document of that script, and where it is, only memory can be wanting.
+    // It is read as a script only where it is a document of that script, and where it is, only `Memory` can come.
     ensures means { IfOk result (Means text.now) }
     ensures only { (script : ScriptState) → Means text.now script
         → MatchResult result (λ read. read ≡ script) (λ fault. fault ≡ ScriptError.Memory) }

@@ -13,11 +13,11 @@ pub record IsName (bytes : List ℕ) : Type 0 where
   pub not_long : length bytes ≤ 32
   pub each : AllPass is_name_byte bytes
 
--- the bytes in an array of 32, with zeros behind them
+-- the bytes in an array of 32, with zeros after them
 abbrev pub padded : List ℕ → List ℕ
 padded bytes = bytes ++ replicate (32 - length bytes) 0
 
--- the first bytes of an array are a name, and zeros are behind them
+-- the first bytes of an array are a name, and zeros are after them
 pub record IsPadded (len : ℕ) (bytes : List ℕ) : Type 0 where
   pub name : IsName (take len bytes)
   pub len_is : length (take len bytes) ≡ len

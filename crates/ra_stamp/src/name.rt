@@ -14,7 +14,7 @@ use std::hash::{Hash, Hasher};
 use std::marker::Model;
 use thiserror::Error;
 
-/// Why bytes are no name.
+/// Why bytes are not a name.
 #[derive(Clone, Copy, Debug, PartialEq, Eq, Error)]
 pub enum NameError {
     /// There is no byte.
@@ -23,7 +23,7 @@ pub enum NameError {
     /// There are more than 32 bytes.
     #[error("TooLong")]
     TooLong,
-    /// A byte is none of `A` to `Z`, `a` to `z`, `0` to `9`, `_`, `-` and `.`.
+    /// A byte is not one of `A` to `Z`, `a` to `z`, `0` to `9`, `_`, `-` and `.`.
     #[error("BadByte")]
     BadByte,
 }
@@ -82,7 +82,7 @@ impl Name {
     ///
     /// 1. `Empty`: there is no byte.
     /// 2. `TooLong`: there are more than 32.
-    /// 3. `BadByte`: one of them is none that a name may have.
+    /// 3. `BadByte`: one of them is not one that a name may have.
     pub fn new(bytes: &[u8]) -> Result<Name, NameError>
         ensures valid { IsOk result ↔ IsName bytes.now }
         ensures value { IfOk result (λ name. name ≡ bytes.now) }
@@ -123,7 +123,7 @@ impl PartialEq for Name {
 
     ghost laws = { Prim.search (comparing, rules) };
 
-    // Whole arrays compare faster than the bytes of a name, and zeros stand behind these.
+    // Whole arrays compare faster than the bytes of a name, and zeros stand after these.
     #[inline(always)]
     fn eq(&self, other: &Name) -> bool {
         self.len == other.len && self.bytes == other.bytes
@@ -139,7 +139,7 @@ impl Hash for Name {
 
     ghost respects_eq = { Prim.search (hashing, rules) };
 
-    // The bytes in one write, and behind them one that no name has, as for a text.
+    // The bytes in one write, and after them one that no name has, as for a text.
     fn hash<H: Hasher>(&self, state: &mut H) {
         state.write(self.bytes());
         state.write_u8(0xff);

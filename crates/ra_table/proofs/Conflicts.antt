@@ -54,7 +54,7 @@ pub stays_conflict_free : (old new : LockTable) (mark : Mark) → TableStep old 
 stays_conflict_free old new mark step free =
     AllPairs-apart DoesNotExclude new.holding (step_conflict_free conflict_flips old new mark step (Apart-from_pairs DoesNotExclude old.holding free))
 
--- ---- those that wait are behind the grants
+-- ---- those that wait are after the grants
 
 -- of two stamps one is earlier, or they are of one node
 earlier_cases : StampsAreTotal → (a b : Stamp) → (IsEarlier b a → ⊥) → (a.node ≡ b.node → ⊥) → IsEarlier a b
@@ -67,11 +67,11 @@ earlier_cases total a b not_earlier other_node =
       ]
     ]
 
--- an entry that waits behind a conflicting grant is later than it
+-- an entry that waits after a conflicting grant is later than it
 abbrev pub IsBehind : Entry → Entry → Type 0
 IsBehind g w = Excludes g w → IsEarlier g.stamp w.stamp
 
--- a sound table, in which each entry that waits is behind each grant
+-- a sound table, in which each entry that waits is after each grant
 pub record IsOrdered (table : LockTable) : Type 0 where
   pub sound : IsSoundTable table
   pub behind : All (λ g. All (IsBehind g) table.waiting) table.granted

@@ -1,4 +1,4 @@
--- Lanes one behind the other, and what becomes of them where one lane changes or comes.
+-- Lanes one after the other, and what becomes of them where one lane changes or comes.
 use Rattle.std.proofs.Common.{◌≡◌, ℕ, true, false, cond, List, [], ◌∷◌, ◌++◌, All, Any, Contains, ◌↔◌, Some, None, refl, sym, ap, ◌∙◌, subst, arith, inl, inr}
 use Rattle.std.specs.Str.{bytes_eq}
 use Rattle.std.specs.List.{AllByRecursion, IsDistinct}
@@ -174,7 +174,7 @@ module _ {X : Type 0} (part : X → List Entry) where
         | false ↦ λ apart there. lane_is_on name lanes lane on.1 there
       ] refl at
 
-  -- what is true of one lane before and after is true of all of them, one behind the other
+  -- what is true of one lane before and after is true of all of them, one after the other
   carried : (R : List Entry → List Entry → Type 0) → ((zs xs ys : List Entry) → R xs ys → R (zs ++ xs) (zs ++ ys)) → ((zs xs ys : List Entry) → R xs ys → R (xs ++ zs) (ys ++ zs))
       → (name : List ℕ) (lanes : List (List ℕ × X)) (old new : X) → Some old ≡ lookup (bytes_eq name) lanes → R (part old) (part new) → R (joined part lanes) (joined part (set_value (bytes_eq name) lanes new))
   carried R before behind name [] old new at r = absurd (none-some old (sym at))

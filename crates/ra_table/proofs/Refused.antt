@@ -46,7 +46,7 @@ request_refused fault table e node_busy not_above allowed no_memory =
       allowed = (λ h. absurd (no_memory (ap Err h)), λ may. absurd (false≢true (allowed.1 may)));
     }
 
--- one that may be made is refused for want of memory alone
+-- one that may be made is refused only because memory ran out
 pub request_made : (result : Result (Unit {0}) RequestError) (table : LockTable) (e : Entry) → MayRequest table e → IfErr result (λ fault. fault ≡ requesting.Memory) → RequestTells result table e
 request_made (Ok x) table e may memory =
     record {

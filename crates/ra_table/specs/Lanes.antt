@@ -23,7 +23,7 @@ abbrev pub StandsAt : List Entry → ℕ → Entry → Type 0
 StandsAt entries place e = (place < length entries) × (slice_index_or entries place e ≡ e)
 
 module _ {X : Type 0} (part : X → List Entry) where
-  -- these parts of all lanes, one behind the other
+  -- these parts of all lanes, one after the other
   abbrev pub joined : List (List ℕ × X) → List Entry
   joined [] = []
   joined (lane ∷ lanes) = part lane.1 ++ joined lanes

@@ -20,9 +20,9 @@ struct Lane {
 }
 
 /// The entries that wait and those that hold, in a lane for each name on which an entry ever waited. Contracts see
-/// those of all lanes, one lane behind the other.
+/// those of all lanes, one lane after the other.
 ///
-/// A lane is found by a hash, in expected constant time. Each call takes beside that at most what is linear in the
+/// A lane is found by a hash, in expected constant time. Each call takes besides at most what is linear in the
 /// number of its entries, and `wait` moves all lanes into more memory now and then, which is constant on average. A
 /// lane stays when its last entry has left.
 #[derive(Debug, Drop)]

@@ -44,7 +44,7 @@ pub fn granted_entries_have_entered()
         → Contains table.granted e ↔ ((j : ℕ) × IsAt marks j (Mark.Entered e)) }
 {}
 
-/// The marks of a run decide who waits, holds and was granted, and how many, but for the order of the lists.
+/// The marks of a run decide who waits, holds and was granted, and how many, except for the order of the lists.
 pub fn tables_of_one_run_have_the_same_entries()
     ensures { (marks : List Mark) (a b : LockTable) → TableRun marks a → TableRun marks b → SameEntries a b }
 {}

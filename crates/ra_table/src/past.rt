@@ -23,7 +23,7 @@ impl<A> Past<A> {
         Past { of: PhantomData }
     }
 
-    /// Makes the past with this one behind the others.
+    /// Makes the past with this one after the others.
     pub fn and(&self, next: &A) -> Past<A>
         ensures { result.items ≡ self.now.items ++ next.now ∷ [] }
     {

@@ -83,7 +83,7 @@ impl Table {
     /// 2. `NotAbove`: its number is not above the number of each entry granted so far on its name.
     /// 3. `Memory`.
     ///
-    /// Whichever comes, the table is as before.
+    /// In each case the table is as before.
     pub fn request(&mut self, entry: Entry) -> Result<(), RequestError>
         ensures ok { OnOk result (TableStep self.old (Mark.Requested entry) self.new) }
         ensures err { OnErr result (self.new ≡ self.old) }
@@ -111,7 +111,7 @@ impl Table {
     /// 3. `Earlier`: a conflicting entry on its name with an earlier stamp waits.
     /// 4. `Memory`.
     ///
-    /// Whichever comes, the table is as before.
+    /// In each case the table is as before.
     pub fn enter(&mut self, entry: &Entry) -> Result<(), EnterError>
         ensures ok { OnOk result (TableStep self.old (Mark.Entered entry.now) self.new) }
         ensures err { OnErr result (self.new ≡ self.old) }
@@ -155,7 +155,7 @@ impl Table {
         Ok(())
     }
 
-    /// Returns whether the entry may wait, memory aside: its node neither waits nor holds on its name, and its number is above that of
+    /// Returns whether the entry may wait, unless memory runs out: its node neither waits nor holds on its name, and its number is above that of
     /// each entry granted so far on it. It takes expected time linear in the number of entries that wait and hold on its name, and does
     /// not allocate.
     pub fn can_request(&self, entry: &Entry) -> bool
@@ -165,7 +165,7 @@ impl Table {
         self.check_request(entry).is_ok()
     }
 
-    /// Returns whether the entry may be granted now, memory aside: it waits, no conflicting entry on its name
+    /// Returns whether the entry may be granted now, unless memory runs out: it waits, no conflicting entry on its name
     /// holds, and none with an earlier stamp waits. It takes expected time linear in the number of entries that wait
     /// and hold on its name, and does not allocate.
     pub fn can_enter(&self, entry: &Entry) -> bool
@@ -200,7 +200,7 @@ impl Table {
     ///
     /// # Errors
     ///
-    /// Those of `request`, but for `Memory`.
+    /// Those of `request`, except for `Memory`.
     #[tactic(auto, using(crate::proofs::Allowed::allowed))]
     fn check_request(&self, entry: &Entry) -> Result<(), RequestError>
         ensures allowed { IsOk result ↔ MayRequest self.now entry.now }
@@ -223,7 +223,7 @@ impl Table {
     ///
     /// # Errors
     ///
-    /// Those of `enter`, but for `Memory`.
+    /// Those of `enter`, except for `Memory`.
     fn check_enter(&self, entry: &Entry) -> Result<usize, EnterError>
         ensures place { IfOk result (λ place.
             StandsAt (on_name entry.now.name self.now.waiting) place entry.now) }

@@ -41,7 +41,7 @@ consumed_both (Some xs) (Some ys) None first second a b = absurd b
 consumed_both (Some xs) (Some ys) (Some zs) first second a b =
     a ∙ ap (λ (rest : List ℕ). first ++ rest) b ∙ sym (append_assoc first second zs)
 
--- ---- Behind whole lines
+-- ---- After whole lines
 
 has_read : (limit left : ℕ) (old now new : Option (List ℕ)) (front : List Line) (bytes : List ℕ) → IsBehind limit left old now front
     → Consumes now new bytes → length bytes ≤ left → HasRead limit old new front bytes
@@ -88,7 +88,7 @@ none_behind limit left old now new front bytes number why behind more taken how 
   (is, wrong),
 )
 
--- want of memory behind right lines
+-- memory ran out after right lines
 stops_behind : (limit left : ℕ) (old now : Option (List ℕ)) (front : List Line) → IsBehind limit left old now front → HasBegun front
     → StopsBehind limit old now
 stops_behind limit left old now front behind begun = (front, begun, behind.taken, omega (arith, behind.room))
@@ -156,7 +156,7 @@ stands_right : (checker : Checker) (front : List Line) → StandsBehind checker 
 stands_right checker front stands =
     inr (inl (checker.version, checker.world.count, checker.world.start, checker.world.moves, due_of checker, stands.front))
 
--- behind the first line
+-- after the first line
 pub along_first : (limit : ℕ) (old new : Option (List ℕ)) (bytes : List ℕ) (line : Line) (checker : Checker) → TakesBytes limit old new bytes → BeginsReadable bytes line [] → (IsReadable line → StandsBehind checker (line ∷ []))
     → IsAlong limit (limit - length bytes) old new checker 2
 along_first limit old new bytes line checker taken begins stands = record {
@@ -199,7 +199,7 @@ along_by limit left old now new checker after number line bytes along taken begi
   stands = stands;
 }
 
--- behind one more line, which was right and is not the last one
+-- after one more line, which was right and is not the last one
 pub along_more : (limit left : ℕ) (old now new : Option (List ℕ)) (checker after : Checker) (number : ℕ) (line : Line) (bytes : List ℕ)
     → IsAlong limit left old now checker number → TakesBytes left now new bytes → BeginsReadable bytes line [] → line ≢ Last
     → Takes checker line after → IsAlong limit (left - length bytes) old new after (number + 1)
@@ -249,7 +249,7 @@ no_memory_next limit left old now new checker number line bytes along taken begi
     stops_behind limit (left - length bytes) old new (along.front ++ line ∷ [])
     (behind_one_more limit left old now new along.front line bytes along.behind taken begins (inr (inl begun))) begun
 
--- ---- Behind the last line
+-- ---- After the last line
 
 front_at_end : (checker : Checker) (front : List Line) → StandsBehind checker front → due_of checker ≡ []
     → IsFront checker.version checker.world.count checker.world.start checker.world.moves [] front
@@ -305,7 +305,7 @@ some_taken_by left now new bytes (Err fault) taken ended = tt
 nothing_is_open : (front : List Line) → IsOpen front []
 nothing_is_open front = ((All-nil (λ byte. byte ≢ 10), omega arith), λ whole. refl)
 
--- nothing stands behind it
+-- nothing stands after it
 valid_at_end : (limit left : ℕ) (old now new : Option (List ℕ)) (checker : Checker) (number : ℕ) → IsDone limit left old now checker number
     → Consumes now new [] → IsAtEnd new
     → Judges limit old new (Valid (requests_in (marks_of checker.world.moves)) (length (sent_by checker.world.moves)))
@@ -337,7 +337,7 @@ fails_at_end : (limit left : ℕ) (old now new : Option (List ℕ)) (checker : C
 fails_at_end limit left old now new checker number fault done failed =
     fails_behind limit left old now new done.front [] fault done.behind (λ whole. refl) failed
 
--- what comes behind the last line decides
+-- what comes after the last line decides
 pub answers_at_end : (limit left : ℕ) (old now new : Option (List ℕ)) (checker : Checker) (number : ℕ) (result : Result Verdict TraceError)
     → IsDone limit left old now checker number → EndsText left now new checker number result → Answers limit old new result
 answers_at_end limit left old now new checker number (Ok (Valid requests messages)) done (taken, ended, is, are) =

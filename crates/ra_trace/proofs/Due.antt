@@ -1,4 +1,4 @@
--- What is left of a list behind a place.
+-- What is left of a list after a place.
 use Rattle.std.proofs.Common.{◌≡◌, ℕ, zero, suc, ◌+◌, ◌<◌, List, [], ◌∷◌, length, drop, slice_get, Some, sym, ap, ◌∙◌, arith}
 
 pub some_left : {X : Type 0} (xs : List X) (k : ℕ) → k < length xs → drop k xs ≡ [] → ⊥

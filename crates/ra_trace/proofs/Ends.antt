@@ -1,4 +1,4 @@
--- Where a line is over, what stands behind it makes no other line of it.
+-- Where a line is over, what stands after it makes no other line of it.
 use Rattle.std.proofs.Common.{◌≡◌, ◌≢◌, ◌⊎◌, ℕ, ◌<◌, ◌≤◌, ◌==◌, false, List, [], ◌∷◌, ◌++◌, length, take, ◌-◌, All, Option, Some, None, refl, sym, ap, ◌∙◌, subst, inl, inr, arith, append_assoc, length-append}
 use Rattle.std.specs.Prelude.{Ok}
 use Rattle.std.proofs.lemmas.Bool.{ne_eqb, cases_Bool, eqb-true, eqb-false}
@@ -22,14 +22,14 @@ free [] h = All-nil (λ b. (b == 10) ≡ false)
 free (b ∷ bytes) h =
     All-cons (λ b. (b == 10) ≡ false) b bytes (ne_eqb b 10 (All-head (λ byte. byte ≢ 10) b bytes h)) (free bytes (All-tail (λ byte. byte ≢ 10) b bytes h))
 
--- a line feed stands behind all bytes that are none
+-- a line feed stands after all bytes that are none
 feed_is_late : (bytes more before rest : List ℕ) → NoFeed bytes → bytes ++ more ≡ before ++ 10 ∷ rest → length bytes ≤ length before
 feed_is_late [] more before rest h e = omega arith
 feed_is_late (b ∷ bytes) more [] rest h e = absurd (All-head (λ byte. byte ≢ 10) b bytes h cc)
 feed_is_late (b ∷ bytes) more (c ∷ before) rest h e =
     let late = feed_is_late bytes more before rest (All-tail (λ byte. byte ≢ 10) b bytes h) cc in omega (arith, late)
 
--- a line has a line feed behind fewer than 127 bytes
+-- a line has a line feed after fewer than 127 bytes
 line_feeds : (text : List ℕ) (line : Line) (rest : List ℕ) → BeginsReadable text line rest
     → (text ≡ body line ++ 10 ∷ rest) × (length (body line) < 127)
 line_feeds text line rest h =

@@ -1,4 +1,4 @@
--- Fronts of a trace: which line may come next, which lines stand in one, and that the lines tell the run.
+-- Prefixes of a trace: which line may come next, which lines stand in one, and that the lines tell the run.
 use Rattle.std.proofs.Common.{◌≡◌, ◌≢◌, ◌⊎◌, ℕ, List, [], ◌∷◌, ◌++◌, map, refl, sym, ap, ◌∙◌, subst, inl, inr, append_assoc}
 use Rattle.std.specs.Prelude.{All, flat_map}
 use Rattle.std.proofs.lemmas.List.{append-nil, append_cancel_left, append_cancel_right, map-append}
@@ -51,7 +51,7 @@ steps_in-moves (move ∷ moves) =
     (flat_map-append steps_in_line (map Marked move.marks) behind ∙ ap (λ (ss : List Step). ss ++ steps_in behind) (steps_in-marked move.marks)
     ∙ steps_in-moves moves)
 
--- the marks in a front, and then those that are due, are the marks of its run
+-- the marks in a prefix, and then those that are due, are the marks of its run
 pub marks_so_far : (version : Version) (n start : ℕ) (moves : List Move) (due : List Mark) (lines : List Line) → IsFront version n start moves due lines
     → marks_in lines ++ due ≡ marks_of moves
 marks_so_far version n start moves due lines front =
@@ -64,7 +64,7 @@ steps_so_far version n start moves due lines front =
     sym (append-nil (steps_in lines)) ∙ ap (λ (ss : List Step). steps_in lines ++ ss) (sym (steps_in-marked due))
     ∙ sym (flat_map-append steps_in_line lines (map Marked due)) ∙ ap steps_in front.lines_are ∙ steps_in-moves moves
 
--- ---- A front begins with the first line, and tells its run
+-- ---- A prefix begins with the first line, and tells its run
 
 pub record Begins (version : Version) (n start : ℕ) (rest : List Line) (due : List Mark) (lines : List Line) : Type 0 where
   pub tail : List Line
@@ -110,7 +110,7 @@ one_front laws version n start moves due version' n' start' moves' due' lines a 
 
 -- ---- Where a line stands among those of moves
 
--- a step's line, behind those of the moves before
+-- a step's line, after those of the moves before
 pub record AtStep (moves : List Move) (front : List Line) (line : Line) : Type 0 where
   pub before : List Move
   pub move : Move
@@ -119,7 +119,7 @@ pub record AtStep (moves : List Move) (front : List Line) (line : Line) : Type 0
   pub front_is : front ≡ flat_map move_lines before
   pub line_is : line ≡ Stepped move.step
 
--- a mark's line, behind those of the moves before and the first ones of its own move
+-- a mark's line, after those of the moves before and the first ones of its own move
 pub record AtMark (moves : List Move) (front : List Line) (line : Line) : Type 0 where
   pub before : List Move
   pub move : Move
@@ -132,7 +132,7 @@ pub record AtMark (moves : List Move) (front : List Line) (line : Line) : Type 0
   pub front_is : front ≡ flat_map move_lines before ++ Stepped move.step ∷ map Marked come
   pub line_is : line ≡ Marked mark
 
--- the line is one of the marks, or it stands behind them
+-- the line is one of the marks, or it stands after them
 record AmongMarks (marks : List Mark) (front : List Line) (line : Line) : Type 0 where
   come : List Mark
   mark : Mark
@@ -225,9 +225,9 @@ place_in (move ∷ moves) (x ∷ front) line rest e =
       ]
     ]
 
--- ---- What is right behind a front
+-- ---- What is right after a prefix
 
--- the line may come next behind these lines, which are a front in this version where they are not empty
+-- the line may come next after these lines, which are a prefix in this version where they are not empty
 abbrev pub IsNext : Version → List Line → Line → Type 0
 IsNext version front (First named nodes start) = front ≡ []
 IsNext version front (Stepped step) = (n start : ℕ) × (moves : List Move) × IsFront version n start moves [] front × GoesOn n start moves step
@@ -305,7 +305,7 @@ next_mark laws version n start moves front line count run each m =
       due_marks_go_on laws version n start (m.before ++ m.move ∷ []) m.mark m.others (First version n start ∷ front) here,
     )
 
--- a line of a front may come next where it stands, and is not the last one
+-- a line of a prefix may come next where it stands, and is not the last one
 pub record InFront (version : Version) (front : List Line) (line : Line) : Type 0 where
   pub next : IsNext version front line
   pub not_last : line ≢ Last
@@ -377,7 +377,7 @@ next_in_trace laws version n start moves text front line rest trace e =
       | inr h ↦ (in_front laws version n start moves [] front line h.rest (subst (IsFront version n start moves []) h.lines_are whole)).next
     ]
 
--- no front has the last line
+-- no prefix has the last line
 pub no_trace : LawsBelow → (version : Version) (n start : ℕ) (moves : List Move) (due : List Mark) (version' : Version) (n' start' : ℕ) (moves' : List Move)
     (lines : List Line)
     → IsFront version n start moves due lines → lines ≡ trace_lines version' n' start' moves' → ⊥
@@ -401,7 +401,7 @@ one_trace laws version n start moves text version' n' start' moves' text' a b e 
     (subst (IsFront version' n' start' moves' []) (sym lines) (front_of_trace version' n' start' moves' text' b)) in
     record { named = same.named; count = same.count; from = same.from; run = same.run }
 
--- ---- A front goes on
+-- ---- A prefix goes on
 
 -- by a step, whose marks are due then
 pub front_and_step : (version : Version) (n start : ℕ) (moves : List Move) (lines : List Line) (move : Move) → IsFront version n start moves [] lines

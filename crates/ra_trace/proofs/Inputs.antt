@@ -23,7 +23,7 @@ use Rattle.ra_trace.proofs.Ends.{begins_before}
 use Rattle.ra_trace.proofs.Versions.{begins_readable}
 use Rattle.ra_trace.proofs.Fronts.{no_trace}
 
--- ---- What is wrong stays wrong, whatever stands behind what was read
+-- ---- What is wrong stays wrong, whatever stands after what was read
 
 begins_more : (version : Version) (text more : List ℕ) (line : Line) (rest : List ℕ) → BeginsWith version text line rest
     → BeginsWith version (text ++ more) line (rest ++ more)

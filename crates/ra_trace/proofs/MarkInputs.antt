@@ -17,7 +17,7 @@ use Rattle.ra_trace.specs.Marks.{marks_text, grants_in, IsMarkRun, IsWrongMark, 
 use Rattle.ra_trace.specs.MarksReading.{JudgesMarks, ReadsOnMarks, PassesMarksLimit, StopsBehindMarks, AnswersMarks}
 use Rattle.ra_trace.proofs.Ends.{begins_before}
 
--- ---- What is wrong stays wrong, whatever stands behind what was read
+-- ---- What is wrong stays wrong, whatever stands after what was read
 
 some_bytes : (before : List ℕ) (byte : ℕ) (more : List ℕ) → (before ++ byte ∷ []) ++ more ≢ []
 some_bytes [] byte more e = absurd cc

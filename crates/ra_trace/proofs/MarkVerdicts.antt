@@ -30,7 +30,7 @@ begins_so : (mark : Mark) (marks : List Mark) (rest : List ℕ) → IsMarkLine T
     → BeginsWithMark (marks_text (mark ∷ marks) ++ rest) mark (marks_text marks ++ rest)
 begins_so mark marks rest fits = (fits, append_assoc (mark_line mark) (marks_text marks) rest)
 
--- ---- Two fronts of one text
+-- ---- Two prefixes of one text
 
 -- of two lists of marks that begin a text, one begins the other
 record Longer (shorter longer : List Mark) (left right : List ℕ) : Type 0 where
@@ -57,9 +57,9 @@ record SameEnd (a b : List Mark) (r s : List ℕ) : Type 0 where
   marks : a ≡ b
   rest : r ≡ s
 
--- ---- Nothing more is right behind what is wrong
+-- ---- Nothing more is right after what is wrong
 
--- the table behind a front of a run allows the mark that comes next
+-- the table after a prefix of a run allows the mark that comes next
 allowed_in : TableLaws → (front more : List Mark) (mark : Mark) (table after : LockTable) → TableRun front table
     → TableRun (front ++ mark ∷ more) after → AllowsMark table mark
 allowed_in laws front more mark table after run whole =

@@ -85,7 +85,7 @@ few limit left old now log number along =
       number_is = omega (arith, along.number_is, some, along.room);
     }
 
--- ---- Behind right lines
+-- ---- After right lines
 
 pub along_none : TableLaws → (limit : ℕ) (old : Option (List ℕ)) (log : Log) → IsNewLog log → IsAlongMarks limit limit old old log 1
 along_none laws limit old log new = record {
@@ -232,7 +232,7 @@ more_there laws limit left old now new log after number mark bytes along taken b
       };
     }
 
--- the mark is allowed, and memory was wanting
+-- the mark is allowed, and memory ran out
 memory_there : TableLaws → (limit left : ℕ) (old now new : Option (List ℕ)) (log : Log) (number : ℕ) (mark : Mark) (bytes : List ℕ)
     → IsAlongMarks limit left old now log number → TakesBytes left now new bytes → BeginsReadable bytes (line.Marked mark) []
     → AllowsMark log.table mark → StopsBehindMarks limit old new

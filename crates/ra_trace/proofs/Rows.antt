@@ -52,7 +52,7 @@ joined4 words a b c d = ap (λ (xs : List ℕ). words ++ xs) (right4 a b c d (co
 joined5 : (words a b c d e : List ℕ) → words ++ ((a ++ 32 ∷ (b ++ 32 ∷ (c ++ 32 ∷ (d ++ 32 ∷ e)))) ++ codes "\n") ≡ words ++ (((((a ++ 32 ∷ b) ++ 32 ∷ c) ++ 32 ∷ d) ++ 32 ∷ e) ++ codes "\n")
 joined5 words a b c d e = ap (λ (xs : List ℕ). words ++ xs) (right5 a b c d e (codes "\n") ∙ sym (left5 a b c d e (codes "\n")))
 
--- how the fields behind the first words are written
+-- how the fields after the first words are written
 abbrev pub first_tail : ℕ × ℕ → List ℕ
 first_tail f = decimal f.0 ++ 32 ∷ decimal f.1
 

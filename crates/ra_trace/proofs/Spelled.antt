@@ -28,7 +28,7 @@ pub record ReadsField {A : Type 0} (read : List ℕ → Option A) (Is : A → Ty
   pub reads : Reads read Is spell
   pub no_space : (x : A) → Is x → IsFree 32 (spell x)
 
--- a field, and what stands behind the space behind it
+-- a field, and what stands after the space after it
 before_only : {A : Type 0} (f : List ℕ → Option A) (P : A → Type 0) (s : A → List ℕ) → ReadsField f P s
     → (text : List ℕ) (front : A × List ℕ) → before f text ≡ Some front → P front.0 × (text ≡ s front.0 ++ 32 ∷ front.1)
 before_only f P s F text front e =

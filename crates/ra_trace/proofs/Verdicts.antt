@@ -252,7 +252,7 @@ next_is_not_wrong laws version front line text rest why next begins w =
           (subst (λ (l : Line). Blame b.n b.start b.moves b.due front l why) same b.blame)
     ]
 
--- ---- Two fronts of one text
+-- ---- Two prefixes of one text
 
 -- the lines in front of a wrong one, and those of a trace
 abbrev pub AreRight : List Line → Type 0

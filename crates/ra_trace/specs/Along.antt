@@ -20,7 +20,7 @@ pub record IsBehind (limit left : ℕ) (old now : Option (List ℕ)) (front : Li
   pub room : length (flat_map line_text front) + left ≡ limit
   pub right : AreRight front
 
--- the lines so far are right, the last one is not among them, and the checker stands behind them
+-- the lines so far are right, the last one is not among them, and the checker stands after them
 pub record IsAlong (limit left : ℕ) (old now : Option (List ℕ)) (checker : Checker) (number : ℕ) : Type 0 where
   pub front : List Line
   pub behind : IsBehind limit left old now front
@@ -35,7 +35,7 @@ pub record IsDone (limit left : ℕ) (old now : Option (List ℕ)) (checker : Ch
   pub trace : IsTraceIn checker.version checker.world.count checker.world.start checker.world.moves (flat_map line_text front)
   pub lines : front ≡ trace_lines checker.version checker.world.count checker.world.start checker.world.moves
 
--- what comes of the first line: the checker stands behind it, or it is wrong, or a fault came
+-- what comes of the first line: the checker stands after it, or it is wrong, or a fault came
 abbrev pub Opens : ℕ → Option (List ℕ) → Option (List ℕ) → List ℕ → Result (Option Checker) TraceError → Type 0
 Opens limit old new bytes (Ok (Some checker)) = IsAlong limit (limit - length bytes) old new checker 2
 Opens limit old new bytes (Ok None) = Judges limit old new (Invalid 1 cause.Line)
@@ -48,7 +48,7 @@ Judged checker given after (Ok Last) = (given ≡ line.Last) × Takes checker gi
 Judged checker given after (Ok (Wrong why)) = Refuses checker given why
 Judged checker given after (Err fault) = (fault ≡ Memory) × Allows checker given
 
--- what comes of the line of this number: the checker stands behind it, or the trace is over, or the line is wrong, or a fault came
+-- what comes of the line of this number: the checker stands after it, or the trace is over, or the line is wrong, or a fault came
 abbrev pub Turns : ℕ → ℕ → Option (List ℕ) → Option (List ℕ) → Checker → ℕ → List ℕ → Result Next TraceError → Type 0
 Turns limit left old new after number bytes (Ok Right) = IsAlong limit (left - length bytes) old new after (number + 1)
 Turns limit left old new after number bytes (Ok Last) = IsDone limit (left - length bytes) old new after (number + 1)

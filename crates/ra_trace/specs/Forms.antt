@@ -67,22 +67,22 @@ mode_of word =
     else if bytes_eq word (codes "SIX") then Some SharedIntentExclusive
     else None
 
--- what stands before and behind the first such byte
+-- what stands before and after the first such byte
 abbrev pub cut : ℕ → List ℕ → Option (List ℕ × List ℕ)
 cut byte [] = None
 cut byte (b ∷ bs) = if b == byte then Some ([], bs) else option_map (λ parts. (b ∷ parts.0, parts.1)) (cut byte bs)
 
--- what stands behind these bytes, where the text begins with them
+-- what stands after these bytes, where the text begins with them
 abbrev pub behind : List ℕ → List ℕ → Option (List ℕ)
 behind [] text = Some text
 behind (w ∷ words) [] = None
 behind (w ∷ words) (b ∷ text) = if w == b then behind words text else None
 
--- the field before the first space, and what stands behind it
+-- the field before the first space, and what stands after it
 abbrev pub before : {A : Type 0} → (List ℕ → Option A) → List ℕ → Option (A × List ℕ)
 before read text = option_and_then (λ parts. option_map (λ field. (field, parts.1)) (read parts.0)) (cut 32 text)
 
--- the field before the first space, and the others behind it
+-- the field before the first space, and the others after it
 abbrev pub fields : {A B : Type 0} → (List ℕ → Option A) → (List ℕ → Option B) → List ℕ → Option (A × B)
 fields read others text = option_and_then (λ front. option_map (λ rest. (front.0, rest)) (others front.1)) (before read text)
 
@@ -129,7 +129,7 @@ entry_line change.Requested entry = Marked (Requested entry)
 entry_line change.Entered entry = Marked (Entered entry)
 entry_line change.Left entry = Marked (Left entry)
 
--- how what stands behind the first words of such a line is read
+-- how what stands after the first words of such a line is read
 abbrev pub read_as : Kind → List ℕ → Option Line
 read_as (kind.First version) = first_in version
 read_as kind.Ask = λ rest. option_map Stepped (ask_in rest)
@@ -181,7 +181,7 @@ IsReadable (Stepped step) = IsStepLine Two step
 IsReadable (Marked mark) = IsMarkLine Two mark
 IsReadable Last = Unit {0}
 
--- the text begins with such a line, and this stands behind it
+-- the text begins with such a line, and this stands after it
 abbrev pub BeginsReadable : List ℕ → Line → List ℕ → Type 0
 BeginsReadable text line rest = IsReadable line × (text ≡ line_text line ++ rest)
 

@@ -31,7 +31,7 @@ grants_in (Requested e ∷ marks) = grants_in marks
 grants_in (Entered e ∷ marks) = grants_in marks + 1
 grants_in (Left e ∷ marks) = grants_in marks
 
--- the text begins with the line of a mark, each field in its range, and this stands behind it
+-- the text begins with the line of a mark, each field in its range, and this stands after it
 abbrev pub BeginsWithMark : List ℕ → Mark → List ℕ → Type 0
 BeginsWithMark text mark rest = IsMarkLine Two mark × (text ≡ mark_line mark ++ rest)
 
@@ -46,8 +46,8 @@ TableRefuses table (Entered e) why =
     ⊎ ((why ≡ cause.Earlier) × Contains table.waiting e × (IsHeld table e → ⊥) × HasEarlier table e)
 TableRefuses table (Left e) why = (why ≡ cause.NotHeld) × (Contains table.holding e → ⊥)
 
--- why the text is wrong that stands behind these marks, a run of the lock table: it begins with the line of no mark, or with a mark that
--- the table behind them refuses
+-- why the text is wrong that stands after these marks, a run of the lock table: it begins with the line of no mark, or with a mark that
+-- the table after them refuses
 abbrev pub IsWrongMark : List Mark → List ℕ → MarkCause → Type 0
 IsWrongMark marks text why =
     ((why ≡ cause.Line) × (text ≢ []) × ((mark : Mark) (rest : List ℕ) → BeginsWithMark text mark rest → ⊥))

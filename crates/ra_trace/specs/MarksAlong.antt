@@ -43,13 +43,13 @@ pub record IsNewLog (log : Log) : Type 0 where
   pub requests_is : log.requests ≡ 0
   pub grants_is : log.grants ≡ 0
 
--- the log behind one more mark
+-- the log after one more mark
 pub record TakesMark (old : Log) (mark : Mark) (new : Log) : Type 0 where
   pub step : TableStep old.table mark new.table
   pub requests_is : new.requests ≡ old.requests + requests_in (mark ∷ [])
   pub grants_is : new.grants ≡ old.grants + grants_in (mark ∷ [])
 
--- the log stands behind these marks
+-- the log stands after these marks
 pub record IsLogOf (log : Log) (marks : List Mark) : Type 0 where
   pub lines : All (IsMarkLine Two) marks
   pub run : TableRun marks log.table
@@ -71,7 +71,7 @@ JudgedMark old mark new (Ok End) = ⊥
 JudgedMark old mark new (Ok (Wrong why)) = TableRefuses old.table mark why
 JudgedMark old mark new (Err fault) = (fault ≡ Memory) × AllowsMark old.table mark
 
--- that a line is wrong which is none of a mark
+-- that a line is wrong which is not one of a mark
 abbrev pub JudgedOther : Result NextMark TraceError → Type 0
 JudgedOther (Ok Right) = ⊥
 JudgedOther (Ok End) = ⊥
@@ -91,7 +91,7 @@ IsMissing bytes Right = ⊥
 IsMissing bytes End = bytes ≡ []
 IsMissing bytes (Wrong why) = (why ≡ cause.Line) × (bytes ≢ [])
 
--- what comes of the line of this number: the log stands behind it, or there is none, or it is wrong, or a fault came
+-- what comes of the line of this number: the log stands after it, or there is none, or it is wrong, or a fault came
 abbrev pub TurnsMarks : ℕ → ℕ → Option (List ℕ) → Option (List ℕ) → Log → ℕ → List ℕ → Result NextMark TraceError → Type 0
 TurnsMarks limit left old new after number bytes (Ok Right) = IsAlongMarks limit (left - length bytes) old new after (number + 1)
 TurnsMarks limit left old new after number bytes (Ok End) = JudgesMarks limit old new (Valid after.requests after.grants)

@@ -1,4 +1,4 @@
--- How far a checker reads a mark log: the lines of a run of the lock table, and of what stands behind them no more than shows that the
+-- How far a checker reads a mark log: the lines of a run of the lock table, and of what stands after them no more than shows that the
 -- next line is over.
 use Rattle.std.specs.Prelude.{◌≡◌, ◌⊎◌, ℕ, ◌+◌, ◌≤◌, List, [], ◌∷◌, ◌++◌, Option, Result, Ok, Err, length}
 use Rattle.std.specs.Io.KnownBytes.{Consumes, IsAtEnd}
@@ -12,7 +12,7 @@ use Rattle.ra_trace.specs.Marks.{marks_text, grants_in, IsMarkRun, IsWrongMark}
 use Rattle.ra_trace.specs.Reading.{IsOpenLine}
 use Rattle.ra_trace.specs.NextLine.{IsOverLine}
 
--- what was taken of the input: the lines of these marks, a run of the lock table, and these bytes behind them
+-- what was taken of the input: the lines of these marks, a run of the lock table, and these bytes after them
 pub record HasReadMarks (limit : ℕ) (old new : Option (List ℕ)) (marks : List Mark) (rest : List ℕ) : Type 0 where
   pub taken : Consumes old new (marks_text marks ++ rest)
   pub at_most : length (marks_text marks ++ rest) ≤ limit

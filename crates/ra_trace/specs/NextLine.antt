@@ -47,7 +47,7 @@ EndsPart part false = All (λ byte. byte ≢ 10) part
 abbrev pub IsPart : ℕ → List ℕ → ℕ → Bool → Type 0
 IsPart most shown count is_over = (count ≤ length shown) × (count ≤ most) × EndsPart (take count shown) is_over
 
--- so many bytes were taken, and stand behind those from before
+-- so many bytes were taken, and stand after those from before
 abbrev pub TakesPart : ℕ → Option (List ℕ) → Option (List ℕ) → List ℕ → List ℕ → Result (ℕ × Bool) TraceError → Type 0
 TakesPart most old new before bytes (Ok taken) =
     (part : List ℕ) × (bytes ≡ before ++ part) × (length part ≡ taken.0) × (taken.0 ≤ most) × Consumes old new part × EndsPart part taken.1
@@ -66,18 +66,18 @@ abbrev pub IsOverLine : List ℕ → Type 0
 IsOverLine bytes =
     (before : List ℕ) × (byte : ℕ) × IsOpenLine before × (bytes ≡ before ++ byte ∷ []) × ((byte ≡ 10) ⊎ (length bytes ≡ 128))
 
--- no line begins them, and none will whatever comes behind them
+-- no line begins them, and none will whatever comes after them
 abbrev pub HasNone : List ℕ → Option (List ℕ) → Type 0
 HasNone bytes new =
     ((line : Line) (rest : List ℕ) → BeginsReadable bytes line rest → ⊥) × (IsOverLine bytes ⊎ (IsOpenLine bytes × IsAtEnd new))
 
--- which line it is, or that it is none
+-- which line it is, or that it is not one
 abbrev pub ReadsNext : ℕ → Option (List ℕ) → Option (List ℕ) → List ℕ → Result (Option Line) TraceError → Type 0
 ReadsNext left old new bytes (Ok (Some line)) = TakesBytes left old new bytes × BeginsReadable bytes line [] × EndsSo Feed bytes new
 ReadsNext left old new bytes (Ok None) = TakesBytes left old new bytes × HasNone bytes new
 ReadsNext left old new bytes (Err fault) = FailsWithin left old new bytes fault
 
--- What stands behind the last line of a trace whose run the checker knows: nothing, or one byte, with which the line of this number
+-- What stands after the last line of a trace whose run the checker knows: nothing, or one byte, with which the line of this number
 -- would begin.
 abbrev pub EndsText : ℕ → Option (List ℕ) → Option (List ℕ) → Checker → ℕ → Result Verdict TraceError → Type 0
 EndsText left old new checker number (Ok (Valid requests messages)) =

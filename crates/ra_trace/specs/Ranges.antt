@@ -1,4 +1,4 @@
--- What the types of messages, entries, marks and steps say of the ranges of their fields in what is written: all but that numbers are 1
+-- What the types of messages, entries, marks and steps say of the ranges of their fields in what is written: all except that numbers are 1
 -- or more.
 use Rattle.std.specs.Prelude.{◌≤◌}
 use Rattle.ra_stamp.specs.Message.{seq_of}

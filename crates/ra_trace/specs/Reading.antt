@@ -1,4 +1,4 @@
--- How far a checker reads: whole lines that are right, and of what stands behind them no more than shows that the next line is over.
+-- How far a checker reads: whole lines that are right, and of what stands after them no more than shows that the next line is over.
 use Rattle.std.specs.Prelude.{◌≡◌, ◌≢◌, ◌⊎◌, ℕ, ◌+◌, ◌<◌, ◌≤◌, List, [], ◌∷◌, ◌++◌, All, Option, Result, Ok, Err, flat_map, length}
 use Rattle.std.specs.Io.KnownBytes.{Consumes, IsAtEnd}
 use Rattle.ra_stamp.specs.declared.entry.Mark.{Mark}
@@ -18,11 +18,11 @@ IsWhole front =
     (version : Version) × (n start : ℕ) × (moves : List Move) × IsTraceIn version n start moves (flat_map line_text front)
     × (front ≡ trace_lines version n start moves)
 
--- the lines are those of a front of a trace: the last one has not come
+-- the lines are those of a prefix of a trace: the last one has not come
 abbrev pub HasBegun : List Line → Type 0
 HasBegun front = (version : Version) × (n start : ℕ) × (moves : List Move) × (due : List Mark) × IsFront version n start moves due front
 
--- no line yet, or the lines of a front of a trace, or of a whole one
+-- no line yet, or the lines of a prefix of a trace, or of a whole one
 abbrev pub AreRight : List Line → Type 0
 AreRight front = (front ≡ []) ⊎ HasBegun front ⊎ IsWhole front
 
@@ -30,18 +30,18 @@ AreRight front = (front ≡ []) ⊎ HasBegun front ⊎ IsWhole front
 abbrev pub IsOpenLine : List ℕ → Type 0
 IsOpenLine bytes = All (λ byte. byte ≢ 10) bytes × (length bytes < 128)
 
--- behind these lines, these bytes do not end a line, and nothing stands behind the last one
+-- after these lines, these bytes do not end a line, and nothing stands after the last one
 abbrev pub IsOpen : List Line → List ℕ → Type 0
 IsOpen front rest = IsOpenLine rest × (IsWhole front → rest ≡ [])
 
--- with its last byte what stands behind these lines is over, and not before: with its line feed, with its 128th byte, or with the
--- first byte behind the last line
+-- with its last byte what stands after these lines is over, and not before: with its line feed, with its 128th byte, or with the
+-- first byte after the last line
 abbrev pub IsOver : List Line → List ℕ → Type 0
 IsOver front rest =
     (before : List ℕ) × (byte : ℕ) × IsOpen front before × (rest ≡ before ++ byte ∷ [])
     × ((byte ≡ 10) ⊎ (length rest ≡ 128) ⊎ IsWhole front)
 
--- what was taken of the input: these lines, which are right, and these bytes behind them
+-- what was taken of the input: these lines, which are right, and these bytes after them
 pub record HasRead (limit : ℕ) (old new : Option (List ℕ)) (front : List Line) (rest : List ℕ) : Type 0 where
   pub taken : Consumes old new (flat_map line_text front ++ rest)
   pub at_most : length (flat_map line_text front ++ rest) ≤ limit

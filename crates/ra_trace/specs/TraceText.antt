@@ -1,5 +1,5 @@
 -- Traces: a run, written down line by line, in one of two versions. A line is words with one space between two, and a line feed at
--- its end. Numbers are decimal, with no zero in front.
+-- its end. Numbers are decimal, with no leading zero.
 use Rattle.std.specs.Prelude.{◌≡◌, ℕ, ◌<◌, ◌≤◌, ◌^◌, List, ◌∷◌, [], ◌++◌, All, codes, decimal, map, flat_map}
 use Rattle.ra_stamp.specs.Name.{IsName}
 use Rattle.ra_stamp.specs.NodeId.{IsNodeNumber}
@@ -103,6 +103,6 @@ pub record IsTraceIn (version : Version) (n start : ℕ) (moves : List Move) (te
 abbrev pub IsTrace : ℕ → ℕ → List Move → List ℕ → Type 0
 IsTrace n start moves text = IsTraceIn Two n start moves text
 
--- the text begins with a line of this version, and this stands behind it
+-- the text begins with a line of this version, and this stands after it
 abbrev pub BeginsWith : Version → List ℕ → Line → List ℕ → Type 0
 BeginsWith version text line rest = IsLine version line × (text ≡ line_text line ++ rest)

@@ -1,5 +1,5 @@
 -- What a checker says of a text: that it is the trace of a run, or which line is the first wrong one and why. It goes line by
--- line. Behind each line it knows the version, which the first line named, the run so far, and which marks of the last step have not
+-- line. After each line it knows the version, which the first line named, the run so far, and which marks of the last step have not
 -- come yet.
 use Rattle.std.specs.Prelude.{◌≡◌, ◌≢◌, ◌⊎◌, ℕ, ◌+◌, List, [], ◌∷◌, ◌++◌, All, map, flat_map, length}
 use Rattle.ra_stamp.specs.NodeId.{IsNodeNumber}
@@ -19,7 +19,7 @@ use Rattle.ra_trace.specs.declared.verdict.Verdict.TheVariants.{Valid, Invalid}
 use Rattle.ra_trace.specs.declared.version.Version.{Version}
 use Rattle.ra_trace.specs.TraceText.{IsLine, IsTraceIn, line_text, move_lines, trace_lines, BeginsWith}
 
--- the lines so far are those in this version of these moves, a run, but for the marks of the last one that are still due
+-- the lines so far are those in this version of these moves, a run, except for the marks of the last one that are still due
 pub record IsFront (version : Version) (n start : ℕ) (moves : List Move) (due : List Mark) (lines : List Line) : Type 0 where
   pub count : IsNodeNumber n
   pub run : IsRun n start moves
@@ -36,7 +36,7 @@ marks_in_line Last = []
 abbrev pub marks_in : List Line → List Mark
 marks_in lines = flat_map marks_in_line lines
 
--- the lock table allows the mark behind these
+-- the lock table allows the mark after these
 abbrev pub TableGoesOn : List Mark → Mark → Type 0
 TableGoesOn marks mark = (table : LockTable) × TableRun (marks ++ mark ∷ []) table
 
@@ -62,7 +62,7 @@ IsFirst (Stepped step) = ⊥
 IsFirst (Marked mark) = ⊥
 IsFirst Last = ⊥
 
--- Behind these lines no line may stand that begins the text: the first line is no first one of any version, or behind it none of its
+-- After these lines no line may stand that begins the text: the first line is no first one of any version, or after it none of its
 -- version begins the text but the first, which may not stand again, or something is left behind the last.
 abbrev pub HasNoLine : List Line → List ℕ → Type 0
 HasNoLine front text =
@@ -72,14 +72,14 @@ HasNoLine front text =
     ⊎ ((version : Version) × (n start : ℕ) × (moves : List Move) × IsTraceIn version n start moves (flat_map line_text front)
     × (front ≡ trace_lines version n start moves) × (text ≢ []))
 
--- behind these marks, of which these are still due, the line is not the mark that comes next
+-- after these marks, of which these are still due, the line is not the mark that comes next
 abbrev pub IsUndue : List Mark → List Mark → Line → Type 0
 IsUndue marks due (First version nodes start) = ⊥
 IsUndue marks due (Stepped step) = due ≢ []
 IsUndue marks due (Marked mark) = TableGoesOn marks mark × ((others : List Mark) → due ≢ mark ∷ others)
 IsUndue marks due Last = due ≢ []
 
--- why the line that comes next in the text is wrong, behind these lines, which are not
+-- why the line that comes next in the text is wrong, after these lines, which are not
 abbrev pub IsWrong : List Line → List ℕ → Cause → Type 0
 IsWrong front text cause.Line = HasNoLine front text
 -- the lock table refuses the mark

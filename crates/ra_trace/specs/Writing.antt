@@ -21,7 +21,7 @@ MoveFits move = StepFits move.step × All MarkFits move.marks
 abbrev pub front_text : ℕ → ℕ → List Move → List ℕ
 front_text n start moves = line_text (First Two n start) ++ flat_map line_text (flat_map move_lines moves)
 
--- the world of these nodes has made these steps and no others, and the text is that of its moves, but for the last line
+-- the world of these nodes has made these steps and no others, and the text is that of its moves, except for the last line
 pub record HasTraced (n start : ℕ) (steps : List Step) (world : WorldState) (text : List ℕ) : Type 0 where
   pub number : IsNodeNumber n
   pub count : world.count ≡ n
@@ -37,7 +37,7 @@ pub record IsOpened (n start : ℕ) (world : WorldState) : Type 0 where
   pub is : world ≡ record { count = n; start = start; moves = [] }
   pub run : IsRun world.count world.start world.moves
 
--- the world was made, or there is none of so many nodes
+-- the world was made, or there is none of this many nodes
 abbrev pub Opens : ℕ → ℕ → Result WorldState WriteTraceError → Type 0
 Opens n start (Ok world) = IsOpened n start world
 Opens n start (Err (Run run.BadCount)) = IsNodeNumber n → ⊥

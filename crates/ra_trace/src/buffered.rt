@@ -63,7 +63,7 @@ fn end_of(bytes: &LineBytes, is_over: bool) -> Option<LineEnd>
 ///
 /// # Errors
 ///
-/// `Read`: the reader failed. `Limit`: there is a byte behind those that are left.
+/// `Read`: the reader failed. `Limit`: there is a byte after those that are left.
 fn take_byte<R: Read>(
     reader: &mut R,
     bytes: &mut LineBytes,
@@ -89,7 +89,7 @@ fn take_byte<R: Read>(
 ///
 /// # Errors
 ///
-/// `Read`: the reader failed. `Limit`: there is a byte behind those that are left.
+/// `Read`: the reader failed. `Limit`: there is a byte after those that are left.
 fn take_some<B: BufRead>(
     reader: &mut B,
     bytes: &mut LineBytes,

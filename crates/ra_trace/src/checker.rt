@@ -19,7 +19,7 @@ use ra_table::Table;
 use ra_world::{MarklessWorld, Step, StepError};
 use std::alloc::Global;
 
-/// What a checker knows behind the lines that it took: the version that the first one names, the world after their steps, the lock
+/// What a checker knows after the lines that it took: the version that the first one names, the world after their steps, the lock
 /// table after their marks, and which marks of the last step have not come yet. It keeps nothing of the text.
 #[derive(Drop)]
 pub struct Checker {
@@ -37,7 +37,7 @@ impl Checker {
     ghost use Rattle.ra_trace.specs.Checking.{due_of, IsOpening, StandsBehind, Tried};
     ghost use Rattle.ra_trace.specs.Reading.{HasBegun};
 
-    /// Makes the checker that stands behind this line, or answers `None` where it is no first line of its version.
+    /// Makes the checker that stands after this line, or answers `None` where it is no first line of its version.
     ///
     /// # Errors
     ///
@@ -68,7 +68,7 @@ impl Checker {
         }
     }
 
-    /// Makes the checker that stands behind the first line of a trace of so many nodes.
+    /// Makes the checker that stands after the first line of a trace of this many nodes.
     ///
     /// # Errors
     ///
@@ -82,7 +82,7 @@ impl Checker {
         ensures ok { IfOk result (IsOpening version nodes start) }
         ensures err { IfErr result (λ fault. fault ≡ TraceError.Memory) }
     {
-        // There are 1 to 64 nodes, so only memory can be wanting.
+        // There are 1 to 64 nodes, so only `Memory` can come.
         let Ok(world) = MarklessWorld::new(alloc, nodes.get(), start) else {
             return Err(TraceError::Memory);
         };

@@ -34,7 +34,7 @@ enum Next {
     Wrong(Cause),
 }
 
-/// Returns that this line is none that may stand there.
+/// Returns that this line is not one that may stand there.
 fn wrong_at(line: u64) -> Verdict
     ensures { result ≡ Verdict.Invalid line Cause.Line }
 {
@@ -44,7 +44,7 @@ fn wrong_at(line: u64) -> Verdict
     }
 }
 
-/// Returns the verdict behind a right last line. A line behind it would have this number, and the text may still have `left` bytes.
+/// Returns the verdict after a right last line. A line after it would have this number, and the text may still have `left` bytes.
 ///
 /// # Errors
 ///
@@ -64,7 +64,7 @@ fn ending<R: Read>(
     }
 }
 
-/// Takes the first line, and answers the checker that stands behind it, or `None` where none comes that may begin a trace.
+/// Takes the first line, and answers the checker that stands after it, or `None` where none comes that may begin a trace.
 ///
 /// # Errors
 ///
@@ -123,7 +123,7 @@ fn take_next<R: Read, S: LineSource<R>>(
     }
 }
 
-/// Returns the verdict of a text whose first line these bytes are, and behind it the checker stands.
+/// Returns the verdict of a text whose first line these bytes are, and after it the checker stands.
 ///
 /// # Errors
 ///
@@ -217,7 +217,7 @@ fn check_by<R: Read, S: LineSource<R>>(
         (version : Version) (n start : ℕ) (moves : List Move) → IsTraceIn version n start moves input
         → verdict ≡ Verdict.Valid (requests_in (marks_of moves)) (length (sent_by moves)))) }
 
-    // No verdict was reached in what was read; and where memory was wanting, what was read are right lines and nothing else.
+    // No verdict was reached in what was read; and where memory ran out, what was read are right lines and nothing else.
     ensures failed { IsErrOf result TraceError.Read → ReadsOn limit (R.remaining reader.old) (R.remaining reader.new) }
     ensures limit { IsErrOf result TraceError.Limit → PassesLimit limit (R.remaining reader.old) (R.remaining reader.new) }
     ensures memory { IsErrOf result TraceError.Memory → StopsBehind limit (R.remaining reader.old) (R.remaining reader.new) }
@@ -232,10 +232,10 @@ fn check_by<R: Read, S: LineSource<R>>(
 /// Checks the text of a trace of either version: says that it is the trace of a run, or which line is the first wrong one and why.
 /// In version 1 a node above 16 is wrong, and so is a mode other than `S` and `X`, and a repeat, at the line in which it stands. It
 /// goes line by line, makes each step in a world of its own and each mark in a lock table, and believes neither. The verdict is given
-/// at the first wrong line, and nothing behind that line is read: no byte behind its line feed, none behind its 128th byte, since
-/// each line is shorter, and where something stands behind the last line, one byte of it. Of the text it keeps no more than the
+/// at the first wrong line, and nothing after that line is read: no byte after its line feed, none after its 128th byte, since
+/// each line is shorter, and where something stands after the last line, one byte of it. Of the text it keeps no more than the
 /// present line. It reads at most `limit + 1` bytes, each by a read of its own, so that a reader with a buffer is best; a byte past the
-/// limit is not looked at. No read that failed is tried again. The cost is linear in what is read, beside that of the steps and the
+/// limit is not looked at. No read that failed is tried again. The cost is linear in what is read, plus that of the steps and the
 /// marks, as `World::step` and `Table` say; to read a line takes no memory.
 ///
 /// # Errors
@@ -273,7 +273,7 @@ pub fn check_within<R: Read>(
         (version : Version) (n start : ℕ) (moves : List Move) → IsTraceIn version n start moves input
         → verdict ≡ Verdict.Valid (requests_in (marks_of moves)) (length (sent_by moves)))) }
 
-    // No verdict was reached in what was read; and where memory was wanting, what was read are right lines and nothing else.
+    // No verdict was reached in what was read; and where memory ran out, what was read are right lines and nothing else.
     ensures failed { IsErrOf result TraceError.Read → ReadsOn limit (R.remaining reader.old) (R.remaining reader.new) }
     ensures limit { IsErrOf result TraceError.Limit → PassesLimit limit (R.remaining reader.old) (R.remaining reader.new) }
     ensures memory { IsErrOf result TraceError.Memory → StopsBehind limit (R.remaining reader.old) (R.remaining reader.new) }
@@ -314,7 +314,7 @@ pub fn check<R: Read>(alloc: Global, reader: &mut R) -> Result<Verdict, TraceErr
 }
 
 /// Checks the text of a trace as `check` does, and takes from the buffer of the reader exactly what `check` reads: what stands in
-/// the buffer is looked through up to a line feed, and no byte behind it is taken. It is the faster of the two. Where the text ends
+/// the buffer is looked through up to a line feed, and no byte after it is taken. It is the faster of the two. Where the text ends
 /// before its last line, the reader is asked once more by a read of one byte, after it showed nothing.
 ///
 /// # Errors

@@ -32,7 +32,7 @@ impl fmt::Display for TraceError {
 /// Why a trace was not written.
 #[derive(Clone, Copy, Debug, PartialEq, Eq, Error)]
 pub enum WriteTraceError {
-    /// The steps are no run: the number of nodes is not 1 to 64, or a step is refused. Never want of memory.
+    /// The steps are not a run: the number of nodes is not 1 to 64, or a step is refused. Never that memory ran out.
     Run(RunError),
     /// Memory ran out.
     Memory,

@@ -22,7 +22,7 @@ use std::io::{BufRead, Read};
 /// The most bytes that a log may have.
 const MAX_LOG: u64 = 16_777_216;
 
-/// What is known behind the marks that came: the lock table after them, and how many of them were requests and grants.
+/// What is known after the marks that came: the lock table after them, and how many of them were requests and grants.
 #[derive(Drop)]
 struct Log {
     table: Table,
@@ -205,10 +205,10 @@ fn check_by<R: Read, S: LineSource<R>>(
 /// Checks a log of marks, lines as `request 1 7 r X 3`, `enter 1 7 r X 3` and `leave 1 7 r X 3`, each with node, client, name, mode and
 /// number as in traces of version 2: says that the marks are a run of the lock table, and how many requests and grants there are, or
 /// which line is the first wrong one and why. The empty text is valid. It goes line by line, and makes each mark in a lock table. The
-/// verdict is given at the first wrong line, and nothing behind that line is read: no byte behind its line feed, none behind its 128th
+/// verdict is given at the first wrong line, and nothing after that line is read: no byte after its line feed, none after its 128th
 /// byte, since each line is shorter. What it keeps is the present line and the lock table, which grows with the names, and with the
 /// entries that wait and hold. It reads at most `limit + 1` bytes, each by a read of its own, so that a reader with a buffer is best; a
-/// byte past the limit is not looked at. No read that failed is tried again. The cost is linear in what is read, beside that of the
+/// byte past the limit is not looked at. No read that failed is tried again. The cost is linear in what is read, plus that of the
 /// marks, as `Table` says; to read a line takes no memory.
 ///
 /// # Errors
@@ -241,7 +241,7 @@ pub fn check_marks_within<R: Read>(
     ensures run { IfOk result (λ verdict. IfSome (R.remaining reader.old) (λ input. (marks : List Mark)
         → IsMarkRun marks → input ≡ marks_text marks → verdict ≡ MarksVerdict.Valid (requests_in marks) (grants_in marks))) }
 
-    // No verdict was reached in what was read; and where memory was wanting, what was read are the lines of a run and nothing else.
+    // No verdict was reached in what was read; and where memory ran out, what was read are the lines of a run and nothing else.
     ensures failed { IsErrOf result TraceError.Read → ReadsOnMarks limit (R.remaining reader.old) (R.remaining reader.new) }
     ensures limit { IsErrOf result TraceError.Limit → PassesMarksLimit limit (R.remaining reader.old) (R.remaining reader.new) }
     ensures memory { IsErrOf result TraceError.Memory → StopsBehindMarks limit (R.remaining reader.old) (R.remaining reader.new) }
@@ -280,7 +280,7 @@ pub fn check_marks<R: Read>(alloc: Global, reader: &mut R) -> Result<MarksVerdic
 }
 
 /// Checks a log of marks as `check_marks` does, and takes from the buffer of the reader exactly what `check_marks` reads: what stands
-/// in the buffer is looked through up to a line feed, and no byte behind it is taken. It is the faster of the two. At the end of the
+/// in the buffer is looked through up to a line feed, and no byte after it is taken. It is the faster of the two. At the end of the
 /// text the reader is asked once more by a read of one byte, after it showed nothing.
 ///
 /// # Errors

@@ -53,7 +53,7 @@ pub fn next_byte<R: Read>(reader: &mut R) -> Result<Option<u8>, TraceError>
 ///
 /// # Errors
 ///
-/// `Read`: the reader failed. `Limit`: there is a byte behind those that are left.
+/// `Read`: the reader failed. `Limit`: there is a byte after those that are left.
 pub fn read_line<R: Read>(
     reader: &mut R,
     bytes: &mut LineBytes,
@@ -83,7 +83,7 @@ pub fn read_line<R: Read>(
 ///
 /// # Errors
 ///
-/// `Read`: the reader failed. `Limit`: there is a byte behind those that are left.
+/// `Read`: the reader failed. `Limit`: there is a byte after those that are left.
 pub fn next_line<R: Read, S: LineSource<R>>(
     reader: &mut R,
     bytes: &mut LineBytes,

@@ -7,7 +7,7 @@ use crate::TraceError;
 use ra_stamp::Mark;
 use ra_table::{EnterError, RequestError, Table, steps_exist_where_they_are_allowed};
 
-/// Returns whether a lock table allows a mark, memory aside. It does not allocate.
+/// Returns whether a lock table allows a mark, unless memory runs out. It does not allocate.
 pub fn allows(table: &Table, mark: &Mark) -> bool
     ensures { IsTrue result ↔ AllowsMark table.now mark.now }
 {

@@ -201,7 +201,7 @@ fn trace_step(
     ensures traced { (n start : ℕ) (steps : List Step) → place < length steps → step.now ≡ slice_index_or steps place step.now
         → HasTraced n start (take place steps) world.old (string_bytes text.old)
         → Traces n start (take (place + 1) steps) steps world.new (string_bytes text.new) result }
-    // Where the step is refused, that is the answer, and not want of memory.
+    // Where the step is refused, that is the answer, and not that memory ran out.
     ensures memory { IsErrOf result WriteTraceError.Memory
         → GoesOn world.old.count world.old.start world.old.moves step.now }
 {
@@ -270,10 +270,10 @@ fn trace_run(
 ///
 /// # Errors
 ///
-/// The first that holds, but that `Memory` may come before a step is refused, where the steps before it stand:
+/// The first that holds, except that `Memory` may come before a step is refused, where the steps before it stand:
 ///
 /// 1. `Run`: the number of nodes is not 1 to 64, or a step is refused, the first such one, with its place, counted from 1, and
-///    the cause. It is never want of memory.
+///    the cause. It is never that memory ran out.
 /// 2. `Memory`: memory ran out.
 ///
 /// Never `Write`, as nothing is written.
@@ -309,12 +309,12 @@ pub fn trace_text(
 ///
 /// # Errors
 ///
-/// The first that holds, but that `Memory` may come before a step is refused, where the steps before it stand:
+/// The first that holds, except that `Memory` may come before a step is refused, where the steps before it stand:
 ///
 /// 1. `Run`: the number of nodes is not 1 to 64, or a step is refused, the first such one, with its place, counted from 1, and
-///    the cause. It is never want of memory.
+///    the cause. It is never that memory ran out.
 /// 2. `Memory`: memory ran out.
-/// 3. `Write`: the writer failed or took nothing, with bytes left to write. A front of the text was written.
+/// 3. `Write`: the writer failed or took nothing, with bytes left to write. A prefix of the text was written.
 ///
 /// After the first two the writer is as before.
 pub fn write_trace<W: Write>(
@@ -333,7 +333,7 @@ pub fn write_trace<W: Write>(
     ensures refused { (place : ℕ) (cause : StepError)
         → IsErrOf result (WriteTraceError.Run (RunError.Refused place cause))
         → IsNodeNumber nodes × IsRefusedAt nodes start steps.now.items place cause }
-    // Want of memory in the run is want of memory here.
+    // Where memory runs out in the run, it does here.
     ensures never { ¬ IsErrOf result (WriteTraceError.Run RunError.Memory) }
     // Memory may run out at each step and before the first, but a wrong number of nodes comes before.
     ensures memory { IsErrOf result WriteTraceError.Memory → IsNodeNumber nodes }

@@ -1,4 +1,4 @@
--- Texts that are put behind another one part by part.
+-- Texts that are put after another one part by part.
 use Rattle.std.proofs.Common.{◌≡◌, ◌≢◌, ℕ, List, [], ◌∷◌, ◌++◌, refl, sym, ap, ◌∙◌, append_assoc, append-nil}
 use Rattle.ra_world.specs.Lines.{AddsFront}
 
@@ -7,7 +7,7 @@ pub none_added : (old new text : List ℕ) → new ≡ old → text ≢ [] → A
 none_added old new text same some =
     record { front = []; back = text; text_is = refl; left = some; new_is = same ∙ sym (append-nil old) }
 
--- the first part was added, and a front of the second
+-- the first part was added, and a prefix of the second
 pub added_behind : (old mid new first second : List ℕ) → mid ≡ old ++ first → AddsFront mid new second → AddsFront old new (first ++ second)
 added_behind old mid new first second is added =
     record {
@@ -18,7 +18,7 @@ added_behind old mid new first second is added =
       new_is = added.new_is ∙ ap (λ (xs : List ℕ). xs ++ added.front) is ∙ append_assoc old first added.front;
     }
 
--- a text with something behind it
+-- a text with something after it
 pub some_behind : (xs : List ℕ) (y : ℕ) (ys : List ℕ) → xs ++ y ∷ ys ≢ []
 some_behind [] y ys e = cc
 some_behind (x ∷ xs) y ys e = cc
@@ -27,7 +27,7 @@ no_front : (xs ys : List ℕ) → xs ++ ys ≡ [] → xs ≡ []
 no_front [] ys e = refl
 no_front (x ∷ xs) ys e = absurd cc
 
--- a front of the first part was added
+-- a prefix of the first part was added
 pub more_left : (old new first second : List ℕ) → AddsFront old new first → AddsFront old new (first ++ second)
 more_left old new first second added =
     record {

@@ -1,4 +1,4 @@
--- A step that has a cause is none that the run goes on with, and it has one cause.
+-- A step that has a cause is not one that the run goes on with, and it has one cause.
 use Rattle.std.proofs.Common.{◌≡◌, ◌↔◌, ℕ, ◌≤◌, List, refl, subst, arith}
 use Rattle.ra_stamp.specs.declared.entry.Entry.{Entry}
 use Rattle.ra_stamp.specs.declared.message.Message.{Message}

@@ -80,7 +80,7 @@ handed_raises old mid new step =
       | inr alone ↦ omega (arith, left, ap (λ (x : State). x.highest) alone.new_is)
     ]
 
--- the nodes but for one are as before
+-- the nodes except for one are as before
 pub record Turned (nodes nodes' : ℕ → NodeState) (p : ℕ) (new : NodeState) : Type 0 where
   pub here : nodes' p ≡ new
   pub there : (k : ℕ) → k ≢ p → nodes' k ≡ nodes k

@@ -101,7 +101,7 @@ pub record Protocol (Lossy : Type 0) (n : ℕ) (r : List ℕ) (s : ℕ → State
 
 -- ---- One node changes
 
--- the states but for one are as before
+-- the states except for one are as before
 pub record Changes (s s' : ℕ → State) (p : ℕ) (new : State) : Type 0 where
   pub here : s' p ≡ new
   pub there : (k : ℕ) → k ≢ p → s' k ≡ s k

@@ -108,7 +108,7 @@ opening laws Lossy Copied n start count =
 
 -- ---- What is under way
 
--- one more move: what it takes is gone, and what it puts there comes behind the rest
+-- one more move: what it takes is gone, and what it puts there comes after the rest
 pub under_way_more : (ms : List Move) (m : Move) (left next : List Message) → LeavesUnderWay ms left → TakesEach left (taken_in m.step) next → LeavesUnderWay (ms ++ m ∷ []) (next ++ put_in m)
 under_way_more ms m left next less takes =
     subst (λ (put : List Message). TakesEach put (taken_by (ms ++ m ∷ [])) (next ++ put_in m)) (sym (put_more ms m))

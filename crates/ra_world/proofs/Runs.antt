@@ -1,4 +1,4 @@
--- Every run reaches its end. Each front of a run is one, and the steps of a run decide what comes of them.
+-- Every run reaches its end. Each prefix of a run is one, and the steps of a run decide what comes of them.
 use Rattle.std.proofs.Common.{◌≡◌, ℕ, List, [], ◌∷◌, ◌++◌, map, refl, sym, ap, ◌∙◌, subst, append_assoc}
 use Rattle.std.specs.Prelude.{◌↔◌}
 use Rattle.std.proofs.lemmas.List.{append-nil, map-append}
@@ -29,7 +29,7 @@ pub same_ends : ((old a b : NodeState) (happened : List Happening) → NodeEvent
     → (n start : ℕ) (ms : List Move) (nodes nodes' : ℕ → NodeState) → EndsWith n start ms nodes → EndsWith n start ms nodes' → (i : ℕ) → IsNode n i → nodes i ≡ nodes' i
 same_ends one_end n start ms nodes nodes' ends ends' i at = one_end (opening_node i n start) (nodes i) (nodes' i) (happened_at i ms) (ends i at.0 at.1) (ends' i at.0 at.1)
 
--- ---- Fronts
+-- ---- Prefixes
 
 -- an event list splits in two
 abbrev Splits : Type 0

@@ -28,7 +28,7 @@ module _
     (w new : WorldState) (step : Step) (was : IsNodeNumber w.count × IsRun w.count w.start w.moves)
     (run : IsRun new.count new.start new.moves)
   where
-    -- want of memory is no cause
+    -- `Memory` is no cause
     no_cause : (s : Step) → HasCause w.count w.start w.moves s Memory → ⊥
     no_cause (Ask node client name mode) why = why
     no_cause (Leave node client name) why = why

@@ -46,7 +46,7 @@ pub with_cause : (start : ℕ) (nodes : List NodeState) (moves : List Move) (w :
     → HasCause w.count w.start w.moves step cause ⊎ IsShort w step cause
 with_cause start nodes moves w step cause is why = inl (subst (λ (v : WorldState). HasCause v.count v.start v.moves step cause) is why)
 
--- want of memory for a step that could be made, at which nothing changed
+-- memory ran out for a step that could be made, at which nothing changed
 pub short : (start : ℕ) (nodes : List NodeState) (moves : List Move) (w now : WorldState) (step : Step) (r : Result Outcome StepError)
     → shown start nodes moves ≡ w → now ≡ shown start nodes moves → GoesOn (length nodes) start moves step
     → MayNeedMemory (length nodes) start moves step ⊎ IsFull moves → IsErrAnd r (λ e. e ≡ Memory) → Tries w step r now

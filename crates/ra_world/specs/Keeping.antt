@@ -29,7 +29,7 @@ world_of {keeps} w = record { count = length w.nodes.items; start = w.start; mov
 abbrev pub IsKept : {keeps : ℕ} → Inside keeps → Type 0
 IsKept {keeps} w = Keeps w.start w.nodes.items w.under_way.items w.log.moves
 
--- a step could be made but for want of memory, and it is one that can want it, or no further step is counted
+-- a step could be made except that memory runs out, and it is one that can run out of it, or no further step is counted
 pub record IsShort (w : WorldState) (step : Step) (cause : StepError) : Type 0 where
   pub is_memory : cause ≡ Memory
   pub goes_on : GoesOn w.count w.start w.moves step

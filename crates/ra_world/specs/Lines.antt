@@ -1,5 +1,5 @@
 -- The printed lines of a report. A line is words with one space between two, and a line feed at its end. Numbers are decimal,
--- with no zero in front.
+-- with no leading zero.
 use Rattle.std.specs.Prelude.{◌≡◌, ◌≢◌, ℕ, List, [], ◌++◌, codes, decimal, flat_map}
 use Rattle.ra_stamp.specs.declared.mode.Mode.{Mode}
 use Rattle.ra_stamp.specs.declared.mode.Mode.TheVariants.{Shared, Exclusive, IntentShared, IntentExclusive, SharedIntentExclusive}
@@ -15,7 +15,7 @@ mode_word IntentShared = codes "IS"
 mode_word IntentExclusive = codes "IX"
 mode_word SharedIntentExclusive = codes "SIX"
 
--- what stands behind the first word of a line, with the space before it
+-- what stands after the first word of a line, with the space before it
 abbrev pub field : List ℕ → List ℕ
 field text = codes " " ++ text
 
@@ -46,7 +46,7 @@ total_lines report =
 abbrev pub report_text : Report → List ℕ
 report_text report = flat_map mark_line report.marks.items ++ total_lines report
 
--- a front of the text was put behind what was there, and not all of it
+-- a prefix of the text was put after what was there, and not all of it
 pub record AddsFront (old new text : List ℕ) : Type 0 where
   pub front : List ℕ
   pub back : List ℕ

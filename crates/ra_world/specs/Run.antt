@@ -40,7 +40,7 @@ IsFit n before (Deliver message) sends marks = IsUnderWay before message
 IsFit n before (Lose message) sends marks = IsUnderWay before message × (sends ≡ []) × (marks ≡ [])
 IsFit n before (Repeat message) sends marks = IsUnderWay before message × (sends ≡ []) × (marks ≡ [])
 
--- each of these moves fits, one after the other, behind those that were before
+-- each of these moves fits, one after the other, after those that were before
 abbrev pub AreFit : ℕ → List Move → List Move → Type 0
 AreFit n before [] = Unit {0}
 AreFit n before (move ∷ moves) = IsFit n before move.step move.sends move.marks

@@ -82,7 +82,7 @@ HasCause n start moves (Repeat message) Memory = ⊥
 abbrev pub IsFull : List Move → Type 0
 IsFull moves = 18446744073709551615 ≤ length moves
 
--- which steps can want memory: a client that asks may queue, one that leaves is marked, a message that is delivered may bring
+-- which steps can run out of memory: a client that asks may queue, one that leaves is marked, a message that is delivered may bring
 -- something, one that is lost brings nothing, and a copy has to be put somewhere
 abbrev pub MayNeedMemory : ℕ → ℕ → List Move → Step → Type 0
 MayNeedMemory n start moves (Ask node client name mode) = Unit {0}
@@ -97,7 +97,7 @@ pub record AnswersStep (old : WorldState) (step : Step) (result : Result Outcome
   pub run : IsRun new.count new.start new.moves
   pub count : IsNodeNumber new.count
   pub refused : (cause : StepError) → cause ≢ Memory → IsErrOf result cause ↔ HasCause old.count old.start old.moves step cause
-  -- want of memory is the one other error
+  -- `Memory` is the one other error
   pub allowed : IsOkUnless result Memory ↔ GoesOn old.count old.start old.moves step
   pub err : OnErr result (new ≡ old)
   pub memory : IsErrOf result Memory → MayNeedMemory old.count old.start old.moves step ⊎ IsFull old.moves

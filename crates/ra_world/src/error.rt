@@ -62,7 +62,7 @@ pub enum RunError {
     Refused {
         /// The place, 1 or more.
         place: u64,
-        /// Why, never want of memory.
+        /// Why, never that memory ran out.
         cause: StepError,
     },
     /// Memory ran out.

@@ -23,7 +23,7 @@ impl<A, B> History<A, B> {
         History { of: PhantomData }
     }
 
-    /// Makes the history with this pair behind the others.
+    /// Makes the history with this pair after the others.
     pub fn and(&self, first: &A, second: &B) -> History<A, B>
         ensures { result.items ≡ self.now.items ++ (first.now, second.now) ∷ [] }
     {

@@ -225,7 +225,7 @@ pub fn kept_runs_go_on()
     events_leave_other_names();
 }
 
-/// A step that has a cause is none that the run goes on with, and it has one cause.
+/// A step that has a cause is not one that the run goes on with, and it has one cause.
 pub fn steps_have_one_cause()
     ensures no_step { (n start : ℕ) (moves : List Move) (step : Step) (cause : StepError) → IsNodeNumber n
         → IsRun n start moves

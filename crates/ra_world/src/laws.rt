@@ -83,7 +83,7 @@ pub fn runs_go_on_where_steps_are_allowed()
     laws_below();
 }
 
-/// A node changes by its own steps alone: behind a move at another one a run goes on with an ask or a leave at the node where it
+/// A node changes by its own steps alone: after a move at another one a run goes on with an ask or a leave at the node where it
 /// did before.
 pub fn steps_elsewhere_leave_a_node()
     ensures ask { (n start : ℕ) (moves : List Move) (move : Move) → IsNodeNumber n → IsRun n start (moves ++ move ∷ [])
@@ -116,7 +116,7 @@ pub fn marks_of_runs_are_table_runs()
 
 /// After each run the messages under way are one list, and each of them has a number and is from a node to another one of
 /// those there are. The list goes on step by step: a message that is taken is out of it, and what is sent, or a copy, comes
-/// behind it. Where nothing was repeated, what was put under way is what was sent.
+/// after it. Where nothing was repeated, what was put under way is what was sent.
 pub fn messages_under_way_are_between_nodes()
     ensures exist { (n start : ℕ) (moves : List Move) → IsNodeNumber n → IsRun n start moves
         → (left : List Message) × LeavesUnderWay moves left }
@@ -163,7 +163,7 @@ pub fn runs_go_on_by_events()
     events_go_on();
 }
 
-/// Each front of a run is a run, also of a list of steps; and a list of steps that is a run goes on with a step exactly
+/// Each prefix of a run is a run, also of a list of steps; and a list of steps that is a run goes on with a step exactly
 /// where the run does.
 pub fn fronts_of_runs_are_runs()
     ensures moves { (n start : ℕ) (front back : List Move) → IsRun n start (front ++ back)

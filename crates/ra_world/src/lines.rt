@@ -31,7 +31,7 @@ pub fn mode_word(mode: Mode) -> &'static str
 ///
 /// # Errors
 ///
-/// `Memory`: there is none for it. A front of it may have been added, but not all of it.
+/// `Memory`: there is none for it. A prefix of it may have been added, but not all of it.
 pub fn push_field(text: &mut String, field: &str) -> Result<(), Memory>
     ensures ok { OnOk result (string_bytes text.new ≡ string_bytes text.old ++ spec.field field.now) }
     ensures err { OnErr result (spec.AddsFront (string_bytes text.old) (string_bytes text.new) (spec.field field.now)) }
@@ -45,7 +45,7 @@ pub fn push_field(text: &mut String, field: &str) -> Result<(), Memory>
 ///
 /// # Errors
 ///
-/// `Memory`: there is none for it. A front of it may have been added, but not all of it.
+/// `Memory`: there is none for it. A prefix of it may have been added, but not all of it.
 pub fn push_number<I: Integer>(text: &mut String, number: I) -> Result<(), Memory>
     ensures ok { OnOk result (string_bytes text.new ≡ string_bytes text.old ++ spec.field (I.text number)) }
     ensures err { OnErr result (spec.AddsFront (string_bytes text.old) (string_bytes text.new) (spec.field (I.text number))) }
@@ -83,7 +83,7 @@ fn push_entry_line(text: &mut String, word: &str, entry: &Entry) -> Result<(), M
 ///
 /// # Errors
 ///
-/// `Memory`: there is none for it. A front of it may have been added, but not all of it.
+/// `Memory`: there is none for it. A prefix of it may have been added, but not all of it.
 pub fn push_mark_line(text: &mut String, mark: &Mark) -> Result<(), Memory>
     ensures ok { OnOk result (string_bytes text.new ≡ string_bytes text.old ++ spec.mark_line mark.now) }
     ensures err { OnErr result (spec.AddsFront (string_bytes text.old) (string_bytes text.new) (spec.mark_line mark.now)) }

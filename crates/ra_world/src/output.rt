@@ -9,7 +9,7 @@ use std::io::Write;
 ///
 /// # Errors
 ///
-/// `WriteFault`: a write failed, or took nothing. It is not tried again: the writer has taken a front of the bytes,
+/// `WriteFault`: a write failed, or took nothing. It is not tried again: the writer has taken a prefix of the bytes,
 /// and some are left.
 pub fn write_out<W: Write>(writer: &mut W, bytes: &[u8]) -> Result<(), WriteFault>
     ensures ok { OnOk result (Appends (W.contents writer.old) (W.contents writer.new) bytes.now) }

@@ -19,7 +19,7 @@ use std::alloc::Global;
 /// 1. `BadCount`: the number of nodes is not 1 to 64.
 /// 2. `Refused`: a step is refused; its place is the first such one, counted from 1, with the cause.
 /// 3. `Memory`, for the world before its first step, for a step as `World::step` says, which is at 2^64-1 steps too, or for the
-///    report. It may come before a later step is refused, and tells nothing of the steps behind.
+///    report. It may come before a later step is refused, and tells nothing of later steps.
 pub fn run(alloc: Global, nodes: u16, start: u64, steps: &Steps) -> Result<Report, RunError>
     ensures ok { IfOk result (λ report. (moves : List Move)
         × (map (λ move. move.step) moves ≡ steps.now.items)
@@ -29,7 +29,7 @@ pub fn run(alloc: Global, nodes: u16, start: u64, steps: &Steps) -> Result<Repor
     ensures bad_count { IsErrOf result RunError.BadCount ↔ (IsNodeNumber nodes → ⊥) }
     ensures refused { (place : ℕ) (cause : StepError) → IsErrOf result (RunError.Refused place cause)
         → IsNodeNumber nodes × IsRefusedAt nodes start steps.now.items place cause }
-    // Want of memory may come before a later step is refused.
+    // `Memory` may come before a later step is refused.
     ensures allowed { IsNodeNumber nodes → WorldRun nodes start steps.now.items
         → IsOkUnless result RunError.Memory }
 {
@@ -70,7 +70,7 @@ fn report_after(alloc: Global, world: &mut World, steps: &[Step]) -> Result<Repo
     ensures refused { (place : ℕ) (cause : StepError) → IsErrOf result (RunError.Refused place cause)
         → IsRefusedAt world.old.count world.old.start steps.now place cause }
     ensures allowed { WorldRun world.old.count world.old.start steps.now → IsOkUnless result RunError.Memory }
-    // Memory ran out at a step that can be made, or for the report, behind all steps. So no refusal was passed over.
+    // Memory ran out at a step that can be made, or for the report, after all steps. So no refusal was passed over.
     ensures memory { IsErrOf result RunError.Memory → GoesThrough world.old.count world.old.start steps.now world.new }
 {
     fronts_of_runs_are_runs();

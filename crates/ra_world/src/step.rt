@@ -20,7 +20,7 @@ pub enum Step {
     Deliver(Message),
     /// A message under way is lost.
     Lose(Message),
-    /// A message under way comes under way once more: a copy is put behind all others. It touches no node.
+    /// A message under way comes under way once more: a copy is put after all others. It touches no node.
     Repeat(Message),
 }
 

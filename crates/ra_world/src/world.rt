@@ -83,7 +83,7 @@ impl<const KEEPS_MARKS: u8> WorldOf<KEEPS_MARKS> {
     }
 
     /// Makes a step, and answers what came of it: the messages that it sent, which are under way then, and its marks. By a
-    /// loss or a repeat nothing is sent or marked. The cost is that of the node's event, and beside it amortized constant on
+    /// loss or a repeat nothing is sent or marked. The cost is that of the node's event, plus amortized constant on
     /// average, with finding and taking a message: the steps so far are not looked at. Where the message is not under way, or there
     /// was no memory to know where each stands, it is linear in the number of messages under way.
     ///
@@ -95,7 +95,7 @@ impl<const KEEPS_MARKS: u8> WorldOf<KEEPS_MARKS> {
     /// 2. `NotUnderWay`: a message that is to be delivered, lost or repeated is not under way.
     /// 3. `Node`: the node refuses an ask (`Busy`, `Exhausted`) or a leave (`NotHeld`).
     /// 4. `Memory`: there is no room for what the step makes, or 2^64-1 steps were made, since no more are counted. A message by
-    ///    which nothing is sent or marked is never refused for want of room, nor is a loss.
+    ///    which nothing is sent or marked is never refused for lack of room, nor is a loss.
     pub fn step(&mut self, alloc: Global, step: &Step) -> Result<Outcome, StepError>
         ensures { AnswersStep self.old step.now result self.new }
     {
@@ -131,7 +131,7 @@ impl<const KEEPS_MARKS: u8> WorldOf<KEEPS_MARKS> {
         }
     }
 
-    /// Returns whether `step` would make this step, memory aside. It does not allocate. The cost is that of looking at the
+    /// Returns whether `step` would make this step, unless memory runs out. It does not allocate. The cost is that of looking at the
     /// node's resource, or linear in the number of messages under way.
     pub fn accepts(&self, step: &Step) -> bool
         ensures value { IsTrue result ↔ GoesOn self.now.count self.now.start self.now.moves step.now }

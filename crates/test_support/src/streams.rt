@@ -103,7 +103,7 @@ impl Write for FailingWriter<'_> {
     }
 }
 
-/// Returns a writer that looks for this text, and fails after so many writes.
+/// Returns a writer that looks for this text, and fails after this many writes.
 pub fn failing_writer(
     text: &[u8],
     before_fault: usize,

@@ -1,6 +1,6 @@
 //! What becomes of calls where a growth may be refused.
 //!
-//! A test of growth makes each call, and makes it again where it answered want of memory and left all as it was. Where it met no
+//! A test of growth makes each call, and makes it again where it answered that memory ran out and left all as it was. Where it met no
 //! refusal, as in the gate, it passes. Where it met one and found all as it should be, it fails with words of its own, by which
 //! `tools/refuse-growth`, which has each allocation refused in turn, tells it from one that failed.
 
@@ -9,7 +9,7 @@
 pub enum Tried {
     /// They were taken.
     AtOnce,
-    /// One answered want of memory and left all as it was, and was taken when it was made again.
+    /// One answered that memory ran out and left all as it was, and was taken when it was made again.
     Again,
     /// Anything else.
     Wrong,
@@ -24,8 +24,8 @@ pub fn both(first: Tried, second: Tried) -> Tried {
     }
 }
 
-/// Returns what became of calls that were made twice, of which each answers, where the first of them is refused, whether memory was
-/// wanting.
+/// Returns what became of calls that were made twice, of which each answers, where the first of them is refused, whether memory
+/// ran out.
 pub fn again(first: Result<Tried, bool>, second: Result<Tried, bool>) -> Tried {
     match (first, second) {
         (Ok(tried), _) => tried,

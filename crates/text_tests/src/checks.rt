@@ -26,7 +26,7 @@ fn adds(new: &mut String, text: &str) -> bool {
     new.push_str(text).is_ok()
 }
 
-/// Adds these lines, and a line behind them where it is to stay. Returns whether there was room.
+/// Adds these lines, and a line after them where it is to stay. Returns whether there was room.
 fn adds_lines(new: &mut String, lines: &str, line: &str, stays: bool) -> bool {
     adds(new, lines) && (!stays || adds(new, line))
 }
@@ -202,7 +202,7 @@ fn version_1_has_no_repeats(rt: HostRuntime) {
     assert!(rt; is_newer(rt.alloc(), REPEATED_REQUEST, 4));
 }
 
-/// Texts of version 2 that are wrong at a repeat, or behind one.
+/// Texts of version 2 that are wrong at a repeat, or after one.
 const WRONG_REPEATS: &[Judged] = &[
     // It was never sent.
     Invalid("trace 2 2 0\nrepeat reply 2 1 r 1\n", 2, Cause::NotUnderWay),
@@ -375,7 +375,7 @@ fn messages_that_are_taken_are_under_way(rt: HostRuntime) {
     assert_wrong(&rt, NOT_UNDER_WAY, Cause::NotUnderWay);
 }
 
-/// Returns how many lengths have fronts of a trace that are wrong at the line that is not whole, from 0 up to the first that is not so,
+/// Returns how many lengths have prefixes of a trace that are wrong at the line that is not whole, from 0 up to the first that is not so,
 /// or to that of the trace.
 fn wrong_fronts(alloc: Global, text: &[u8]) -> usize {
     let mut line = 1u64;

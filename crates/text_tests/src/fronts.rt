@@ -1,13 +1,13 @@
-//! Fronts of a script: each has its answer.
+//! Prefixes of a script: each has its answer.
 use crate::helpers::{ONE_LOCK_SCRIPT, assert_rows};
 use ra_schedule::Policy;
 use ra_script::{PerformError, ScriptError, perform, read_script};
 use std::alloc::Global;
 
-/// The least and the greatest length of some fronts of the script, and why they are refused.
+/// The least and the greatest length of some prefixes of the script, and why they are refused.
 struct Lengths(usize, usize, ScriptError);
 
-/// All fronts that are refused: the last line may lack its line feed.
+/// All prefixes that are refused: the last line may lack its line feed.
 const REFUSED: &[Lengths] = &[
     // There is no `nodes`, no `client`, or a client without its node or its operations.
     Lengths(0, 0, ScriptError::Shape),
@@ -21,7 +21,7 @@ const REFUSED: &[Lengths] = &[
     Lengths(32, 50, ScriptError::Toml),
 ];
 
-/// Returns why the front of so many bytes is refused, or `None` where it is a script.
+/// Returns why the prefix of this many bytes is refused, or `None` where it is a script.
 fn fault_of(length: usize) -> Option<ScriptError> {
     for lengths in REFUSED {
         if lengths.0 <= length && length <= lengths.1 {
@@ -50,12 +50,12 @@ fn is_performed(alloc: Global, text: &[u8], fault: Option<ScriptError>) -> bool 
     }
 }
 
-/// Returns whether a front of a text is read and performed so.
+/// Returns whether a prefix of a text is read and performed so.
 fn is_answered(alloc: Global, text: &[u8], fault: Option<ScriptError>) -> bool {
     is_read(alloc, text, fault) && is_performed(alloc, text, fault)
 }
 
-/// Returns how many lengths have fronts of a text that are answered so, from 0 up to the first that is not, or to that of the text.
+/// Returns how many lengths have prefixes of a text that are answered so, from 0 up to the first that is not, or to that of the text.
 fn answered(alloc: Global, text: &[u8]) -> usize {
     for length in 0..text.len() {
         if !is_answered(alloc, &text[..length], fault_of(length)) {

@@ -31,7 +31,7 @@ fn tried_if(good: bool) -> Tried {
     if good { Tried::AtOnce } else { Tried::Wrong }
 }
 
-/// Checks a trace. Where that is refused, returns whether memory was wanting.
+/// Checks a trace. Where that is refused, returns whether memory ran out.
 fn try_check(alloc: Global) -> Result<Tried, bool> {
     let mut reader = ONE_LOCK.as_bytes();
     let valid = Verdict::Valid {
@@ -49,7 +49,7 @@ fn growth_of_a_checker(rt: HostRuntime) {
     end(&rt, again(try_check(rt.alloc()), try_check(rt.alloc())));
 }
 
-/// Checks a log of marks. Where that is refused, returns whether memory was wanting.
+/// Checks a log of marks. Where that is refused, returns whether memory ran out.
 fn try_log(alloc: Global) -> Result<Tried, bool> {
     let mut reader = TWO_WRITERS.as_bytes();
     let valid = MarksVerdict::Valid {
@@ -67,7 +67,7 @@ fn growth_of_a_checker_of_marks(rt: HostRuntime) {
     end(&rt, again(try_log(rt.alloc()), try_log(rt.alloc())));
 }
 
-/// Reads a script of one client. Where that is refused, returns whether memory was wanting.
+/// Reads a script of one client. Where that is refused, returns whether memory ran out.
 fn try_script(alloc: Global) -> Result<Tried, bool> {
     match read_script(alloc, ONE_LOCK_SCRIPT.as_bytes()) {
         Ok(script) => Ok(tried_if(script.nodes() == 2 && script.clients() == 1)),
@@ -80,7 +80,7 @@ fn growth_of_a_script(rt: HostRuntime) {
     end(&rt, again(try_script(rt.alloc()), try_script(rt.alloc())));
 }
 
-/// Reads choices. Where that is refused, returns whether memory was wanting.
+/// Reads choices. Where that is refused, returns whether memory ran out.
 fn try_choices(alloc: Global) -> Result<Tried, bool> {
     match read_choices(alloc, "c1 m0 m0 l0 c1") {
         Ok(choices) => Ok(tried_if(choices.len() == 5)),
@@ -108,7 +108,7 @@ fn is_whole(writer: &FailingWriter<'_>) -> bool {
     writer.left.is_empty() && !writer.differs
 }
 
-/// Writes the trace of a run. Where that is refused, returns whether memory was wanting and nothing was written.
+/// Writes the trace of a run. Where that is refused, returns whether memory ran out and nothing was written.
 fn try_trace(alloc: Global) -> Result<Tried, bool> {
     let Some(steps) = one_lock(alloc) else {
         return Err(true);
@@ -125,7 +125,7 @@ fn growth_of_a_trace_that_is_written(rt: HostRuntime) {
     end(&rt, again(try_trace(rt.alloc()), try_trace(rt.alloc())));
 }
 
-/// Makes the text of the trace of a run. Where that is refused, returns whether memory was wanting.
+/// Makes the text of the trace of a run. Where that is refused, returns whether memory ran out.
 fn try_trace_text(alloc: Global) -> Result<Tried, bool> {
     let Some(steps) = one_lock(alloc) else {
         return Err(true);
@@ -144,7 +144,7 @@ fn growth_of_the_text_of_a_trace(rt: HostRuntime) {
     );
 }
 
-/// Performs a script. Where that is refused, returns whether memory was wanting and nothing was written.
+/// Performs a script. Where that is refused, returns whether memory ran out and nothing was written.
 fn try_performance(alloc: Global, traces: bool) -> Result<Tried, bool> {
     let text = if traces { ONE_LOCK } else { ONE_LOCK_LINES };
     let (mut reader, mut writer) = (ONE_LOCK_SCRIPT.as_bytes(), taking(text));

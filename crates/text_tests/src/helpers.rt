@@ -77,7 +77,7 @@ pub fn in_version_1(alloc: Global, text: &str) -> Option<Vec<u8>> {
     }
 }
 
-/// Returns a writer that looks for this text, and fails after so many writes, of a byte each.
+/// Returns a writer that looks for this text, and fails after this many writes, of a byte each.
 pub fn failing(text: &str, before_fault: usize, fault: Option<io::ErrorKind>) -> FailingWriter<'_> {
     failing_writer(text.as_bytes(), before_fault, fault)
 }

@@ -135,7 +135,7 @@ const NEWER: &[&[u8]] = &[
     b"leave 1 1 r IX 1\n",
 ];
 
-/// Returns whether no line begins this text behind this one, the first.
+/// Returns whether no line begins this text after this one, the first.
 fn is_none_behind(alloc: Global, first: &str, text: &[u8]) -> bool {
     match text_of(alloc, &[Text(first), Times(text, 1)]) {
         Some(behind) => is_wrong_at(alloc, &behind, 2),
@@ -148,7 +148,7 @@ const FIRST: &str = "trace 1 16 0\n";
 
 const SECOND: &str = "trace 2 64 0\n";
 
-/// Returns whether no line begins this text, neither as the first one nor behind the first one of each version.
+/// Returns whether no line begins this text, neither as the first one nor after the first one of each version.
 fn is_no_line(alloc: Global, text: &[u8]) -> bool {
     is_wrong_at(alloc, text, 1)
         && is_none_behind(alloc, FIRST, text)
@@ -219,7 +219,7 @@ fn long_line_is_none(alloc: Global, words: &'static [u8], byte: &'static [u8]) -
     }
 }
 
-/// Returns behind how many of these words 100,000 times this byte are no line, up to the first where they are one.
+/// Returns after how many of these words 100,000 times this byte are no line, up to the first where they are one.
 fn no_long_lines(alloc: Global, words: &[&'static [u8]], byte: &'static [u8]) -> usize {
     for place in 0..words.len() {
         if !long_line_is_none(alloc, words[place], byte) {

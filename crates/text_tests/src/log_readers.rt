@@ -17,7 +17,7 @@ type Checked = Result<MarksVerdict, TraceError>;
 /// How a log is read.
 #[derive(Clone, Copy)]
 enum Way {
-    /// In pieces of so many bytes.
+    /// In pieces of this many bytes.
     InPieces(usize),
     /// Byte by byte, from a reader that fails once it gave so many.
     Failing(usize),
@@ -108,7 +108,7 @@ fn the_pieces_of_a_log_do_not_matter(rt: HostRuntime) {
     assert_cases(&rt, CASES);
 }
 
-/// Returns behind how many bytes of a log the fault of a reader is named and it is not tried again, from 0 up to the first where it is
+/// Returns after how many bytes of a log the fault of a reader is named and it is not tried again, from 0 up to the first where it is
 /// not so.
 fn not_tried_again(alloc: Global) -> usize {
     for taken in 0..=TWO_WRITERS_LENGTH {

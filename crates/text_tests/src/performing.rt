@@ -37,7 +37,7 @@ fn text_of(format: Format) -> &'static str {
     }
 }
 
-/// Returns a reader of the script that fails after so many bytes, or does not.
+/// Returns a reader of the script that fails after this many bytes, or does not.
 fn script_reader(before_fault: Option<usize>) -> FailingReader<'static> {
     FailingReader {
         bytes: ONE_LOCK_SCRIPT.as_bytes(),
@@ -61,7 +61,7 @@ fn fault_of(
     performed.err()
 }
 
-/// Returns whether the fault of a reader after so many bytes is named, and no byte is read after it and none written.
+/// Returns whether the fault of a reader after this many bytes is named, and no byte is read after it and none written.
 fn fails_to_read(alloc: Global, format: Format, before_fault: usize) -> bool {
     let mut reader = script_reader(Some(before_fault));
     let mut writer = failing("", 1000, None);
@@ -70,7 +70,7 @@ fn fails_to_read(alloc: Global, format: Format, before_fault: usize) -> bool {
         && !writer.differs
 }
 
-/// Returns behind how many bytes of the script the fault of a reader is named, from 0 up to the first where it is not.
+/// Returns after how many bytes of the script the fault of a reader is named, from 0 up to the first where it is not.
 fn named_when_read(alloc: Global, format: Format) -> usize {
     for before_fault in 0..=ONE_LOCK_SCRIPT.len() {
         if !fails_to_read(alloc, format, before_fault) {
@@ -94,7 +94,7 @@ fn a_reader_that_fails_behind_any_byte_is_a_fault(rt: HostRuntime) {
     );
 }
 
-/// Returns whether the fault of a writer after so many bytes is named, and just these are written.
+/// Returns whether the fault of a writer after this many bytes is named, and just these are written.
 fn fails_to_write(
     alloc: Global,
     format: Format,
@@ -119,7 +119,7 @@ fn fails_to_write_each(alloc: Global, format: Format, before_fault: usize) -> bo
     ) && fails_to_write(alloc, format, before_fault, None)
 }
 
-/// Returns behind how many of so many bytes the fault of a writer is named, from 0 up to the first where it is not.
+/// Returns after how many of this many bytes the fault of a writer is named, from 0 up to the first where it is not.
 fn named_when_written(alloc: Global, format: Format, length: usize) -> usize {
     for before_fault in 0..length {
         if !fails_to_write_each(alloc, format, before_fault) {
@@ -137,7 +137,7 @@ fn a_writer_that_fails_behind_any_byte_has_those_before(rt: HostRuntime) {
     assert_rows(&rt, trace, ONE_LOCK_LENGTH);
 }
 
-/// Returns whether all is written byte by byte, to a writer that would fail behind it.
+/// Returns whether all is written byte by byte, to a writer that would fail after it.
 fn is_written_byte_by_byte(alloc: Global, format: Format, length: usize) -> bool {
     let text = text_of(format);
     let mut reader = script_reader(None);

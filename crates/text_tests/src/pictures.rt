@@ -184,7 +184,7 @@ fn each_shape_says_what_it_is(rt: HostRuntime) {
 #[test]
 fn a_part_has_what_reaches_into_it(rt: HostRuntime) {
     let rows = [
-        // What was sent before is drawn where it comes in the part, and what is sent in it and comes behind it is under way.
+        // What was sent before is drawn where it comes in the part, and what is sent in it and comes after it is under way.
         Row(
             ONE_LOCK,
             lines(4, 4),

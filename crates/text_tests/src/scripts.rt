@@ -253,7 +253,7 @@ const CLOSED_TABLES: &[Tables] = &[
     ),
 ];
 
-/// Returns whether such tables of so many levels are refused.
+/// Returns whether such tables of this many levels are refused.
 fn tables_are_refused(alloc: Global, tables: &Tables, levels: usize) -> bool {
     let parts = [
         Text(tables.0),
@@ -429,7 +429,7 @@ const NO_OPS: &[&str] = &[
     "'I r'",
     "'six r'",
     "'US r'",
-    // A word with no space or more than one behind it.
+    // A word with no space or more than one after it.
     "'SIX'",
     "'SIX '",
     "'SIXr'",

@@ -429,7 +429,7 @@ fn nothing_is_written_where_the_steps_are_no_run(rt: HostRuntime) {
     assert_rows(&rt, no_runs(rt.alloc(), NO_RUNS), NO_RUNS.len());
 }
 
-/// Returns whether just the front with so many bytes is written to a writer that fails then.
+/// Returns whether just the prefix with so many bytes is written to a writer that fails then.
 fn front_is_written(alloc: Global, before_fault: usize, fault: Option<io::ErrorKind>) -> bool {
     let mut writer = failing(ONE_LOCK, before_fault, fault);
     let failed = match fault_of(alloc, 2, ONE_LOCKS, &mut writer) {
@@ -439,7 +439,7 @@ fn front_is_written(alloc: Global, before_fault: usize, fault: Option<io::ErrorK
     failed && ONE_LOCK.len().checked_sub(writer.left.len()) == Some(before_fault) && !writer.differs
 }
 
-/// Returns whether all is written to a writer that would fail behind it.
+/// Returns whether all is written to a writer that would fail after it.
 fn whole_is_written(alloc: Global, fault: Option<io::ErrorKind>) -> bool {
     let mut writer = failing(ONE_LOCK, ONE_LOCK_LENGTH, fault);
     fault_of(alloc, 2, ONE_LOCKS, &mut writer).is_none()

@@ -406,7 +406,7 @@ fn done_by(alloc: Global, nodes: u16, start: u64, acts: &[Act]) -> Option<usize>
     }
 }
 
-/// Makes a world of so many nodes, whose numbers begin at `start`, and asserts that all of this happens in it.
+/// Makes a world of this many nodes, whose numbers begin at `start`, and asserts that all of this happens in it.
 pub fn follow(rt: &(impl Abort + AllocGlobal), nodes: u16, start: u64, acts: &[Act]) {
     match done_by(rt.alloc(), nodes, start, acts) {
         Some(done) => assert_rows(rt, done, acts.len()),

@@ -83,7 +83,7 @@ fn step_of(world: &World, act: Act) -> Option<Step> {
     }
 }
 
-/// Makes a step, and again where memory was wanting.
+/// Makes a step, and again where memory ran out.
 fn try_step(alloc: Global, world: &mut World, step: &Step) -> Tried {
     let (steps, left, first) = (world.steps(), world.under_way(), world.message_at(0));
     match world.step(alloc, step) {
@@ -116,7 +116,7 @@ fn is_report(report: &Report) -> bool {
         && report.waiting == 1
 }
 
-/// Makes the report of a world in which all acts were done, and again where memory was wanting.
+/// Makes the report of a world in which all acts were done, and again where memory ran out.
 fn try_report(alloc: Global, world: &World) -> Tried {
     match world.report(alloc) {
         Ok(report) if is_report(&report) => Tried::AtOnce,
@@ -137,7 +137,7 @@ fn try_acts(alloc: Global, world: &mut World) -> Tried {
     both(tried, try_report(alloc, world))
 }
 
-/// Makes a world and does all acts in it. Where there is none, returns whether memory was wanting.
+/// Makes a world and does all acts in it. Where there is none, returns whether memory ran out.
 fn try_world(alloc: Global) -> Result<Tried, bool> {
     match World::new(alloc, 2, 0) {
         Ok(mut world) => Ok(try_acts(alloc, &mut world)),
@@ -182,7 +182,7 @@ fn try_middle(alloc: Global, world: &mut World) -> Tried {
     }
 }
 
-/// Makes a world of two nodes with many messages under way. Where there is none, returns whether memory was wanting.
+/// Makes a world of two nodes with many messages under way. Where there is none, returns whether memory ran out.
 fn try_large_world(alloc: Global) -> Result<Tried, bool> {
     match World::new(alloc, 2, 0) {
         Ok(mut world) => Ok(both(try_asks(alloc, &mut world), try_middle(alloc, &mut world))),
@@ -196,7 +196,7 @@ fn large_growth_of_a_world(rt: HostRuntime) {
     end(&rt, again(try_large_world(alloc), try_large_world(alloc)));
 }
 
-/// Adds a step to a list, and again where memory was wanting.
+/// Adds a step to a list, and again where memory ran out.
 fn try_push(steps: &mut Steps, step: &Step) -> Tried {
     let before = steps.len();
     if steps.push(*step).is_ok() {
@@ -227,7 +227,7 @@ fn asking() -> Step {
     }
 }
 
-/// Runs steps at one node. Where that is refused, returns whether memory was wanting.
+/// Runs steps at one node. Where that is refused, returns whether memory ran out.
 fn try_run(alloc: Global, steps: &Steps) -> Result<Tried, bool> {
     match run(alloc, 1, 0, steps) {
         Ok(report) if report.marks.len() == 3 && report.sent == 0 => Ok(Tried::AtOnce),
@@ -253,7 +253,7 @@ fn growth_of_a_run(rt: HostRuntime) {
     );
 }
 
-/// Returns whether there is this text. Where there is none, memory was wanting.
+/// Returns whether there is this text. Where there is none, memory ran out.
 fn try_text(found: Result<String, Memory>, text: &str) -> Result<Tried, bool> {
     match found {
         Ok(found) if found.as_str() == text => Ok(Tried::AtOnce),
@@ -288,7 +288,7 @@ fn growth_of_the_line_of_a_mark(rt: HostRuntime) {
 /// The lines of the report of a world in which nothing has happened.
 const NOTHING: &str = "requests 0\nmessages 0\nunder-way 0\nlost 0\nwaiting 0\nqueued 0\n";
 
-/// Makes the lines of a report. Where there are none, memory was wanting.
+/// Makes the lines of a report. Where there are none, memory ran out.
 fn try_lines(alloc: Global) -> Result<Tried, bool> {
     let Ok(world) = World::new(alloc, 2, 0) else {
         return Err(true);
@@ -304,7 +304,7 @@ fn growth_of_the_lines_of_a_report(rt: HostRuntime) {
     end(&rt, again(try_lines(rt.alloc()), try_lines(rt.alloc())));
 }
 
-/// Adds a client at a node, and again where memory was wanting.
+/// Adds a client at a node, and again where memory ran out.
 fn try_client(alloc: Global, script: &mut Script, number: u16) -> Tried {
     let before = script.clients();
     match script.add_client(alloc, number) {
@@ -317,7 +317,7 @@ fn try_client(alloc: Global, script: &mut Script, number: u16) -> Tried {
     }
 }
 
-/// Adds an operation of the last client, and again where memory was wanting.
+/// Adds an operation of the last client, and again where memory ran out.
 fn try_op(script: &mut Script, op: &Op) -> Tried {
     match script.add_op(*op) {
         Ok(()) => Tried::AtOnce,
@@ -333,7 +333,7 @@ fn try_locker(alloc: Global, script: &mut Script, number: u16) -> Tried {
     both(locked, try_op(script, &Op::Unlock(r())))
 }
 
-/// Drives a cluster through a script with its steps recorded. Where that is refused, returns whether memory was wanting.
+/// Drives a cluster through a script with its steps recorded. Where that is refused, returns whether memory ran out.
 fn try_drive(alloc: Global, script: &Script, policy: &Policy) -> Result<Tried, bool> {
     match drive(alloc, script, policy, 1_000) {
         Ok(made) if made.finished && made.report.sent == 4 => Ok(Tried::AtOnce),
@@ -365,8 +365,8 @@ fn try_policy(alloc: Global, script: &Script, policy: &Policy) -> Tried {
     )
 }
 
-/// Makes a script of two clients at two nodes, and drives a cluster through it. Where there is none, returns whether memory was
-/// wanting.
+/// Makes a script of two clients at two nodes, and drives a cluster through it. Where there is none, returns whether memory
+/// ran out.
 fn try_script(alloc: Global, policy: &Policy) -> Result<Tried, bool> {
     match Script::new(alloc, 2) {
         Ok(mut script) => {

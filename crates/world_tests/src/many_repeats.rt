@@ -74,7 +74,7 @@ fn repeats(alloc: Global, world: &mut World, message: Option<Message>) -> bool {
     }
 }
 
-/// Returns whether the REQUEST of the number 0 is repeated so many times, behind nine others each time.
+/// Returns whether the REQUEST of the number 0 is repeated so many times, after nine others each time.
 fn repeats_among(alloc: Global, world: &mut World, times: u16) -> bool {
     let mut number = 1u16;
     for _ in 0..times {
@@ -140,7 +140,7 @@ fn are_at(world: &World, from: u64, first: u16, count: u16) -> bool {
     true
 }
 
-/// Returns whether so many equal REPLYs stand under way behind this many messages, and nothing behind them.
+/// Returns whether so many equal REPLYs stand under way after this many messages, and nothing after them.
 fn ends_with(world: &World, before: u64, count: u16) -> bool {
     let mut place = before;
     for _ in 0..count {

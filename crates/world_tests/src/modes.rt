@@ -128,7 +128,7 @@ fn enters(report: &Report, place: u64, node: NodeId, client: u32, mode: Mode) ->
     report.marks.at(place) == Some(Mark::Entered(entry))
 }
 
-/// Returns whether, behind the marks of both requests, there is that of who goes in at node 1, and of who goes in beside it at node 2
+/// Returns whether, after the marks of both requests, there is that of who goes in at node 1, and of who goes in beside it at node 2
 /// where their modes are held at once. Else the latter waits.
 fn tells(report: &Report, pair: &Pair) -> bool {
     let (marks, waiting) = if pair.2 { (4, 0) } else { (3, 1) };

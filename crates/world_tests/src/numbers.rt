@@ -1,4 +1,4 @@
-//! Worlds at the greatest number: it is given out, and behind it nobody asks.
+//! Worlds at the greatest number: it is given out, and after it nobody asks.
 use crate::acts::{Act, Wire, Wish, follow};
 use Act::{Ask, Deliver, HasSteps, Leave, LeavesWith, Refuses, Reports};
 use Wire::Replies;

@@ -27,7 +27,7 @@ pub enum Plan {
     AddsClients(u32),
     /// It takes a client at this node, which locks `r` in its mode and unlocks it.
     AddsLocker(u16, Mode),
-    /// It takes a client at each of so many nodes, which locks `r` for itself alone and unlocks it.
+    /// It takes a client at each of this many nodes, which locks `r` for itself alone and unlocks it.
     AddsWriters(u16),
     /// It takes no client at this node.
     RefusesClient(u16),
@@ -120,7 +120,7 @@ fn adds_locker(alloc: Global, script: &mut Script, node: u16, mode: Mode) -> boo
     adds_client(alloc, script, node) && adds_lock(script, mode)
 }
 
-/// Adds a client that locks `r` for itself alone and unlocks it at each of so many nodes. Returns whether there was room for them.
+/// Adds a client that locks `r` for itself alone and unlocks it at each of this many nodes. Returns whether there was room for them.
 fn adds_writers(alloc: Global, script: &mut Script, nodes: u16) -> bool {
     for node in 1..=nodes {
         if !adds_locker(alloc, script, node, Mode::Exclusive) {

@@ -126,7 +126,7 @@ fn only_what_is_under_way_is_repeated(rt: HostRuntime) {
     follow(&rt, 2, 0, ACTS);
 }
 
-/// The REQUEST to node 2 is repeated behind that to node 3. Where the copy is looked at, the message goes that stands before it.
+/// The REQUEST to node 2 is repeated after that to node 3. Where the copy is looked at, the message goes that stands before it.
 #[test]
 fn of_equal_messages_the_first_goes(rt: HostRuntime) {
     const ACTS: &[Act] = &[

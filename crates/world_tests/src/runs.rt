@@ -105,7 +105,7 @@ fn a_run_ends_at_the_first_step_that_is_refused(rt: HostRuntime) {
     assert_cases(&rt, CASES);
 }
 
-/// Returns whether there is no world of so many nodes.
+/// Returns whether there is no world of this many nodes.
 fn makes_no_world(alloc: Global, nodes: u16) -> bool {
     World::new(alloc, nodes, 0).err() == Some(NewError::BadCount)
 }

@@ -10,7 +10,7 @@ use ra_schedule::{AddOpError, NewScriptError, Script};
 use ra_stamp::Mode;
 use std::alloc::Global;
 
-/// Returns whether there is no script of so many nodes.
+/// Returns whether there is no script of this many nodes.
 fn makes_no_script(alloc: Global, nodes: u16) -> bool {
     Script::new(alloc, nodes).err() == Some(NewScriptError::Nodes)
 }
@@ -106,7 +106,7 @@ fn a_script_is_read_by_clients_and_places(rt: HostRuntime) {
         Does(1, 0, Locks(b'r', Exclusive)),
         Does(1, 1, Unlocks(b'r')),
         Does(2, 0, Locks(b'q', Exclusive)),
-        // There is nothing before, behind and beside these operations.
+        // There is nothing before, after and beside these operations.
         DoesNothing(0, 0),
         DoesNothing(1, 2),
         DoesNothing(1, u64::MAX),

@@ -8,7 +8,7 @@ use test_support::{FailingReader, failing_writer};
 /// The bytes that are read and written.
 const BYTES: &[u8] = b"abc";
 
-/// Makes the reader of [`BYTES`] that fails after so many reads.
+/// Makes the reader of [`BYTES`] that fails after this many reads.
 fn failing_reader(before_fault: usize, fault: io::ErrorKind) -> FailingReader<'static> {
     FailingReader {
         bytes: BYTES,
@@ -18,7 +18,7 @@ fn failing_reader(before_fault: usize, fault: io::ErrorKind) -> FailingReader<'s
     }
 }
 
-/// Returns whether a reader that fails after so many reads is not read again.
+/// Returns whether a reader that fails after this many reads is not read again.
 fn is_read_until(alloc: Global, before_fault: usize, fault: io::ErrorKind) -> bool {
     let mut reader = failing_reader(before_fault, fault);
     match read_up_to(alloc, &mut reader, 4) {
@@ -27,7 +27,7 @@ fn is_read_until(alloc: Global, before_fault: usize, fault: io::ErrorKind) -> bo
     }
 }
 
-/// Returns whether these are what is left of [`BYTES`] behind so many.
+/// Returns whether these are what is left of [`BYTES`] after this many.
 fn is_left(rest: &[u8], taken: usize) -> bool {
     match BYTES.get(taken..) {
         Some(expected) => rest == expected,
@@ -92,14 +92,14 @@ fn the_limit_may_be_more_than_there_is_room_for(rt: HostRuntime) {
     assert!(rt; reads_all(rt.alloc(), &[b'a'; 10_000]));
 }
 
-/// Returns whether [`BYTES`] are written or not to a writer that fails after so many writes, and it has taken these then.
+/// Returns whether [`BYTES`] are written or not to a writer that fails after this many writes, and it has taken these then.
 fn has_taken(before_fault: usize, fault: Option<io::ErrorKind>, written: bool) -> bool {
     let mut writer = failing_writer(BYTES, before_fault, fault);
     let answer = write_out(&mut writer, BYTES);
     answer.is_ok() == written && writer.has_taken(BYTES, before_fault)
 }
 
-/// Returns whether a writer that fails so is not written to again, wherever it fails, and takes all where it would fail behind
+/// Returns whether a writer that fails so is not written to again, wherever it fails, and takes all where it would fail after
 /// that.
 fn is_not_written_again(fault: Option<io::ErrorKind>) -> bool {
     has_taken(0, fault, false)

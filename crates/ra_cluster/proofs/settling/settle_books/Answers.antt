@@ -15,7 +15,7 @@ returns-in-Ok c =
     (run_of_all books c.index-books-0.result c.nodes.result c.start.result steps c.in-Ok.report c.requires.cluster c.index-books-0.is c.nodes.ensures.value c.start.ensures.value c.in-Ok.ensures.ok)
     (main_of_all books c.index-books-0.result c.nodes.result c.in-Ok.report c.requires.cluster c.index-books-0.is c.nodes.ensures.value c.in-Ok.ensures.main_theorem)
 
--- what the books say fits together, so the steps are refused for want of memory alone
+-- what the books say fits together, so the steps are refused only because memory ran out
 pub returns-in-Err : goal.returns-in-Err
 returns-in-Err c =
     let books = c.args.books.now in

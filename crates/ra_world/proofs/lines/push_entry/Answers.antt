@@ -5,7 +5,7 @@ use Rattle.ra_world.specs.Lines.{AddsFront, field, mode_word}
 use Rattle.ra_world.proofs.Adding.{added_behind, both_added, more_left}
 use Rattle.ra_world.proofs.lines.push_entry.Goals as goal
 
--- ---- The fields, and the fronts of them
+-- ---- The fields, and the prefixes of them
 
 abbrev node : Entry → List ℕ
 node e = field (decimal e.stamp.node)

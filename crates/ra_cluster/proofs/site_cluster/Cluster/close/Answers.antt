@@ -1,4 +1,4 @@
--- Each site that is closed gives the book of the node behind those that were closed.
+-- Each site that is closed gives the book of the node after those that were closed.
 use Rattle.std.proofs.Common.{◌≡◌, ℕ, ◌+◌, ◌≤◌, List, [], ◌∷◌, length, vec_len, refl, ap, ◌∙◌, sym, arith}
 use Rattle.std.specs.Vec.Iter.{into_iter_items, into_iter_len}
 use Rattle.ra_cluster.specs.Cluster.{ClusterState}
