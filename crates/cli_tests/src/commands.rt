@@ -1,6 +1,6 @@
 //! Words that are no command, and the help that lists the commands.
 use crate::frames::REQUEST;
-use crate::helpers::{Refused, assert_answers, assert_refuses};
+use crate::helpers::{Refused, assert_answers, assert_refuses, run};
 use ra_cli::{CommandFault, refuse_words};
 use std::alloc::Global;
 
@@ -87,7 +87,7 @@ Commands:
   sim      Drive a cluster through a script: who asked, entered and left
   cluster  Run a script by threads: who asked, entered and left
   check    Check the trace of a run, or the log of a lock service, line by line
-  draw     Draw the trace of a run as an SVG file: its nodes, messages, and who waits and is inside
+  draw     Draw the trace of a run as an SVG file
 
 Options:
   -h, --help     Print help
@@ -104,6 +104,40 @@ left to do, or a trace or a log that is none.
 fn help_lists_the_commands(rt: HostRuntime) {
     assert_answers(&rt, "ra --help", "", 0, HELP);
     assert_answers(&rt, "ra -h", "", 0, HELP);
+}
+
+/// The words of each help.
+const HELPS: &[&str] = &[
+    "ra --help",
+    "ra answer --help",
+    "ra sim --help",
+    "ra cluster --help",
+    "ra check --help",
+    "ra draw --help",
+];
+
+/// Returns whether no line of a text has more than 80 bytes.
+fn is_narrow(text: &[u8]) -> bool {
+    let Ok(text) = str::from_utf8(text) else {
+        return false;
+    };
+    for line in text.lines() {
+        if line.len() > 80 {
+            return false;
+        }
+    }
+    true
+}
+
+#[test]
+fn each_help_keeps_within_80_columns(rt: HostRuntime) {
+    for words in HELPS {
+        let answered = run(&rt, words, None, "");
+        assert!(rt;
+            answered.status == 0 && is_narrow(answered.output.as_slice()),
+            "{words}"
+        );
+    }
 }
 
 /// What is read and written: frames and traces of two versions.

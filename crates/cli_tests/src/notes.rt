@@ -81,7 +81,7 @@ const USAGES: &[Noted] = &[
         input: "",
         status: 2,
         output: "refused Usage\n",
-        note: "ra: 'ra' requires a subcommand but one was not provided [subcommands: answer, sim, cluster, check]; see ra --help\n",
+        note: "ra: 'ra' requires a subcommand but one was not provided [subcommands: answer, sim, cluster, check, draw]; see ra --help\n",
     },
     Noted {
         words: "ra simm",
@@ -124,6 +124,13 @@ const USAGES: &[Noted] = &[
         status: 2,
         output: "refused Usage\n",
         note: "ra: --lose and --repeat are at most 1000 together, and --repeat is at most 400; see ra sim --help\n",
+    },
+    Noted {
+        words: "ra sim --policy seeded --seeds 2..1",
+        input: ONE_CLIENT,
+        status: 2,
+        output: "refused Usage\n",
+        note: "ra: --seeds is A..B, as 1..1000, with --policy seeded or faulty and without --trace; see ra sim --help\n",
     },
 ];
 

@@ -145,19 +145,23 @@ it has more than 16777216 bytes. Status 1: the input or the output failed.";
 
 /// What is said of the command `draw` below its options.
 const DRAW_HELP: &str = "\
-A trace is read from standard input, as `ra sim --trace` prints it and `ra check --help` says what it is. Its picture is one SVG
-file, which any browser shows: a lane for each node, time downwards, an arrow for each message from its sending to its delivery, a
-cross where one is lost, a loop where one is repeated, and beside the lanes bars for clients that wait and that are inside. Rest the
+A trace is read from standard input, as `ra sim --trace` prints it and `ra check
+--help` says what it is. Its picture is one SVG file, which any browser shows: a
+lane for each node, time downwards, an arrow for each message from its sending
+to its delivery, a cross where one is lost, a loop where one is repeated, and
+beside the lanes bars for clients that wait and that are inside. Rest the
 pointer on a shape, and the browser says it in words.
 
 Example: ra sim --trace < script.toml | ra draw > run.svg
 
-At most 4096 lines of the trace are drawn. Of a longer one --from and --to say which, both counted from 1 and both among them; the
-lines before are followed and those behind are checked, but not drawn.
+At most 4096 lines of the trace are drawn. Of a longer one --from and --to say
+which, both counted from 1 and both included. The lines before are followed and
+those after are checked, but not drawn.
 
-Status 0: it is drawn. Status 3: the text is no trace, and its first wrong line is printed in place of the picture, as `ra check`
-prints it. Status 2: the words are refused, or it is TooLong, or has more than 16777216 bytes. Status 1: the input or the output
-failed.";
+Status 0: it is drawn. Status 3: the text is no trace, and its first wrong line
+is printed in place of the picture, as `ra check` prints it. Status 2: the words
+are refused, or it is TooLong, or it has more than 16777216 bytes. Status 1: the
+input or the output failed.";
 
 /// What is said of the command `cluster` below its options.
 const CLUSTER_HELP: &str = "\
@@ -397,9 +401,7 @@ fn to_option<'a>(alloc: Global) -> Arg<'a> {
 /// Makes the command `draw`.
 fn draw_command<'a>(alloc: Global) -> Result<Command<'a>, AllocError> {
     Command::new(alloc, "draw")
-        .about(
-            "Draw the trace of a run as an SVG file: its nodes, messages, and who waits and is inside",
-        )
+        .about("Draw the trace of a run as an SVG file")
         .after_help(DRAW_HELP)
         .arg(from_option(alloc))?
         .arg(to_option(alloc))

@@ -1,5 +1,5 @@
 //! What the parser says of words that are no command line, on one line.
-use crate::command_line::command;
+use crate::command_line::{command, text_of};
 use clap::error::ErrorKind;
 use clap::{Command, Error as ParseError};
 use std::alloc::{AllocError, Global};
@@ -10,6 +10,10 @@ const COMMANDS: [&str; 5] = ["answer", "sim", "cluster", "check", "draw"];
 /// What is said of faults that can't be.
 const FAULTS_TEXT: &str =
     "--lose and --repeat are at most 1000 together, and --repeat is at most 400; see ra sim --help";
+
+/// What is said of seeds that are no range, or for which there is no chance.
+const SEEDS_TEXT: &str =
+    "--seeds is A..B, as 1..1000, with --policy seeded or faulty and without --trace; see ra sim --help";
 
 /// Returns the command that the words name, or `None`.
 fn command_named(words: &[String]) -> Option<&str> {
@@ -98,13 +102,22 @@ fn error_text(alloc: Global, words: &[String], error: &ParseError) -> Result<Str
     Ok(text)
 }
 
+/// Returns what is said of words with which the parser finds nothing wrong.
+fn unseen_text(words: &[String]) -> &'static str {
+    if text_of(words, "--seeds").is_some() {
+        SEEDS_TEXT
+    } else {
+        FAULTS_TEXT
+    }
+}
+
 /// Returns what the parser says of words that are no command line of `ra`, with the nearest word where it knows one, and where more is
 /// said.
 pub fn usage_text<'a>(alloc: Global, words: &'a [String]) -> Result<String, AllocError> {
     let command: Command<'a> = command(alloc)?;
     match command.try_get_matches_from(words) {
         // The parser finds nothing wrong with them, so it is what it does not look at.
-        Ok(_matches) => String::from_str(alloc, FAULTS_TEXT),
+        Ok(_matches) => String::from_str(alloc, unseen_text(words)),
         Err(error) => error_text(alloc, words, &error),
     }
 }
