@@ -14,7 +14,7 @@ use std::alloc::Global;
 use std::marker::Model;
 
 /// One resource at one node: a call for each event, and a reader for each part. Contracts see its state.
-#[derive(Debug, Drop)]
+#[derive(Drop)]
 pub struct Automaton {
     me: NodeId,
     nodes: u16,

@@ -1,20 +1,24 @@
 ghost use Rattle.std.specs.Prelude.{◌≡◌};
 
 use ra_stamp::Memory;
+use std::fmt;
 use thiserror::Error;
 
 /// Why no automaton was made, and no node that keeps some.
 #[derive(Clone, Copy, Debug, PartialEq, Eq, Error)]
 pub enum NewError {
     /// The number of nodes is not 1 to 64.
-    #[error("BadCount")]
     BadCount,
     /// The node's number is above the number of nodes.
-    #[error("BadNode")]
     BadNode,
     /// Memory ran out.
-    #[error("Memory")]
     Memory,
+}
+
+impl fmt::Display for NewError {
+    fn fmt<W: fmt::Write>(&self, f: &mut fmt::Formatter<W>) -> fmt::Result {
+        fmt::Debug::fmt(self, f)
+    }
 }
 
 impl From<Memory> for NewError {
@@ -31,14 +35,17 @@ impl From<Memory> for NewError {
 #[derive(Clone, Copy, Debug, PartialEq, Eq, Error)]
 pub enum RequestError {
     /// The node waits or is inside already.
-    #[error("NotIdle")]
     NotIdle,
     /// No number is left.
-    #[error("Exhausted")]
     Exhausted,
     /// Memory ran out.
-    #[error("Memory")]
     Memory,
+}
+
+impl fmt::Display for RequestError {
+    fn fmt<W: fmt::Write>(&self, f: &mut fmt::Formatter<W>) -> fmt::Result {
+        fmt::Debug::fmt(self, f)
+    }
 }
 
 impl From<Memory> for RequestError {
@@ -55,14 +62,17 @@ impl From<Memory> for RequestError {
 #[derive(Clone, Copy, Debug, PartialEq, Eq, Error)]
 pub enum ReceiveError {
     /// It is for another node.
-    #[error("WrongNode")]
     WrongNode,
     /// Its sender is this node, or there is no such node.
-    #[error("Stranger")]
     Stranger,
     /// Memory ran out.
-    #[error("Memory")]
     Memory,
+}
+
+impl fmt::Display for ReceiveError {
+    fn fmt<W: fmt::Write>(&self, f: &mut fmt::Formatter<W>) -> fmt::Result {
+        fmt::Debug::fmt(self, f)
+    }
 }
 
 impl From<Memory> for ReceiveError {
@@ -79,11 +89,15 @@ impl From<Memory> for ReceiveError {
 #[derive(Clone, Copy, Debug, PartialEq, Eq, Error)]
 pub enum LeaveError {
     /// It is not inside.
-    #[error("NotHeld")]
     NotHeld,
     /// Memory ran out.
-    #[error("Memory")]
     Memory,
+}
+
+impl fmt::Display for LeaveError {
+    fn fmt<W: fmt::Write>(&self, f: &mut fmt::Formatter<W>) -> fmt::Result {
+        fmt::Debug::fmt(self, f)
+    }
 }
 
 impl From<Memory> for LeaveError {

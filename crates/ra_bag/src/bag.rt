@@ -16,7 +16,7 @@ use std::marker::Model;
 
 /// The messages under way, in the order in which they were sent; equal ones may stand in it. Contracts see them
 /// and the spare, which is how many more messages there is room for already.
-#[derive(Debug, Drop)]
+#[derive(Drop)]
 pub struct Bag {
     /// The messages, with an empty slot for each one that was taken from between others since the slots were closed up.
     slots: VecDeque<Option<Message>>,

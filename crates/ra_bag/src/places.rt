@@ -17,7 +17,7 @@ const FEW: usize = 64;
 /// The slots of the messages in a bag, by which the first that has a message is found without looking at all of them. They are
 /// learned where a message is looked for among many. A bag that does not know them, or for which there was no memory to, does the
 /// same in more time.
-#[derive(Debug, Drop)]
+#[derive(Drop)]
 pub struct Places {
     /// Each message with the number of the first slot that has it.
     numbers: IndexMap<Message, u64>,

@@ -70,7 +70,12 @@ fn slot_in(slots: &[Option<Message>], message: &Message) -> Option<usize>
     ensures first { IfSome result (λ slot. (k : ℕ) → k < slot
         → slice_index_or slots.now k (Some message.now) ≢ Some message.now) }
 {
-    slots.iter().position(|kept| is_of(kept, message))
+    for (slot, kept) in slots.iter().enumerate() {
+        if is_of(kept, message) {
+            return Some(slot);
+        }
+    }
+    None
 }
 
 /// Returns whether a slot has a message that is equal to this one.

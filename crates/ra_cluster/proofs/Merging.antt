@@ -10,7 +10,7 @@ use Rattle.std.proofs.lemmas.List.FromFn.{get_or-range_with_len}
 use Rattle.std.proofs.lemmas.Option.{slice_get_within, get_or_from_slice_get, slice_get-get_or, slice_get_read, same_Some, none-some}
 use Rattle.ra_world.specs.declared.step.Step.{Step}
 use Rattle.ra_cluster.specs.declared.event.BookEvent.{BookEvent}
-use Rattle.ra_cluster.specs.declared.ordering.Turn.{Turn}
+use Rattle.ra_cluster.specs.declared.event_merge.Turn.{Turn}
 use Rattle.ra_cluster.specs.Book.{BookState, HasHistory}
 use Rattle.ra_cluster.specs.Settled.{IsCluster, IsSettledOrder, Placed, IsBefore, events_of, steps_of, step_at}
 use Rattle.ra_cluster.specs.Ordering.{IsNext, IsNotAfter, IsEarliest}

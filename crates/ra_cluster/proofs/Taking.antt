@@ -6,8 +6,8 @@ use Rattle.std.proofs.lemmas.Option.{same_Some, none-some}
 use Rattle.ra_cluster.specs.declared.event.BookKind.{BookKind}
 use Rattle.ra_cluster.specs.declared.event.BookKind.TheVariants.{Asked, Gave, Got}
 use Rattle.ra_cluster.specs.declared.event.BookEvent.{BookEvent}
-use Rattle.ra_cluster.specs.declared.ordering.Head.{Head}
-use Rattle.ra_cluster.specs.declared.ordering.Turn.{Turn}
+use Rattle.ra_cluster.specs.declared.event_merge.Head.{Head}
+use Rattle.ra_cluster.specs.declared.event_merge.Turn.{Turn}
 use Rattle.ra_cluster.specs.History.{AreClocked, clock_after}
 use Rattle.ra_cluster.specs.Book.{BookState}
 use Rattle.ra_cluster.specs.Ordering.{IsNext, IsNotAfter, IsEarliest, IsHeadOfEarliest, head_of, lesser_of}

@@ -1,8 +1,8 @@
 -- How the events of books are put in order, of which so many of each book are taken. No public contract speaks of it.
 use Rattle.std.specs.Prelude.{◌≡◌, ◌⊎◌, ℕ, ◌<◌, ◌≤◌, List, Option, Some, None, if◌then◌else◌, nat_le, option_map, slice_get, slice_index}
 use Rattle.ra_cluster.specs.declared.event.BookEvent.{BookEvent}
-use Rattle.ra_cluster.specs.declared.ordering.Head.{Head}
-use Rattle.ra_cluster.specs.declared.ordering.Turn.{Turn}
+use Rattle.ra_cluster.specs.declared.event_merge.Head.{Head}
+use Rattle.ra_cluster.specs.declared.event_merge.Turn.{Turn}
 use Rattle.ra_cluster.specs.Book.{BookState}
 
 -- this event of the book at a place comes next

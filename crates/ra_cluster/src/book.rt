@@ -20,7 +20,7 @@ use std::marker::Model;
 ///
 /// A book keeps its events and the frames that it sent. Each of `ask`, `leave` and `receive` costs what the call of the node
 /// costs, plus amortized time linear in the number of nodes.
-#[derive(Debug, Drop)]
+#[derive(Drop)]
 pub struct Book {
     me: NodeId,
     nodes: u16,

@@ -6,7 +6,7 @@ use ra_stamp::{Mode, Name};
 use std::alloc::Global;
 
 /// A call of a book that steps its node.
-#[derive(Clone, Copy, Debug)]
+#[derive(Clone, Copy)]
 pub enum Call<'a> {
     /// A client asks for a name.
     Ask { client: u32, name: Name, mode: Mode },

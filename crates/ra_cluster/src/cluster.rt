@@ -7,7 +7,7 @@ ghost use Rattle.ra_cluster.specs.Order.{IsOutOfOrder, IsUnreleased};
 ghost use Rattle.ra_cluster.specs.Plan.{MeetsPlan, IsQuietEnd, locks_of};
 ghost use Rattle.ra_cluster.specs.Outcome.{IsDone, IsOfThreads};
 
-use crate::order::check_script;
+use crate::lock_order::check_script;
 use crate::outcome::settle_script;
 use crate::sites::make_sites;
 use crate::threads::{ScriptRun, run_threads};
@@ -43,16 +43,10 @@ pub enum ClusterError {
 
 impl fmt::Display for ClusterError {
     fn fmt<W: fmt::Write>(&self, f: &mut fmt::Formatter<W>) -> fmt::Result {
-        f.write_str(match self {
-            ClusterError::OutOfOrder => "OutOfOrder",
-            ClusterError::Unreleased => "Unreleased",
-            ClusterError::Fault(_) => "Fault",
-            ClusterError::Settle => "Settle",
-            ClusterError::PlanUnmet => "PlanUnmet",
-            ClusterError::Lost => "Lost",
-            ClusterError::UnderWay => "UnderWay",
-            ClusterError::Memory => "Memory",
-        })
+        match self {
+            ClusterError::Fault(_) => f.write_str("Fault"),
+            word => fmt::Debug::fmt(word, f),
+        }
     }
 }
 

@@ -32,18 +32,10 @@ pub enum BookError {
 
 impl fmt::Display for BookError {
     fn fmt<W: fmt::Write>(&self, f: &mut fmt::Formatter<W>) -> fmt::Result {
-        let word = match self {
-            BookError::Failed => "Failed",
-            BookError::Frame(cause) => return fmt::Display::fmt(cause, f),
-            BookError::Busy => "Busy",
-            BookError::Exhausted => "Exhausted",
-            BookError::NotHeld => "NotHeld",
-            BookError::WrongNode => "WrongNode",
-            BookError::Stranger => "Stranger",
-            BookError::ClockFull => "ClockFull",
-            BookError::Memory => "Memory",
-        };
-        f.write_str(word)
+        match self {
+            BookError::Frame(cause) => fmt::Display::fmt(cause, f),
+            word => fmt::Debug::fmt(word, f),
+        }
     }
 }
 
@@ -75,11 +67,15 @@ impl From<AskError> for BookError {
 #[derive(Clone, Copy, Debug, PartialEq, Eq, Error)]
 pub enum MarkLostError {
     /// It is not among the sent frames.
-    #[error("NotSent")]
     NotSent,
     /// It was flagged before.
-    #[error("AlreadyLost")]
     AlreadyLost,
+}
+
+impl fmt::Display for MarkLostError {
+    fn fmt<W: fmt::Write>(&self, f: &mut fmt::Formatter<W>) -> fmt::Result {
+        fmt::Debug::fmt(self, f)
+    }
 }
 
 /// Why books did not settle, in the order in which the causes are looked for.
@@ -99,13 +95,7 @@ pub enum SettleError {
 
 impl fmt::Display for SettleError {
     fn fmt<W: fmt::Write>(&self, f: &mut fmt::Formatter<W>) -> fmt::Result {
-        f.write_str(match self {
-            SettleError::NotSent => "NotSent",
-            SettleError::Twice => "Twice",
-            SettleError::GrantMissing => "GrantMissing",
-            SettleError::GrantTwice => "GrantTwice",
-            SettleError::Memory => "Memory",
-        })
+        fmt::Debug::fmt(self, f)
     }
 }
 

@@ -5,7 +5,7 @@ ghost use Rattle.ra_cluster.specs.Keys as spec;
 use ra_stamp::{Entry, Message, Mode, Name, NodeId};
 
 /// All of a request.
-#[derive(Clone, Copy, Debug, PartialEq, Eq, PartialOrd, Ord)]
+#[derive(Clone, Copy, PartialEq, Eq, PartialOrd, Ord)]
 pub struct EntryKey {
     seq: u64,
     node: NodeId,
@@ -15,7 +15,7 @@ pub struct EntryKey {
 }
 
 /// All of a message. A REPLY has mode 0.
-#[derive(Clone, Copy, Debug, PartialEq, Eq, PartialOrd, Ord)]
+#[derive(Clone, Copy, PartialEq, Eq, PartialOrd, Ord)]
 pub struct MessageKey {
     seq: u64,
     from: NodeId,

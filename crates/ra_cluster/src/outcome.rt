@@ -118,7 +118,12 @@ fn are_of(script: &Script, books: &[Book]) -> bool
 fn begin_at_0(books: &[Book]) -> bool
     ensures { IsTrue result ↔ All (λ book. book.start ≡ 0) books.now }
 {
-    books.iter().all(|book| book.start() == 0)
+    for book in books {
+        if book.start() != 0 {
+            return false;
+        }
+    }
+    true
 }
 
 /// Checks that a run brought the script to its end.

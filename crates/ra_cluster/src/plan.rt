@@ -28,7 +28,12 @@ fn name_clients(marks: &[Mark], count: u32) -> bool
     ensures { IsTrue result
         ↔ All (λ mark. (1 ≤ client_of_mark mark) × (client_of_mark mark ≤ count)) marks.now }
 {
-    marks.iter().all(|mark| names_a_client(mark, count))
+    for mark in marks {
+        if !names_a_client(mark, count) {
+            return false;
+        }
+    }
+    true
 }
 
 /// Returns whether a mark names one of this many clients.

@@ -7,6 +7,7 @@ use crossbeam_channel::{Receiver, unbounded};
 use ra_frame::{Frame, encode};
 use ra_stamp::{Memory, NodeId};
 use std::alloc::{AllocError, AllocFailed, Global};
+use std::fmt;
 use std::sync::{RwLock, Wait};
 use thiserror::Error;
 
@@ -14,11 +15,15 @@ use thiserror::Error;
 #[derive(Clone, Copy, Debug, PartialEq, Eq, Error)]
 pub enum NewPostError {
     /// The number of nodes is not 1 to 64.
-    #[error("BadCount")]
     BadCount,
     /// Memory ran out.
-    #[error("Memory")]
     Memory,
+}
+
+impl fmt::Display for NewPostError {
+    fn fmt<W: fmt::Write>(&self, f: &mut fmt::Formatter<W>) -> fmt::Result {
+        fmt::Debug::fmt(self, f)
+    }
 }
 
 impl From<AllocError> for NewPostError {
@@ -45,11 +50,15 @@ impl<T: Drop> From<AllocFailed<T>> for NewPostError {
 #[derive(Clone, Copy, Debug, PartialEq, Eq, Error)]
 pub enum SendError {
     /// The post is closed.
-    #[error("Closed")]
     Closed,
     /// There is no memory for it, or no inbox of its node, or the inbox is gone.
-    #[error("Refused")]
     Refused,
+}
+
+impl fmt::Display for SendError {
+    fn fmt<W: fmt::Write>(&self, f: &mut fmt::Formatter<W>) -> fmt::Result {
+        fmt::Debug::fmt(self, f)
+    }
 }
 
 /// Where the frames for one node come, each as its bytes.

@@ -4,11 +4,12 @@ ghost use Rattle.ra_frame.specs.Fits.{Fits};
 
 use crate::call::Call;
 use crate::letter::{Letter, letters_of};
-use crate::stopping::stop_of;
+use crate::stop_causes::stop_of;
 use crate::{Book, BookError, Gate, Grant, Inbox, NewError, Post, Posted, Stop};
 use ra_frame::Frame;
 use ra_stamp::{Entry, Mark, Memory, Mode, Name, NodeId};
 use std::alloc::Global;
+use std::fmt;
 use std::marker::Model;
 use std::sync::{Condvar, Mutex, Wait};
 use thiserror::Error;
@@ -20,11 +21,18 @@ use thiserror::Error;
 pub enum SiteError {
     /// The book of the node refused it, and is as before. Where the cause is `Failed` the node was stopped before; after any other one
     /// it goes on.
-    #[error(transparent)]
     Refused(BookError),
     /// The node is stopped, for this cause, and takes no call any more.
-    #[error("{0}")]
     Stopped(Stop),
+}
+
+impl fmt::Display for SiteError {
+    fn fmt<W: fmt::Write>(&self, f: &mut fmt::Formatter<W>) -> fmt::Result {
+        match self {
+            SiteError::Refused(cause) => fmt::Display::fmt(cause, f),
+            SiteError::Stopped(cause) => fmt::Display::fmt(cause, f),
+        }
+    }
 }
 
 /// A node that threads share: its number, and its book under a lock. Contracts see the number.
@@ -402,15 +410,15 @@ impl Site {
 
 /// Returns whether a book's event let a client in.
 fn lets_in(answer: &Result<Posted, BookError>) -> bool {
-    match answer {
-        Ok(posted) => posted.marks.as_slice().iter().any(is_entered),
-        Err(_) => false,
+    let Ok(posted) = answer else {
+        return false;
+    };
+    for mark in posted.marks.as_slice() {
+        if matches!(mark, Mark::Entered(_)) {
+            return true;
+        }
     }
-}
-
-/// Returns whether a mark says that a client holds its name from now on.
-fn is_entered(mark: &Mark) -> bool {
-    matches!(mark, Mark::Entered(_))
+    false
 }
 
 /// Stops each site, in turn from node 1 up, with one lock at a time.

@@ -10,6 +10,7 @@ use crate::sites::make_sites;
 use crate::{Book, Gate, Grant, Inbox, NewPostError, Post, Site, SiteError, Stop};
 use ra_stamp::{Mode, Name, NodeId};
 use std::alloc::Global;
+use std::fmt;
 use std::marker::Model;
 use std::sync::Wait;
 use thiserror::Error;
@@ -18,11 +19,18 @@ use thiserror::Error;
 #[derive(Clone, Copy, Debug, PartialEq, Eq, Error)]
 pub enum CallError {
     /// The cluster has no node with this number.
-    #[error("NoNode")]
     NoNode,
     /// The call of the node's site did not.
-    #[error(transparent)]
     Site(SiteError),
+}
+
+impl fmt::Display for CallError {
+    fn fmt<W: fmt::Write>(&self, f: &mut fmt::Formatter<W>) -> fmt::Result {
+        match self {
+            CallError::Site(cause) => fmt::Display::fmt(cause, f),
+            word => fmt::Debug::fmt(word, f),
+        }
+    }
 }
 
 /// What a client did while it held a name, and how it gave the name back.

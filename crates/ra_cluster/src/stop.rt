@@ -24,15 +24,6 @@ pub enum Stop {
 
 impl fmt::Display for Stop {
     fn fmt<W: fmt::Write>(&self, f: &mut fmt::Formatter<W>) -> fmt::Result {
-        f.write_str(match self {
-            Stop::Memory => "Memory",
-            Stop::Send => "Send",
-            Stop::Clock => "Clock",
-            Stop::Exhausted => "Exhausted",
-            Stop::Frame => "Frame",
-            Stop::Refused => "Refused",
-            Stop::Gate => "Gate",
-            Stop::Spawn => "Spawn",
-        })
+        fmt::Debug::fmt(self, f)
     }
 }

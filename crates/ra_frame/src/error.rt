@@ -32,19 +32,6 @@ pub enum FrameError {
 
 impl fmt::Display for FrameError {
     fn fmt<W: fmt::Write>(&self, f: &mut fmt::Formatter<W>) -> fmt::Result {
-        f.write_str(match self {
-            FrameError::Short => "Short",
-            FrameError::Version => "Version",
-            FrameError::Kind => "Kind",
-            FrameError::From => "From",
-            FrameError::To => "To",
-            FrameError::SameNode => "SameNode",
-            FrameError::Mode => "Mode",
-            FrameError::Seq => "Seq",
-            FrameError::Clock => "Clock",
-            FrameError::NameLength => "NameLength",
-            FrameError::NameByte => "NameByte",
-            FrameError::Trailing => "Trailing",
-        })
+        fmt::Debug::fmt(self, f)
     }
 }

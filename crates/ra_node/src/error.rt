@@ -3,20 +3,24 @@ ghost use Rattle.std.specs.Prelude.{◌≡◌};
 use ra_automaton::{LeaveError as LeaveRefusal, RequestError};
 use ra_stamp::Memory;
 use std::alloc::AllocFailed;
+use std::fmt;
 use thiserror::Error;
 
 /// Why a client may not ask.
 #[derive(Clone, Copy, Debug, PartialEq, Eq, Error)]
 pub enum AskError {
     /// The client waits, is queued or holds on that name at this node.
-    #[error("Busy")]
     Busy,
     /// No number is left for the name.
-    #[error("Exhausted")]
     Exhausted,
     /// Memory ran out.
-    #[error("Memory")]
     Memory,
+}
+
+impl fmt::Display for AskError {
+    fn fmt<W: fmt::Write>(&self, f: &mut fmt::Formatter<W>) -> fmt::Result {
+        fmt::Debug::fmt(self, f)
+    }
 }
 
 impl From<Memory> for AskError {
@@ -58,11 +62,15 @@ impl From<RequestError> for AskError {
 #[derive(Clone, Copy, Debug, PartialEq, Eq, Error)]
 pub enum LeaveError {
     /// The client does not hold the name at this node.
-    #[error("NotHeld")]
     NotHeld,
     /// Memory ran out.
-    #[error("Memory")]
     Memory,
+}
+
+impl fmt::Display for LeaveError {
+    fn fmt<W: fmt::Write>(&self, f: &mut fmt::Formatter<W>) -> fmt::Result {
+        fmt::Debug::fmt(self, f)
+    }
 }
 
 impl From<Memory> for LeaveError {

@@ -23,7 +23,7 @@ use std::marker::Model;
 ///
 /// [`events_keep_a_node_consistent`](crate::events_keep_a_node_consistent) says more of what `ask`, `leave` and `receive`
 /// send and mark: to whom, with which numbers, how much at most, and that a node has at most one request on a name.
-#[derive(Debug, Drop)]
+#[derive(Drop)]
 pub struct Node {
     me: NodeId,
     nodes: u16,

@@ -18,7 +18,7 @@ const FEW: usize = 16;
 /// A long queue knows its clients, so that one is found by a hash and not by looking at each. They are learned where a client
 /// comes to a long queue, and known until the queue has run empty, so that they are not learned again and again where its length
 /// goes up and down. A queue for which there was no memory to know them does the same in more time.
-#[derive(Debug, Drop)]
+#[derive(Drop)]
 pub struct Queue {
     clients: VecDeque<Queued>,
     /// The same clients, in any order, or none where they are not known.

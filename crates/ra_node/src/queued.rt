@@ -1,7 +1,7 @@
 use ra_stamp::Mode;
 
 /// A client that waits for its turn at a resource.
-#[derive(Clone, Copy, Debug)]
+#[derive(Clone, Copy)]
 pub struct Queued {
     /// The client, any number.
     pub client: u32,

@@ -12,7 +12,7 @@ use std::alloc::Global;
 use std::marker::Model;
 
 /// One resource at this node, with the clients of the node that use it. Contracts see the resource.
-#[derive(Debug, Drop)]
+#[derive(Drop)]
 pub struct Slot {
     automaton: Automaton,
     /// The client whose request waits or is granted.

@@ -18,14 +18,17 @@ use thiserror::Error;
 #[derive(Clone, Copy, Debug, PartialEq, Eq, Error)]
 pub enum NameError {
     /// There is no byte.
-    #[error("Empty")]
     Empty,
     /// There are more than 32 bytes.
-    #[error("TooLong")]
     TooLong,
     /// A byte is not one of `A` to `Z`, `a` to `z`, `0` to `9`, `_`, `-` and `.`.
-    #[error("BadByte")]
     BadByte,
+}
+
+impl fmt::Display for NameError {
+    fn fmt<W: fmt::Write>(&self, f: &mut fmt::Formatter<W>) -> fmt::Result {
+        fmt::Debug::fmt(self, f)
+    }
 }
 
 /// The name of a resource: 1 to 32 of the bytes `A` to `Z`, `a` to `z`, `0` to `9`, `_`, `-` and `.`. Contracts
@@ -67,7 +70,12 @@ fn is_name_byte(byte: u8) -> bool
 fn are_name_bytes(bytes: &[u8]) -> bool
     ensures { IsTrue result ↔ AllPass is_name_byte bytes.now }
 {
-    bytes.iter().all(|&byte| is_name_byte(byte))
+    for byte in bytes {
+        if !is_name_byte(*byte) {
+            return false;
+        }
+    }
+    true
 }
 
 impl Name {

@@ -1,19 +1,23 @@
 use ra_stamp::Memory;
 use std::alloc::AllocError;
+use std::fmt;
 use thiserror::Error;
 
 /// Why a request was refused.
 #[derive(Clone, Copy, Debug, PartialEq, Eq, Error)]
 pub enum RequestError {
     /// The entry's node waits or holds on its name.
-    #[error("NodeBusy")]
     NodeBusy,
     /// The entry's number is not above the number of each entry granted so far on its name.
-    #[error("NotAbove")]
     NotAbove,
     /// Memory ran out.
-    #[error("Memory")]
     Memory,
+}
+
+impl fmt::Display for RequestError {
+    fn fmt<W: fmt::Write>(&self, f: &mut fmt::Formatter<W>) -> fmt::Result {
+        fmt::Debug::fmt(self, f)
+    }
 }
 
 impl From<Memory> for RequestError {
@@ -31,17 +35,19 @@ impl From<Memory> for RequestError {
 #[derive(Clone, Copy, Debug, PartialEq, Eq, Error)]
 pub enum EnterError {
     /// The entry does not wait.
-    #[error("NotWaiting")]
     NotWaiting,
     /// A conflicting entry on the name holds.
-    #[error("Held")]
     Held,
     /// A conflicting entry on the name with an earlier stamp waits.
-    #[error("Earlier")]
     Earlier,
     /// Memory ran out.
-    #[error("Memory")]
     Memory,
+}
+
+impl fmt::Display for EnterError {
+    fn fmt<W: fmt::Write>(&self, f: &mut fmt::Formatter<W>) -> fmt::Result {
+        fmt::Debug::fmt(self, f)
+    }
 }
 
 impl From<AllocError> for EnterError {
@@ -70,6 +76,11 @@ impl From<Memory> for EnterError {
 #[derive(Clone, Copy, Debug, PartialEq, Eq, Error)]
 pub enum LeaveError {
     /// The entry does not hold.
-    #[error("NotHeld")]
     NotHeld,
+}
+
+impl fmt::Display for LeaveError {
+    fn fmt<W: fmt::Write>(&self, f: &mut fmt::Formatter<W>) -> fmt::Result {
+        fmt::Debug::fmt(self, f)
+    }
 }

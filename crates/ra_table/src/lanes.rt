@@ -13,7 +13,7 @@ use std::alloc::Global;
 use std::marker::Model;
 
 /// The entries that wait and those that hold on one name.
-#[derive(Debug, Drop)]
+#[derive(Drop)]
 struct Lane {
     waiting: Vec<Entry>,
     holding: Vec<Entry>,
@@ -25,7 +25,7 @@ struct Lane {
 /// A lane is found by a hash, in expected constant time. Each call takes besides at most what is linear in the
 /// number of its entries, and `wait` moves all lanes into more memory now and then, which is constant on average. A
 /// lane stays when its last entry has left.
-#[derive(Debug, Drop)]
+#[derive(Drop)]
 pub struct Lanes {
     by_name: IndexMap<Name, Lane>,
 }

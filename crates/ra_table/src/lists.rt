@@ -13,18 +13,35 @@ fn excludes(a: &Entry, b: &Entry) -> bool
     a.name == b.name && conflicts(a.mode, b.mode)
 }
 
+/// Returns whether two entries are of one node, on one name.
+fn shares_node(a: &Entry, b: &Entry) -> bool
+    ensures { IsTrue result ↔ SharesNodeAndName a.now b.now }
+{
+    a.name == b.name && a.stamp.node == b.stamp.node
+}
+
 /// Returns whether an entry of the list is of this entry's node, on its name.
 pub fn has_node_of(list: &[Entry], entry: &Entry) -> bool
     ensures { IsTrue result ↔ Any (λ x. SharesNodeAndName x entry.now) list.now }
 {
-    list.iter().any(|other| other.name == entry.name && other.stamp.node == entry.stamp.node)
+    for other in list {
+        if shares_node(other, entry) {
+            return true;
+        }
+    }
+    false
 }
 
 /// Returns whether an entry of the list excludes this entry.
 pub fn has_excluding(list: &[Entry], entry: &Entry) -> bool
     ensures { IsTrue result ↔ Any (λ x. Excludes x entry.now) list.now }
 {
-    list.iter().any(|other| excludes(other, entry))
+    for other in list {
+        if excludes(other, entry) {
+            return true;
+        }
+    }
+    false
 }
 
 /// Returns whether another entry excludes this entry and is earlier.
@@ -38,14 +55,12 @@ fn goes_before(other: &Entry, entry: &Entry) -> bool
 pub fn has_earlier(list: &[Entry], entry: &Entry) -> bool
     ensures { IsTrue result ↔ Any (λ x. Excludes x entry.now × IsEarlier x.stamp entry.now.stamp) list.now }
 {
-    list.iter().any(|other| goes_before(other, entry))
-}
-
-/// Returns whether two entries are the same.
-fn is_same(a: &Entry, b: &Entry) -> bool
-    ensures { IsTrue result ↔ (a.now ≡ b.now) }
-{
-    a == b
+    for other in list {
+        if goes_before(other, entry) {
+            return true;
+        }
+    }
+    false
 }
 
 /// Returns where the entry stands in the list.
@@ -54,7 +69,12 @@ pub fn place_of(list: &[Entry], entry: &Entry) -> Option<usize>
     ensures found { IfSome result (λ place. (place < length list.now)
         × (slice_index_or list.now place entry.now ≡ entry.now)) }
 {
-    list.iter().position(|other| is_same(other, entry))
+    for (place, other) in list.iter().enumerate() {
+        if other == entry {
+            return Some(place);
+        }
+    }
+    None
 }
 
 /// Puts the entry at the end of a list of few, in which no room is kept for more: there are as many such lists as

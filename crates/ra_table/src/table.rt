@@ -13,7 +13,6 @@ use crate::past::Past;
 use indexmap::IndexMap;
 use ra_stamp::{Entry, Memory, Name};
 use std::alloc::Global;
-use std::fmt;
 use std::marker::Model;
 
 /// The lock table: which entries wait, which hold, and which were granted so far. No two conflicting entries on
@@ -44,15 +43,6 @@ impl Model for Table {
         record { waiting = t.lanes.waiting; holding = t.lanes.holding; granted = t.granted.items } };
 
     ghost invariant = { λ t. IsKept t.lanes.holding t.granted.items t.highest.entries };
-}
-
-impl fmt::Debug for Table {
-    fn fmt<W: fmt::Write>(&self, f: &mut fmt::Formatter<W>) -> fmt::Result {
-        f.debug_struct("Table")
-            .field("lanes", &self.lanes)
-            .field("highest", &self.highest)
-            .finish()
-    }
 }
 
 impl Table {

@@ -13,10 +13,12 @@ fn part_of(shown: &[u8], most: usize) -> (usize, bool)
     ensures { IsPart most shown.now result.0 result.1 }
 {
     let part = &shown[..shown.len().min(most)];
-    match part.iter().position(|byte| *byte == b'\n') {
-        Some(place) => (place + 1, true),
-        None => (part.len(), false),
+    for (place, byte) in part.iter().enumerate() {
+        if *byte == b'\n' {
+            return (place + 1, true);
+        }
     }
+    (part.len(), false)
 }
 
 /// Takes what the reader shows of the line, at most `most` bytes. Returns how many they are, and whether the last of them is

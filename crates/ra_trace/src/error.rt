@@ -21,11 +21,7 @@ pub enum TraceError {
 
 impl fmt::Display for TraceError {
     fn fmt<W: fmt::Write>(&self, f: &mut fmt::Formatter<W>) -> fmt::Result {
-        f.write_str(match self {
-            TraceError::Read => "Read",
-            TraceError::Limit => "Limit",
-            TraceError::Memory => "Memory",
-        })
+        fmt::Debug::fmt(self, f)
     }
 }
 
@@ -42,12 +38,10 @@ pub enum WriteTraceError {
 
 impl fmt::Display for WriteTraceError {
     fn fmt<W: fmt::Write>(&self, f: &mut fmt::Formatter<W>) -> fmt::Result {
-        let word = match self {
-            WriteTraceError::Run(cause) => return fmt::Display::fmt(cause, f),
-            WriteTraceError::Memory => "Memory",
-            WriteTraceError::Write => "Write",
-        };
-        f.write_str(word)
+        match self {
+            WriteTraceError::Run(cause) => fmt::Display::fmt(cause, f),
+            word => fmt::Debug::fmt(word, f),
+        }
     }
 }
 

@@ -11,15 +11,24 @@ pub fn cut(byte: u8, text: &[u8]) -> Option<(&[u8], &[u8])>
     ensures { MatchOption result (spec.cut byte text.now ≡ None)
         (λ parts. spec.cut byte text.now ≡ Some (parts.0.now, parts.1.now)) }
 {
-    let end = text.iter().position(|other| *other == byte)?;
-    Some((&text[..end], &text[end + 1..]))
+    for (end, other) in text.iter().enumerate() {
+        if *other == byte {
+            return Some((&text[..end], &text[end + 1..]));
+        }
+    }
+    None
 }
 
 /// Returns whether each byte is a digit. It does not allocate.
 fn are_digits(bytes: &[u8]) -> bool
     ensures { result ≡ list_all is_ascii_digit bytes.now }
 {
-    bytes.iter().all(|byte| byte.is_ascii_digit())
+    for byte in bytes {
+        if !byte.is_ascii_digit() {
+            return false;
+        }
+    }
+    true
 }
 
 /// Returns whether these are digits, of which the first of two or more is not `0`. It does not allocate.

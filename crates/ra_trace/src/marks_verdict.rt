@@ -22,15 +22,7 @@ pub enum MarkCause {
 
 impl fmt::Display for MarkCause {
     fn fmt<W: fmt::Write>(&self, f: &mut fmt::Formatter<W>) -> fmt::Result {
-        f.write_str(match self {
-            MarkCause::Line => "Line",
-            MarkCause::NodeBusy => "NodeBusy",
-            MarkCause::NotAbove => "NotAbove",
-            MarkCause::NotWaiting => "NotWaiting",
-            MarkCause::Held => "Held",
-            MarkCause::Earlier => "Earlier",
-            MarkCause::NotHeld => "NotHeld",
-        })
+        fmt::Debug::fmt(self, f)
     }
 }
 

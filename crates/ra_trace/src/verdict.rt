@@ -19,13 +19,7 @@ pub enum Cause {
 
 impl fmt::Display for Cause {
     fn fmt<W: fmt::Write>(&self, f: &mut fmt::Formatter<W>) -> fmt::Result {
-        f.write_str(match self {
-            Cause::Line => "Line",
-            Cause::Refused => "Refused",
-            Cause::NotUnderWay => "NotUnderWay",
-            Cause::Marks => "Marks",
-            Cause::Table => "Table",
-        })
+        fmt::Debug::fmt(self, f)
     }
 }
 

@@ -10,7 +10,6 @@ use crate::history::History;
 use ra_node::Outcome;
 use ra_stamp::{Mark, Marks, Memory, Sequence};
 use std::alloc::Global;
-use std::fmt;
 use std::marker::Model;
 
 /// What came of the steps so far. The steps themselves are counted and not kept, and their marks are kept where `KEEPS_MARKS` is 1.
@@ -45,19 +44,6 @@ impl<const KEEPS_MARKS: u8> Model for Log<KEEPS_MARKS> {
 
     ghost invariant = { λ l.
         AreCounted KEEPS_MARKS (moves_of l.made.items) l.steps l.marks.items l.sent l.requests l.lost l.repeated };
-}
-
-impl<const KEEPS_MARKS: u8> fmt::Debug for Log<KEEPS_MARKS> {
-    fn fmt<W: fmt::Write>(&self, f: &mut fmt::Formatter<W>) -> fmt::Result {
-        f.debug_struct("Log")
-            .field("steps", &self.steps)
-            .field("marks", &self.marks)
-            .field("sent", &self.sent)
-            .field("requests", &self.requests)
-            .field("lost", &self.lost)
-            .field("repeated", &self.repeated)
-            .finish()
-    }
 }
 
 impl<const KEEPS_MARKS: u8> Log<KEEPS_MARKS> {

@@ -25,7 +25,7 @@ pub type MarklessWorld = WorldOf<0>;
 ///
 /// A world keeps the marks of its steps where `KEEPS_MARKS` is 1, and of the messages that they sent those under way. Of the steps
 /// and of all messages it keeps only how many there were.
-#[derive(Debug, Drop)]
+#[derive(Drop)]
 pub struct WorldOf<const KEEPS_MARKS: u8> {
     start: u64,
     /// The nodes by their numbers, from 1.
