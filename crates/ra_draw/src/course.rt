@@ -1,21 +1,23 @@
 //! What of a run is drawn, made by a world of its own from the lines of its trace.
-use crate::flights::{Fate, Flight, Flights, Moment, Start};
+use crate::cut::cut;
+use crate::flights::{Fate, Flights, Moment, Start};
 use crate::part::Part;
 use crate::reading::{Line, Seat, line_of};
-use crate::stays::{Stay, Stays};
-use ra_stamp::{Memory, Mode};
-use ra_world::{MarklessWorld, NewError, Step, StepError};
+use crate::stays::Stays;
+use ra_stamp::{Memory, Message, Mode};
+use ra_world::{MarklessWorld, Step};
 use std::alloc::Global;
 
-/// What a client does by a step.
-#[derive(Clone, Copy, Debug)]
-pub enum Act {
-    Asks { seat: Seat, mode: Mode },
-    Leaves(Seat),
+/// What a client does by a step: it asks for a name in a mode, or leaves it.
+#[derive(Clone, Copy)]
+pub struct Act {
+    pub seat: Seat,
+    /// The mode in which it asks.
+    pub mode: Option<Mode>,
 }
 
 /// The line of a step, and what a client does by it, if anything.
-#[derive(Clone, Copy, Debug)]
+#[derive(Clone, Copy)]
 pub struct Row {
     pub line: u64,
     pub act: Option<Act>,
@@ -29,58 +31,49 @@ fn act_of(step: &Step) -> Option<Act> {
             client,
             name,
             mode,
-        } => Some(Act::Asks {
+        } => Some(Act {
             seat: Seat { node, client, name },
-            mode,
+            mode: Some(mode),
         }),
-        Step::Leave { node, client, name } => Some(Act::Leaves(Seat { node, client, name })),
+        Step::Leave { node, client, name } => Some(Act {
+            seat: Seat { node, client, name },
+            mode: None,
+        }),
         _ => None,
     }
 }
 
-/// What is drawn of a run.
+/// What is drawn of a run, as far as it was followed.
 #[derive(Drop)]
 pub struct Course {
     pub nodes: u16,
-    /// Those of the steps of the part, in order.
-    pub rows: Vec<Row>,
-    pub flights: Vec<Flight>,
-    pub stays: Vec<Stay>,
-}
-
-/// A run, as far as it was followed.
-#[derive(Drop)]
-struct Follower {
-    world: MarklessWorld,
     /// The moment of the last step.
     now: Moment,
-    rows: Vec<Row>,
-    flights: Flights,
-    stays: Stays,
+    /// Those of the steps of the part, in order.
+    pub rows: Vec<Row>,
+    pub flights: Flights,
+    pub stays: Stays,
 }
 
-impl Follower {
-    /// Makes one for a cluster of this many nodes in which nothing has happened yet, or `None` where there is none of this many.
-    fn new(alloc: Global, nodes: u16, start: u64) -> Result<Option<Follower>, Memory> {
-        match MarklessWorld::new(alloc, nodes, start) {
-            Ok(world) => Ok(Some(Follower {
-                world,
-                now: Moment { line: 0, row: 0 },
-                rows: Vec::new(alloc),
-                flights: Flights::new(alloc),
-                stays: Stays::new(alloc),
-            })),
-            Err(NewError::BadCount) => Ok(None),
-            Err(NewError::Memory) => Err(Memory),
+impl Course {
+    /// Makes that of a run in which nothing has happened yet.
+    pub fn new(alloc: Global, nodes: u16) -> Course {
+        Course {
+            nodes,
+            now: Moment { line: 0, row: 0 },
+            rows: Vec::new(alloc),
+            flights: Flights::new(alloc),
+            stays: Stays::new(alloc),
         }
     }
 
-    /// Begins a row, where it is in the part.
-    fn begin_row(&mut self, line: u64, act: Option<Act>, is_drawn: bool) -> Result<(), Memory> {
+    /// Begins the row of a step, where it is in the part.
+    fn begin_row(&mut self, line: u64, step: &Step, is_drawn: bool) -> Result<(), Memory> {
         self.now.line = line;
         if is_drawn {
-            self.rows.push(Row { line, act })?;
             self.now.row = self.now.row.saturating_add(1);
+            let act = act_of(step);
+            self.rows.push(Row { line, act })?;
         }
         Ok(())
     }
@@ -88,113 +81,116 @@ impl Follower {
     /// Notes what a step takes, or that a client asks.
     fn note(&mut self, alloc: Global, step: &Step) -> Result<(), Memory> {
         let moment = self.now;
-        match *step {
+        match step {
             Step::Ask {
                 node,
                 client,
                 name,
                 mode,
-            } => self.stays.ask(&Seat { node, client, name }, mode, moment),
+            } => {
+                let seat = Seat {
+                    node: *node,
+                    client: *client,
+                    name: *name,
+                };
+                self.stays.ask(&seat, *mode, moment)
+            }
             Step::Leave { .. } => Ok(()),
-            Step::Deliver(message) => self.flights.end(&message, Fate::Delivered(moment)),
-            Step::Lose(message) => self.flights.end(&message, Fate::Lost(moment)),
+            Step::Deliver(message) => self.flights.end(message, Fate::Delivered(moment)),
+            Step::Lose(message) => self.flights.end(message, Fate::Lost(moment)),
             Step::Repeat(message) => {
                 let start = Start {
                     moment,
                     copied: true,
                 };
-                self.flights.begin(alloc, &message, start)
+                self.flights.begin(alloc, message, start)
             }
         }
     }
 
-    /// Makes a step, and notes the messages that it sends.
-    fn take_step(&mut self, alloc: Global, step: &Step) -> Result<(), Memory> {
-        let outcome = match self.world.step(alloc, step) {
-            Ok(outcome) => outcome,
-            Err(StepError::Memory) => return Err(Memory),
-            // No step of a trace is refused.
-            Err(_) => return Ok(()),
-        };
+    /// Notes the messages that a step sends.
+    fn note_sends(&mut self, alloc: Global, sends: &[Message]) -> Result<(), Memory> {
         let start = Start {
             moment: self.now,
             copied: false,
         };
-        for message in outcome.sends.as_slice() {
+        for message in sends {
             self.flights.begin(alloc, message, start)?;
         }
         Ok(())
+    }
+
+    /// Makes a step, and notes what it takes and what it sends.
+    fn make_step(
+        &mut self,
+        alloc: Global,
+        world: &mut MarklessWorld,
+        step: &Step,
+    ) -> Result<(), Memory> {
+        self.note(alloc, step)?;
+        match world.step(alloc, step) {
+            Ok(outcome) => self.note_sends(alloc, outcome.sends.as_slice()),
+            // No step of a trace is refused, so memory ran out.
+            Err(_) => Err(Memory),
+        }
     }
 
     /// Takes a line, which is drawn or stands before what is.
     fn take(
         &mut self,
         alloc: Global,
+        world: &mut MarklessWorld,
         number: u64,
         line: &Line,
         is_drawn: bool,
     ) -> Result<(), Memory> {
         match line {
-            Line::First { .. } => Ok(()),
+            Line::First { .. } => {}
             Line::Stepped(step) => {
-                self.begin_row(number, act_of(step), is_drawn)?;
-                self.note(alloc, step)?;
-                self.take_step(alloc, step)
+                self.begin_row(number, step, is_drawn)?;
+                self.make_step(alloc, world, step)?;
             }
-            Line::Entered(seat) => {
-                self.stays.enter(seat, self.now);
-                Ok(())
-            }
-            Line::Left(seat) => {
-                self.stays.leave(seat, self.now);
-                Ok(())
-            }
+            Line::Entered(seat) => self.stays.enter(seat, self.now),
+            Line::Left(seat) => self.stays.leave(seat, self.now),
         }
+        Ok(())
     }
 
-    /// Returns what is drawn.
-    fn finish(self, alloc: Global, nodes: u16) -> Result<Course, Memory> {
-        let Follower {
-            rows,
-            flights,
-            stays,
-            ..
-        } = self;
-        Ok(Course {
-            nodes,
-            rows,
-            flights: flights.into_drawn()?,
-            stays: stays.drawn(alloc)?,
-        })
-    }
-}
-
-/// Follows a run through the lines of its trace, to the last one of the part.
-fn follow(alloc: Global, follower: &mut Follower, text: &str, part: Part) -> Result<(), Memory> {
-    let mut number = 0;
-    for text in text.split('\n') {
-        number = u64::saturating_add(number, 1);
-        if number > part.to {
-            return Ok(());
+    /// Takes the lines of a trace, to the last one of the part.
+    fn take_lines(
+        &mut self,
+        alloc: Global,
+        world: &mut MarklessWorld,
+        trace: &[u8],
+        part: Part,
+    ) -> Result<(), Memory> {
+        let mut rest = trace;
+        for before in 0..part.to {
+            if rest.is_empty() {
+                break;
+            }
+            let (text, behind) = cut(b'\n', rest);
+            rest = behind;
+            if let Some(line) = line_of(text) {
+                let number = before + 1;
+                self.take(alloc, world, number, &line, number >= part.from)?;
+            }
         }
-        if let Some(line) = line_of(text) {
-            follower.take(alloc, number, &line, number >= part.from)?;
-        }
+        self.flights.close()
     }
-    Ok(())
-}
 
-/// Returns what is drawn of the part of a trace, or `None` where the text is none.
-pub fn course_of(alloc: Global, text: &str, part: Part) -> Result<Option<Course>, Memory> {
-    let (first, _) = text.split_once('\n').unwrap_or((text, ""));
-    let Some(Line::First { nodes, start }) = line_of(first) else {
-        return Ok(None);
-    };
-    let Some(mut follower) = Follower::new(alloc, nodes, start)? else {
-        return Ok(None);
-    };
-    match follow(alloc, &mut follower, text, part) {
-        Ok(()) => Ok(Some(follower.finish(alloc, nodes)?)),
-        Err(fault) => Err(fault),
+    /// Follows the run of a trace from its beginning to the end of the part. Each resource begins with this number.
+    pub fn follow(
+        &mut self,
+        alloc: Global,
+        start: u64,
+        trace: &[u8],
+        part: Part,
+    ) -> Result<(), Memory> {
+        match MarklessWorld::new(alloc, self.nodes, start) {
+            Ok(mut world) => self.take_lines(alloc, &mut world, trace, part),
+            // A trace has 1 to 64 nodes, so memory ran out.
+            Err(_) => Err(Memory),
+        }
     }
 }

@@ -1,4 +1,4 @@
-ghost use Rattle.std.specs.Prelude.{◌≡◌, ◌≢◌, ◌⊎◌, ◌<◌, ◌≤◌, ℕ, List, [], ◌++◌, length, string_bytes, IfOk, IfErr, IsErrOf};
+ghost use Rattle.std.specs.Prelude.{◌≡◌, ◌≢◌, ◌⊎◌, ◌<◌, ◌≤◌, ℕ, List, [], ◌++◌, length, IfOk, IfErr, IsErrOf};
 ghost use Rattle.std.specs.Io.KnownBytes.{Appends, Consumes};
 ghost use Rattle.ra_trace.specs.declared.verdict.Cause.{Cause};
 ghost use Rattle.ra_trace.specs.Verdict.{IsVerdict};
@@ -68,8 +68,8 @@ fn picture_within(
     trace: &[u8],
     part: Part,
     totals: Totals,
-) -> Result<String, DrawError>
-    ensures ok { IfOk result (λ picture. IsPicture (string_bytes picture) × (drawn_lines part trace.now ≤ line_limit)) }
+) -> Result<Vec<u8>, DrawError>
+    ensures ok { IfOk result (λ picture. IsPicture picture.items × (drawn_lines part trace.now ≤ line_limit)) }
     ensures err { IfErr result (λ fault. ((fault ≡ DrawError.TooLong) × (line_limit < drawn_lines part trace.now))
         ⊎ (fault ≡ DrawError.Memory)) }
 {
@@ -105,7 +105,7 @@ fn draw_text<W: Write>(
     let verdict = verdict_on(alloc, text)?;
     if let Verdict::Valid { requests, messages } = verdict {
         let picture = picture_within(alloc, text, part, Totals { requests, messages })?;
-        write_out(writer, picture.as_bytes())?;
+        write_out(writer, &picture)?;
     }
     Ok(verdict)
 }

@@ -4,26 +4,34 @@ ghost use Rattle.ra_draw.specs.declared.error.DrawError.TheVariants as draw;
 
 use ra_stamp::Memory;
 use ra_world::{ReadFault, WriteFault};
+use std::fmt;
 use thiserror::Error;
 
 /// Why no picture was drawn, in the order in which the causes are looked for.
 #[derive(Clone, Copy, Debug, PartialEq, Eq, Error)]
 pub enum DrawError {
     /// The reader failed.
-    #[error("Read")]
     Read,
     /// The text has more than 16,777,216 bytes.
-    #[error("Limit")]
     Limit,
     /// More than 4,096 lines of the trace would be drawn.
-    #[error("TooLong")]
     TooLong,
     /// Memory ran out.
-    #[error("Memory")]
     Memory,
     /// The writer failed.
-    #[error("Write")]
     Write,
+}
+
+impl fmt::Display for DrawError {
+    fn fmt<W: fmt::Write>(&self, f: &mut fmt::Formatter<W>) -> fmt::Result {
+        f.write_str(match self {
+            DrawError::Read => "Read",
+            DrawError::Limit => "Limit",
+            DrawError::TooLong => "TooLong",
+            DrawError::Memory => "Memory",
+            DrawError::Write => "Write",
+        })
+    }
 }
 
 impl From<ReadFault> for DrawError {

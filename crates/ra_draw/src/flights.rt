@@ -2,18 +2,17 @@
 use indexmap::IndexMap;
 use ra_stamp::{Memory, Message};
 use std::alloc::Global;
-use std::collections::VecDeque;
 
 /// A moment of a run: the line of its step in the trace, and the row of the page on which that stands, or 0 before the part that is
 /// drawn.
-#[derive(Clone, Copy, Debug)]
+#[derive(Clone, Copy)]
 pub struct Moment {
     pub line: u64,
     pub row: u32,
 }
 
 /// How a message came under way.
-#[derive(Clone, Copy, Debug)]
+#[derive(Clone, Copy)]
 pub struct Start {
     pub moment: Moment,
     /// It is a copy that a repeat made, and else it was sent.
@@ -21,27 +20,52 @@ pub struct Start {
 }
 
 /// What became of a message.
-#[derive(Clone, Copy, Debug)]
+#[derive(Clone, Copy)]
 pub enum Fate {
     Delivered(Moment),
     Lost(Moment),
     UnderWay,
 }
 
+impl Fate {
+    /// Returns whether it is not before the part that is drawn.
+    fn is_drawn(&self) -> bool {
+        match self {
+            Fate::Delivered(end) | Fate::Lost(end) => end.row > 0,
+            Fate::UnderWay => true,
+        }
+    }
+}
+
 /// The way of a message.
-#[derive(Clone, Copy, Debug)]
+#[derive(Clone, Copy)]
 pub struct Flight {
     pub message: Message,
     pub start: Start,
     pub fate: Fate,
 }
 
+/// How equal messages came under way, the first one first, of which some were taken since.
+#[derive(Drop)]
+struct Equals {
+    starts: Vec<Start>,
+    taken: usize,
+}
+
+impl Equals {
+    /// Takes the first one that is left.
+    fn take(&mut self) -> Option<Start> {
+        let start = *self.starts.get(self.taken)?;
+        self.taken = self.taken.saturating_add(1);
+        Some(start)
+    }
+}
+
 /// The messages under way, and the flights that are drawn so far.
 #[derive(Drop)]
 pub struct Flights {
-    /// How equal messages came under way, the first one first.
-    under_way: IndexMap<Message, VecDeque<Start>>,
-    drawn: Vec<Flight>,
+    under_way: IndexMap<Message, Equals>,
+    pub drawn: Vec<Flight>,
 }
 
 impl Flights {
@@ -55,21 +79,24 @@ impl Flights {
 
     /// Notes that a message came under way.
     pub fn begin(&mut self, alloc: Global, message: &Message, start: Start) -> Result<(), Memory> {
-        if let Some(equal) = self.under_way.get_mut(message) {
-            equal.push_back(start)?;
-            return Ok(());
+        if !self.under_way.contains_key(message) {
+            let none = Equals {
+                starts: Vec::new(alloc),
+                taken: 0,
+            };
+            self.under_way.insert(*message, none)?;
         }
-        let mut alone = VecDeque::new(alloc);
-        alone.push_back(start)?;
-        self.under_way.insert(*message, alone)?;
+        if let Some(equals) = self.under_way.get_mut(message) {
+            equals.starts.push(start)?;
+        }
         Ok(())
     }
 
     /// Takes the first of these messages, and returns how it came under way.
     fn take(&mut self, message: &Message) -> Option<Start> {
-        let equal = self.under_way.get_mut(message)?;
-        let start = equal.pop_front()?;
-        if equal.is_empty() {
+        let equals = self.under_way.get_mut(message)?;
+        let start = equals.take()?;
+        if equals.taken == equals.starts.len() {
             self.under_way.swap_remove(message);
         }
         Some(start)
@@ -80,27 +107,22 @@ impl Flights {
         let Some(start) = self.take(message) else {
             return Ok(());
         };
-        if let Fate::Delivered(Moment { row: 0, .. }) | Fate::Lost(Moment { row: 0, .. }) = fate {
-            return Ok(());
+        if fate.is_drawn() {
+            self.drawn.push(Flight {
+                message: *message,
+                start,
+                fate,
+            })?;
         }
-        self.drawn.push(Flight {
-            message: *message,
-            start,
-            fate,
-        })?;
         Ok(())
     }
 
-    /// Returns the flights that are drawn, of those still under way the ones that began in the part.
-    pub fn into_drawn(self) -> Result<Vec<Flight>, Memory> {
-        let Flights {
-            under_way,
-            mut drawn,
-        } = self;
-        for (message, starts) in under_way.iter() {
-            push_under_way(&mut drawn, message, starts)?;
+    /// Notes that those under way, which came so in the part, are drawn.
+    pub fn close(&mut self) -> Result<(), Memory> {
+        for (message, equals) in self.under_way.iter() {
+            push_under_way(&mut self.drawn, message, equals)?;
         }
-        Ok(drawn)
+        Ok(())
     }
 }
 
@@ -108,13 +130,14 @@ impl Flights {
 fn push_under_way(
     drawn: &mut Vec<Flight>,
     message: &Message,
-    starts: &VecDeque<Start>,
+    equals: &Equals,
 ) -> Result<(), Memory> {
-    for start in starts.iter() {
+    for place in equals.taken..equals.starts.len() {
+        let start = equals.starts[place];
         if start.moment.row > 0 {
             drawn.push(Flight {
                 message: *message,
-                start: *start,
+                start,
                 fate: Fate::UnderWay,
             })?;
         }

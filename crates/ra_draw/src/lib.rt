@@ -1,19 +1,19 @@
 //! Pictures of runs: a space-time diagram of a trace, as one SVG file.
 #![tactic(auto)]
 
-mod columns;
 mod course;
+mod cut;
 mod drawing;
 mod error;
 mod flights;
 mod legend;
 mod page;
 mod part;
+mod pen;
 mod picture;
 mod reading;
 mod shapes;
 mod stays;
-mod svg;
 mod words;
 
 pub use drawing::draw;

@@ -1,14 +1,11 @@
-//! Where everything stands on the page. Lengths are in pixels.
-ghost use Rattle.std.specs.Prelude.{◌<◌, ◌^◌};
-
-use crate::columns::{Bar, Column, Columns, short};
+//! Where everything stands on the page. Lengths are in pixels, and none comes near its greatest: so they are added without a refusal.
 use crate::course::Course;
 use crate::stays::Stay;
 use ra_stamp::{Memory, NodeId};
 use std::alloc::Global;
 
 /// Where the rows begin.
-const TOP: u64 = 160;
+pub const TOP: u64 = 160;
 
 /// What stands to the left of the first lane and its bars: the numbers of lines, and a label.
 const LEFT: u64 = 112;
@@ -29,44 +26,99 @@ const BESIDE: u64 = 6;
 const WIDE: u16 = 12;
 
 /// A point of the page.
-#[derive(Clone, Copy, Debug)]
+#[derive(Clone, Copy)]
 pub struct Point {
     pub x: u64,
     pub y: u64,
+}
+
+/// A column of bars, all of one client.
+#[derive(Clone, Copy)]
+pub struct Column {
+    pub client: u32,
+    /// The row down to which there are bars.
+    end: u32,
 }
 
 /// A node.
 #[derive(Drop)]
 struct Lane {
     /// How far to the right it is.
-    x: u32,
-    columns: Columns,
+    x: u64,
+    /// The columns of bars beside it, the nearest to it first.
+    columns: Vec<Column>,
+}
+
+impl Lane {
+    /// Returns the place of the first column that is free for a bar of this client from this row on, or of a new one.
+    fn place_for(&self, client: u32, first: u32) -> usize {
+        let mut place = 0;
+        for column in &self.columns {
+            if column.client == client && column.end <= first {
+                return place;
+            }
+            place = usize::saturating_add(place, 1);
+        }
+        place
+    }
+
+    /// Takes a column for a bar of this client over these rows, and returns its place.
+    fn take(&mut self, client: u32, first: u32, last: u32) -> Result<u16, Memory> {
+        let place = self.place_for(client, first);
+        let taken = Column { client, end: last };
+        match self.columns.get_mut(place) {
+            Some(column) => *column = taken,
+            None => self.columns.push(taken)?,
+        }
+        Ok(short(place))
+    }
+
+    /// Returns how wide its bars are, with what stands between them and it.
+    fn gutter(&self) -> u64 {
+        u64::from(short(self.columns.len())) * COLUMN + BESIDE
+    }
+}
+
+/// A stay, and where its bar stands.
+#[derive(Clone, Copy)]
+pub struct Bar {
+    pub stay: Stay,
+    /// The place of its column.
+    pub column: u16,
+    /// The last row that it has, which is that after the part where it is not over.
+    pub end: u32,
 }
 
 /// The page.
 #[derive(Drop)]
 pub struct Page {
     nodes: u16,
-    /// How many rows there are.
-    rows: u16,
+    /// The row after the last one.
+    end: u32,
     /// The lanes of the nodes, from node 1 on.
     lanes: Vec<Lane>,
     pub bars: Vec<Bar>,
 }
 
 impl Page {
-    /// Lays out a page.
-    pub fn new(alloc: Global, course: &Course) -> Result<Page, Memory> {
-        let mut page = Page {
+    /// Makes an empty one for what is drawn of a run.
+    pub fn new(alloc: Global, course: &Course) -> Page {
+        Page {
             nodes: course.nodes,
-            rows: short(course.rows.len()),
+            end: u32::from(short(course.rows.len())) + 1,
             lanes: Vec::new(alloc),
             bars: Vec::new(alloc),
-        };
-        page.open_lanes(alloc)?;
-        page.add_bars(&course.stays)?;
-        page.place_lanes();
-        Ok(page)
+        }
+    }
+
+    /// Lays it out.
+    pub fn fill(&mut self, alloc: Global, stays: &[Stay]) -> Result<(), Memory> {
+        self.open_lanes(alloc)?;
+        for stay in stays {
+            self.add_bar(stay)?;
+        }
+        self.place_lanes();
+        Ok(())
     }
 
     /// Makes a lane for each node.
@@ -74,30 +126,25 @@ impl Page {
         for _node in 0..self.nodes {
             self.lanes.push(Lane {
                 x: 0,
-                columns: Columns::new(alloc),
+                columns: Vec::new(alloc),
             })?;
         }
         Ok(())
     }
 
-    /// Gives each stay a column beside its node.
-    fn add_bars(&mut self, stays: &[Stay]) -> Result<(), Memory> {
-        for stay in stays {
-            self.add_bar(stay)?;
-        }
-        Ok(())
-    }
-
-    /// Gives a stay a column beside its node.
+    /// Gives a stay a column beside its node, where it reaches into the part.
     fn add_bar(&mut self, stay: &Stay) -> Result<(), Memory> {
         let end = match stay.left {
             Some(left) => left.row,
-            None => self.end(),
+            None => self.end,
         };
+        if end == 0 {
+            return Ok(());
+        }
         let Some(lane) = self.lanes.get_mut(place_of(stay.seat.node)) else {
             return Ok(());
         };
-        let column = lane.columns.take(stay.seat.client, stay.asked.row, end)?;
+        let column = lane.take(stay.seat.client, stay.asked.row, end)?;
         self.bars.push(Bar {
             stay: *stay,
             column,
@@ -109,18 +156,16 @@ impl Page {
     /// Places the lanes from left to right, each after its bars.
     fn place_lanes(&mut self) {
         let gap = self.gap();
-        let mut x: u32 = LEFT as u32;
+        let mut x = LEFT;
         for lane in &mut self.lanes {
-            x = x.saturating_add(gutter_of(lane) as u32);
+            x = u64::saturating_add(x, lane.gutter());
             lane.x = x;
-            x = x.saturating_add(gap);
+            x = u64::saturating_add(x, gap);
         }
     }
 
     /// Returns what stands between a lane and the bars of the next one.
-    fn gap(&self) -> u32
-        ensures { result < 2 ^ 16 }
-    {
+    fn gap(&self) -> u64 {
         match self.nodes {
             0..=3 => 210,
             4 => 170,
@@ -135,42 +180,27 @@ impl Page {
         self.nodes <= WIDE
     }
 
-    /// Returns the height of a row.
-    fn row_height(&self) -> u64
-        ensures { result < 2 ^ 8 }
-    {
-        if self.is_wide() { 24 } else { 12 }
-    }
-
-    /// Returns the row after the last one.
-    pub fn end(&self) -> u32
-        ensures { result < 2 ^ 17 }
-    {
-        u32::from(self.rows) + 1
-    }
-
     /// Returns how far down a row is.
-    pub fn y(&self, row: u32) -> u64
-        ensures { result < 2 ^ 41 }
-    {
-        TOP + u64::from(row) * self.row_height()
+    pub fn y(&self, row: u32) -> u64 {
+        let height = if self.is_wide() { 24 } else { 12 };
+        u64::from(row).saturating_mul(height).saturating_add(TOP)
+    }
+
+    /// Returns how far down the row after the last one is.
+    pub fn bottom(&self) -> u64 {
+        self.y(self.end)
     }
 
     /// Returns how far to the right a node is.
-    pub fn x(&self, node: NodeId) -> u64
-        ensures { result < 2 ^ 32 }
-    {
+    pub fn x(&self, node: NodeId) -> u64 {
         match self.lanes.get(place_of(node)) {
-            Some(lane) => widened(lane.x),
+            Some(lane) => lane.x,
             None => 0,
         }
     }
 
     /// Returns the place of a row at a node.
-    pub fn at(&self, node: NodeId, row: u32) -> Point
-        ensures x { result.x < 2 ^ 32 }
-        ensures y { result.y < 2 ^ 41 }
-    {
+    pub fn at(&self, node: NodeId, row: u32) -> Point {
         Point {
             x: self.x(node),
             y: self.y(row),
@@ -186,11 +216,9 @@ impl Page {
     }
 
     /// Returns how wide the bars of a node are, with what stands between them and the lane.
-    pub fn gutter(&self, node: NodeId) -> u64
-        ensures { result < 2 ^ 32 }
-    {
+    pub fn gutter(&self, node: NodeId) -> u64 {
         match self.lanes.get(place_of(node)) {
-            Some(lane) => gutter_of(lane),
+            Some(lane) => lane.gutter(),
             None => 0,
         }
     }
@@ -201,47 +229,27 @@ impl Page {
             .saturating_sub(BESIDE + (u64::from(column) + 1) * COLUMN)
     }
 
-    /// Returns how far to the right the last lane is.
-    fn last_x(&self) -> u64
-        ensures { result < 2 ^ 32 }
-    {
-        match self.lanes.last() {
-            Some(lane) => widened(lane.x),
-            None => 0,
-        }
-    }
-
     /// Returns its width.
-    pub fn width(&self) -> u64
-        ensures { result < 2 ^ 33 }
-    {
-        let right = self.last_x() + RIGHT;
-        if right < LEGEND { LEGEND } else { right }
+    pub fn width(&self) -> u64 {
+        let last = match self.lanes.last() {
+            Some(lane) => lane.x,
+            None => 0,
+        };
+        last.saturating_add(RIGHT).max(LEGEND)
     }
 
     /// Returns its height.
-    pub fn height(&self) -> u64
-        ensures { result < 2 ^ 42 }
-    {
-        self.y(self.end()) + 24
+    pub fn height(&self) -> u64 {
+        self.bottom().saturating_add(24)
     }
 }
 
-/// Returns a length as a wider number.
-fn widened(length: u32) -> u64
-    ensures { result < 2 ^ 32 }
-{
-    u64::from(length)
+/// Returns a place as a short number: the part that is drawn has no more lines.
+fn short(place: usize) -> u16 {
+    u16::try_from(place).unwrap_or(u16::MAX)
 }
 
 /// Returns the place of a node among the lanes.
 fn place_of(node: NodeId) -> usize {
     usize::from(node.get()) - 1
-}
-
-/// Returns how wide the bars of a lane are.
-fn gutter_of(lane: &Lane) -> u64
-    ensures { result < 2 ^ 32 }
-{
-    u64::from(short(lane.columns.as_slice().len())) * COLUMN + BESIDE
 }

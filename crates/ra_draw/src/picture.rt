@@ -1,104 +1,152 @@
 //! The picture of a run.
-ghost use Rattle.std.specs.Prelude.{IfOk, string_bytes};
+ghost use Rattle.std.specs.Prelude.{◌≡◌, ◌++◌, IfOk, OnOk};
 ghost use Rattle.ra_draw.specs.Drawing.{IsPicture};
 
-use crate::course::{Course, course_of};
+use crate::course::Course;
+use crate::cut::cut;
 use crate::legend::{LEGEND, LOOKS};
-use crate::page::{Page, Point};
+use crate::page::Page;
 use crate::part::Part;
-use crate::shapes::sheet_of;
-use crate::svg::{begin_label, end_label};
-use crate::words::push_count;
+use crate::pen::Pen;
+use crate::pen::Piece::{Number, Text};
+use crate::reading::{Line, line_of};
+use crate::shapes::Sheet;
+use crate::words::ending_of;
 use ra_stamp::Memory;
 use std::alloc::Global;
 
 /// How many requests and messages the whole run has.
-#[derive(Clone, Copy, Debug)]
+#[derive(Clone, Copy)]
 pub struct Totals {
     pub requests: u128,
     pub messages: u128,
 }
 
+/// What stands in the headline: how many nodes, requests and messages there are, and which lines are drawn.
+#[derive(Clone, Copy)]
+struct Headline {
+    nodes: u16,
+    requests: u64,
+    messages: u64,
+    part: Part,
+}
+
 /// Adds what is drawn: the nodes, requests and messages, and which lines where they are not all.
-fn push_headline(text: &mut String, nodes: u16, totals: Totals, part: Part) -> Result<(), Memory> {
-    push_count(text, u128::from(nodes), "node")?;
-    text.push_str(", ")?;
-    push_count(text, totals.requests, "request")?;
-    text.push_str(", ")?;
-    push_count(text, totals.messages, "message")?;
-    if part.from > 1 {
-        write!(text, ", from line {}", part.from)?;
+fn put_headline(pen: &mut Pen, headline: &Headline) {
+    let nodes = u64::from(headline.nodes);
+    pen.write(
+        "$ node$, $ request$, $ message$",
+        &[
+            Number(nodes),
+            Text(ending_of(nodes)),
+            Number(headline.requests),
+            Text(ending_of(headline.requests)),
+            Number(headline.messages),
+            Text(ending_of(headline.messages)),
+        ],
+    );
+    if headline.part.from > 1 {
+        pen.write(", from line $", &[Number(headline.part.from)]);
     }
-    if part.to < u64::MAX {
-        write!(text, ", to line {}", part.to)?;
+    if headline.part.to < u64::MAX {
+        pen.write(", to line $", &[Number(headline.part.to)]);
     }
-    Ok(())
 }
 
 /// Adds the size of the picture, its title, how shapes look, and the legend.
-fn push_head(
-    text: &mut String,
-    page: &Page,
-    nodes: u16,
-    totals: Totals,
-    part: Part,
-) -> Result<(), Memory> {
+fn put_head(pen: &mut Pen, page: &Page, headline: &Headline) {
     let (width, height) = (page.width(), page.height());
-    write!(
-        text,
-        " width=\"{width}\" height=\"{height}\" viewBox=\"0 0 {width} {height}\">\n<title>"
-    )?;
-    push_headline(text, nodes, totals, part)?;
-    text.push_str("</title>\n")?;
-    text.push_str(LOOKS)?;
-    write!(
-        text,
-        "<rect width=\"{width}\" height=\"{height}\" fill=\"#fff\"/>\n"
-    )?;
-    begin_label(text, Point { x: 16, y: 30 }, "class=\"headline\"")?;
-    push_headline(text, nodes, totals, part)?;
-    end_label(text)?;
-    text.push_str(LEGEND)?;
-    Ok(())
+    pen.write(
+        " width=\"$\" height=\"$\" viewBox=\"0 0 $ $\">\n<title>",
+        &[Number(width), Number(height), Number(width), Number(height)],
+    );
+    put_headline(pen, headline);
+    pen.put(b"</title>\n");
+    pen.put(LOOKS.as_bytes());
+    pen.write(
+        "<rect width=\"$\" height=\"$\" fill=\"#fff\"/>\n<text x=\"16\" y=\"30\" class=\"headline\">",
+        &[Number(width), Number(height)],
+    );
+    put_headline(pen, headline);
+    pen.put(b"</text>\n");
+    pen.put(LEGEND.as_bytes());
 }
 
-/// Adds what stands in the picture of a run.
-fn push_course(
+/// Returns a number of a text, which has far fewer bytes than the greatest `u64`.
+fn short(count: u128) -> u64 {
+    if count < 1 << 64 {
+        count as u64
+    } else {
+        u64::MAX
+    }
+}
+
+/// Follows the part of a trace in which each resource begins with this number, and draws it, the attributes of the picture first.
+fn draw_course(
     alloc: Global,
-    text: &mut String,
-    course: &Course,
-    totals: Totals,
-    part: Part,
-) -> Result<(), Memory> {
-    let page = Page::new(alloc, course)?;
-    push_head(text, &page, course.nodes, totals, part)?;
-    let sheet = sheet_of(alloc, &page, course)?;
-    text.push_str(&sheet.shapes)?;
-    text.push_str(&sheet.labels)?;
-    Ok(())
+    sheet: &mut Sheet,
+    course: &mut Course,
+    start: u64,
+    trace: &[u8],
+    headline: &Headline,
+) {
+    let followed = course.follow(alloc, start, trace, headline.part);
+    let mut page = Page::new(alloc, course);
+    if followed.is_ok() && page.fill(alloc, &course.stays.all).is_ok() {
+        put_head(&mut sheet.shapes, &page, headline);
+        sheet.draw(&page, course);
+    } else {
+        sheet.shapes.run_out();
+    }
+}
+
+/// Draws the part of a trace in which each resource begins with this number.
+fn draw_trace(alloc: Global, sheet: &mut Sheet, start: u64, trace: &[u8], headline: &Headline) {
+    let mut course = Course::new(alloc, headline.nodes);
+    draw_course(alloc, sheet, &mut course, start, trace, headline);
 }
 
 /// Returns what stands in the picture of a part of a trace, its attributes first.
-fn inner_of(alloc: Global, trace: &[u8], part: Part, totals: Totals) -> Result<String, Memory> {
-    let mut text = String::new(alloc);
-    // A trace is ASCII, and begins with a first line.
-    let Ok(trace) = str::from_utf8(trace) else {
-        return Ok(text);
-    };
-    if let Some(course) = course_of(alloc, trace, part)? {
-        push_course(alloc, &mut text, &course, totals, part)?;
+fn inner_of(alloc: Global, trace: &[u8], part: Part, totals: Totals) -> Result<Vec<u8>, Memory> {
+    let mut sheet = Sheet::new(alloc);
+    let (first, _) = cut(b'\n', trace);
+    // A trace begins with a first line.
+    if let Some(Line::First { nodes, start }) = line_of(first) {
+        let headline = Headline {
+            nodes,
+            requests: short(totals.requests),
+            messages: short(totals.messages),
+            part,
+        };
+        draw_trace(alloc, &mut sheet, start, trace, &headline);
     }
-    Ok(text)
+    sheet.finish()
+}
+
+/// Adds a text.
+fn push(text: &mut Vec<u8>, more: &[u8]) -> Result<(), Memory>
+    ensures { OnOk result (text.new.items ≡ text.old.items ++ more.now) }
+{
+    text.extend_from_slice(more)?;
+    Ok(())
 }
 
 /// Returns the picture of a part of a trace that has so many requests and messages.
-pub fn picture_of(alloc: Global, trace: &[u8], part: Part, totals: Totals) -> Result<String, Memory>
-    ensures { IfOk result (λ picture. IsPicture (string_bytes picture)) }
+pub fn picture_of(
+    alloc: Global,
+    trace: &[u8],
+    part: Part,
+    totals: Totals,
+) -> Result<Vec<u8>, Memory>
+    ensures { IfOk result (λ picture. IsPicture picture.items) }
 {
     let inner = inner_of(alloc, trace, part, totals)?;
-    let mut text = String::new(alloc);
-    text.push_str("<svg xmlns=\"http://www.w3.org/2000/svg\"")?;
-    text.push_str(&inner)?;
-    text.push_str("</svg>\n")?;
+    let mut text = Vec::new(alloc);
+    push(
+        &mut text,
+        "<svg xmlns=\"http://www.w3.org/2000/svg\"".as_bytes(),
+    )?;
+    push(&mut text, &inner)?;
+    push(&mut text, "</svg>\n".as_bytes())?;
     Ok(text)
 }

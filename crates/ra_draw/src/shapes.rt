@@ -1,194 +1,175 @@
-//! The shapes of a page.
-use crate::columns::{Bar, short};
+//! The shapes of a page, and their labels.
 use crate::course::{Act, Course, Row};
 use crate::flights::{Fate, Flight, Moment};
-use crate::page::{COLUMN, Page, Point};
+use crate::page::{Bar, COLUMN, Page, Point, TOP};
+use crate::pen::Pen;
+use crate::pen::Piece::{Front, Node, Number, Text, Whole};
+use crate::reading::Seat;
 use crate::stays::Stay;
-use crate::svg::{
-    begin_label, begin_shape, end_label, end_shape, end_title, push_circle, push_cross, push_line,
-    push_loop, push_rect,
-};
-use crate::words::{kind_of, mode_text, push_act, push_client, push_message, push_short};
-use ra_stamp::{Memory, Message, NodeId};
-use ra_world::{mode_word, text_of};
+use crate::words::{kind_of, mode_text, start_word};
+use ra_stamp::{Memory, Message, Mode, Name, NodeId};
+use ra_world::mode_word;
 use std::alloc::Global;
 
 /// The texts of a page: the shapes, and the labels, which stand before them all.
 #[derive(Drop)]
 pub struct Sheet {
-    pub shapes: String,
-    pub labels: String,
+    pub shapes: Pen,
+    labels: Pen,
 }
 
-/// Returns how a message and its label look.
-fn looks_of(message: &Message) -> (&'static str, &'static str, &'static str) {
-    match message {
-        Message::Request { .. } => (
-            "class=\"arrow request\"",
-            "class=\"request\"",
-            "class=\"request under-way\"",
-        ),
-        Message::Reply { .. } => (
-            "class=\"arrow reply\"",
-            "class=\"reply\"",
-            "class=\"reply under-way\"",
-        ),
-    }
-}
-
-/// Returns how the label of a message looks on this side of its place.
-fn label_look(message: &Message, side: Side) -> &'static str {
-    match (message, side) {
-        (Message::Request { .. }, Side::Right) => "class=\"label of-request to-right\"",
-        (Message::Request { .. }, Side::Left) => "class=\"label of-request to-left\"",
-        (Message::Request { .. }, Side::Center) => "class=\"label of-request centered\"",
-        (Message::Reply { .. }, Side::Right) => "class=\"label of-reply to-right\"",
-        (Message::Reply { .. }, Side::Left) => "class=\"label of-reply to-left\"",
-        (Message::Reply { .. }, Side::Center) => "class=\"label of-reply centered\"",
-    }
-}
-
-/// On which side of its place a label stands.
+/// What a bar says of a client, and how it looks.
 #[derive(Clone, Copy)]
-enum Side {
-    Left,
-    Center,
-    Right,
+struct Span {
+    what: &'static str,
+    look: &'static str,
+    first: Moment,
+    last: Option<Moment>,
+    /// The row down to which it is.
+    end: u32,
+    /// How far to the right it is in its column.
+    inset: u64,
+    width: u64,
 }
 
 impl Sheet {
     /// Makes an empty one.
-    fn new(alloc: Global) -> Sheet {
+    pub fn new(alloc: Global) -> Sheet {
         Sheet {
-            shapes: String::new(alloc),
-            labels: String::new(alloc),
+            shapes: Pen::new(alloc),
+            labels: Pen::new(alloc),
         }
     }
 
-    /// Draws the lane of a node, and the heads of its columns.
-    fn draw_lane(&mut self, page: &Page, node: NodeId) -> Result<(), Memory> {
-        let Point { x, y } = page.at(node, 0);
-        let top = Point {
-            x,
-            y: y.saturating_sub(12),
-        };
-        let bottom = page.at(node, page.end());
-        begin_shape(&mut self.shapes)?;
-        write!(self.shapes, "node {node}")?;
-        end_title(&mut self.shapes)?;
-        push_line(&mut self.shapes, top, bottom, "class=\"lane\"")?;
-        end_shape(&mut self.shapes)?;
-        let head = Point {
-            x,
-            y: y.saturating_sub(34),
-        };
-        begin_label(&mut self.labels, head, "class=\"node\"")?;
+    /// Draws the lane of a node, and names it.
+    fn draw_lane(&mut self, page: &Page, node: NodeId) {
+        let x = page.x(node);
+        self.shapes.write(
+            "<g><title>node $</title><line x1=\"$\" y1=\"$\" x2=\"$\" y2=\"$\" class=\"lane\"/></g>\n",
+            &[
+                Node(node),
+                Number(x),
+                Number(TOP - 12),
+                Number(x),
+                Number(page.bottom()),
+            ],
+        );
         let word = if page.is_wide() { "node " } else { "" };
-        write!(self.labels, "{word}{node}")?;
-        end_label(&mut self.labels)
+        self.labels.write(
+            "<text x=\"$\" y=\"$\" class=\"node\">$$</text>\n",
+            &[Number(x), Number(TOP - 34), Text(word), Node(node)],
+        );
     }
 
-    /// Names the clients of the columns of a node, where their numbers are short.
-    fn draw_columns(&mut self, page: &Page, node: NodeId) -> Result<(), Memory> {
-        for (place, column) in page.columns(node).iter().enumerate() {
-            if column.client < 1000 {
-                let head = Point {
-                    x: page.column_x(node, short(place)).saturating_add(COLUMN / 2),
-                    y: page.y(0).saturating_sub(18),
-                };
-                begin_label(&mut self.labels, head, "class=\"client\"")?;
-                write!(self.labels, "c{}", column.client)?;
-                end_label(&mut self.labels)?;
-            }
+    /// Names the client of a column, where its number is short.
+    fn name_client(&mut self, x: u64, client: u32) {
+        if client < 1000 {
+            self.labels.write(
+                "<text x=\"$\" y=\"$\" class=\"client\">c$</text>\n",
+                &[Number(x), Number(TOP - 18), Number(u64::from(client))],
+            );
         }
-        Ok(())
+    }
+
+    /// Names the clients of the columns of a node.
+    fn name_clients(&mut self, page: &Page, node: NodeId) {
+        let mut place = 0;
+        for column in page.columns(node) {
+            let x = page.column_x(node, place).saturating_add(COLUMN / 2);
+            self.name_client(x, column.client);
+            place = u16::saturating_add(place, 1);
+        }
     }
 
     /// Draws the lanes.
-    fn draw_lanes(&mut self, page: &Page, nodes: u16) -> Result<(), Memory> {
+    fn draw_lanes(&mut self, page: &Page, nodes: u16) {
         for number in 0..nodes {
             if let Some(node) = NodeId::new(number + 1) {
-                self.draw_lane(page, node)?;
-                self.draw_columns(page, node)?;
+                self.draw_lane(page, node);
+                self.name_clients(page, node);
             }
         }
-        Ok(())
     }
 
-    /// Adds the words of a stay over some time.
-    fn push_stay(
-        &mut self,
-        stay: &Stay,
-        what: &str,
-        first: Moment,
-        last: Option<Moment>,
-    ) -> Result<(), Memory> {
-        push_client(&mut self.shapes, &stay.seat)?;
-        write!(
-            self.shapes,
-            " {what} {}, {}, from line {}",
-            text_of(&stay.seat.name),
-            mode_text(stay.mode),
-            first.line
-        )?;
-        match last {
-            Some(last) => write!(self.shapes, " to line {}", last.line)?,
-            None => self.shapes.push_str(" on")?,
+    /// Begins a shape of a client: what it does, and the name.
+    fn begin_act(&mut self, seat: &Seat, what: &'static str) {
+        self.shapes.write(
+            "<g><title>client $ at node $ $ $",
+            &[
+                Number(u64::from(seat.client)),
+                Node(seat.node),
+                Text(what),
+                Whole(&seat.name),
+            ],
+        );
+    }
+
+    /// Begins the shape of a bar: what a client does, and from which line to which.
+    fn begin_bar(&mut self, stay: &Stay, span: &Span) {
+        self.begin_act(&stay.seat, span.what);
+        self.shapes.write(
+            ", $, from line $",
+            &[Text(mode_text(stay.mode)), Number(span.first.line)],
+        );
+        match span.last {
+            Some(last) => self.shapes.write(" to line $", &[Number(last.line)]),
+            None => self.shapes.put(b" on"),
         }
-        Ok(())
+    }
+
+    /// Draws a bar.
+    fn draw_bar(&mut self, page: &Page, bar: &Bar, span: &Span) {
+        self.begin_bar(&bar.stay, span);
+        let x = page.column_x(bar.stay.seat.node, bar.column);
+        let y = page.y(span.first.row);
+        self.shapes.write(
+            "</title><rect x=\"$\" y=\"$\" width=\"$\" height=\"$\" class=\"$ $\"/></g>\n",
+            &[
+                Number(x.saturating_add(span.inset)),
+                Number(y),
+                Number(span.width),
+                Number(page.y(span.end).saturating_sub(y)),
+                Text(span.look),
+                Text(mode_word(bar.stay.mode)),
+            ],
+        );
     }
 
     /// Draws the bar of a client that waits.
-    fn draw_waiting(&mut self, page: &Page, bar: &Bar) -> Result<(), Memory> {
+    fn draw_waiting(&mut self, page: &Page, bar: &Bar) {
         let stay = &bar.stay;
         let end = match stay.entered {
             Some(entered) => entered.row,
             None => bar.end,
         };
-        if end <= stay.asked.row {
-            return Ok(());
+        if end > stay.asked.row {
+            let span = Span {
+                what: "waits for",
+                look: "waiting",
+                first: stay.asked,
+                last: stay.entered,
+                end,
+                inset: 5,
+                width: 10,
+            };
+            self.draw_bar(page, bar, &span);
         }
-        begin_shape(&mut self.shapes)?;
-        self.push_stay(stay, "waits for", stay.asked, stay.entered)?;
-        end_title(&mut self.shapes)?;
-        let x = page.column_x(stay.seat.node, bar.column).saturating_add(5);
-        let y = page.y(stay.asked.row);
-        let height = page.y(end).saturating_sub(y);
-        let look = format!(in *self.shapes.allocator();
-            "class=\"waiting {}\"",
-            mode_word(stay.mode)
-        )?;
-        push_rect(&mut self.shapes, Point { x, y }, 10, height, &look)?;
-        end_shape(&mut self.shapes)
     }
 
     /// Draws the bar of a client that is inside.
-    fn draw_inside(&mut self, page: &Page, bar: &Bar) -> Result<(), Memory> {
-        let stay = &bar.stay;
-        let Some(entered) = stay.entered else {
-            return Ok(());
-        };
-        begin_shape(&mut self.shapes)?;
-        self.push_stay(stay, "is inside", entered, stay.left)?;
-        end_title(&mut self.shapes)?;
-        let x = page.column_x(stay.seat.node, bar.column).saturating_add(1);
-        let y = page.y(entered.row);
-        let height = page.y(bar.end).saturating_sub(y);
-        let look = format!(in *self.shapes.allocator();
-            "class=\"inside {}\"",
-            mode_word(stay.mode)
-        )?;
-        push_rect(&mut self.shapes, Point { x, y }, 18, height, &look)?;
-        end_shape(&mut self.shapes)
-    }
-
-    /// Draws all bars.
-    fn draw_bars(&mut self, page: &Page) -> Result<(), Memory> {
-        for bar in &page.bars {
-            self.draw_waiting(page, bar)?;
-            self.draw_inside(page, bar)?;
+    fn draw_inside(&mut self, page: &Page, bar: &Bar) {
+        if let Some(entered) = bar.stay.entered {
+            let span = Span {
+                what: "is inside",
+                look: "inside",
+                first: entered,
+                last: bar.stay.left,
+                end: bar.end,
+                inset: 1,
+                width: 18,
+            };
+            self.draw_bar(page, bar, &span);
         }
-        Ok(())
     }
 
     /// Adds the kind and the number of a message beside a place.
@@ -196,195 +177,257 @@ impl Sheet {
         &mut self,
         message: &Message,
         place: Point,
-        side: Side,
-        ending: &str,
-    ) -> Result<(), Memory> {
-        begin_label(&mut self.labels, place, label_look(message, side))?;
-        write!(
-            self.labels,
-            "{} {}{ending}",
-            kind_of(message),
-            message.seq()
-        )?;
-        end_label(&mut self.labels)
+        side: &'static str,
+        ending: &'static str,
+    ) {
+        let kind = kind_of(message);
+        self.labels.write(
+            "<text x=\"$\" y=\"$\" class=\"label of-$ $\">$ $$</text>\n",
+            &[
+                Number(place.x),
+                Number(place.y),
+                Text(kind),
+                Text(side),
+                Text(kind),
+                Number(message.seq()),
+                Text(ending),
+            ],
+        );
     }
 
-    /// Adds the words of a flight: the message, and when it came under way.
-    fn push_flight(&mut self, flight: &Flight) -> Result<(), Memory> {
-        push_message(&mut self.shapes, &flight.message)?;
-        let word = if flight.start.copied {
-            "repeated"
-        } else {
-            "sent"
-        };
-        write!(self.shapes, ", {word} at line {}", flight.start.moment.line)?;
-        Ok(())
+    /// Begins the shape of a message: which one it is.
+    fn name_message(&mut self, message: &Message, name: &Name) {
+        self.shapes.write(
+            "<g><title>$ $ from node $ to node $ for $",
+            &[
+                Text(kind_of(message)),
+                Number(message.seq()),
+                Node(message.from()),
+                Node(message.to()),
+                Whole(name),
+            ],
+        );
+    }
+
+    /// Begins the shape of a message: which one it is, and when it came under way.
+    fn begin_message(&mut self, flight: &Flight) {
+        let message = &flight.message;
+        self.name_message(message, &message.name());
+        if let Message::Request { mode, .. } = message {
+            self.shapes.write(", $", &[Text(mode_text(*mode))]);
+        }
+        self.shapes.write(
+            ", $ at line $",
+            &[
+                Text(start_word(flight.start)),
+                Number(flight.start.moment.line),
+            ],
+        );
     }
 
     /// Draws the arrow of a message that is delivered.
-    fn draw_delivered(
-        &mut self,
-        page: &Page,
-        flight: &Flight,
-        from: Point,
-        end: Moment,
-    ) -> Result<(), Memory> {
-        let message = &flight.message;
+    fn draw_delivered(&mut self, page: &Page, message: &Message, from: Point, end: Moment) {
         let to = page.at(message.to(), end.row);
-        write!(self.shapes, ", delivered at line {}", end.line)?;
-        end_title(&mut self.shapes)?;
-        push_line(&mut self.shapes, from, to, looks_of(message).0)?;
-        end_shape(&mut self.shapes)?;
-        if !page.is_wide() {
-            return Ok(());
+        self.shapes.write(
+            ", delivered at line $</title><line x1=\"$\" y1=\"$\" x2=\"$\" y2=\"$\" class=\"arrow $\"/></g>\n",
+            &[
+                Number(end.line),
+                Number(from.x),
+                Number(from.y),
+                Number(to.x),
+                Number(to.y),
+                Text(kind_of(message)),
+            ],
+        );
+        if page.is_wide() {
+            self.label_arrow(page, message, to);
         }
-        let y = to.y + 3;
+    }
+
+    /// Labels an arrow at its head, on the side of it from which it does not come.
+    fn label_arrow(&mut self, page: &Page, message: &Message, head: Point) {
+        let y = head.y.saturating_add(3);
         if message.from() < message.to() {
-            let x = to.x + 8;
-            return self.label_message(message, Point { x, y }, Side::Right, "");
+            let x = head.x.saturating_add(8);
+            self.label_message(message, Point { x, y }, "to-right", "");
+        } else {
+            let gutter = page.gutter(message.to());
+            let x = head.x.saturating_sub(gutter.saturating_add(4));
+            self.label_message(message, Point { x, y }, "to-left", "");
         }
-        let x = to.x.saturating_sub(page.gutter(message.to()) + 4);
-        self.label_message(message, Point { x, y }, Side::Left, "")
     }
 
     /// Draws the way of a message to where it is lost, and a cross there.
-    fn draw_lost(
-        &mut self,
-        page: &Page,
-        flight: &Flight,
-        from: Point,
-        end: Moment,
-    ) -> Result<(), Memory> {
-        let message = &flight.message;
-        let x = (page.x(message.from()) + 3 * page.x(message.to())) / 4;
-        let y = page.y(end.row);
-        write!(self.shapes, ", lost at line {}", end.line)?;
-        end_title(&mut self.shapes)?;
-        push_line(&mut self.shapes, from, Point { x, y }, looks_of(message).1)?;
-        push_cross(&mut self.shapes, Point { x, y })?;
-        end_shape(&mut self.shapes)?;
-        let below = Point { x, y: y + 17 };
-        self.label_message(message, below, Side::Center, " lost")
+    fn draw_lost(&mut self, page: &Page, message: &Message, from: Point, end: Moment) {
+        let Point { x, y } = lost_at(page, message, end);
+        self.shapes.write(
+            ", lost at line $</title><line x1=\"$\" y1=\"$\" x2=\"$\" y2=\"$\" class=\"$\"/>",
+            &[
+                Number(end.line),
+                Number(from.x),
+                Number(from.y),
+                Number(x),
+                Number(y),
+                Text(kind_of(message)),
+            ],
+        );
+        self.shapes.write(
+            "<path class=\"cross\" d=\"M$ $m-5 -5l10 10m0 -10l-10 10\"/></g>\n",
+            &[Number(x), Number(y)],
+        );
+        let y = y.saturating_add(17);
+        self.label_message(message, Point { x, y }, "centered", " lost");
     }
 
     /// Draws the way of a message that is still under way.
-    fn draw_under_way(&mut self, page: &Page, flight: &Flight, from: Point) -> Result<(), Memory> {
-        let message = &flight.message;
-        let x = middle_of(page, message);
-        let y = page.y(page.end());
-        self.shapes.push_str(", still under way")?;
-        end_title(&mut self.shapes)?;
-        push_line(&mut self.shapes, from, Point { x, y }, looks_of(message).2)?;
-        end_shape(&mut self.shapes)
+    fn draw_under_way(&mut self, page: &Page, message: &Message, from: Point) {
+        self.shapes.write(
+            ", still under way</title><line x1=\"$\" y1=\"$\" x2=\"$\" y2=\"$\" class=\"$ under-way\"/></g>\n",
+            &[
+                Number(from.x),
+                Number(from.y),
+                Number(middle_of(page, message)),
+                Number(page.bottom()),
+                Text(kind_of(message)),
+            ],
+        );
     }
 
     /// Draws the loop from which a copy comes.
-    fn draw_copy(&mut self, flight: &Flight, place: Point) -> Result<(), Memory> {
-        let message = &flight.message;
-        begin_shape(&mut self.shapes)?;
-        self.push_flight(flight)?;
-        end_title(&mut self.shapes)?;
-        push_loop(&mut self.shapes, place)?;
-        end_shape(&mut self.shapes)?;
+    fn draw_copy(&mut self, flight: &Flight, place: Point) {
+        self.begin_message(flight);
+        self.shapes.write(
+            "</title><path class=\"loop\" d=\"M$ $m5 -3.6a6.2 6.2 0 1 0 1 3.6l-3.4 -2.2m3.4 2.2l2.6 -3\"/></g>\n",
+            &[Number(place.x), Number(place.y)],
+        );
         let above = Point {
             x: place.x,
             y: place.y.saturating_sub(11),
         };
-        self.label_message(message, above, Side::Center, " again")
+        self.label_message(&flight.message, above, "centered", " again");
     }
 
     /// Draws what became of a message.
-    fn draw_flight(&mut self, page: &Page, flight: &Flight) -> Result<(), Memory> {
+    fn draw_fate(&mut self, page: &Page, flight: &Flight, from: Point) {
+        self.begin_message(flight);
+        match flight.fate {
+            Fate::Delivered(end) => self.draw_delivered(page, &flight.message, from, end),
+            Fate::Lost(end) => self.draw_lost(page, &flight.message, from, end),
+            Fate::UnderWay => self.draw_under_way(page, &flight.message, from),
+        }
+    }
+
+    /// Draws a message, from where it came under way.
+    fn draw_flight(&mut self, page: &Page, flight: &Flight) {
         let message = &flight.message;
-        let start = flight.start;
+        let start = &flight.start;
         let mut from = page.at(message.from(), start.moment.row);
         if start.copied {
             from.x = middle_of(page, message);
         }
-        begin_shape(&mut self.shapes)?;
-        self.push_flight(flight)?;
-        match flight.fate {
-            Fate::Delivered(end) => self.draw_delivered(page, flight, from, end)?,
-            Fate::Lost(end) => self.draw_lost(page, flight, from, end)?,
-            Fate::UnderWay => self.draw_under_way(page, flight, from)?,
-        }
+        self.draw_fate(page, flight, from);
         if start.copied && start.moment.row > 0 {
-            self.draw_copy(flight, from)?;
+            self.draw_copy(flight, from);
         }
-        Ok(())
     }
 
-    /// Draws all flights.
-    fn draw_flights(&mut self, page: &Page, flights: &[Flight]) -> Result<(), Memory> {
-        for flight in flights {
-            self.draw_flight(page, flight)?;
-        }
-        Ok(())
+    /// Ends the words of what a client does, and draws a dot.
+    fn draw_dot(&mut self, place: Point, look: &'static str) {
+        self.shapes.write(
+            "</title><circle cx=\"$\" cy=\"$\" r=\"4\" class=\"$\"/></g>\n",
+            &[Number(place.x), Number(place.y), Text(look)],
+        );
     }
 
-    /// Draws a dot where a client does something, and begins its label.
-    fn draw_dot(&mut self, act: &Act, place: Point, look: &str) -> Result<(), Memory> {
-        begin_shape(&mut self.shapes)?;
-        push_act(&mut self.shapes, act)?;
-        end_title(&mut self.shapes)?;
-        push_circle(&mut self.shapes, place, 4, look)?;
-        end_shape(&mut self.shapes)?;
-        let beside = Point {
-            x: place.x.saturating_add(8),
-            y: place.y.saturating_sub(4),
-        };
-        begin_label(&mut self.labels, beside, "class=\"label to-right\"")
+    /// Draws a dot where a client asks, and labels it.
+    fn draw_ask(&mut self, place: Point, seat: &Seat, mode: Mode) {
+        self.begin_act(seat, "asks for");
+        self.shapes.write(", $", &[Text(mode_text(mode))]);
+        self.draw_dot(place, "ask");
+        self.labels.write(
+            "<text x=\"$\" y=\"$\" class=\"label to-right\">asks $ $</text>\n",
+            &[
+                Number(place.x.saturating_add(8)),
+                Number(place.y.saturating_sub(4)),
+                Front(&seat.name),
+                Text(mode_word(mode)),
+            ],
+        );
+    }
+
+    /// Draws a dot where a client leaves, and labels it.
+    fn draw_leave(&mut self, place: Point, seat: &Seat) {
+        self.begin_act(seat, "leaves");
+        self.draw_dot(place, "leave");
+        self.labels.write(
+            "<text x=\"$\" y=\"$\" class=\"label to-right\">leaves $</text>\n",
+            &[
+                Number(place.x.saturating_add(8)),
+                Number(place.y.saturating_sub(4)),
+                Front(&seat.name),
+            ],
+        );
     }
 
     /// Draws what a client does.
-    fn draw_act(&mut self, page: &Page, act: &Act, row: u32) -> Result<(), Memory> {
-        match act {
-            Act::Asks { seat, mode } => {
-                self.draw_dot(act, page.at(seat.node, row), "class=\"ask\"")?;
-                self.labels.push_str("asks ")?;
-                push_short(&mut self.labels, &seat.name)?;
-                self.labels.push_str(" ")?;
-                self.labels.push_str(mode_word(*mode))?;
-            }
-            Act::Leaves(seat) => {
-                self.draw_dot(act, page.at(seat.node, row), "class=\"leave\"")?;
-                self.labels.push_str("leaves ")?;
-                push_short(&mut self.labels, &seat.name)?;
-            }
+    fn draw_act(&mut self, page: &Page, act: &Act, row: u32) {
+        let place = page.at(act.seat.node, row);
+        match act.mode {
+            Some(mode) => self.draw_ask(place, &act.seat, mode),
+            None => self.draw_leave(place, &act.seat),
         }
-        end_label(&mut self.labels)
     }
 
-    /// Draws the numbers of the rows, and what clients do on them.
-    fn draw_rows(&mut self, page: &Page, rows: &[Row]) -> Result<(), Memory> {
-        for (place, row) in rows.iter().enumerate() {
-            let number = u32::from(short(place)) + 1;
-            let margin = Point {
-                x: 40,
-                y: page.y(number).saturating_add(3),
-            };
-            begin_label(&mut self.labels, margin, "class=\"row\"")?;
-            write!(self.labels, "{}", row.line)?;
-            end_label(&mut self.labels)?;
-            if let Some(act) = &row.act {
-                self.draw_act(page, act, number)?;
-            }
+    /// Draws the number of a row, and what a client does on it.
+    fn draw_row(&mut self, page: &Page, row: &Row, number: u32) {
+        let y = page.y(number).saturating_add(3);
+        self.labels.write(
+            "<text x=\"40\" y=\"$\" class=\"row\">$</text>\n",
+            &[Number(y), Number(row.line)],
+        );
+        if let Some(act) = &row.act {
+            self.draw_act(page, act, number);
         }
-        Ok(())
+    }
+
+    /// Draws what there is on a page.
+    pub fn draw(&mut self, page: &Page, course: &Course) {
+        self.draw_lanes(page, course.nodes);
+        for bar in &page.bars {
+            self.draw_waiting(page, bar);
+            self.draw_inside(page, bar);
+        }
+        for flight in &course.flights.drawn {
+            self.draw_flight(page, flight);
+        }
+        let mut number = 0;
+        for row in &course.rows {
+            number = u32::saturating_add(number, 1);
+            self.draw_row(page, row, number);
+        }
+    }
+
+    /// Returns the shapes, and the labels behind them.
+    pub fn finish(self) -> Result<Vec<u8>, Memory> {
+        let Sheet { mut shapes, labels } = self;
+        shapes.append(&labels);
+        shapes.finish()
     }
 }
 
 /// Returns how far to the right the middle of the way of a message is.
 fn middle_of(page: &Page, message: &Message) -> u64 {
-    (page.x(message.from()) + page.x(message.to())) / 2
+    page.x(message.from()).saturating_add(page.x(message.to())) / 2
 }
 
-/// Draws what there is on a page.
-pub fn sheet_of(alloc: Global, page: &Page, course: &Course) -> Result<Sheet, Memory> {
-    let mut sheet = Sheet::new(alloc);
-    sheet.draw_lanes(page, course.nodes)?;
-    sheet.draw_bars(page)?;
-    sheet.draw_flights(page, &course.flights)?;
-    sheet.draw_rows(page, &course.rows)?;
-    Ok(sheet)
+/// Returns where a message is lost: at three quarters of its way.
+fn lost_at(page: &Page, message: &Message, end: Moment) -> Point {
+    let to = page.at(message.to(), end.row);
+    Point {
+        x: page
+            .x(message.from())
+            .saturating_add(to.x.saturating_mul(3))
+            / 4,
+        y: to.y,
+    }
 }

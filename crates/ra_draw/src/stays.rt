@@ -6,7 +6,7 @@ use ra_stamp::{Memory, Mode};
 use std::alloc::Global;
 
 /// A client asks for a name, is granted it and gives it back, as far as the run goes.
-#[derive(Clone, Copy, Debug)]
+#[derive(Clone, Copy)]
 pub struct Stay {
     pub seat: Seat,
     pub mode: Mode,
@@ -15,20 +15,10 @@ pub struct Stay {
     pub left: Option<Moment>,
 }
 
-impl Stay {
-    /// Returns whether it reaches into the part that is drawn.
-    fn is_drawn(&self) -> bool {
-        match self.left {
-            Some(left) => left.row > 0,
-            None => true,
-        }
-    }
-}
-
 /// All stays, in the order in which they were asked for, and the places of those that are not over.
 #[derive(Drop)]
 pub struct Stays {
-    all: Vec<Stay>,
+    pub all: Vec<Stay>,
     open: IndexMap<Seat, usize>,
 }
 
@@ -43,8 +33,7 @@ impl Stays {
 
     /// Notes that a client asks.
     pub fn ask(&mut self, seat: &Seat, mode: Mode, asked: Moment) -> Result<(), Memory> {
-        let place = self.all.len();
-        self.open.insert(*seat, place)?;
+        self.open.insert(*seat, self.all.len())?;
         self.all.push(Stay {
             seat: *seat,
             mode,
@@ -71,16 +60,5 @@ impl Stays {
                 stay.left = Some(left);
             }
         }
-    }
-
-    /// Returns those that reach into the part that is drawn, in the order in which they were asked for.
-    pub fn drawn(&self, alloc: Global) -> Result<Vec<Stay>, Memory> {
-        let mut drawn = Vec::new(alloc);
-        for stay in &self.all {
-            if stay.is_drawn() {
-                drawn.push(*stay)?;
-            }
-        }
-        Ok(drawn)
     }
 }

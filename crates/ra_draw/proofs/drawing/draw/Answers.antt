@@ -16,3 +16,9 @@ returns-clause-front g c e =
     let broken = rw c.deref.ensures.value at c.draw_text.ensures.front in
     let (requests, messages, front, back, verdict, picture, left, appends) = broken e in
     (text, requests, messages, front, back, input, verdict, picture, left, appends)
+
+pub returns-clause-failed : goal.returns-clause-failed
+returns-clause-failed g c e = (c.in_ok-text.text.items, search rules, search rules)
+
+pub returns-clause-at_most : goal.returns-clause-at_most
+returns-clause-at_most g c = (c.in_ok-text.text.items, search rules, search rules)

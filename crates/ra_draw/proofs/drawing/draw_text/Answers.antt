@@ -24,7 +24,7 @@ returns-in_err-write_out-clause-front g c e =
       front,
       back,
       verdict,
-      subst IsPicture (sym c.as_bytes.ensures.value ∙ is) c.in_ok-picture.ensures.ok.0,
+      subst IsPicture (sym c.deref.ensures.value ∙ is) c.in_ok-picture.ensures.ok.0,
       left,
       appends,
     )

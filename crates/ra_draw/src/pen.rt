@@ -1,0 +1,102 @@
+//! How the text of a picture is written.
+use crate::cut::cut;
+use itoa::Buffer;
+use ra_stamp::{Memory, Name, NodeId};
+use std::alloc::Global;
+
+/// The most letters of a name in a label. What a shape says in words has all of them.
+const LABEL: usize = 10;
+
+/// What stands in a place of a pattern.
+#[derive(Clone, Copy)]
+pub enum Piece<'a> {
+    Number(u64),
+    Node(NodeId),
+    Text(&'a str),
+    Whole(&'a Name),
+    /// A name, of which a long one is cut off.
+    Front(&'a Name),
+}
+
+/// A text that is written from its front to its end. Where memory runs out nothing more is written, and `finish` says so: so what is
+/// written with it gives no error of its own.
+///
+/// No text that is written has a letter that XML reads otherwise: words are those of this crate, names have letters, digits, `_`, `-`
+/// and `.`, and all else is a number.
+#[derive(Drop)]
+pub struct Pen {
+    text: Vec<u8>,
+    is_out: bool,
+}
+
+impl Pen {
+    /// Begins a text.
+    pub fn new(alloc: Global) -> Pen {
+        Pen {
+            text: Vec::new(alloc),
+            is_out: false,
+        }
+    }
+
+    /// Adds these bytes.
+    pub fn put(&mut self, bytes: &[u8]) {
+        if !self.is_out {
+            self.is_out = self.text.extend_from_slice(bytes).is_err();
+        }
+    }
+
+    /// Adds a number.
+    fn put_number(&mut self, number: u64) {
+        self.put(Buffer::new().format(number).as_bytes());
+    }
+
+    /// Adds the front of a name, and dots where that is not all of it.
+    fn put_front(&mut self, name: &[u8]) {
+        if name.len() > LABEL {
+            self.put(&name[..LABEL]);
+            self.put(b"..");
+        } else {
+            self.put(name);
+        }
+    }
+
+    /// Adds a piece.
+    fn put_piece(&mut self, piece: &Piece) {
+        match piece {
+            Piece::Number(number) => self.put_number(*number),
+            Piece::Node(node) => self.put_number(u64::from(node.get())),
+            Piece::Text(text) => self.put(text.as_bytes()),
+            Piece::Whole(name) => self.put(name.bytes()),
+            Piece::Front(name) => self.put_front(name.bytes()),
+        }
+    }
+
+    /// Adds a pattern, in which these pieces stand in the places of `$`.
+    pub fn write(&mut self, pattern: &str, pieces: &[Piece]) {
+        let mut rest = pattern.as_bytes();
+        for piece in pieces {
+            let (before, behind) = cut(b'$', rest);
+            self.put(before);
+            self.put_piece(piece);
+            rest = behind;
+        }
+        self.put(rest);
+    }
+
+    /// Adds what another pen wrote.
+    pub fn append(&mut self, other: &Pen) {
+        self.put(&other.text);
+        self.is_out = self.is_out || other.is_out;
+    }
+
+    /// Writes nothing more, since memory ran out.
+    pub fn run_out(&mut self) {
+        self.is_out = true;
+    }
+
+    /// Returns the text.
+    pub fn finish(self) -> Result<Vec<u8>, Memory> {
+        let Pen { text, is_out } = self;
+        if is_out { Err(Memory) } else { Ok(text) }
+    }
+}
