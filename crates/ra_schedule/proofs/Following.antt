@@ -7,7 +7,7 @@ use Rattle.ra_world.specs.Traffic.{Move}
 use Rattle.ra_world.specs.Run.{IsRun}
 use Rattle.ra_schedule.specs.declared.choice.Choice.{Choice}
 use Rattle.ra_schedule.specs.declared.choice.Policy.{Policy}
-use Rattle.ra_schedule.specs.declared.driving.Driven.{Driven}
+use Rattle.ra_schedule.specs.declared.drive_script.Driven.{Driven}
 use Rattle.ra_schedule.specs.declared.error.DriveError.{DriveError}
 use Rattle.ra_schedule.specs.declared.error.DriveError.TheVariants.{TurnLimit, BadPlace, NotEnabled, Memory}
 use Rattle.ra_schedule.specs.Script.{ScriptState}

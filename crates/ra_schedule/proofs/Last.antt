@@ -34,6 +34,11 @@ with_last nodes clients n last new len some is kept old =
 pub same_ops : (script : ScriptState) (before : List ScriptClient) (last : ScriptClient) (ops : List Op) → script.clients ≡ before ++ last ∷ [] → LastHas script ops → ops ≡ last.ops
 same_ops script before last ops is has = sym has.3 ∙ ap (λ (c : ScriptClient). c.ops) (same_from_push has.0 before has.1 last (sym has.2 ∙ is)).1
 
+-- a script with a last client has clients
+pub no_last : (script : ScriptState) (before : List ScriptClient) (last : ScriptClient) → script.clients ≡ before ++ last ∷ [] → script.clients ≡ [] → ⊥
+no_last script [] last is none = cc
+no_last script (x ∷ before) last is none = cc
+
 -- a script with one more operation of its last client
 pub adds_op : (old : ScriptState) (nodes : ℕ) (clients : List ScriptClient) (n : ℕ) (last new : ScriptClient) (op : Op) → n ≡ length clients → 0 < n → last ≡ get_or clients (n - 1) last
     → record { nodes = nodes; clients = clients } ≡ old → new ≡ record last { ops = last.ops ++ op ∷ [] }

@@ -17,3 +17,4 @@ mod NodesOfClients
 mod Unrepeated
 mod Tallying
 mod SeedBySeed
+mod SeedsBefore

@@ -13,7 +13,7 @@ use Rattle.ra_world.specs.World.{WorldState, Reports}
 use Rattle.ra_world.specs.MainTheorem.{MainTheorem}
 use Rattle.ra_world.specs.Run.{IsRun, GoesOn}
 use Rattle.ra_schedule.specs.declared.driver.Driver.{Driver}
-use Rattle.ra_schedule.specs.declared.driving.Driven.{Driven}
+use Rattle.ra_schedule.specs.declared.drive_script.Driven.{Driven}
 use Rattle.ra_schedule.specs.declared.error.DriveError.{DriveError}
 use Rattle.ra_schedule.specs.declared.progress.Progress.{Progress}
 use Rattle.ra_schedule.specs.declared.choice.Choice.{Choice}

@@ -8,7 +8,7 @@ use Rattle.ra_schedule.specs.declared.choice.Choice.{Choice}
 use Rattle.ra_schedule.specs.declared.choice.Choice.TheVariants.{Client, Message, Lost, Repeated}
 use Rattle.ra_schedule.specs.declared.choice.Policy.{Policy}
 use Rattle.ra_schedule.specs.declared.choice.Policy.TheVariants.{Oldest, Newest, Seeded, Faulty, Listed}
-use Rattle.ra_schedule.specs.declared.draws.Draws.{Draws}
+use Rattle.ra_schedule.specs.declared.chance_state.Draws.{Draws}
 use Rattle.ra_schedule.specs.Script.{ScriptState}
 use Rattle.ra_schedule.specs.Schedule.{steps_of, words_by}
 use Rattle.ra_schedule.specs.Seeds.{generator_after}

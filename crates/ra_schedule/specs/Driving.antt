@@ -9,7 +9,7 @@ use Rattle.ra_schedule.specs.declared.choice.Choice.{Choice}
 use Rattle.ra_schedule.specs.declared.choice.Policy.{Policy}
 use Rattle.ra_world.specs.declared.step.Step.{Step}
 use Rattle.ra_schedule.specs.declared.driver.Driver.{Driver}
-use Rattle.ra_schedule.specs.declared.driving.Driven.{Driven}
+use Rattle.ra_schedule.specs.declared.drive_script.Driven.{Driven}
 use Rattle.ra_schedule.specs.declared.error.DriveError.{DriveError}
 use Rattle.ra_schedule.specs.declared.error.DriveError.TheVariants.{BadPlace, NotEnabled, Memory}
 use Rattle.ra_schedule.specs.Script.{ScriptState}

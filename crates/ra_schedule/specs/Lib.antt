@@ -8,3 +8,5 @@ pub mod Drawing
 pub mod Below
 pub mod Driving
 pub mod Survey
+pub mod Finding
+pub mod Listing

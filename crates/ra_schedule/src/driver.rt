@@ -9,7 +9,7 @@ ghost use Rattle.ra_schedule.specs.Schedule.{StandsFor};
 ghost use Rattle.ra_schedule.specs.Progress.{OfEach, IsProgressAfter, AreCountable, recorded};
 ghost use Rattle.ra_schedule.specs.Driving.{IsDriven, IsReady, IsAtEnd, IsMeaning, AfterTurn, HasMade, CannotBeMade, IsRefused, IsStopped, MayGoOn, IsHeldUp};
 
-use crate::draws::{Draws, note_step_in};
+use crate::chance_state::{Draws, note_step_in};
 use crate::laws::schedules_rest_on_runs;
 use crate::picking::{Picked, pick};
 use crate::progress::{
@@ -213,7 +213,7 @@ fn keep_step(steps: &mut Steps, records: bool, step: &Step) -> Result<(), Memory
 }
 
 /// Returns the place of the message that a choice names, or 0 where it names a client.
-fn place_in(choice: Choice) -> u64
+pub fn place_in(choice: Choice) -> u64
     ensures { (place : ℕ) → (choice ≡ Choice.Message place) ⊎ (choice ≡ Choice.Lost place) ⊎ (choice ≡ Choice.Repeated place)
         → result ≡ place }
 {

@@ -5,65 +5,77 @@ ghost use Rattle.ra_schedule.specs.declared.error.DriveError.TheVariants as driv
 
 use ra_stamp::Memory;
 use std::alloc::AllocFailed;
+use std::fmt;
 use thiserror::Error;
 
 /// Why there is no script.
 #[derive(Clone, Copy, Debug, PartialEq, Eq, Error)]
 pub enum NewScriptError {
     /// The number of nodes is not 1 to 64.
-    #[error("Nodes")]
     Nodes,
     /// Memory ran out.
-    #[error("Memory")]
     Memory,
+}
+
+impl fmt::Display for NewScriptError {
+    fn fmt<W: fmt::Write>(&self, f: &mut fmt::Formatter<W>) -> fmt::Result {
+        fmt::Debug::fmt(self, f)
+    }
 }
 
 /// Why a client was not added, in the order in which the causes are looked for.
 #[derive(Clone, Copy, Debug, PartialEq, Eq, Error)]
 pub enum AddClientError {
     /// There are 64 clients already, or the node is not 1 to the number of nodes.
-    #[error("Clients")]
     Clients,
     /// Memory ran out.
-    #[error("Memory")]
     Memory,
+}
+
+impl fmt::Display for AddClientError {
+    fn fmt<W: fmt::Write>(&self, f: &mut fmt::Formatter<W>) -> fmt::Result {
+        fmt::Debug::fmt(self, f)
+    }
 }
 
 /// Why an operation was not added, in the order in which the causes are looked for.
 #[derive(Clone, Copy, Debug, PartialEq, Eq, Error)]
 pub enum AddOpError {
     /// There is no client.
-    #[error("Clients")]
     Clients,
     /// The last client has 1,024 operations already.
-    #[error("Limit")]
     Limit,
     /// It unlocks a name that the client has not locked.
-    #[error("NotHeld")]
     NotHeld,
     /// It locks a name that the client has locked.
-    #[error("AlreadyHeld")]
     AlreadyHeld,
     /// Memory ran out.
-    #[error("Memory")]
     Memory,
+}
+
+impl fmt::Display for AddOpError {
+    fn fmt<W: fmt::Write>(&self, f: &mut fmt::Formatter<W>) -> fmt::Result {
+        fmt::Debug::fmt(self, f)
+    }
 }
 
 /// Why a script was not driven to an end, in the order in which the causes are looked for at each turn.
 #[derive(Clone, Copy, Debug, PartialEq, Eq, Error)]
 pub enum DriveError {
     /// A choice is left after as many turns as there may be.
-    #[error("TurnLimit")]
     TurnLimit,
     /// There is no such client or message.
-    #[error("BadPlace")]
     BadPlace,
     /// The client has nothing left to do, waits, or would be refused.
-    #[error("NotEnabled")]
     NotEnabled,
     /// Memory ran out.
-    #[error("Memory")]
     Memory,
+}
+
+impl fmt::Display for DriveError {
+    fn fmt<W: fmt::Write>(&self, f: &mut fmt::Formatter<W>) -> fmt::Result {
+        fmt::Debug::fmt(self, f)
+    }
 }
 
 impl From<Memory> for DriveError {

@@ -1,27 +1,31 @@
 //! Scripts of what clients do, as data, and policies that drive a cluster through them.
 #![tactic(auto)]
 
+mod chance_state;
 mod choice;
-mod drawing;
-mod draws;
+mod drive_script;
 mod driver;
-mod driving;
 mod enabled;
 mod error;
 mod faults;
+mod finding;
 mod laws;
+mod listing;
 mod outcomes;
 mod picking;
 mod progress;
 mod rosters;
 mod script;
 mod surveying;
+mod word_choice;
 
 pub use choice::{Choice, Choices, Policy};
-pub use driving::{Recording, Summary, drive, summarize};
+pub use drive_script::{Recording, Summary, drive, summarize};
 pub use error::{AddClientError, AddOpError, DriveError, NewScriptError};
 pub use faults::Faults;
+pub use finding::{Ending, first_seed};
 pub use laws::{policies_lead_to_one_run, policies_repeat_no_message};
+pub use listing::list_choices;
 pub use outcomes::{Figures, Outcome, Spread, Survey, Tally};
 pub use script::{Op, Script};
-pub use surveying::survey;
+pub use surveying::{chance, survey};

@@ -9,10 +9,10 @@ ghost use Rattle.ra_schedule.specs.Driving.{HasFault, IsMeaning};
 ghost use Rattle.ra_schedule.specs.Progress.{Tracks, IsProgress, AreStuck};
 ghost use Rattle.ra_schedule.specs.Drawing.{AreDraws, generator_at, generator_in, words_drawn, words_for};
 
-use crate::drawing::choose;
-use crate::draws::Draws;
+use crate::chance_state::Draws;
 use crate::laws::schedules_rest_on_runs;
 use crate::progress::Progress;
+use crate::word_choice::choose;
 use crate::{Choice, DriveError, Op, Policy, Script};
 use ra_stamp::NodeId;
 use ra_world::{Step, World};

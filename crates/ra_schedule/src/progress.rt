@@ -9,7 +9,7 @@ use ra_world::Step;
 use std::alloc::Global;
 
 /// Where a client stands in its list.
-#[derive(Clone, Copy, Debug)]
+#[derive(Clone, Copy)]
 pub struct Progress {
     /// How many of its operations are done, the one that it waits for among them.
     pub done: u64,

@@ -18,7 +18,7 @@ pub enum Op {
 }
 
 /// A client: its node, and what it does.
-#[derive(Debug, Drop)]
+#[derive(Drop)]
 struct Client {
     node: NodeId,
     ops: Vec<Op>,
@@ -60,7 +60,7 @@ impl Client {
 /// What clients do at the nodes of a cluster. Contracts see how many nodes there are, and for each client its node and its
 /// operations. There are at most 64 clients, each at a node that there is, with at most 1,024 operations; and none locks a
 /// name that it has, or unlocks one that it has not. A client may have names at the end.
-#[derive(Debug, Drop)]
+#[derive(Drop)]
 pub struct Script {
     nodes: u16,
     clients: Vec<Client>,

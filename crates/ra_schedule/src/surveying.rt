@@ -9,7 +9,7 @@ use ra_stamp::Memory;
 use std::alloc::Global;
 
 /// Returns chance by a seed, with faults or without. It does not allocate.
-fn chance(faults: Option<Faults>, seed: u64) -> Policy
+pub fn chance(faults: Option<Faults>, seed: u64) -> Policy
     ensures { result ≡ spec.chance faults seed }
 {
     match faults {
@@ -23,7 +23,7 @@ fn chance(faults: Option<Faults>, seed: u64) -> Policy
 /// # Errors
 ///
 /// `Memory`.
-fn outcome_of(
+pub fn outcome_of(
     alloc: Global,
     script: &Script,
     policy: &Policy,

@@ -9,3 +9,4 @@ mod Scripts
 mod Meanings
 mod Spelled
 mod Inputs
+mod Words

@@ -59,6 +59,14 @@ pub record IsScriptTo (nodes : ℕ) (tables : List ClientTable) (place : ℕ) (s
   pub same : clients_behind [] tables ≡ clients_behind script.clients (drop place tables)
   pub valid : IsScript script
 
+pub IsScriptTo-none : (nodes : ℕ) (tables : List ClientTable) (script : ScriptState) → script ≡ record { nodes = nodes; clients = [] } → IsScript script → IsScriptTo nodes tables 0 script
+IsScriptTo-none nodes tables script is valid = record {
+  nodes_are = ap (λ (s : ScriptState). s.nodes) is;
+  count = ap (λ (s : ScriptState). length s.clients) is;
+  same = ap (λ (s : ScriptState). clients_behind s.clients tables) (sym is);
+  valid = valid;
+}
+
 script_client-ops : (table : ClientTable) (node : ℕ) (ops : List Op) → node ≡ natural table.node → script_ops table.ops ≡ Ok ops → script_client table ≡ Ok (record { node = node; ops = ops })
 script_client-ops table node ops same read = rw (read, same)
 

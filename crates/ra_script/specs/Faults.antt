@@ -12,6 +12,8 @@ use Rattle.ra_world.specs.declared.error.ReadFault.{ReadFault}
 use Rattle.ra_world.specs.declared.error.ReadFault.TheVariants as read
 use Rattle.ra_schedule.specs.declared.error.DriveError.{DriveError}
 use Rattle.ra_schedule.specs.declared.error.DriveError.TheVariants as drive
+use Rattle.ra_script.specs.declared.error.ChoicesError.{ChoicesError}
+use Rattle.ra_script.specs.declared.error.ChoicesError.TheVariants as choices
 use Rattle.ra_script.specs.declared.error.PerformError.{PerformError}
 use Rattle.ra_script.specs.declared.error.PerformError.TheVariants as perform
 
@@ -60,3 +62,8 @@ of_drive drive.TurnLimit = perform.Drive drive.TurnLimit
 of_drive drive.BadPlace = perform.Drive drive.BadPlace
 of_drive drive.NotEnabled = perform.Drive drive.NotEnabled
 of_drive drive.Memory = perform.Memory
+
+-- of choices that cannot be written
+abbrev pub of_choices : ChoicesError → PerformError
+of_choices choices.Choice = perform.Choice
+of_choices choices.Memory = perform.Memory

@@ -5,3 +5,4 @@ pub mod ScriptText
 pub mod Meaning
 pub mod ChoicesText
 pub mod Performed
+pub mod Finding

@@ -1,16 +1,20 @@
 -- What `perform` and `perform_trace` make of their input.
-use Rattle.std.specs.Prelude.{◌≡◌, ◌≢◌, ◌↔◌, ℕ, ◌≤◌, List, [], Bool, IsTrue, length, Ok, Err}
+use Rattle.std.specs.Prelude.{◌≡◌, ◌≢◌, ◌↔◌, ℕ, ◌≤◌, List, [], ◌++◌, Bool, IsTrue, All, length, Ok, Err, codes}
+use Rattle.ra_stamp.specs.Sequence.{Listed as Listing}
 use Rattle.ra_world.specs.declared.report.Report.{Report}
 use Rattle.ra_world.specs.Traffic.{Move}
 use Rattle.ra_world.specs.World.{Reports}
 use Rattle.ra_world.specs.MainTheorem.{MainTheorem}
 use Rattle.ra_world.specs.Lines.{report_text}
+use Rattle.ra_schedule.specs.declared.choice.Choice.{Choice}
 use Rattle.ra_schedule.specs.declared.choice.Policy.{Policy}
+use Rattle.ra_schedule.specs.Listing.{AreChoicesOf}
 use Rattle.ra_schedule.specs.Script.{ScriptState}
 use Rattle.ra_schedule.specs.Schedule.{steps_of, Follows, Ends, Stops, IsFinished}
 use Rattle.ra_trace.specs.TraceText.{IsTrace}
 use Rattle.ra_script.specs.declared.format.Format.{Format}
-use Rattle.ra_script.specs.declared.format.Format.TheVariants.{Lines, Trace}
+use Rattle.ra_script.specs.declared.format.Format.TheVariants.{Lines, Trace, Choices}
+use Rattle.ra_script.specs.ChoicesText.{HasText, Lists}
 use Rattle.ra_script.specs.declared.error.ScriptError.TheVariants as script_fault
 use Rattle.ra_script.specs.declared.error.PerformError.{PerformError}
 use Rattle.ra_script.specs.declared.error.PerformError.TheVariants as fault
@@ -20,10 +24,19 @@ use Rattle.ra_script.specs.ScriptText.{script_of}
 abbrev pub turn_limit : ℕ
 turn_limit = 16777216
 
--- the output says this of a run of this many nodes: the lines of its report, or its trace
-abbrev pub Says : Format → ℕ → List Move → Report → List ℕ → Type 0
-Says Lines nodes moves report output = output ≡ report_text report
-Says Trace nodes moves report output = IsTrace nodes 0 moves output
+-- a line of the words of choices, which are those of these moves
+pub record SaysChoices (script : ScriptState) (moves : List Move) (output : List ℕ) : Type 0 where
+  pub choices : Listing Choice
+  pub are : AreChoicesOf script choices moves
+  pub text : List ℕ
+  pub lists : Lists text choices.items
+  pub line : output ≡ text ++ codes "\n"
+
+-- the output says this of a run of a script: the lines of its report, or its trace, or its choices
+abbrev pub Says : Format → ScriptState → List Move → Report → List ℕ → Type 0
+Says Lines script moves report output = output ≡ report_text report
+Says Trace script moves report output = IsTrace script.nodes 0 moves output
+Says Choices script moves report output = SaysChoices script moves output
 
 -- The input is the text of a script. The policy was followed through it to its end, and the output says in this format what came
 -- of it. For the report of this run the main theorem holds.
@@ -38,7 +51,7 @@ pub record IsPerformedAs (format : Format) (policy : Policy) (input output : Lis
   pub reports : Reports script.nodes 0 moves report
   pub main_theorem : MainTheorem script.nodes report
   pub finished_is : IsTrue finished ↔ IsFinished script (steps_of moves) report
-  pub says : Says format script.nodes moves report output
+  pub says : Says format script moves report output
 
 -- the output is the lines of the report
 abbrev pub IsPerformed : Policy → List ℕ → List ℕ → Bool → Type 0
@@ -48,6 +61,23 @@ IsPerformed policy input output finished = IsPerformedAs Lines policy input outp
 abbrev pub IsTraced : Policy → List ℕ → List ℕ → Bool → Type 0
 IsTraced policy input output finished = IsPerformedAs Trace policy input output finished
 
+-- some choices make a run again that the policy made, and no word stands for one of them
+pub record HasNoWords (policy : Policy) (input : List ℕ) : Type 0 where
+  pub script : ScriptState
+  pub script_is : script_of input ≡ Ok script
+  pub moves : List Move
+  pub follows : Follows script policy moves
+  pub ends : Ends script policy moves
+  pub choices : Listing Choice
+  pub are : AreChoicesOf script choices moves
+  pub wordless : All HasText choices.items → ⊥
+
+-- the choices cannot be written, where they are to be
+abbrev pub Unwritten : Format → Policy → List ℕ → Type 0
+Unwritten Lines policy input = ⊥
+Unwritten Trace policy input = ⊥
+Unwritten Choices policy input = HasNoWords policy input
+
 -- where each refusal may come: its cause stands. `Memory` and faults of the reader and the writer come from outside, but
 -- the writer fails only where there is something to write.
 abbrev pub RefusesAs : Format → Policy → List ℕ → PerformError → Type 0
@@ -55,6 +85,7 @@ RefusesAs format policy input fault.Read = Unit {0}
 RefusesAs format policy input (fault.Script why) = (why ≢ script_fault.Memory) × (script_of input ≡ Err why)
 RefusesAs format policy input (fault.Drive cause) = (script : ScriptState) × (moves : List Move) × (script_of input ≡ Ok script)
     × Follows script policy moves × Stops script policy turn_limit moves cause
+RefusesAs format policy input fault.Choice = Unwritten format policy input
 RefusesAs format policy input fault.Memory = Unit {0}
 RefusesAs format policy input fault.Write = (output : List ℕ) × (finished : Bool)
     × IsPerformedAs format policy input output finished × (output ≢ [])

@@ -12,14 +12,14 @@ use toml::value::Array;
 use toml::{Table, Value};
 
 /// A client's table: the number of its node, and its operations.
-#[derive(Debug, Drop)]
+#[derive(Drop)]
 pub struct ClientRef<'a> {
     pub node: i64,
     pub ops: Vec<&'a str>,
 }
 
 /// A document of the right shape, borrowed from its tree.
-#[derive(Debug, Drop)]
+#[derive(Drop)]
 pub struct DocumentRef<'a> {
     pub nodes: i64,
     pub clients: Vec<ClientRef<'a>>,
@@ -132,7 +132,7 @@ fn client_in<'a>(alloc: Global, table: &'a Table) -> Result<ClientRef<'a>, Scrip
 /// # Errors
 ///
 /// `Shape`: it is not. `Memory`, which may come before it.
-fn client_of<'a>(alloc: Global, value: &'a Value) -> Result<ClientRef<'a>, ScriptError>
+pub fn client_of<'a>(alloc: Global, value: &'a Value) -> Result<ClientRef<'a>, ScriptError>
     ensures ok { IfOk result (λ client. spec.client_of (view value.now) ≡ Some (spec.client_table client)) }
     ensures err { IfErr result (IsRefusal (ok_or (spec.client_of (view value.now)) ScriptError.Shape)) }
 {

@@ -3,75 +3,84 @@ ghost use Rattle.ra_script.specs.Faults.{of_new, of_client, of_op};
 ghost use Rattle.ra_script.specs.declared.error.ScriptError.TheVariants as script;
 ghost use Rattle.ra_script.specs.declared.error.ChoicesError.TheVariants as choices;
 ghost use Rattle.ra_script.specs.declared.error.PerformError.TheVariants as perform;
-ghost use Rattle.ra_script.specs.Faults.{of_read, of_script, of_drive};
+ghost use Rattle.ra_script.specs.Faults.{of_read, of_script, of_drive, of_choices};
 
 use ra_schedule::{AddClientError, AddOpError, DriveError, NewScriptError};
 use ra_stamp::Memory;
 use ra_world::{ReadFault, WriteFault};
 use std::alloc::AllocFailed;
+use std::fmt;
 use thiserror::Error;
 
 /// Why a text is not a script.
 #[derive(Clone, Copy, Debug, PartialEq, Eq, Error)]
 pub enum ScriptError {
     /// It is not UTF-8, or no TOML document.
-    #[error("Toml")]
     Toml,
     /// A key is missing, unknown or of another type.
-    #[error("Shape")]
     Shape,
     /// The number of nodes is not 1 to 64.
-    #[error("Nodes")]
     Nodes,
     /// There are not 1 to 64 clients, or one is at no node that there is.
-    #[error("Clients")]
     Clients,
     /// A string is no operation.
-    #[error("Op")]
     Op,
     /// A client unlocks a name that it does not have then.
-    #[error("NotHeld")]
     NotHeld,
     /// A client locks a name that it has.
-    #[error("AlreadyHeld")]
     AlreadyHeld,
     /// The text has more than 65,536 bytes, or a client more than 1,024 operations.
-    #[error("Limit")]
     Limit,
     /// Memory ran out.
-    #[error("Memory")]
     Memory,
+}
+
+impl fmt::Display for ScriptError {
+    fn fmt<W: fmt::Write>(&self, f: &mut fmt::Formatter<W>) -> fmt::Result {
+        fmt::Debug::fmt(self, f)
+    }
 }
 
 /// Why a text is not a list of choices.
 #[derive(Clone, Copy, Debug, PartialEq, Eq, Error)]
 pub enum ChoicesError {
     /// A word is no choice, or there is not one space between two.
-    #[error("Choice")]
     Choice,
     /// Memory ran out.
-    #[error("Memory")]
     Memory,
+}
+
+impl fmt::Display for ChoicesError {
+    fn fmt<W: fmt::Write>(&self, f: &mut fmt::Formatter<W>) -> fmt::Result {
+        fmt::Debug::fmt(self, f)
+    }
 }
 
 /// Why a script was not performed, in the order in which the causes are looked for.
 #[derive(Clone, Copy, Debug, PartialEq, Eq, Error)]
 pub enum PerformError {
     /// The reader failed.
-    #[error("Read")]
     Read,
     /// What was read is not a script. It is never that memory ran out.
-    #[error(transparent)]
     Script(ScriptError),
     /// The policy could not go on. It is never that memory ran out.
-    #[error(transparent)]
     Drive(DriveError),
+    /// The choices of the run are to be written, and no word stands for one of them.
+    Choice,
     /// Memory ran out.
-    #[error("Memory")]
     Memory,
     /// The writer failed.
-    #[error("Write")]
     Write,
+}
+
+impl fmt::Display for PerformError {
+    fn fmt<W: fmt::Write>(&self, f: &mut fmt::Formatter<W>) -> fmt::Result {
+        match self {
+            PerformError::Script(cause) => fmt::Display::fmt(cause, f),
+            PerformError::Drive(cause) => fmt::Display::fmt(cause, f),
+            word => fmt::Debug::fmt(word, f),
+        }
+    }
 }
 
 impl From<NewScriptError> for ScriptError {
@@ -155,6 +164,17 @@ impl From<DriveError> for PerformError {
         match fault {
             DriveError::Memory => PerformError::Memory,
             fault => PerformError::Drive(fault),
+        }
+    }
+}
+
+impl From<ChoicesError> for PerformError {
+    ghost from_gives = { λ fault e. e ≡ of_choices fault };
+
+    fn from(fault: ChoicesError) -> PerformError {
+        match fault {
+            ChoicesError::Choice => PerformError::Choice,
+            ChoicesError::Memory => PerformError::Memory,
         }
     }
 }

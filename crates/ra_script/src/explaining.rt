@@ -1,147 +1,152 @@
 //! Why a text is not a script, said to a person on one line. No clause speaks of what is said.
 use crate::ScriptError;
 use crate::document::{ClientRef, DocumentRef, document_of};
+use crate::note::Note;
 use crate::reading::{MAX_TEXT, add_op};
-use crate::shape_note::{push_shown, shape_note};
+use crate::shape_note::say_shape;
 use ra_schedule::Script;
 use ra_stamp::{Memory, NodeId};
 use std::alloc::Global;
+use toml::Table;
 
-/// Adds what the parser says, on one line.
-fn push_said(note: &mut String, said: &str) -> Result<(), Memory> {
-    for letter in said.trim_end().chars() {
-        if letter == '\n' {
-            note.push_str(": ")?;
-        } else {
-            note.push(if letter.is_control() { '?' } else { letter })?;
-        }
+/// Says what the parser says of a text that is no TOML document.
+fn say_toml(alloc: Global, note: &mut Note, text: &str, fault: &toml::de::Error) {
+    note.refuse_if(fault.is_memory());
+    note.push("the script is no TOML document: ");
+    match format!(in alloc; "{fault}") {
+        Ok(said) => note.push_lines(said.trim_end()),
+        Err(_) => note.refuse_if(true),
     }
-    Ok(())
-}
-
-/// Returns what is said of a text that is no TOML document.
-fn toml_note(alloc: Global, text: &str, fault: &toml::de::Error) -> Result<String, Memory> {
-    let said = format!(in alloc; "{fault}")?;
-    let mut note = String::from_str(alloc, "the script is no TOML document: ")?;
-    push_said(&mut note, said.as_str())?;
     if text.starts_with("trace ") {
-        note.push_str("; it looks like a trace, which ra check reads")?;
+        note.push("; it looks like a trace, which ra check reads");
     }
-    Ok(note)
 }
 
 /// Returns what is said of an operation that is refused.
 fn op_text(fault: ScriptError) -> &'static str {
     match fault {
-        ScriptError::NotHeld => "the client does not hold the name then",
-        ScriptError::AlreadyHeld => "the client holds the name already",
+        ScriptError::NotHeld => ": the client does not hold the name then",
+        ScriptError::AlreadyHeld => ": the client holds the name already",
         _ => {
-            "it is no operation: each is S, X, IS, IX or SIX to lock, or U to unlock, one space, and a name of 1 to 32 of A to Z, a to z, 0 to 9, _, - and ."
+            ": it is no operation: each is S, X, IS, IX or SIX to lock, or U to unlock, one space, and a name of 1 to 32 of A to Z, a to z, 0 to 9, _, - and ."
         }
     }
 }
 
-/// Returns what is said of the first operation of the last client that is refused, or `None`.
-fn ops_note(
-    alloc: Global,
-    script: &mut Script,
-    client: usize,
-    ops: &[&str],
-) -> Result<Option<String>, Memory> {
+/// Says of an operation of a client that it is refused.
+fn say_refused(note: &mut Note, client: usize, place: usize, op: &str, fault: ScriptError) {
+    note.refuse_if(fault == ScriptError::Memory);
+    note.push_number("client ", client, ", operation ");
+    note.push_number("", place, ", ");
+    note.push_shown(op);
+    note.push(op_text(fault));
+}
+
+/// Says which operation of the last client is refused first, where one is.
+fn say_ops(note: &mut Note, script: &mut Script, client: usize, ops: &[&str]) {
     for (place, &op) in ops.iter().enumerate() {
-        match add_op(script, op) {
-            Ok(()) => {}
-            Err(ScriptError::Memory) => return Err(Memory),
-            Err(fault) => {
-                let mut note = format!(in alloc; "client {client}, operation {}, ", place + 1)?;
-                push_shown(&mut note, op)?;
-                note.push_str(": ")?;
-                note.push_str(op_text(fault))?;
-                return Ok(Some(note));
-            }
+        if let Err(fault) = add_op(script, op) {
+            say_refused(note, client, place + 1, op, fault);
+            return;
         }
     }
-    Ok(None)
 }
 
-/// Returns what is said of a client with this number, where something of it is refused, or `None`.
-fn client_note(
-    alloc: Global,
-    script: &mut Script,
-    client: usize,
-    ops: &[&str],
-) -> Result<Option<String>, Memory> {
+/// Says what is refused of a client with this number, where something is. The client goes into the script.
+fn say_client(alloc: Global, note: &mut Note, script: &mut Script, client: usize, ops: &[&str]) {
     let count = ops.len();
     if count > Script::MAX_OPS {
-        let note = format!(in alloc; "client {client} has {count} operations: it may have 1024")?;
-        return Ok(Some(note));
+        note.push_number("client ", client, " has ");
+        note.push_number("", count, " operations: it may have 1024");
+        return;
     }
-    if script.add_client(alloc, 1).is_err() {
-        return Err(Memory);
-    }
-    ops_note(alloc, script, client, ops)
+    note.refuse_if(script.add_client(alloc, 1).is_err());
+    say_ops(note, script, client, ops);
 }
 
-/// Returns what is said of the first client of which something is refused, or `None`.
-fn clients_note(alloc: Global, clients: &[ClientRef<'_>]) -> Result<Option<String>, Memory> {
-    let Ok(mut script) = Script::new(alloc, 1) else {
-        return Err(Memory);
-    };
+/// Says what is refused of the first client of which something is, where there is one. The clients go into the script.
+fn say_clients(alloc: Global, note: &mut Note, script: &mut Script, clients: &[ClientRef<'_>]) {
     for (place, client) in clients.iter().enumerate() {
-        if let Some(note) = client_note(alloc, &mut script, place + 1, &client.ops)? {
-            return Ok(Some(note));
+        say_client(alloc, note, script, place + 1, &client.ops);
+        if !note.is_empty() {
+            return;
         }
     }
-    Ok(None)
 }
 
-/// Returns what is said of the first client whose node there is not, or `None`.
-fn node_note(
-    alloc: Global,
-    nodes: u16,
-    clients: &[ClientRef<'_>],
-) -> Result<Option<String>, Memory> {
+/// Says of the first client whose node there is not that there is none, where there is such a client.
+fn say_node(note: &mut Note, nodes: u16, clients: &[ClientRef<'_>]) {
     for (place, client) in clients.iter().enumerate() {
         if client.node_up_to(nodes).is_none() {
-            let node = client.node;
-            let note = format!(in alloc;
-                "client {}: there is no node {node}: node is 1 to {nodes}, as nodes says",
-                place + 1
-            )?;
-            return Ok(Some(note));
+            note.push_number("client ", place + 1, ": there is no node ");
+            note.push_number("", client.node, ": node is 1 to ");
+            note.push_number("", nodes, ", as nodes says");
+            return;
         }
     }
-    Ok(None)
 }
 
-/// Returns what is said of a document that has the shape of a script, or `None`.
-fn document_note(alloc: Global, document: &DocumentRef<'_>) -> Result<Option<String>, Memory> {
+/// Says what is wrong with the clients of a document, where something is.
+fn say_all_clients(alloc: Global, note: &mut Note, nodes: u16, clients: &[ClientRef<'_>]) {
+    say_node(note, nodes, clients);
+    if !note.is_empty() {
+        return;
+    }
+    match Script::new(alloc, 1) {
+        Ok(mut script) => say_clients(alloc, note, &mut script, clients),
+        Err(_) => note.refuse_if(true),
+    }
+}
+
+/// Says what is wrong with a document that has the shape of a script, where something is.
+fn say_document(alloc: Global, note: &mut Note, document: &DocumentRef<'_>) {
     let Some(nodes) = document.nodes_up_to(NodeId::MAX) else {
-        let found = document.nodes;
-        let note = format!(in alloc; "there can't be {found} nodes: nodes is 1 to 64")?;
-        return Ok(Some(note));
+        note.push_number(
+            "there can't be ",
+            document.nodes,
+            " nodes: nodes is 1 to 64",
+        );
+        return;
     };
     let count = document.clients.len();
     if count == 0 || count > Script::MAX_CLIENTS {
-        let note = format!(in alloc; "there can't be {count} clients: there are 1 to 64")?;
-        return Ok(Some(note));
+        note.push_number("there can't be ", count, " clients: there are 1 to 64");
+        return;
     }
-    if let Some(note) = node_note(alloc, nodes, &document.clients)? {
-        return Ok(Some(note));
-    }
-    clients_note(alloc, &document.clients)
+    say_all_clients(alloc, note, nodes, &document.clients);
 }
 
-/// Returns what is said of a text that is UTF-8 and not too long, or `None`.
-fn text_note(alloc: Global, text: &str) -> Result<Option<String>, Memory> {
-    let tree = match toml::table_from_str(alloc, text) {
-        Ok(tree) => tree,
-        Err(fault) if fault.is_memory() => return Err(Memory),
-        Err(fault) => return Ok(Some(toml_note(alloc, text, &fault)?)),
-    };
-    match document_of(alloc, &tree) {
-        Ok(document) => document_note(alloc, &document),
-        Err(_) => shape_note(alloc, &tree),
+/// Says what is wrong with a document, where something is.
+fn say_tree(alloc: Global, note: &mut Note, tree: &Table) {
+    match document_of(alloc, tree) {
+        Ok(document) => say_document(alloc, note, &document),
+        Err(fault) => {
+            note.refuse_if(fault == ScriptError::Memory);
+            say_shape(alloc, note, tree);
+        }
+    }
+}
+
+/// Says what is wrong with a text that is UTF-8 and not too long, where something is.
+fn say_text(alloc: Global, note: &mut Note, text: &str) {
+    match toml::table_from_str(alloc, text) {
+        Ok(tree) => say_tree(alloc, note, &tree),
+        Err(fault) => say_toml(alloc, note, text, &fault),
+    }
+}
+
+/// Says what is wrong with bytes that are not too many, where something is.
+fn say_bytes(alloc: Global, note: &mut Note, text: &[u8]) {
+    match str::from_utf8(text) {
+        Ok(text) => say_text(alloc, note, text),
+        Err(fault) => {
+            let place = fault.valid_up_to();
+            note.push_number(
+                "the script is not UTF-8 at byte ",
+                place,
+                ", counted from 0",
+            );
+        }
     }
 }
 
@@ -153,18 +158,11 @@ fn text_note(alloc: Global, text: &str) -> Result<Option<String>, Memory> {
 ///
 /// `Memory`: there is none for it.
 pub fn explain_script(alloc: Global, text: &[u8]) -> Result<Option<String>, Memory> {
+    let mut note = Note::new(alloc);
     if text.len() > MAX_TEXT {
-        let note = String::from_str(alloc, "the script has more than 65536 bytes")?;
-        return Ok(Some(note));
+        note.push("the script has more than 65536 bytes");
+    } else {
+        say_bytes(alloc, &mut note, text);
     }
-    match str::from_utf8(text) {
-        Ok(text) => text_note(alloc, text),
-        Err(fault) => {
-            let place = fault.valid_up_to();
-            let note = format!(in alloc;
-                "the script is not UTF-8 at byte {place}, counted from 0"
-            )?;
-            Ok(Some(note))
-        }
-    }
+    note.finish()
 }

@@ -5,4 +5,6 @@ pub enum Format {
     Lines,
     /// Its trace.
     Trace,
+    /// The choices by which the policy listed makes it again: their words on one line.
+    Choices,
 }

@@ -30,8 +30,12 @@ fn operation_of(text: &[u8]) -> Option<Op>
 fn cut(text: &[u8]) -> Option<(&[u8], &[u8])>
     ensures { MatchOption result (spec.cut text.now ≡ None) (λ parts. spec.cut text.now ≡ Some (parts.0.now, parts.1.now)) }
 {
-    let end = text.iter().position(|byte| *byte == b' ')?;
-    Some((&text[..end], &text[end + 1..]))
+    for (end, byte) in text.iter().enumerate() {
+        if *byte == b' ' {
+            return Some((&text[..end], &text[end + 1..]));
+        }
+    }
+    None
 }
 
 /// Returns the name that these bytes are, or `None` where they are none. It does not allocate.

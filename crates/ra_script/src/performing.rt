@@ -1,12 +1,13 @@
-ghost use Rattle.std.specs.Prelude.{◌≡◌, ◌≢◌, ◌≤◌, ◌<◌, List, ℕ, [], ◌++◌, Bool, length, string_bytes, Ok, IfOk, IfErr, IfSome, IsErrOf};
+ghost use Rattle.std.specs.Prelude.{◌≡◌, ◌≢◌, ◌≤◌, ◌<◌, List, ℕ, [], ◌++◌, Bool, length, string_bytes, codes, Ok, OnOk, IfOk, IfErr, IfSome, IsErrOf};
 ghost use Rattle.std.specs.Io.KnownBytes.{Consumes, Appends};
 ghost use Rattle.ra_script.specs.declared.format.Format.{Format};
 ghost use Rattle.ra_script.specs.ScriptText.{script_of};
 ghost use Rattle.ra_script.specs.Performed.{IsPerformed, IsPerformedAs, IsTraced, Refuses, RefusesAs};
 
 use crate::format::Format;
-use crate::{PerformError, read_script};
-use ra_schedule::{Policy, Script, drive, summarize};
+use crate::{PerformError, choices_text, read_script};
+use ra_schedule::{Policy, Script, drive, list_choices, summarize};
+use ra_stamp::Memory;
 use ra_trace::trace_text;
 use ra_world::{read_up_to, report_text, runs_are_determined, write_out};
 use std::alloc::Global;
@@ -16,13 +17,15 @@ use std::io::{Read, Write};
 const MAX_INPUT: usize = 65_537;
 
 /// The most turns that a script may take.
-const MAX_TURNS: u64 = 16_777_216;
+pub const MAX_TURNS: u64 = 16_777_216;
 
-/// What is written of a script's run, and whether the run is finished.
-#[derive(Debug, Drop)]
-struct Printed {
-    text: String,
-    finished: bool,
+/// What is written of a script's run.
+#[derive(Drop)]
+pub struct Printed {
+    /// The text.
+    pub text: String,
+    /// Whether the run is finished: every operation is done, and nothing waits, is queued or under way.
+    pub finished: bool,
 }
 
 /// Drives a cluster through a script by a policy, and returns the lines of its report.
@@ -56,7 +59,7 @@ fn lines_of(alloc: Global, policy: &Policy, script: &Script) -> Result<Printed, 
 ///
 /// 1. `Drive`: the policy can't go on.
 /// 2. `Memory`.
-fn trace_of(alloc: Global, policy: &Policy, script: &Script) -> Result<Printed, PerformError>
+pub fn trace_of(alloc: Global, policy: &Policy, script: &Script) -> Result<Printed, PerformError>
     ensures ok { (input : List ℕ) → script_of input ≡ Ok script.now
         → IfOk result (λ printed. IsPerformedAs Format.Trace policy.now input (string_bytes printed.text) printed.finished) }
     ensures err { (input : List ℕ) → script_of input ≡ Ok script.now → IfErr result (RefusesAs Format.Trace policy.now input) }
@@ -75,6 +78,46 @@ fn trace_of(alloc: Global, policy: &Policy, script: &Script) -> Result<Printed, 
     })
 }
 
+/// Adds a line feed.
+fn end_line(text: &mut String) -> Result<(), Memory>
+    ensures { OnOk result (string_bytes text.new ≡ string_bytes text.old ++ codes "\n") }
+{
+    text.push_str("\n")?;
+    Ok(())
+}
+
+/// Drives a cluster through a script by a policy, and returns the line of the choices by which the run is made again.
+///
+/// # Errors
+///
+/// The first that holds, except that `Memory` may come before the others:
+///
+/// 1. `Drive`: the policy can't go on.
+/// 2. `Choice`: no word stands for one of the choices.
+/// 3. `Memory`.
+fn choices_of(alloc: Global, policy: &Policy, script: &Script) -> Result<Printed, PerformError>
+    ensures ok { (input : List ℕ) → script_of input ≡ Ok script.now
+        → IfOk result (λ printed. IsPerformedAs Format.Choices policy.now input (string_bytes printed.text) printed.finished) }
+    ensures err { (input : List ℕ) → script_of input ≡ Ok script.now → IfErr result (RefusesAs Format.Choices policy.now input) }
+    ensures early { IfErr result (λ fault. fault ≢ PerformError.Write) }
+    ensures unread { ¬ IsErrOf result PerformError.Read }
+{
+    runs_are_determined();
+    // What holds of each script is that it has 1 to 64 nodes.
+    let _nodes = script.nodes();
+    let recording = drive(alloc, script, policy, MAX_TURNS)?;
+    // The steps are those of a run of the script, so only `Memory` can come.
+    let Ok(Some(choices)) = list_choices(alloc, script, &recording.steps) else {
+        return Err(PerformError::Memory);
+    };
+    let mut text = choices_text(alloc, &choices)?;
+    end_line(&mut text)?;
+    Ok(Printed {
+        text,
+        finished: recording.finished,
+    })
+}
+
 /// Returns what is written of what comes of a script.
 ///
 /// # Errors
@@ -83,7 +126,8 @@ fn trace_of(alloc: Global, policy: &Policy, script: &Script) -> Result<Printed, 
 ///
 /// 1. `Script`: the input is no script.
 /// 2. `Drive`: the policy can't go on.
-/// 3. `Memory`.
+/// 3. `Choice`: the choices are to be written, and no word stands for one of them.
+/// 4. `Memory`.
 fn make_printed(
     alloc: Global,
     format: Format,
@@ -99,6 +143,7 @@ fn make_printed(
     match format {
         Format::Lines => lines_of(alloc, policy, &script),
         Format::Trace => trace_of(alloc, policy, &script),
+        Format::Choices => choices_of(alloc, policy, &script),
     }
 }
 
@@ -106,7 +151,7 @@ fn make_printed(
 ///
 /// # Errors
 ///
-/// Those of `perform`, except that of the writer.
+/// Those of `perform_as`, except that of the writer.
 fn read_printed<R: Read>(
     alloc: Global,
     reader: &mut R,
@@ -134,13 +179,25 @@ fn read_printed<R: Read>(
     make_printed(alloc, format, policy, &input)
 }
 
-/// Reads the text of a script, drives a cluster through it by a policy, and writes what came of it in a format. Returns whether
-/// the run is finished.
+/// Does as [`perform`], and writes what came of it in a format: the lines of the report, or the trace, as [`perform_trace`] does, or the
+/// choices by which the policy listed makes the run again, in their words on one line. So `--choices` with these words is the same run,
+/// whatever policy made it. To write the choices costs about three times what `perform` does, and for each message that is taken time
+/// linear in the number of those under way.
 ///
 /// # Errors
 ///
-/// Those of `perform`.
-fn perform_as<R: Read, W: Write>(
+/// The first that holds, except that `Memory` may come before any:
+///
+/// 1. `Read`: the reader failed, before its end and before it gave 65,537 bytes.
+/// 2. `Script`: the input is no script.
+/// 3. `Drive`: a choice is left after the last turn, or can't be made.
+/// 4. `Choice`: the choices are to be written, and no word stands for one of them: a message is repeated, or the number of one has more
+///    than nine digits.
+/// 5. `Memory`: memory ran out.
+/// 6. `Write`: the writer failed or took nothing, with bytes left to write. A prefix of the text was written.
+///
+/// After each of the others the writer is as before.
+pub fn perform_as<R: Read, W: Write>(
     alloc: Global,
     reader: &mut R,
     writer: &mut W,

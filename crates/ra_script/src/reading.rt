@@ -123,9 +123,13 @@ fn are_placed(nodes: u16, clients: &[ClientRef<'_>]) -> bool
 fn are_at_nodes(nodes: u16, clients: &[ClientRef<'_>]) -> bool
     ensures { result ≡ list_all (λ client. spec.is_up_to nodes client.node) clients.now }
 {
-    clients
-        .iter()
-        .all(|client| client.node_up_to(nodes).is_some())
+    for client in clients {
+        match client.node_up_to(nodes) {
+            Some(_) => {}
+            None => return false,
+        }
+    }
+    true
 }
 
 /// Returns the script of a document.

@@ -12,6 +12,8 @@ mod growth;
 #[cfg(test)]
 mod helpers;
 #[cfg(test)]
+mod listing;
+#[cfg(test)]
 mod many_repeats;
 #[cfg(test)]
 mod messages;

@@ -1,7 +1,7 @@
 use Rattle.std.proofs.Common.{rules, ◌≡◌, Option, Some, None, ◌+◌, refl, sym, ap, ◌∙◌, subst}
 use Rattle.std.specs.Option.{IfSome}
 use Rattle.ra_schedule.specs.declared.choice.Choice.{Choice}
-use Rattle.ra_schedule.specs.declared.draws.Draws.{Draws}
+use Rattle.ra_schedule.specs.declared.chance_state.Draws.{Draws}
 use Rattle.ra_schedule.specs.Schedule.{Picks}
 use Rattle.ra_schedule.specs.Drawing.{AreDraws, generator_at, generator_in, words_drawn, words_for}
 use Rattle.ra_schedule.specs.Driving.{IsMeaning}

@@ -2,7 +2,7 @@ use Rattle.std.proofs.Common.{◌≡◌, Some, map, sym, ◌∙◌}
 use Rattle.std.proofs.lemmas.Result.{err_from_is_err_and}
 use Rattle.ra_script.specs.Document.{client_table}
 use Rattle.ra_script.specs.ScriptText.{natural, is_up_to}
-use Rattle.ra_script.proofs.Scripts.{some_up_to, placed_at, up_to_some, table_at, tables_lt, IsScriptTo-more, IsScriptTo-refused}
+use Rattle.ra_script.proofs.Scripts.{some_up_to, placed_at, up_to_some, table_at, tables_lt, IsScriptTo-none, IsScriptTo-more, IsScriptTo-refused}
 use Rattle.ra_script.proofs.reading.script_with.Goals as goal
 
 pub unwrap-node-requires : goal.unwrap-node-requires
@@ -27,3 +27,7 @@ returns-in_err-add_client-clause-err c =
     let refusal = rw c.deref.ensures.value at c.in_err-add_client.ensures.err in
     rw (p.1, p.2) (IsScriptTo-refused c.args.nodes (map client_table c.args.clients.now) c.loop-client.client-index c.loop-client.script (client_table c.client-item.result) c.in_err-add_client.field-0.0
     (tables_lt c.args.clients.now c.loop-client.client-index c.loop-client-test.true) there refusal c.loop-client.invariant)
+
+pub loop-client-init : goal.loop-client-init
+loop-client-init c =
+    IsScriptTo-none c.args.nodes (map client_table c.args.clients.now) c.in_ok-script.script c.in_ok-script.ensures.ok c.in_ok-script.ensures.script

@@ -23,3 +23,36 @@ returns-clause-client c nodes client =
     (ap (λ (t : ScriptClient). t.node) c.self.view_is)
     (c.in_ok-push.ensures.items ∙ ap (λ (xs : List Op). xs ++ c.args.op ∷ []) fields-are)
     client
+
+pub returns-in_err-check_op-clause-limit : goal.returns-in_err-check_op-clause-limit
+returns-in_err-check_op-clause-limit c =
+    let ops-is : c.deref.result.now ≡ c.args.self.now.ops = c.deref.ensures.value ∙ ap (λ (t : ScriptClient). t.ops) c.self.view_is in
+    let p = err_from_is_err_and c.from_residual.result c.from_residual.ensures.1 in
+    rw (p.1, p.2) (rw ops-is at c.in_err-check_op.ensures.limit)
+
+pub returns-in_err-check_op-clause-not_held : goal.returns-in_err-check_op-clause-not_held
+returns-in_err-check_op-clause-not_held c =
+    let ops-is : c.deref.result.now ≡ c.args.self.now.ops = c.deref.ensures.value ∙ ap (λ (t : ScriptClient). t.ops) c.self.view_is in
+    let p = err_from_is_err_and c.from_residual.result c.from_residual.ensures.1 in
+    rw (p.1, p.2) (rw ops-is at c.in_err-check_op.ensures.not_held)
+
+pub returns-in_err-check_op-clause-already_held : goal.returns-in_err-check_op-clause-already_held
+returns-in_err-check_op-clause-already_held c =
+    let ops-is : c.deref.result.now ≡ c.args.self.now.ops = c.deref.ensures.value ∙ ap (λ (t : ScriptClient). t.ops) c.self.view_is in
+    let p = err_from_is_err_and c.from_residual.result c.from_residual.ensures.1 in
+    rw (p.1, p.2) (rw ops-is at c.in_err-check_op.ensures.already_held)
+
+pub returns-clause-limit : goal.returns-clause-limit
+returns-clause-limit c =
+    let ops-is : c.deref.result.now ≡ c.args.self.now.ops = c.deref.ensures.value ∙ ap (λ (t : ScriptClient). t.ops) c.self.view_is in
+    rw ops-is at c.in_ok-check_op.ensures.limit
+
+pub returns-clause-not_held : goal.returns-clause-not_held
+returns-clause-not_held c =
+    let ops-is : c.deref.result.now ≡ c.args.self.now.ops = c.deref.ensures.value ∙ ap (λ (t : ScriptClient). t.ops) c.self.view_is in
+    rw ops-is at c.in_ok-check_op.ensures.not_held
+
+pub returns-clause-already_held : goal.returns-clause-already_held
+returns-clause-already_held c =
+    let ops-is : c.deref.result.now ≡ c.args.self.now.ops = c.deref.ensures.value ∙ ap (λ (t : ScriptClient). t.ops) c.self.view_is in
+    rw ops-is at c.in_ok-check_op.ensures.already_held

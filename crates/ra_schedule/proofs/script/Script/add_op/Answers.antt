@@ -1,11 +1,11 @@
-use Rattle.std.proofs.Common.{◌≡◌, ◌-◌, ◌<◌, ◌++◌, ◌∷◌, ℕ, [], List, length, take, refl, sym, ap, ◌∙◌, subst}
+use Rattle.std.proofs.Common.{◌≡◌, ◌-◌, ◌<◌, ◌≤◌, ◌++◌, ◌∷◌, ℕ, [], List, length, take, refl, sym, ap, ◌∙◌, subst}
 use Rattle.std.specs.Prelude.{vec_len}
 use Rattle.std.proofs.lemmas.Result.{on_ok_weaker}
 use Rattle.ra_stamp.specs.declared.mode.Mode.{Mode}
 use Rattle.ra_schedule.specs.declared.script.Op.{Op}
 use Rattle.ra_schedule.specs.declared.script.Op.TheVariants.{Lock, Unlock}
-use Rattle.ra_schedule.specs.Script.{ScriptState, IsHeldAfter}
-use Rattle.ra_schedule.proofs.Last.{ends_with, with_last, same_ops, adds_op}
+use Rattle.ra_schedule.specs.Script.{ScriptState, IsHeldAfter, Fits}
+use Rattle.ra_schedule.proofs.Last.{ends_with, with_last, same_ops, no_last, adds_op}
 use Rattle.ra_schedule.proofs.script.Script.add_op.Goals as goal
 
 pub invariant_of-self-2 : goal.invariant_of-self-2
@@ -47,5 +47,37 @@ returns-clause-already_held c =
       λ w. c.add_op.ensures.already_held.1 (
           subst (λ (ops : List Op). (length ops < 1024) × (name : List ℕ) × (mode : Mode) × (c.args.op ≡ Lock name mode) × IsHeldAfter ops name)
           (same_ops c.args.self.now before last w.0 is w.1) (w.2, w.3, w.4, w.5, w.6)
+          ),
+    )
+
+pub returns-clause-clients : goal.returns-clause-clients
+returns-clause-clients c =
+    let before = take (vec_len c.self.inside.clients - 1) c.self.inside.clients.items in
+    let last = c.in-Some.last.now in
+    let is : c.args.self.now.clients ≡ before ++ last ∷ [] = ap (λ (s : ScriptState). s.clients) (sym c.self.view_is)
+    ∙ ends_with _ _ last c.self.inside.clients.ok.0 (c.in-Some.ensures.variant.0 refl) c.in-Some.ensures.value in (
+      λ e. absurd (c.add_op.ensures.clients e),
+      λ none. absurd (no_last c.args.self.now before last is none),
+    )
+
+pub returns-clause-limit : goal.returns-clause-limit
+returns-clause-limit c =
+    let before = take (vec_len c.self.inside.clients - 1) c.self.inside.clients.items in
+    let last = c.in-Some.last.now in
+    let is : c.args.self.now.clients ≡ before ++ last ∷ [] = ap (λ (s : ScriptState). s.clients) (sym c.self.view_is)
+    ∙ ends_with _ _ last c.self.inside.clients.ok.0 (c.in-Some.ensures.variant.0 refl) c.in-Some.ensures.value in (
+      λ e. (last.ops, (before, last, is, refl), c.add_op.ensures.limit.0 e),
+      λ w. c.add_op.ensures.limit.1 (subst (λ (ops : List Op). 1024 ≤ length ops) (same_ops c.args.self.now before last w.0 is w.1) w.2),
+    )
+
+pub returns-clause-allowed : goal.returns-clause-allowed
+returns-clause-allowed c =
+    let before = take (vec_len c.self.inside.clients - 1) c.self.inside.clients.items in
+    let last = c.in-Some.last.now in
+    let is : c.args.self.now.clients ≡ before ++ last ∷ [] = ap (λ (s : ScriptState). s.clients) (sym c.self.view_is)
+    ∙ ends_with _ _ last c.self.inside.clients.ok.0 (c.in-Some.ensures.variant.0 refl) c.in-Some.ensures.value in (
+      λ e. let h = c.add_op.ensures.allowed.0 e in (last.ops, (before, last, is, refl), h.0, h.1),
+      λ w. c.add_op.ensures.allowed.1 (
+          subst (λ (ops : List Op). (length ops < 1024) × Fits ops c.args.op) (same_ops c.args.self.now before last w.0 is w.1) (w.2, w.3)
           ),
     )

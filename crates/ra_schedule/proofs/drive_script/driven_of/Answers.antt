@@ -1,0 +1,31 @@
+use Rattle.std.proofs.Common.{refl, sym, ◌∙◌}
+use Rattle.std.proofs.lemmas.Bool.{false≢true}
+use Rattle.ra_schedule.specs.Schedule.{steps_of}
+use Rattle.ra_schedule.proofs.Turns.{all_done, are_done}
+use Rattle.ra_schedule.proofs.drive_script.driven_of.Goals as goal
+use Rattle.ra_schedule.proofs.drive_script.driven_of.Goals.{then-has_nothing_left, else-has_nothing_left}
+
+pub returns-clause-finished : goal.returns-clause-finished
+returns-clause-finished c =
+    let script = c.args.script.now in
+    let world = c.args.world.now in
+    let clients = c.args.clients.now in
+    let tracks = c.requires.tracked in
+    let nothing = c.has_nothing_left.ensures in
+    elim c.if-has_nothing_left.branch [
+      | then-has_nothing_left w ↦ (
+        λ h.
+            let left = nothing.0 w.if-has_nothing_left.true in
+            record {
+              all_done = all_done script world clients (steps_of world.moves) tracks refl (w.are_done-finished.ensures.0 (sym w.finished-is ∙ h));
+              none_waits = left.0;
+              none_queued = left.1;
+              none_under_way = left.2;
+            },
+        λ h. w.finished-is ∙ w.are_done-finished.ensures.1 (are_done script world clients (steps_of world.moves) tracks refl h.all_done),
+      )
+      | else-has_nothing_left w ↦ (
+        λ h. absurd (false≢true (sym w.if-has_nothing_left.false ∙ sym w.finished-is ∙ h)),
+        λ h. w.finished-is ∙ nothing.1 (h.none_waits, h.none_queued, h.none_under_way),
+      )
+    ]

@@ -1,0 +1,76 @@
+//! The first seed by which a script comes to an end that is looked for.
+ghost use Rattle.std.specs.Prelude.{◌≡◌, IfOk};
+ghost use Rattle.ra_schedule.specs.Finding.{EndsSo, IsFirstSeed};
+ghost use Rattle.ra_schedule.specs.Finding as spec;
+
+use crate::outcomes::Outcome;
+use crate::surveying::{chance, outcome_of};
+use crate::{Faults, Policy, Script};
+use ra_stamp::Memory;
+use std::alloc::Global;
+
+/// An end of a run that may be looked for.
+#[derive(Clone, Copy, Debug, PartialEq, Eq)]
+pub enum Ending {
+    /// Every operation is done, and nothing waits, is queued or under way.
+    Finished,
+    /// No choice was left before that.
+    Stuck,
+}
+
+/// Returns whether this came of a run that comes to such an end. It does not allocate.
+fn is_end(ending: Ending, outcome: Outcome) -> bool
+    ensures { result ≡ spec.is_end ending outcome }
+{
+    match ending {
+        Ending::Finished => matches!(outcome, Outcome::Finished(_)),
+        Ending::Stuck => matches!(outcome, Outcome::Stuck(_)),
+    }
+}
+
+/// Returns whether a script comes to such an end under a policy, within `limit` turns.
+///
+/// # Errors
+///
+/// `Memory`.
+fn ends_so(
+    alloc: Global,
+    script: &Script,
+    policy: &Policy,
+    limit: u64,
+    ending: Ending,
+) -> Result<bool, Memory>
+    ensures { IfOk result (EndsSo script.now policy.now limit ending) }
+{
+    let outcome = outcome_of(alloc, script, policy, limit)?;
+    Ok(is_end(ending, outcome))
+}
+
+/// Looks for the least seed from the first to the last, both of them included, by which a script comes to an end by chance, with faults or
+/// without, within `limit` turns. It costs what [`summarize`](crate::summarize) costs, for each seed up to that one.
+///
+/// # Errors
+///
+/// `Memory`: memory ran out.
+pub fn first_seed(
+    alloc: Global,
+    script: &Script,
+    faults: Option<Faults>,
+    ending: Ending,
+    first: u64,
+    last: u64,
+    limit: u64,
+) -> Result<Option<u64>, Memory>
+    ensures { IfOk result (IsFirstSeed script.now faults limit ending first last) }
+{
+    if last < first {
+        return Ok(None);
+    }
+    for seed in first..last {
+        if ends_so(alloc, script, &chance(faults, seed), limit, ending)? {
+            return Ok(Some(seed));
+        }
+    }
+    let found = ends_so(alloc, script, &chance(faults, last), limit, ending)?;
+    Ok(if found { Some(last) } else { None })
+}

@@ -1,0 +1,46 @@
+//! The trace of the first run of a script that comes to an end that is looked for.
+ghost use Rattle.std.specs.Prelude.{◌≡◌, ℕ, List, Ok, IfOk, MatchOption, string_bytes};
+ghost use Rattle.ra_script.specs.Finding.{IsFirstTrace, NoneEndsSo};
+ghost use Rattle.ra_script.specs.ScriptText.{script_of};
+
+use crate::performing::{MAX_TURNS, Printed, trace_of};
+use ra_schedule::{Ending, Faults, Script, chance, first_seed};
+use ra_stamp::Memory;
+use std::alloc::Global;
+
+/// Returns the trace of a script by the least seed from the first to the last, both of them included, by which it comes to an end by chance,
+/// with faults or without, each in at most 16,777,216 turns, or `None` where it does so by none of them. The cost is that of the runs up to
+/// that one, and of [`perform_trace`](crate::perform_trace) for it.
+///
+/// # Errors
+///
+/// `Memory`: memory ran out.
+pub fn find_trace(
+    alloc: Global,
+    script: &Script,
+    faults: Option<Faults>,
+    ending: Ending,
+    first: u64,
+    last: u64,
+) -> Result<Option<Printed>, Memory>
+    ensures { (input : List ℕ) → script_of input ≡ Ok script.now → IfOk result (λ found. MatchOption found
+        (NoneEndsSo faults ending first last input)
+        (λ printed. IsFirstTrace faults ending first last input (string_bytes printed.text) printed.finished)) }
+{
+    let again = copy_of(&faults);
+    let Some(seed) = first_seed(alloc, script, faults, ending, first, last, MAX_TURNS)? else {
+        return Ok(None);
+    };
+    // By that seed it comes to an end, so only `Memory` can come.
+    match trace_of(alloc, &chance(again, seed), script) {
+        Ok(printed) => Ok(Some(printed)),
+        Err(_) => Err(Memory),
+    }
+}
+
+/// Returns the same faults, since the prover takes a value of another crate that is passed on as gone. It does not allocate.
+fn copy_of(faults: &Option<Faults>) -> Option<Faults>
+    ensures { result ≡ faults.now }
+{
+    *faults
+}
