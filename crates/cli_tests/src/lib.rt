@@ -4,6 +4,8 @@
 #[cfg(test)]
 mod answers;
 #[cfg(test)]
+mod as_choices;
+#[cfg(test)]
 mod checks;
 #[cfg(test)]
 mod choices;
@@ -15,6 +17,8 @@ mod commands;
 mod drawings;
 #[cfg(test)]
 mod faults;
+#[cfg(test)]
+mod first_traces;
 #[cfg(test)]
 mod frames;
 #[cfg(test)]

@@ -4,7 +4,9 @@ use crate::frames::{ANSWER, REPLY, REQUEST};
 use crate::helpers::{WRITER_FAULTS, words_of};
 use crate::scripts::{A_DEADLOCK, A_KEEPER, ONE_CLIENT, ONE_CLIENT_PRINTED};
 use crate::threads::in_a_thread;
-use ra_cli::{CommandFault, refuse_words_with_note, serve_with_notes};
+use ra_cli::{
+    CommandFault, SeenReader, refuse_words_with_note, serve_with_notes, write_waiting_note,
+};
 use std::alloc::Global;
 use std::io;
 use std::io::{BufRead, Write};
@@ -34,8 +36,10 @@ fn run_noted_alone<T: AllocGlobal + Threads + Wait + Sync, R: BufRead, W: Write,
     writer: &mut W,
     notes: &mut N,
 ) -> u8 {
-    match words_of(rt.alloc(), line, last) {
-        Some(words) => serve_with_notes(rt, rt.alloc(), words.as_slice(), reader, writer, notes),
+    let alloc = rt.alloc();
+    let mut reader = SeenReader::new(alloc, reader);
+    match words_of(alloc, line, last) {
+        Some(words) => serve_with_notes(rt, alloc, words.as_slice(), &mut reader, writer, notes),
         None => u8::MAX,
     }
 }
@@ -130,7 +134,21 @@ const USAGES: &[Noted] = &[
         input: ONE_CLIENT,
         status: 2,
         output: "refused Usage\n",
-        note: "ra: --seeds is A..B, as 1..1000, with --policy seeded or faulty and without --trace; see ra sim --help\n",
+        note: "ra: --seeds is A..B, as 1..1000, with --policy seeded or faulty and without --trace and --as-choices; see ra sim --help\n",
+    },
+    Noted {
+        words: "ra sim --policy seeded --find stuck",
+        input: ONE_CLIENT,
+        status: 2,
+        output: "refused Usage\n",
+        note: "ra: --find looks for one of --seeds; see ra sim --help\n",
+    },
+    Noted {
+        words: "ra sim --policy faulty --repeat 1 --as-choices",
+        input: ONE_CLIENT,
+        status: 2,
+        output: "refused Usage\n",
+        note: "ra: --as-choices is without --trace, and with --policy faulty only where --repeat is 0; see ra sim --help\n",
     },
 ];
 
@@ -167,14 +185,14 @@ const FRAMES: &[Noted] = &[
         input: "0301",
         status: 2,
         output: "refused Version\n",
-        note: "ra: the version of the frame, its first byte, is neither 01 nor 02\n",
+        note: "ra: the version, byte 0 counted from 0, is 03: it is 01 or 02\n",
     },
     Noted {
         words: ANSWER,
         input: "01\r\n",
         status: 2,
         output: "refused Hex\n",
-        note: "ra: the line is no frame: it has an odd number of hexadecimal digits, or a byte that is none of them\n",
+        note: "ra: byte 2 of the line, counted from 0, is no hexadecimal digit: it is a carriage return, and the line ends with a line feed alone, or with none\n",
     },
 ];
 
@@ -190,21 +208,21 @@ const LINES: &[Noted] = &[
         input: "",
         status: 3,
         output: "invalid 1 Line\n",
-        note: "ra: line 1: it is no line of a trace, as ra check --help shows them, or stands where it may not; the last one is end, and each ends with a line feed alone\n",
+        note: "ra: line 1: the text ends before this line, and the last line of a trace is end\n",
     },
     Noted {
         words: "ra check",
         input: "trace 2 2 0\nask 3 1 r X\n",
         status: 3,
         output: "invalid 2 Refused\n",
-        note: "ra: line 2: the client may not ask or leave then: there is no such node, or it waits, is queued or holds already, or it leaves what it does not hold\n",
+        note: "ra: line 2, 'ask 3 1 r X': the client may not ask or leave then: there is no such node, or it waits, is queued or holds already, or it leaves what it does not hold\n",
     },
     Noted {
         words: "ra check --marks",
         input: "request 1 1 r X 1\nenter 1 1 r X 1\nrequest 2 2 r X 2\nenter 2 2 r X 2\n",
         status: 3,
         output: "invalid 4 Held\n",
-        note: "ra: line 4: an entry that conflicts with this one holds the name\n",
+        note: "ra: line 4, 'enter 2 2 r X 2': an entry that conflicts with this one holds the name\n",
     },
 ];
 
@@ -213,23 +231,214 @@ fn why_a_line_is_wrong_is_said(rt: HostRuntime) {
     assert_says(&rt, LINES);
 }
 
-/// Scripts of which something is said.
+/// Texts that are no script.
 const SCRIPTS: &[Noted] = &[
+    Noted {
+        words: "ra sim",
+        input: "nodes = 2\nclients = []\n",
+        status: 2,
+        output: "refused Shape\n",
+        note: "ra: the key 'clients' is unknown: a script has nodes, an integer, and client, an array of tables\n",
+    },
+    Noted {
+        words: "ra sim",
+        input: "client = []\n",
+        status: 2,
+        output: "refused Shape\n",
+        note: "ra: nodes is missing: a script has nodes, an integer, and client, an array of tables\n",
+    },
+    Noted {
+        words: "ra cluster",
+        input: "nodes = \"2\"\nclient = []\n",
+        status: 2,
+        output: "refused Shape\n",
+        note: "ra: nodes is of another type: a script has nodes, an integer, and client, an array of tables\n",
+    },
+    Noted {
+        words: "ra sim",
+        input: "nodes = 2\nclient = 1\n",
+        status: 2,
+        output: "refused Shape\n",
+        note: "ra: client is of another type: a script has nodes, an integer, and client, an array of tables\n",
+    },
+    Noted {
+        words: "ra sim",
+        input: "nodes = 1\nclient = [1]\n",
+        status: 2,
+        output: "refused Shape\n",
+        note: "ra: client 1: it is no table: a client has node, an integer, and ops, an array of strings\n",
+    },
+    Noted {
+        words: "ra sim",
+        input: "nodes = 1\nclient = [{ node = 1, ops = [] }, { node = 1 }]\n",
+        status: 2,
+        output: "refused Shape\n",
+        note: "ra: client 2: ops is missing: a client has node, an integer, and ops, an array of strings\n",
+    },
+    Noted {
+        words: "ra sim",
+        input: "nodes = 1\nclient = [{ node = 1, ops = [], name = \"a\" }]\n",
+        status: 2,
+        output: "refused Shape\n",
+        note: "ra: client 1: the key 'name' is unknown: a client has node, an integer, and ops, an array of strings\n",
+    },
+    Noted {
+        words: "ra sim",
+        input: "nodes = 1\nclient = [{ node = true, ops = [] }]\n",
+        status: 2,
+        output: "refused Shape\n",
+        note: "ra: client 1: node is of another type: a client has node, an integer, and ops, an array of strings\n",
+    },
+    Noted {
+        words: "ra sim",
+        input: "nodes = 1\nclient = [{ node = 1, ops = [\"X r\", 2] }]\n",
+        status: 2,
+        output: "refused Shape\n",
+        note: "ra: client 1: operation 2 is no string: a client has node, an integer, and ops, an array of strings\n",
+    },
     Noted {
         words: "ra sim",
         input: "nodes = 65\nclient = []\n",
         status: 2,
         output: "refused Nodes\n",
-        note: "ra: the script has not 1 to 64 nodes\n",
+        note: "ra: there can't be 65 nodes: nodes is 1 to 64\n",
+    },
+    Noted {
+        words: "ra sim",
+        input: "nodes = 1\nclient = []\n",
+        status: 2,
+        output: "refused Clients\n",
+        note: "ra: there can't be 0 clients: there are 1 to 64\n",
+    },
+    Noted {
+        words: "ra sim",
+        input: "nodes = 2\nclient = [{ node = 1, ops = [] }, { node = 3, ops = [] }]\n",
+        status: 2,
+        output: "refused Clients\n",
+        note: "ra: client 2: there is no node 3: node is 1 to 2, as nodes says\n",
+    },
+    Noted {
+        words: "ra sim",
+        input: "nodes = 1\nclient = [{ node = 1, ops = [\"X r\", \"Z r\"] }]\n",
+        status: 2,
+        output: "refused Op\n",
+        note: "ra: client 1, operation 2, 'Z r': it is no operation: each is S, X, IS, IX or SIX to lock, or U to unlock, one space, and a name of 1 to 32 of A to Z, a to z, 0 to 9, _, - and .\n",
+    },
+    Noted {
+        words: "ra sim",
+        input: "nodes = 2\nclient = [{ node = 2, ops = [] }, { node = 1, ops = [\"X a/b\"] }]\n",
+        status: 2,
+        output: "refused Op\n",
+        note: "ra: client 2, operation 1, 'X a/b': it is no operation: each is S, X, IS, IX or SIX to lock, or U to unlock, one space, and a name of 1 to 32 of A to Z, a to z, 0 to 9, _, - and .\n",
+    },
+    Noted {
+        words: "ra cluster",
+        input: "nodes = 1\nclient = [{ node = 1, ops = [\"U r\"] }]\n",
+        status: 2,
+        output: "refused NotHeld\n",
+        note: "ra: client 1, operation 1, 'U r': the client does not hold the name then\n",
+    },
+    Noted {
+        words: "ra sim",
+        input: "nodes = 1\nclient = [{ node = 1, ops = [\"X r\", \"S r\"] }]\n",
+        status: 2,
+        output: "refused AlreadyHeld\n",
+        note: "ra: client 1, operation 2, 'S r': the client holds the name already\n",
+    },
+];
+
+/// Scripts that threads may not run.
+const ORDERS: &[Noted] = &[
+    Noted {
+        words: "ra cluster",
+        input: A_DEADLOCK,
+        status: 2,
+        output: "refused OutOfOrder\n",
+        note: "ra: client 2, operation 2: it locks 'a' while it holds 'b', which is not below it, byte by byte, so that clients could wait for each other for ever: let all lock names in ascending order, or see by ra sim what comes of it\n",
     },
     Noted {
         words: "ra cluster",
         input: A_KEEPER,
         status: 2,
         output: "refused Unreleased\n",
-        note: "ra: a client of the script holds a name at its end, so that whoever asks for it later would wait for ever: let it unlock the name, or see by ra sim what comes of it\n",
+        note: "ra: client 1, operation 1: it locks 'r', and never unlocks it, so that whoever asks for it later would wait for ever: let it unlock the name, or see by ra sim what comes of it\n",
     },
 ];
+
+#[test]
+fn why_threads_do_not_run_a_script_is_said(rt: HostRuntime) {
+    assert_says(&rt, ORDERS);
+}
+
+/// Choices that can't be made, each with what is said of it.
+const CHOICES: &[(&str, &str, &str)] = &[
+    (
+        "c1 m5 m0",
+        "refused BadPlace\n",
+        "ra: choice 2 of --choices, m5, can't be made: one message is under way then, at place 0\n",
+    ),
+    (
+        "c1 m0 m0 l0",
+        "refused BadPlace\n",
+        "ra: choice 4 of --choices, l0, can't be made: no message is under way then\n",
+    ),
+    (
+        "c1 m0 m0 c2 c1",
+        "refused BadPlace\n",
+        "ra: choice 4 of --choices, c2, can't be made: the script has client 1 alone\n",
+    ),
+    (
+        "c1 c1",
+        "refused NotEnabled\n",
+        "ra: choice 2 of --choices, c1, can't be made: client 1 waits for 'r' (X) then\n",
+    ),
+];
+
+#[test]
+fn the_choice_that_can_not_be_made_is_said(rt: HostRuntime) {
+    for &(choices, printed, said) in CHOICES {
+        let (mut output, mut notes) = (Vec::new(rt.alloc()), Vec::new(rt.alloc()));
+        let mut input = ONE_CLIENT.as_bytes();
+        let status = run_noted(
+            &rt,
+            "ra sim --policy listed --choices",
+            Some(choices),
+            &mut input,
+            &mut output,
+            &mut notes,
+        );
+        assert!(rt; status == 2 && output.as_slice() == printed.as_bytes());
+        assert!(rt; notes.as_slice() == said.as_bytes(), "{choices}");
+    }
+}
+
+/// The first line of a trace.
+const TRACE: &str = "trace 2 2 0\n";
+
+/// Returns whether this is said of a text that is no TOML document.
+fn is_no_document<T: AllocGlobal + Threads + Wait + Abort + Sync>(
+    rt: &T,
+    text: &[u8],
+    front: &str,
+    end: &str,
+) -> bool {
+    let mut input = text;
+    let (mut output, mut notes) = (Vec::new(rt.alloc()), Vec::new(rt.alloc()));
+    let status = run_noted(rt, "ra sim", None, &mut input, &mut output, &mut notes);
+    let is_refused = status == 2 && output.as_slice() == b"refused Toml\n".as_slice();
+    is_refused && notes.starts_with(front.as_bytes()) && notes.ends_with(end.as_bytes())
+}
+
+#[test]
+fn where_a_text_is_no_document_is_said(rt: HostRuntime) {
+    let document = "ra: the script is no TOML document: TOML parse error at line 2, column 8: ";
+    let trace = "ra: the script is no TOML document: TOML parse error at line 1, column 7: ";
+    let looks = "; it looks like a trace, which ra check reads\n";
+    let utf8 = "ra: the script is not UTF-8 at byte 8, counted from 0\n";
+    assert!(rt; is_no_document(&rt, b"nodes = 2\nclient ]\n", document, "\n"));
+    assert!(rt; is_no_document(&rt, TRACE.as_bytes(), trace, looks));
+    assert!(rt; is_no_document(&rt, b"nodes = \xff\n", utf8, utf8));
+}
 
 #[test]
 fn what_is_wrong_with_a_script_is_said(rt: HostRuntime) {
@@ -278,13 +487,90 @@ fn nothing_is_said_of_what_was_done(rt: HostRuntime) {
     assert_says(&rt, DONE);
 }
 
+/// Runs with an option that says nothing to them.
+const IGNORED: &[Noted] = &[
+    Noted {
+        words: "ra sim --seed 3",
+        input: ONE_CLIENT,
+        status: 0,
+        output: ONE_CLIENT_PRINTED,
+        note: "ra: --seed is ignored: a seed is for --policy seeded or faulty\n",
+    },
+    Noted {
+        words: "ra sim --policy seeded --lose 3 --repeat=4",
+        input: ONE_CLIENT,
+        status: 0,
+        output: ONE_CLIENT_PRINTED,
+        note: "ra: --lose is ignored: messages are lost by chance under --policy faulty alone\nra: --repeat is ignored: messages are repeated by chance under --policy faulty alone\n",
+    },
+    Noted {
+        words: "ra sim --policy=newest --choices c1",
+        input: ONE_CLIENT,
+        status: 0,
+        output: ONE_CLIENT_PRINTED,
+        note: "ra: --choices is ignored: choices are for --policy listed\n",
+    },
+    Noted {
+        words: "ra sim --policy seeded --seeds 1..2 --seed 3",
+        input: ONE_CLIENT,
+        status: 0,
+        output: "finished 2 first 1\nturns 4 4\nmessages 2 2\n",
+        note: "ra: --seed is ignored: --seeds says which ones\n",
+    },
+];
+
+/// A run that is finished, and leaves a name locked.
+const KEPT: &[Noted] = &[Noted {
+    words: "ra sim",
+    input: A_KEEPER,
+    status: 0,
+    output: "request 1 1 r X 1\nenter 1 1 r X 1\nrequests 1\nmessages 0\nunder-way 0\nlost 0\nwaiting 0\nqueued 0\n",
+    note: "ra: the run is finished, with names still locked: client 1 holds 'r' (X)\n",
+}];
+
+#[test]
+fn a_name_that_stays_locked_is_said(rt: HostRuntime) {
+    assert_says(&rt, KEPT);
+}
+
+#[test]
+fn an_option_that_says_nothing_is_said(rt: HostRuntime) {
+    assert_says(&rt, IGNORED);
+}
+
+/// Returns whether this is said of a line of words on a terminal.
+fn waits_for(alloc: Global, line: &str, said: &str) -> bool {
+    let mut notes = Vec::new(alloc);
+    let Some(words) = words_of(alloc, line, None) else {
+        return false;
+    };
+    write_waiting_note(words.as_slice(), &mut notes);
+    notes.as_slice() == said.as_bytes()
+}
+
+#[test]
+fn what_a_command_waits_for_is_said_on_a_terminal(rt: HostRuntime) {
+    let alloc = rt.alloc();
+    let frame =
+        "ra: a frame is read from standard input: type its digits and Enter, and then Ctrl-D\n";
+    let script =
+        "ra: a script is read from standard input: type it and then Ctrl-D, or name a file by < FILE\n";
+    let trace =
+        "ra: a trace is read from standard input: type it and then Ctrl-D, or name a file by < FILE\n";
+    assert!(rt; waits_for(alloc, "ra answer --node 1 --nodes 2", frame));
+    assert!(rt; waits_for(alloc, "ra sim", script) && waits_for(alloc, "ra cluster", script));
+    assert!(rt; waits_for(alloc, "ra check", trace) && waits_for(alloc, "ra draw", trace));
+    assert!(rt; waits_for(alloc, "ra sim --help", "") && waits_for(alloc, "ra", ""));
+    assert!(rt; waits_for(alloc, "ra simm", ""));
+}
+
 #[test]
 fn a_run_that_leaves_something_to_do_is_said(rt: HostRuntime) {
     let mut input = A_DEADLOCK.as_bytes();
     let (mut output, mut notes) = (Vec::new(rt.alloc()), Vec::new(rt.alloc()));
     let status = run_noted(&rt, "ra sim", None, &mut input, &mut output, &mut notes);
     let note =
-        "ra: the run ended with something left to do: an operation, or what waits, is queued or is under way\n";
+        "ra: the run ended with something left to do: client 1 at node 1 waits for 'b' (X): client 2 holds it (X); client 2 at node 2 waits for 'a' (X): client 1 holds it (X)\n";
     assert!(rt; status == 3 && notes.as_slice() == note.as_bytes());
 }
 
@@ -324,9 +610,9 @@ fn nothing_is_said_where_the_writer_fails(rt: HostRuntime) {
     assert!(rt; breaks_off_unsaid(&rt, "ra check --marks", "no mark\n", invalid));
 }
 
-/// What is said of a line that is no mark.
+/// What is said of the line of a trace that is no mark.
 const NO_MARK: &str =
-    "ra: line 1: it is no line of a mark: each is request, enter or leave, and then NODE CLIENT NAME MODE SEQ, with one space between two and a line feed alone at the end\n";
+    "ra: line 1, 'trace 2 2 0': this looks like a trace, which ra check reads without --marks\n";
 
 /// Returns whether a fault of the writer of the notes, after this many bytes, leaves the status and what is printed as they are.
 fn changes_nothing<T: AllocGlobal + Threads + Wait + Abort + Sync>(

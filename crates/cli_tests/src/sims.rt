@@ -337,7 +337,9 @@ Options:
       --repeat <repeat>    How many it repeats, 0 to 400 [default: 0]
       --choices <choices>  The choices of the policy listed, as below
       --seeds <seeds>      Each of many seeds, as 1..1000: what came of them
+      --find <find>        The first trace of them that ends so, as stuck
       --trace              Print the trace of the run
+      --as-choices         Print the choices of the run
   -h, --help               Print help
 
 A script, read from standard input, is a TOML document: how many nodes there
@@ -381,15 +383,27 @@ the marks and totals, as `ra check` reads them.
 
 Example: ra sim --trace < script.toml | ra check
 
+With --as-choices it prints the words of --choices by which the policy listed
+makes the run again, so that some can be taken out by hand. No word stands for a
+repeat, so faulty has to have --repeat 0 then.
+
+Example: ra sim --policy seeded --seed 7 --as-choices < script.toml
+
 With --seeds A..B and a policy of chance it runs the script by each seed from A
 to B, and prints how many of them ended finished, and stuck, and the first of
 each, and the least and the most of the turns and of the messages sent.
 
 Example: ra sim --policy seeded --seeds 1..1000 < script.toml
 
-Status 0: each operation is done, and nothing waits, is queued or under way.
-Status 3: the run ended before that. Status 2: the words or the script are
-refused. Status 1: the input or the output failed.
+With --find stuck, or finished, it prints the trace by the first seed from A to
+B whose run ended so, and stops there. Where none did it prints `none`.
+
+Example: ra sim --policy seeded --seeds 1..1000 --find stuck < script.toml
+
+Status 0: each operation is done, and nothing waits, is queued or under way; or
+no run was stuck that --find looked for. Status 3: the run ended before that; or
+none was finished. Status 2: the words or the script are refused. Status 1: the
+input or the output failed.
 ";
 
 #[test]

@@ -1,8 +1,10 @@
 //! The program `ra`.
 #![tactic(auto)]
 
-use ra_cli::{CommandFault, refuse_words_with_note, serve_with_notes};
-use std::io::BufReader;
+use ra_cli::{
+    CommandFault, SeenReader, refuse_words_with_note, serve_with_notes, write_waiting_note,
+};
+use std::io::{BufReader, IsTerminal};
 use std::process::ExitCode;
 use std::{env, io};
 
@@ -29,9 +31,13 @@ fn main(rt: HostRuntime) -> ExitCode {
             return ExitCode::from(refuse_words_with_note(&mut writer, fault, &mut notes));
         }
     };
+    let input = rt.reader();
+    if input.is_terminal() {
+        write_waiting_note(words.as_slice(), &mut notes);
+    }
     // It is read in small pieces, which would else be a call of the system each.
-    let mut reader = match BufReader::new(alloc, rt.reader()) {
-        Ok(reader) => reader,
+    let mut reader = match BufReader::new(alloc, input) {
+        Ok(reader) => SeenReader::new(alloc, reader),
         Err(_) => {
             let status = refuse_words_with_note(&mut writer, CommandFault::Memory, &mut notes);
             return ExitCode::from(status);

@@ -3,7 +3,10 @@ use Rattle.std.proofs.Common.{◌≡◌, ◌≢◌, ◌⊎◌, ℕ, Bool, List, 
 use Rattle.std.specs.Prelude.{IfSome}
 use Rattle.std.specs.Io.KnownBytes.{Appends}
 use Rattle.ra_schedule.specs.declared.choice.Policy.{Policy}
+use Rattle.ra_schedule.specs.declared.finding.Ending.{Ending}
 use Rattle.ra_schedule.specs.Faults.{FaultRates}
+use Rattle.ra_script.specs.declared.format.Format.{Format}
+use Rattle.ra_script.specs.Performed.{IsPerformedAs}
 use Rattle.ra_script.specs.declared.error.ChoicesError.{ChoicesError}
 use Rattle.ra_script.specs.declared.error.PerformError.{PerformError}
 use Rattle.ra_script.specs.declared.error.PerformError.TheVariants as perform
@@ -24,10 +27,9 @@ use Rattle.ra_cli.specs.declared.refusal.Refusal.TheVariants.{Command, Answer, C
 use Rattle.ra_cli.specs.Answer.{IsAnswered}
 use Rattle.ra_cli.specs.Checks.{verdict_text, marks_verdict_text}
 use Rattle.ra_cli.specs.ClusterRun.{IsClusterRun}
-use Rattle.ra_cli.specs.Performs.{Prints}
 use Rattle.ra_cli.specs.Refusals.{IsOfReader, IsOfWriter, refused_line, word_of}
 use Rattle.ra_cli.specs.Statuses.{IsRefused, IsSaid, IsBroken, IsPrinted, BreaksOff}
-use Rattle.ra_cli.specs.Surveyed.{IsSurveyed}
+use Rattle.ra_cli.specs.Surveyed.{IsTold}
 use Rattle.ra_cli.specs.Words.{GivesNode, HasMarksWord}
 use Rattle.ra_cli.proofs.ClusterRuns.{of_known}
 
@@ -140,14 +142,14 @@ of_answered words node nodes old before after gives =
     (λ input. BreaksOff words input before after)
     (λ input (front, back, answered, left, some). (front, back, inr (inl (node, nodes, gives, answered)), left, some))
 
-pub of_performed : (words : List (List ℕ)) (policy : Policy) (trace : Bool) (old before after : Option (List ℕ))
-    → IfSome old (λ input. (front back : List ℕ) × (finished : Bool) × Prints trace policy input (front ++ back) finished × (back ≢ [])
+pub of_performed : (words : List (List ℕ)) (policy : Policy) (format : Format) (old before after : Option (List ℕ))
+    → IfSome old (λ input. (front back : List ℕ) × (finished : Bool) × IsPerformedAs format policy input (front ++ back) finished × (back ≢ [])
     × Appends before after front)
     → IfSome old (λ input. BreaksOff words input before after)
-of_performed words policy trace old before after =
-    of_known old (λ input. (front back : List ℕ) × (finished : Bool) × Prints trace policy input (front ++ back) finished × (back ≢ [])
+of_performed words policy format old before after =
+    of_known old (λ input. (front back : List ℕ) × (finished : Bool) × IsPerformedAs format policy input (front ++ back) finished × (back ≢ [])
     × Appends before after front) (λ input. BreaksOff words input before after)
-    (λ input (front, back, finished, prints, left, some). (front, back, inr (inr (inl (policy, trace, finished, prints))), left, some))
+    (λ input (front, back, finished, prints, left, some). (front, back, inr (inr (inl (policy, format, finished, prints))), left, some))
 
 pub of_cluster_run : (words : List (List ℕ)) (old before after : Option (List ℕ))
     → IfSome old (λ input. (front back : List ℕ) × IsClusterRun input (front ++ back) × (back ≢ []) × Appends before after front)
@@ -157,12 +159,12 @@ of_cluster_run words old before after =
     (λ input. BreaksOff words input before after)
     (λ input (front, back, runs, left, some). (front, back, inr (inr (inr (inr (inl runs)))), left, some))
 
-pub of_surveyed : (words : List (List ℕ)) (faults : Option FaultRates) (first last : ℕ) (old before after : Option (List ℕ))
-    → IfSome old (λ input. (front back : List ℕ) × (finished : Bool) × IsSurveyed faults first last input (front ++ back) finished × (back ≢ [])
+pub of_surveyed : (words : List (List ℕ)) (faults : Option FaultRates) (find : Option Ending) (first last : ℕ) (old before after : Option (List ℕ))
+    → IfSome old (λ input. (front back : List ℕ) × (finished : Bool) × IsTold faults find first last input (front ++ back) finished × (back ≢ [])
     × Appends before after front)
     → IfSome old (λ input. BreaksOff words input before after)
-of_surveyed words faults first last old before after =
-    of_known old (λ input. (front back : List ℕ) × (finished : Bool) × IsSurveyed faults first last input (front ++ back) finished × (back ≢ [])
+of_surveyed words faults find first last old before after =
+    of_known old (λ input. (front back : List ℕ) × (finished : Bool) × IsTold faults find first last input (front ++ back) finished × (back ≢ [])
     × Appends before after front) (λ input. BreaksOff words input before after)
     (λ input (front, back, finished, says, left, some).
-    (front, back, inr (inr (inr (inr (inr (inr (inr (faults, first, last, finished, says))))))), left, some))
+    (front, back, inr (inr (inr (inr (inr (inr (inr (faults, find, first, last, finished, says))))))), left, some))

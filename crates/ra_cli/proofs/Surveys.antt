@@ -2,6 +2,7 @@
 use Rattle.std.proofs.Common.{◌≡◌, ◌↔◌, ◌≢◌, ◌++◌, ℕ, Bool, List, Option, Ok, IsTrue, refl}
 use Rattle.std.specs.Prelude.{IfSome}
 use Rattle.std.specs.Io.KnownBytes.{Consumes, Appends}
+use Rattle.ra_schedule.specs.declared.finding.Ending.{Ending}
 use Rattle.ra_schedule.specs.declared.outcomes.Survey.{Survey}
 use Rattle.ra_schedule.specs.Faults.{FaultRates}
 use Rattle.ra_schedule.specs.Script.{ScriptState}
@@ -12,7 +13,7 @@ use Rattle.ra_cluster.specs.declared.cluster.ClusterError.{ClusterError}
 use Rattle.ra_cli.specs.declared.error.RunScriptError.{RunScriptError}
 use Rattle.ra_cli.specs.declared.error.RunScriptError.TheVariants as fault
 use Rattle.ra_cli.specs.ClusterRun.{RefusesRun}
-use Rattle.ra_cli.specs.Surveyed.{AllFinished, IsSurveyed, RefusesSurvey, SurveysBy, survey_text}
+use Rattle.ra_cli.specs.Surveyed.{AllFinished, IsSurveyed, IsTold, RefusesSurvey, SurveysBy, survey_text}
 use Rattle.ra_cli.proofs.ClusterRuns.{of_known}
 
 -- the lines of a survey of the script of a text
@@ -28,22 +29,23 @@ surveyed faults first last text script survey finished is surveys all = record {
   output_is = refl;
 }
 
-pub surveys_by : (faults : Option FaultRates) (first last : ℕ) (old new before after : Option (List ℕ)) (script : ScriptState) (survey : Survey) (finished : Bool)
+-- what is told of the script of a text
+pub surveys_by : (faults : Option FaultRates) (find : Option Ending) (first last : ℕ) (old new before after : Option (List ℕ)) (script : ScriptState) (told : List ℕ) (finished : Bool)
     → IfSome old (λ input. (script_of input ≡ Ok script) × Consumes old new input) → (text : List ℕ) × (script_of text ≡ Ok script)
-    → IsSurvey script faults turn_limit first last survey → IsTrue finished ↔ AllFinished survey → Appends before after (survey_text survey)
-    → SurveysBy faults first last old new before after finished
-surveys_by faults first last old new before after script survey finished known some surveys all appends = (
+    → ((text : List ℕ) → script_of text ≡ Ok script → IsTold faults find first last text told finished) → Appends before after told
+    → SurveysBy faults find first last old new before after finished
+surveys_by faults find first last old new before after script told finished known some tells appends = (
   of_known old (λ input. (script_of input ≡ Ok script) × Consumes old new input)
-      (λ input. (output : List ℕ) × IsSurveyed faults first last input output finished × Consumes old new input × Appends before after output)
-      (λ input h. (survey_text survey, surveyed faults first last input script survey finished h.0 surveys all, h.1, appends)) known,
-  (some.0, survey_text survey, surveyed faults first last some.0 script survey finished some.1 surveys all, appends),
+      (λ input. (output : List ℕ) × IsTold faults find first last input output finished × Consumes old new input × Appends before after output)
+      (λ input h. (told, tells input h.0, h.1, appends)) known,
+  (some.0, told, tells some.0 some.1, appends),
 )
 
 -- what keeps a script from being read keeps it from being surveyed
-pub unread : (faults : Option FaultRates) (first last : ℕ) (input : List ℕ) (why : RunScriptError) → why ≢ fault.Write
-    → ((cause : ClusterError) → why ≢ fault.Cluster cause) → RefusesRun input why → RefusesSurvey faults first last input why
-unread faults first last input fault.Read write cluster h = tt
-unread faults first last input (fault.Script why) write cluster h = h.1
-unread faults first last input (fault.Cluster why) write cluster h = absurd (cluster why refl)
-unread faults first last input fault.Memory write cluster h = tt
-unread faults first last input fault.Write write cluster h = absurd (write refl)
+pub unread : (faults : Option FaultRates) (find : Option Ending) (first last : ℕ) (input : List ℕ) (why : RunScriptError) → why ≢ fault.Write
+    → ((cause : ClusterError) → why ≢ fault.Cluster cause) → RefusesRun input why → RefusesSurvey faults find first last input why
+unread faults find first last input fault.Read write cluster h = tt
+unread faults find first last input (fault.Script why) write cluster h = h.1
+unread faults find first last input (fault.Cluster why) write cluster h = absurd (cluster why refl)
+unread faults find first last input fault.Memory write cluster h = tt
+unread faults find first last input fault.Write write cluster h = absurd (write refl)

@@ -91,6 +91,7 @@ abbrev pub perform_word : PerformError → List ℕ
 perform_word perform.Read = codes "Read"
 perform_word (perform.Script why) = script_word why
 perform_word (perform.Drive why) = drive_word why
+perform_word perform.Choice = codes "Choice"
 perform_word perform.Memory = codes "Memory"
 perform_word perform.Write = codes "Write"
 

@@ -2,15 +2,18 @@
 use Rattle.std.specs.Prelude.{◌≡◌, ◌≢◌, ℕ, ◌⊎◌, List, [], ◌++◌, Bool, true, false, Option, IfSome, Any, codes}
 use Rattle.std.specs.Io.KnownBytes.{Consumes, Appends}
 use Rattle.ra_schedule.specs.declared.choice.Policy.{Policy}
+use Rattle.ra_schedule.specs.declared.finding.Ending.{Ending}
 use Rattle.ra_schedule.specs.Faults.{FaultRates}
+use Rattle.ra_script.specs.declared.format.Format.{Format}
+use Rattle.ra_script.specs.Performed.{IsPerformedAs}
 use Rattle.ra_cli.specs.declared.refusal.Refusal.{Refusal}
 use Rattle.ra_cli.specs.Answer.{IsAnswered}
 use Rattle.ra_cli.specs.Words.{IsHelpWord, GivesNode}
-use Rattle.ra_cli.specs.Performs.{Performs, Prints}
+use Rattle.ra_cli.specs.Performs.{Performs}
 use Rattle.ra_cli.specs.Checks.{Judges, IsJudged}
 use Rattle.ra_cli.specs.ClusterRun.{IsClusterRun}
 use Rattle.ra_cli.specs.Draws.{IsDrawn, IsNoTrace, IsDrawing}
-use Rattle.ra_cli.specs.Surveyed.{IsSurveyed, Surveys}
+use Rattle.ra_cli.specs.Surveyed.{IsTold, Surveys}
 use Rattle.ra_cli.specs.Refusals.{IsOfReader, IsOfWriter, refused_line, word_of}
 
 -- the node of the words, of as many as they say, answered what was to be read, where it is known; it was read to its end, and the answer
@@ -48,12 +51,12 @@ abbrev pub IsPrinted : (words : List (List ℕ)) → (input text : List ℕ) →
 IsPrinted words input text =
     ((refusal : Refusal) × (text ≡ refused_line (word_of refusal)))
     ⊎ ((node nodes : ℕ) × GivesNode words node nodes × IsAnswered node nodes input text)
-    ⊎ ((policy : Policy) × (trace finished : Bool) × Prints trace policy input text finished)
+    ⊎ ((policy : Policy) × (format : Format) × (finished : Bool) × IsPerformedAs format policy input text finished)
     ⊎ IsJudged words input text
     ⊎ IsClusterRun input text
     ⊎ Any IsHelpWord words
     ⊎ IsDrawing input text
-    ⊎ ((faults : Option FaultRates) × (first last : ℕ) × (finished : Bool) × IsSurveyed faults first last input text finished)
+    ⊎ ((faults : Option FaultRates) × (find : Option Ending) × (first last : ℕ) × (finished : Bool) × IsTold faults find first last input text finished)
 
 -- a prefix of what is to be printed was written, and not all of it
 abbrev pub BreaksOff : (words : List (List ℕ)) → (input : List ℕ) → (before after : Option (List ℕ)) → Type 0

@@ -1,13 +1,16 @@
 -- What `ra sim --seeds` does.
-use Rattle.std.specs.Prelude.{◌≡◌, ◌≢◌, ◌↔◌, ℕ, List, [], ◌++◌, Bool, IsTrue, Option, Some, None, IfSome, Ok, Err, codes, decimal}
+use Rattle.std.specs.Prelude.{◌≡◌, ◌≢◌, ◌↔◌, ◌⊎◌, ℕ, List, [], ◌++◌, Bool, true, false, IsTrue, Option, Some, None, IfSome, Ok, Err, codes, decimal}
 use Rattle.std.specs.Io.KnownBytes.{Consumes, Appends}
 use Rattle.ra_world.specs.Lines.{field}
 use Rattle.ra_schedule.specs.declared.outcomes.Spread.{Spread}
 use Rattle.ra_schedule.specs.declared.outcomes.Survey.{Survey}
 use Rattle.ra_schedule.specs.declared.outcomes.Tally.{Tally}
+use Rattle.ra_schedule.specs.declared.finding.Ending.{Ending}
+use Rattle.ra_schedule.specs.declared.finding.Ending.TheVariants.{Finished, Stuck}
 use Rattle.ra_schedule.specs.Faults.{FaultRates}
 use Rattle.ra_schedule.specs.Script.{ScriptState}
 use Rattle.ra_schedule.specs.Survey.{IsSurvey}
+use Rattle.ra_script.specs.Finding.{IsFirstTrace, NoneEndsSo}
 use Rattle.ra_script.specs.Performed.{turn_limit}
 use Rattle.ra_script.specs.ScriptText.{script_of}
 use Rattle.ra_cli.specs.declared.error.RunScriptError.{RunScriptError}
@@ -45,22 +48,44 @@ pub record IsSurveyed (faults : Option FaultRates) (first last : ℕ) (input out
   pub finished_is : IsTrue finished ↔ AllFinished survey
   pub output_is : output ≡ survey_text survey
 
--- What was to be read, where it is known, is a script that was surveyed so; it was read to its end, and the lines of the survey were
--- written and nothing else. Where it is not known, there still is such a script.
-abbrev pub SurveysBy : Option FaultRates → (first last : ℕ) → (old new before after : Option (List ℕ)) → Bool → Type 0
-SurveysBy faults first last old new before after finished =
-    IfSome old (λ input. (output : List ℕ) × IsSurveyed faults first last input output finished × Consumes old new input × Appends before after output)
-    × ((input output : List ℕ) × IsSurveyed faults first last input output finished × Appends before after output)
+-- ---- What is looked for
 
--- some seeds were surveyed so
+-- where no run came to the end that was looked for, whether that is as it should be: none was stuck
+abbrev pub none_is_good : Ending → Bool
+none_is_good Finished = false
+none_is_good Stuck = true
+
+-- the output is the trace by the first of these seeds by which the script of the input comes to such an end, and says whether that run is
+-- finished; or it comes to such an end by none of them, and the output says so
+abbrev pub IsFound : Option FaultRates → Ending → (first last : ℕ) → (input output : List ℕ) → (finished : Bool) → Type 0
+IsFound faults ending first last input output finished =
+    IsFirstTrace faults ending first last input output finished
+    ⊎ (NoneEndsSo faults ending first last input × (output ≡ codes "none\n") × (finished ≡ none_is_good ending))
+
+-- the output says what came of the seeds: it counts them, or is the first trace of those that came to the end that is looked for
+abbrev pub IsTold : Option FaultRates → Option Ending → (first last : ℕ) → (input output : List ℕ) → (finished : Bool) → Type 0
+IsTold faults None first last input output finished = IsSurveyed faults first last input output finished
+IsTold faults (Some ending) first last input output finished = IsFound faults ending first last input output finished
+
+-- ---- What is read and written
+
+-- What was to be read, where it is known, is a script of whose runs this was told; it was read to its end, and it was written and nothing
+-- else. Where it is not known, there still is such a script.
+abbrev pub SurveysBy : Option FaultRates → Option Ending → (first last : ℕ) → (old new before after : Option (List ℕ)) → Bool → Type 0
+SurveysBy faults find first last old new before after finished =
+    IfSome old (λ input. (output : List ℕ) × IsTold faults find first last input output finished × Consumes old new input × Appends before after output)
+    × ((input output : List ℕ) × IsTold faults find first last input output finished × Appends before after output)
+
+-- of some seeds it was told so
 abbrev pub Surveys : (old new before after : Option (List ℕ)) → Bool → Type 0
 Surveys old new before after finished =
-    (faults : Option FaultRates) × (first last : ℕ) × SurveysBy faults first last old new before after finished
+    (faults : Option FaultRates) × (find : Option Ending) × (first last : ℕ) × SurveysBy faults find first last old new before after finished
 
 -- where each refusal may come: its cause stands. Threads are not asked for.
-abbrev pub RefusesSurvey : Option FaultRates → (first last : ℕ) → List ℕ → RunScriptError → Type 0
-RefusesSurvey faults first last input fault.Read = Unit {0}
-RefusesSurvey faults first last input (fault.Script why) = script_of input ≡ Err why
-RefusesSurvey faults first last input (fault.Cluster why) = ⊥
-RefusesSurvey faults first last input fault.Memory = Unit {0}
-RefusesSurvey faults first last input fault.Write = (output : List ℕ) × (finished : Bool) × IsSurveyed faults first last input output finished × (output ≢ [])
+abbrev pub RefusesSurvey : Option FaultRates → Option Ending → (first last : ℕ) → List ℕ → RunScriptError → Type 0
+RefusesSurvey faults find first last input fault.Read = Unit {0}
+RefusesSurvey faults find first last input (fault.Script why) = script_of input ≡ Err why
+RefusesSurvey faults find first last input (fault.Cluster why) = ⊥
+RefusesSurvey faults find first last input fault.Memory = Unit {0}
+RefusesSurvey faults find first last input fault.Write =
+    (output : List ℕ) × (finished : Bool) × IsTold faults find first last input output finished × (output ≢ [])

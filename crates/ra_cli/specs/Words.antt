@@ -27,8 +27,8 @@ GivesNode words node nodes = Gives words (codes "--node") node × Gives words (c
 -- a fact for the two numbers of the command `answer`
 abbrev pub OnAnswer : Task → (ℕ → ℕ → Type 0) → Type 0
 OnAnswer (Answer node nodes) P = P node nodes
-OnAnswer (Sim policy choices trace) P = ⊤
-OnAnswer (Survey faults first last) P = ⊤
+OnAnswer (Sim policy choices format) P = ⊤
+OnAnswer (Survey faults find first last) P = ⊤
 OnAnswer Check P = ⊤
 OnAnswer CheckMarks P = ⊤
 OnAnswer (Draw part) P = ⊤
@@ -38,8 +38,8 @@ OnAnswer (Help text) P = ⊤
 -- a fact for a text of help, or for the version
 abbrev pub OnHelp : Task → Type 0 → Type 0
 OnHelp (Answer node nodes) P = ⊤
-OnHelp (Sim policy choices trace) P = ⊤
-OnHelp (Survey faults first last) P = ⊤
+OnHelp (Sim policy choices format) P = ⊤
+OnHelp (Survey faults find first last) P = ⊤
 OnHelp Check P = ⊤
 OnHelp CheckMarks P = ⊤
 OnHelp (Draw part) P = ⊤
@@ -53,8 +53,8 @@ HasMarksWord words = Any (λ word. word ≡ codes "--marks") words
 -- the command `check` is that of mark logs exactly where a word says so
 abbrev pub ChecksBy : (words : List (List ℕ)) → Task → Type 0
 ChecksBy words (Answer node nodes) = ⊤
-ChecksBy words (Sim policy choices trace) = ⊤
-ChecksBy words (Survey faults first last) = ⊤
+ChecksBy words (Sim policy choices format) = ⊤
+ChecksBy words (Survey faults find first last) = ⊤
 ChecksBy words Check = HasMarksWord words → ⊥
 ChecksBy words CheckMarks = HasMarksWord words
 ChecksBy words (Draw part) = ⊤

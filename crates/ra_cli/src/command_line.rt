@@ -4,8 +4,10 @@ ghost use Rattle.ra_cli.specs.Words.{ChecksBy, Gives, GivesNode, GivesText, IsHe
 use clap::error::ErrorKind;
 use clap::{Arg, ArgAction, ArgMatches, Command, Error as ParseError, value_parser};
 use ra_draw::Part;
-use ra_schedule::Faults;
+use ra_schedule::{Ending, Faults};
+use ra_script::Format;
 use std::alloc::{AllocError, Global};
+use std::fmt;
 use thiserror::Error;
 
 /// The version of the program, and those of what it reads.
@@ -13,6 +15,9 @@ const VERSION: &str = "0.1.0 (frames 1 and 2, traces 1 and 2)";
 
 /// The words for the policies.
 const POLICIES: &[&str] = &["oldest", "newest", "seeded", "faulty", "listed"];
+
+/// The words for the ends of runs.
+const ENDINGS: &[&str] = &["finished", "stuck"];
 
 /// What is said of the command `answer` below its options.
 const ANSWER_HELP: &str = "\
@@ -76,15 +81,27 @@ the marks and totals, as `ra check` reads them.
 
 Example: ra sim --trace < script.toml | ra check
 
+With --as-choices it prints the words of --choices by which the policy listed
+makes the run again, so that some can be taken out by hand. No word stands for a
+repeat, so faulty has to have --repeat 0 then.
+
+Example: ra sim --policy seeded --seed 7 --as-choices < script.toml
+
 With --seeds A..B and a policy of chance it runs the script by each seed from A
 to B, and prints how many of them ended finished, and stuck, and the first of
 each, and the least and the most of the turns and of the messages sent.
 
 Example: ra sim --policy seeded --seeds 1..1000 < script.toml
 
-Status 0: each operation is done, and nothing waits, is queued or under way.
-Status 3: the run ended before that. Status 2: the words or the script are
-refused. Status 1: the input or the output failed.";
+With --find stuck, or finished, it prints the trace by the first seed from A to
+B whose run ended so, and stops there. Where none did it prints `none`.
+
+Example: ra sim --policy seeded --seeds 1..1000 --find stuck < script.toml
+
+Status 0: each operation is done, and nothing waits, is queued or under way; or
+no run was stuck that --find looked for. Status 3: the run ended before that; or
+none was finished. Status 2: the words or the script are refused. Status 1: the
+input or the output failed.";
 
 /// What is said of the command `check` below its options.
 const CHECK_HELP: &str = "\
@@ -212,7 +229,7 @@ one line with the word that says why. Status 3: a run that ended with something
 left to do, or a trace or a log that is none.";
 
 /// Which policy the words name.
-#[derive(Clone, Copy, Debug)]
+#[derive(Clone, Copy)]
 pub enum PolicyName {
     Oldest,
     Newest,
@@ -224,22 +241,24 @@ pub enum PolicyName {
 }
 
 /// What the words of a command line ask for.
-#[derive(Debug, Drop)]
+#[derive(Drop)]
 pub enum Task<'a> {
     /// The command `answer`, with its two numbers.
     Answer {
         node: u16,
         nodes: u16,
     },
-    /// The command `sim`, with its policy, the text of the choices, and whether the trace is to be printed.
+    /// The command `sim`, with its policy, the text of the choices, and what is to be printed of the run.
     Sim {
         policy: PolicyName,
         choices: &'a str,
-        trace: bool,
+        format: Format,
     },
-    /// The command `sim` with many seeds: the faults of chance, where it has any, and the first and the last seed, both included.
+    /// The command `sim` with many seeds: the faults of chance, where it has any, the end of which the first trace is to be printed, if
+    /// there is one, and the first and the last seed, both included.
     Survey {
         faults: Option<Faults>,
+        find: Option<Ending>,
         first: u64,
         last: u64,
     },
@@ -259,11 +278,18 @@ pub enum Task<'a> {
 #[derive(Clone, Copy, Debug, PartialEq, Eq, Error)]
 pub enum CommandFault {
     /// They are no command line of `ra`.
-    #[error("Usage")]
     Usage,
     /// Memory ran out.
-    #[error("Memory")]
     Memory,
+}
+
+impl fmt::Display for CommandFault {
+    fn fmt<W: fmt::Write>(&self, f: &mut fmt::Formatter<W>) -> fmt::Result {
+        f.write_str(match self {
+            CommandFault::Usage => "Usage",
+            CommandFault::Memory => "Memory",
+        })
+    }
 }
 
 /// Makes an option with a value.
@@ -333,6 +359,25 @@ fn seeds_option<'a>(alloc: Global) -> Arg<'a> {
     )
 }
 
+/// Makes the option `--find`.
+fn find_option<'a>(alloc: Global) -> Arg<'a> {
+    valued(
+        alloc,
+        "find",
+        "The first trace of them that ends so, as stuck",
+    )
+    .value_parser(ENDINGS)
+    .hide_possible_values(true)
+}
+
+/// Makes the option `--as-choices`.
+fn as_choices_option<'a>(alloc: Global) -> Arg<'a> {
+    Arg::new(alloc, "as-choices")
+        .long("as-choices")
+        .help("Print the choices of the run")
+        .action(ArgAction::SetTrue)
+}
+
 /// Makes the option `--trace`.
 fn trace_option<'a>(alloc: Global) -> Arg<'a> {
     Arg::new(alloc, "trace")
@@ -364,7 +409,9 @@ fn sim_command<'a>(alloc: Global) -> Result<Command<'a>, AllocError> {
     with_fault_options(alloc, sim)?
         .arg(choices_option(alloc))?
         .arg(seeds_option(alloc))?
-        .arg(trace_option(alloc))
+        .arg(find_option(alloc))?
+        .arg(trace_option(alloc))?
+        .arg(as_choices_option(alloc))
 }
 
 /// Makes the option `--marks`.
@@ -513,8 +560,34 @@ fn seeds_of(text: &str) -> Option<(u64, u64)> {
     }
 }
 
-/// Returns the task of the command `sim` with many seeds: under a policy of chance, and without a trace.
-fn survey_task<'a>(policy: PolicyName, seeds: &str, trace: bool) -> Option<Task<'a>>
+/// Returns what is to be printed of a run, or `None` where the words ask for two things, or for the choices where some may be repeats,
+/// for which there is no word. It does not allocate.
+fn format_of(policy: &PolicyName, sim: &ArgMatches) -> Option<Format> {
+    let repeat: u16 = sim.get_one("repeat")?;
+    let has_words = repeat == 0 || !matches!(policy, PolicyName::Faulty { .. });
+    match (sim.get_flag("trace"), sim.get_flag("as-choices")) {
+        (false, false) => Some(Format::Lines),
+        (true, false) => Some(Format::Trace),
+        (false, true) if has_words => Some(Format::Choices),
+        _ => None,
+    }
+}
+
+/// Returns the end that the words look for, if they do. It does not allocate.
+fn ending_of(sim: &ArgMatches) -> Option<Ending> {
+    match sim.get_str("find")? {
+        "finished" => Some(Ending::Finished),
+        _ => Some(Ending::Stuck),
+    }
+}
+
+/// Returns the task of the command `sim` with many seeds: under a policy of chance, and in no format of one run.
+fn survey_task<'a>(
+    policy: PolicyName,
+    seeds: &str,
+    find: Option<Ending>,
+    format: Format,
+) -> Option<Task<'a>>
     ensures help { IfSome result (λ task. OnHelp task ⊥) }
     ensures numbers { IfSome result (λ task. OnAnswer task (λ _ _. ⊥)) }
     ensures marks { IfSome result (λ task. (any : List (List ℕ)) → ChecksBy any task) }
@@ -524,12 +597,13 @@ fn survey_task<'a>(policy: PolicyName, seeds: &str, trace: bool) -> Option<Task<
         PolicyName::Faulty { faults, .. } => Some(faults),
         _ => return None,
     };
-    if trace {
+    if !matches!(format, Format::Lines) {
         return None;
     }
     let (first, last) = seeds_of(seeds)?;
     Some(Task::Survey {
         faults,
+        find,
         first,
         last,
     })
@@ -543,14 +617,18 @@ fn sim_task<'a>(sim: &ArgMatches<'a>) -> Option<Task<'a>>
 {
     let policy = policy_name(sim)?;
     let choices = sim.get_str("choices")?;
-    let trace = sim.get_flag("trace");
+    let format = format_of(&policy, sim)?;
+    let find = ending_of(sim);
     if let Some(seeds) = sim.get_str("seeds") {
-        return survey_task(policy, seeds, trace);
+        return survey_task(policy, seeds, find, format);
+    }
+    if find.is_some() {
+        return None;
     }
     Some(Task::Sim {
         policy,
         choices,
-        trace,
+        format,
     })
 }
 
@@ -566,7 +644,7 @@ fn draw_task<'a>(given: &ArgMatches<'a>) -> Option<Task<'a>>
 }
 
 /// Returns whether one of the words is this one. It does not allocate.
-fn has_word(words: &[String], sought: &str) -> bool
+pub fn has_word(words: &[String], sought: &str) -> bool
     ensures { IsTrue result ↔ Any (λ word. string_bytes word ≡ sought.now) words.now }
 {
     for word in words {
@@ -616,7 +694,7 @@ fn is_help_word(word: &str) -> bool
 }
 
 /// Returns whether one of the words asks for a text of help or for the version. It does not allocate.
-fn asks_for_help(words: &[String]) -> bool
+pub fn asks_for_help(words: &[String]) -> bool
     ensures { IsTrue result → Any (λ word. IsHelpWord (string_bytes word)) words.now }
 {
     for word in words {

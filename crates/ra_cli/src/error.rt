@@ -9,63 +9,67 @@ use ra_frame::FrameError;
 use ra_script::ScriptError;
 use ra_stamp::Memory;
 use ra_world::{ReadFault, WriteFault};
+use std::fmt;
 use thiserror::Error;
 
 /// Why `answer` gave no answer, in the order in which the causes are looked for.
 #[derive(Clone, Copy, Debug, PartialEq, Eq, Error)]
 pub enum AnswerError {
     /// The number of nodes is not 1 to 64.
-    #[error("BadCount")]
     BadCount,
     /// The node is not 1 to the number of nodes.
-    #[error("BadNode")]
     BadNode,
     /// The reader failed.
-    #[error("Read")]
     Read,
     /// There are more than 256 bytes before a line feed, or bytes after it.
-    #[error("Line")]
     Line,
     /// The line is no even number of hexadecimal digits.
-    #[error("Hex")]
     Hex,
     /// The bytes are no frame.
-    #[error(transparent)]
     Frame(FrameError),
     /// The message is for another node.
-    #[error("WrongNode")]
     WrongNode,
     /// The sender is the node itself, or there is no such node.
-    #[error("Stranger")]
     Stranger,
     /// The node's clock would pass 2^62.
-    #[error("ClockFull")]
     ClockFull,
     /// Memory ran out.
-    #[error("Memory")]
     Memory,
     /// The writer failed.
-    #[error("Write")]
     Write,
 }
 
+impl fmt::Display for AnswerError {
+    fn fmt<W: fmt::Write>(&self, f: &mut fmt::Formatter<W>) -> fmt::Result {
+        let word = match self {
+            AnswerError::BadCount => "BadCount",
+            AnswerError::BadNode => "BadNode",
+            AnswerError::Read => "Read",
+            AnswerError::Line => "Line",
+            AnswerError::Hex => "Hex",
+            AnswerError::Frame(why) => return fmt::Display::fmt(why, f),
+            AnswerError::WrongNode => "WrongNode",
+            AnswerError::Stranger => "Stranger",
+            AnswerError::ClockFull => "ClockFull",
+            AnswerError::Memory => "Memory",
+            AnswerError::Write => "Write",
+        };
+        f.write_str(word)
+    }
+}
+
 /// Why a script was not run by threads to its end, in the order in which the causes are looked for.
-#[derive(Clone, Copy, Debug, PartialEq, Eq, Error)]
+#[derive(Clone, Copy)]
 pub enum RunScriptError {
     /// The reader failed.
-    #[error("Read")]
     Read,
     /// What was read is not a script. It is never that memory ran out.
-    #[error(transparent)]
     Script(ScriptError),
     /// Threads may not run it, or did not bring it to its end. It is never that memory ran out.
-    #[error(transparent)]
     Cluster(ClusterError),
     /// Memory ran out.
-    #[error("Memory")]
     Memory,
     /// The writer failed.
-    #[error("Write")]
     Write,
 }
 

@@ -14,6 +14,10 @@ pub const NO_INPUT: &str = "standard input could not be read";
 /// What is said where a word of the command line is no text.
 pub const NO_TEXT: &str = "a word of the command line is not UTF-8";
 
+/// What is said where no word of `--choices` stands for a choice of the run.
+pub const NO_WORD: &str =
+    "no word of --choices stands for a choice of the run: a message is repeated, or stands at a place of more than 9 digits";
+
 /// Returns what is said of bytes that are no frame.
 pub fn frame_text(fault: FrameError) -> &'static str {
     match fault {

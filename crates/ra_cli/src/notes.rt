@@ -1,12 +1,15 @@
 //! What is said to a person of what came of a command: one line, which begins with `ra: `.
 use crate::command_line::text_of;
 use crate::error::RunScriptError;
+use crate::hints::write_hints;
 use crate::note_texts::{
-    NO_INPUT, NO_MEMORY, NO_TEXT, cause_text, cluster_text, drive_text, frame_text,
+    NO_INPUT, NO_MEMORY, NO_TEXT, NO_WORD, cause_text, cluster_text, drive_text, frame_text,
     mark_cause_text, script_text,
 };
-use crate::outcome::Remark;
+use crate::outcome::{Outcome, Remark, UNFINISHED};
+use crate::places::place_of;
 use crate::refusal::Refusal;
+use crate::seen::Seen;
 use crate::usage::usage_text;
 use crate::{AnswerError, CommandFault};
 use ra_draw::DrawError;
@@ -16,10 +19,31 @@ use ra_world::write_out;
 use std::alloc::{AllocError, Global};
 use std::io::Write;
 
-/// Writes the note on a remark, unless memory runs out. That the writer fails is passed over.
-pub fn write_note<N: Write>(alloc: Global, words: &[String], remark: &Remark, notes: &mut N) {
-    if let Ok(note) = note_of(alloc, words, remark) {
+/// Writes the note on what came of words and of what was read, unless memory runs out, and where nothing is refused a line for each
+/// option that says nothing. That the writer fails is passed over.
+pub fn write_notes<N: Write>(
+    alloc: Global,
+    words: &[String],
+    seen: &Seen,
+    outcome: &Outcome,
+    notes: &mut N,
+) {
+    if let Some(remark) = &outcome.remark
+        && let Ok(note) = note_of(alloc, words, remark, place_of(alloc, words, seen, remark))
+    {
         write_out(notes, note.as_bytes()).ok();
+    }
+    if outcome.is_fair() {
+        write_hints(alloc, words, seen, outcome.status != UNFINISHED, notes);
+    }
+}
+
+/// Writes a line of a text. That the writer fails is passed over. It does not allocate.
+pub fn write_line<N: Write>(notes: &mut N, text: &str) {
+    for part in ["ra: ", text, "\n"] {
+        if write_out(notes, part.as_bytes()).is_err() {
+            return;
+        }
     }
 }
 
@@ -29,11 +53,7 @@ pub fn write_words_note<N: Write>(fault: CommandFault, notes: &mut N) {
         CommandFault::Usage => NO_TEXT,
         CommandFault::Memory => NO_MEMORY,
     };
-    for part in ["ra: ", text, "\n"] {
-        if write_out(notes, part.as_bytes()).is_err() {
-            return;
-        }
-    }
+    write_line(notes, text);
 }
 
 /// Returns the line of a text.
@@ -41,8 +61,21 @@ fn line_of(alloc: Global, text: &str) -> Result<String, AllocError> {
     format!(in alloc; "ra: {text}\n")
 }
 
-/// Returns the note on a remark, which is empty where the writer failed: mostly nobody reads on then.
-fn note_of(alloc: Global, words: &[String], remark: &Remark) -> Result<String, AllocError> {
+/// Returns the note on a remark, by its place if something is said of that.
+fn note_of(
+    alloc: Global,
+    words: &[String],
+    remark: &Remark,
+    place: Option<String>,
+) -> Result<String, AllocError> {
+    match place {
+        Some(place) => line_of(alloc, place.as_str()),
+        None => cause_note(alloc, words, remark),
+    }
+}
+
+/// Returns the note on the cause of a remark, which is empty where the writer failed: mostly nobody reads on then.
+fn cause_note(alloc: Global, words: &[String], remark: &Remark) -> Result<String, AllocError> {
     match remark {
         Remark::Refused(refusal) => refusal_note(alloc, words, *refusal),
         Remark::Unfinished => line_of(
@@ -159,6 +192,7 @@ fn perform_note(alloc: Global, why: PerformError) -> Result<String, AllocError> 
         PerformError::Read => line_of(alloc, NO_INPUT),
         PerformError::Script(fault) => line_of(alloc, script_text(fault)),
         PerformError::Drive(fault) => line_of(alloc, drive_text(fault)),
+        PerformError::Choice => line_of(alloc, NO_WORD),
         PerformError::Memory => line_of(alloc, NO_MEMORY),
         PerformError::Write => Ok(String::new(alloc)),
     }

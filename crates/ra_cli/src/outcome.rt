@@ -8,7 +8,7 @@ use ra_trace::{Cause, MarkCause, MarksVerdict, Verdict};
 pub const UNFINISHED: u8 = 3;
 
 /// What there is to say to a person of what came of a command.
-#[derive(Debug, Drop)]
+#[derive(Drop)]
 pub enum Remark {
     /// It was refused.
     Refused(Refusal),
@@ -23,7 +23,7 @@ pub enum Remark {
 }
 
 /// What came of a command: its exit status, and what there is to say of it to a person, if anything.
-#[derive(Debug, Drop)]
+#[derive(Drop)]
 pub struct Outcome {
     pub status: u8,
     pub remark: Option<Remark>,
@@ -42,6 +42,11 @@ impl Outcome {
         ensures { result.status ≡ status }
     {
         Outcome::new(status, Some(Remark::Refused(refusal)))
+    }
+
+    /// Returns whether nothing was refused, and neither the input nor the output failed.
+    pub fn is_fair(&self) -> bool {
+        matches!(self.status, 0 | UNFINISHED)
     }
 
     /// Makes that of a verdict. Of one that could not be printed there is nothing to say.

@@ -12,7 +12,7 @@ use ra_script::{ChoicesError, PerformError, ScriptError};
 use ra_trace::TraceError;
 
 /// Why a command was not done.
-#[derive(Clone, Copy, Debug)]
+#[derive(Clone, Copy)]
 pub enum Refusal {
     Command(CommandFault),
     Answer(AnswerError),
@@ -150,6 +150,7 @@ fn perform_line(fault: PerformError) -> &'static str
         PerformError::Read => "refused Read\n",
         PerformError::Script(why) => script_line(why),
         PerformError::Drive(why) => drive_line(why),
+        PerformError::Choice => "refused Choice\n",
         PerformError::Memory => "refused Memory\n",
         PerformError::Write => "refused Write\n",
     }

@@ -2,7 +2,7 @@ ghost use Rattle.std.specs.Prelude.{true, false, [], ◌++◌, None, ◌≢◌, 
 ghost use Rattle.std.specs.Io.KnownBytes.{Consumes, Appends};
 ghost use Rattle.ra_cli.specs.Words.{HasMarksWord, IsHelpWord};
 ghost use Rattle.ra_cli.specs.Words as spec;
-ghost use Rattle.ra_cli.specs.Performs.{IsNamed, PerformsBy, Prints};
+ghost use Rattle.ra_cli.specs.Performs.{IsNamed, PerformsBy};
 ghost use Rattle.ra_cli.specs.Checks.{Checks, ChecksMarks, is_run, is_valid};
 ghost use Rattle.ra_cli.specs.Checks.{verdict_text as spec_text};
 ghost use Rattle.ra_trace.specs.declared.verdict.Verdict.{Verdict};
@@ -18,16 +18,17 @@ ghost use Rattle.ra_cli.specs.Refusals.{IsOfReader, IsOfWriter, refused_line, wo
 use crate::command_line::{PolicyName, Task, parse};
 use crate::error::RunScriptError;
 use crate::marks_verdict::marks_verdict_text;
-use crate::notes::{write_note, write_words_note};
+use crate::notes::{write_notes, write_words_note};
 use crate::outcome::{Outcome, Remark, UNFINISHED, marks_remark_of, remark_of};
 use crate::refusal::{Refusal, line_of};
 use crate::running::run_script;
+use crate::seen::SeenReader;
 use crate::surveying::survey_script;
 use crate::verdict::verdict_text;
 use crate::{AnswerError, CommandFault, answer};
 use ra_draw::{DrawError, Part, draw};
-use ra_schedule::{Faults, Policy};
-use ra_script::{ChoicesError, PerformError, perform, perform_trace, read_choices};
+use ra_schedule::{Ending, Faults, Policy};
+use ra_script::{ChoicesError, Format, PerformError, perform_as, read_choices};
 use ra_trace::{Cause, MarksVerdict, TraceError, Verdict, check_buffered, check_marks_buffered};
 use ra_world::write_out;
 use std::alloc::Global;
@@ -151,7 +152,7 @@ fn refusal_line(fault: CommandFault) -> &'static [u8]
 ///
 /// 1. `Choice`: they are no list of choices.
 /// 2. `Memory`, which may come before it.
-fn policy_of(alloc: Global, name: PolicyName, choices: &str) -> Result<Policy, ChoicesError>
+pub fn policy_of(alloc: Global, name: PolicyName, choices: &str) -> Result<Policy, ChoicesError>
     ensures ok { IfOk result (IsNamed name choices.now) }
     ensures choices { choices_of choices.now ≡ None → IsErr result }
     ensures err { IfErr result (λ fault. ((fault ≡ ChoicesError.Choice) × (choices_of choices.now ≡ None))
@@ -167,47 +168,21 @@ fn policy_of(alloc: Global, name: PolicyName, choices: &str) -> Result<Policy, C
     })
 }
 
-/// Performs the script of the reader, and writes the lines of its report or its trace.
-///
-/// # Errors
-///
-/// Those of `perform`.
-fn perform_as<R: Read, W: Write>(
-    alloc: Global,
-    reader: &mut R,
-    writer: &mut W,
-    policy: &Policy,
-    trace: bool,
-) -> Result<bool, PerformError>
-    ensures ok { IfOk result (PerformsBy policy.now trace (R.remaining reader.old) (R.remaining reader.new)
-        (W.contents writer.old) (W.contents writer.new)) }
-    ensures unwritten { IfErr result (λ fault. fault ≢ PerformError.Write → writer.new ≡ writer.old) }
-    ensures front { IsErrOf result PerformError.Write → IfSome (R.remaining reader.old) (λ input.
-        (front back : List ℕ) × (finished : Bool) × Prints trace policy.now input (front ++ back) finished × (back ≢ [])
-        × Appends (W.contents writer.old) (W.contents writer.new) front) }
-{
-    if trace {
-        perform_trace(alloc, reader, writer, policy)
-    } else {
-        perform(alloc, reader, writer, policy)
-    }
-}
-
 /// Reads the choices, and drives a cluster through the script of the reader.
 fn simulate<R: Read, W: Write>(
     alloc: Global,
     name: PolicyName,
     choices: &str,
-    trace: bool,
+    format: Format,
     reader: &mut R,
     writer: &mut W,
 ) -> Outcome
     ensures range { result.status ≤ 3 }
     ensures done { result.status ≡ 0 → (policy : Policy) × IsNamed name choices.now policy
-        × PerformsBy policy trace (R.remaining reader.old) (R.remaining reader.new)
+        × PerformsBy policy format (R.remaining reader.old) (R.remaining reader.new)
         (W.contents writer.old) (W.contents writer.new) true }
     ensures unfinished { result.status ≡ 3 → (policy : Policy) × IsNamed name choices.now policy
-        × PerformsBy policy trace (R.remaining reader.old) (R.remaining reader.new)
+        × PerformsBy policy format (R.remaining reader.old) (R.remaining reader.new)
         (W.contents writer.old) (W.contents writer.new) false }
     ensures refused { result.status ≡ 2 → IsRefused (W.contents writer.old) (W.contents writer.new) }
     ensures broken { (words : List (List ℕ)) → result.status ≡ 1
@@ -219,34 +194,44 @@ fn simulate<R: Read, W: Write>(
         Ok(policy) => policy,
         Err(fault) => return refuse(writer, Refusal::Choices(fault)),
     };
-    match perform_as(alloc, reader, writer, &policy, trace) {
+    match perform_as(alloc, reader, writer, format, &policy) {
         Ok(true) => Outcome::new(DONE, None),
         Ok(false) => Outcome::new(UNFINISHED, Some(Remark::Unfinished)),
         Err(fault) => refuse(writer, Refusal::Perform(fault)),
     }
 }
 
-/// Drives a cluster through the script of the reader under each of many seeds, and writes the lines of what came of them.
+/// Returns what there is to say of seeds where a run was stuck, or none was finished.
+fn remark_on(find: Option<Ending>) -> Remark {
+    match find {
+        Some(Ending::Stuck) => Remark::Unfinished,
+        _ => Remark::SomeUnfinished,
+    }
+}
+
+/// Drives a cluster through the script of the reader under each of many seeds, and writes the lines of what came of them, or
+/// the first trace of those that come to an end.
 fn survey_seeds<R: Read, W: Write>(
     alloc: Global,
     faults: Option<Faults>,
+    find: Option<Ending>,
     first: u64,
     last: u64,
     reader: &mut R,
     writer: &mut W,
 ) -> Outcome
     ensures range { result.status ≤ 3 }
-    ensures done { result.status ≡ 0 → SurveysBy faults first last (R.remaining reader.old) (R.remaining reader.new)
+    ensures done { result.status ≡ 0 → SurveysBy faults find first last (R.remaining reader.old) (R.remaining reader.new)
         (W.contents writer.old) (W.contents writer.new) true }
-    ensures unfinished { result.status ≡ 3 → SurveysBy faults first last (R.remaining reader.old) (R.remaining reader.new)
+    ensures unfinished { result.status ≡ 3 → SurveysBy faults find first last (R.remaining reader.old) (R.remaining reader.new)
         (W.contents writer.old) (W.contents writer.new) false }
     ensures refused { result.status ≡ 2 → IsRefused (W.contents writer.old) (W.contents writer.new) }
     ensures broken { (words : List (List ℕ)) → result.status ≡ 1
         → IsBroken words (R.remaining reader.old) (W.contents writer.old) (W.contents writer.new) }
 {
-    match survey_script(alloc, faults, first, last, reader, writer) {
+    match survey_script(alloc, faults, find, first, last, reader, writer) {
         Ok(true) => Outcome::new(DONE, None),
-        Ok(false) => Outcome::new(UNFINISHED, Some(Remark::SomeUnfinished)),
+        Ok(false) => Outcome::new(UNFINISHED, Some(remark_on(find))),
         Err(fault) => refuse(writer, Refusal::Cluster(fault)),
     }
 }
@@ -388,16 +373,17 @@ fn serve_alone<R: BufRead, W: Write>(
             Task::Sim {
                 policy,
                 choices,
-                trace,
+                format,
             },
-        ) => simulate(alloc, policy, choices, trace, reader, writer),
+        ) => simulate(alloc, policy, choices, format, reader, writer),
         Ok(
             Task::Survey {
                 faults,
+                find,
                 first,
                 last,
             },
-        ) => survey_seeds(alloc, faults, first, last, reader, writer),
+        ) => survey_seeds(alloc, faults, find, first, last, reader, writer),
         Ok(Task::Check) => judge(alloc, reader, writer),
         Ok(Task::CheckMarks) => judge_marks(alloc, reader, writer),
         Ok(Task::Draw(part)) => paint(alloc, part, reader, writer),
@@ -472,13 +458,14 @@ pub fn serve<T: Threads + Wait + Sync, R: BufRead, W: Write>(
 }
 
 /// Does as [`serve`], and then writes a line for a person to `notes`, where something was refused, a text is no trace or a log is none,
-/// or a run ended with something left to do: what is wrong, and what would be right. The line begins with `ra: `. Nothing of it goes to
-/// `writer`, and it is left out where memory or `notes` fails, which changes nothing else.
+/// or a run ended with something left to do: what is wrong, where in what was read, and what would be right; and one for each option that
+/// says nothing. Each line begins with `ra: `. Nothing of it goes to `writer`, and it is left out where memory or `notes` fails, which
+/// changes nothing else. To find the place in a script it is read once more, and for who waits for whom it is run once more.
 pub fn serve_with_notes<T: Threads + Wait + Sync, R: BufRead, W: Write, N: Write>(
     rt: &T,
     alloc: Global,
     words: &[String],
-    reader: &mut R,
+    reader: &mut SeenReader<R>,
     writer: &mut W,
     notes: &mut N,
 ) -> u8
@@ -486,19 +473,17 @@ pub fn serve_with_notes<T: Threads + Wait + Sync, R: BufRead, W: Write, N: Write
     ensures range { result ≤ 3 }
     ensures done { result ≡ 0
         → ((reader.new ≡ reader.old) × Any (λ word. IsHelpWord (string_bytes word)) words.now)
-        ⊎ IsDone (map string_bytes words.now) (R.remaining reader.old) (R.remaining reader.new)
+        ⊎ IsDone (map string_bytes words.now) (R.remaining reader.old.inner) (R.remaining reader.new.inner)
         (W.contents writer.old) (W.contents writer.new)
-        ⊎ RunsCluster (R.remaining reader.old) (R.remaining reader.new) (W.contents writer.old) (W.contents writer.new) }
+        ⊎ RunsCluster (R.remaining reader.old.inner) (R.remaining reader.new.inner) (W.contents writer.old) (W.contents writer.new) }
     ensures unfinished { result ≡ 3
-        → IsUnfinished (map string_bytes words.now) (R.remaining reader.old) (R.remaining reader.new)
+        → IsUnfinished (map string_bytes words.now) (R.remaining reader.old.inner) (R.remaining reader.new.inner)
         (W.contents writer.old) (W.contents writer.new) }
     ensures refused { result ≡ 2 → IsRefused (W.contents writer.old) (W.contents writer.new) }
     ensures broken { result ≡ 1
-        → IsBroken (map string_bytes words.now) (R.remaining reader.old) (W.contents writer.old) (W.contents writer.new) }
+        → IsBroken (map string_bytes words.now) (R.remaining reader.old.inner) (W.contents writer.old) (W.contents writer.new) }
 {
     let outcome = outcome_of(rt, alloc, words, reader, writer);
-    if let Some(remark) = &outcome.remark {
-        write_note(alloc, words, remark, notes);
-    }
+    write_notes(alloc, words, reader.seen(), &outcome, notes);
     outcome.status
 }

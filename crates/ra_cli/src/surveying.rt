@@ -1,12 +1,16 @@
 //! A script under many seeds, from its text to the lines of what came of it.
-ghost use Rattle.std.specs.Prelude.{◌≡◌, ◌≢◌, ◌<◌, ◌≤◌, ◌++◌, ◌↔◌, List, ℕ, [], Bool, length, IsTrue, IfOk, IfErr, IfSome, IsErrOf};
+ghost use Rattle.std.specs.Prelude.{◌≡◌, ◌≢◌, ◌<◌, ◌≤◌, ◌++◌, ◌↔◌, List, ℕ, [], Bool, Ok, length, string_bytes, IsTrue, IfOk, IfErr, IfSome, IsErrOf};
 ghost use Rattle.std.specs.Io.KnownBytes.{Consumes, Appends};
-ghost use Rattle.ra_cli.specs.Surveyed.{AllFinished, IsSurveyed, RefusesSurvey, SurveysBy};
+ghost use Rattle.ra_script.specs.ScriptText.{script_of};
+ghost use Rattle.ra_cli.specs.Surveyed.{AllFinished, IsFound, IsSurveyed, IsTold, RefusesSurvey, SurveysBy};
+ghost use Rattle.ra_cli.specs.Surveyed as spec;
 
 use crate::error::RunScriptError;
 use crate::running::script_from;
 use crate::survey_text::survey_text;
-use ra_schedule::{Faults, Survey, survey};
+use ra_schedule::{Ending, Faults, Script, Survey, survey};
+use ra_script::{Printed, find_trace};
+use ra_stamp::Memory;
 use ra_world::write_out;
 use std::alloc::Global;
 use std::io::{Read, Write};
@@ -21,9 +25,90 @@ fn all_finished(survey: &Survey) -> bool
     survey.stuck.is_none() && survey.limit.is_none()
 }
 
-/// Reads the text of a script, drives a cluster through it by chance, with faults or without, under each seed from the first to the last, both of them included, each in
-/// at most 16,777,216 turns, and writes what came of them. Returns whether each run is finished. It takes at most 65,537 bytes from
-/// the reader, and no read or write that failed is tried again.
+/// Drives a cluster through a script under each seed, and returns the lines of what came of them, and whether each run is finished.
+///
+/// # Errors
+///
+/// `Memory`.
+fn counted_of(
+    alloc: Global,
+    script: &Script,
+    faults: Option<Faults>,
+    first: u64,
+    last: u64,
+) -> Result<Printed, Memory>
+    ensures { (input : List ℕ) → script_of input ≡ Ok script.now
+        → IfOk result (λ told. IsSurveyed faults first last input (string_bytes told.text) told.finished) }
+{
+    let counted = survey(alloc, script, faults, first, last, MAX_TURNS)?;
+    let text = survey_text(alloc, &counted)?;
+    Ok(Printed {
+        text,
+        finished: all_finished(&counted),
+    })
+}
+
+/// Returns the trace by the first seed by which a script comes to an end, and whether that run is finished; or a line that says that there is
+/// none, and whether that is as it should be.
+///
+/// # Errors
+///
+/// `Memory`.
+fn found_of(
+    alloc: Global,
+    script: &Script,
+    faults: Option<Faults>,
+    ending: Ending,
+    first: u64,
+    last: u64,
+) -> Result<Printed, Memory>
+    ensures { (input : List ℕ) → script_of input ≡ Ok script.now
+        → IfOk result (λ told. IsFound faults ending first last input (string_bytes told.text) told.finished) }
+{
+    if let Some(found) = find_trace(alloc, script, faults, ending, first, last)? {
+        return Ok(found);
+    }
+    let text = String::from_str(alloc, "none\n")?;
+    Ok(Printed {
+        text,
+        finished: none_is_good(ending),
+    })
+}
+
+/// Returns whether it is as it should be that no run came to an end. It does not allocate.
+fn none_is_good(ending: Ending) -> bool
+    ensures { result ≡ spec.none_is_good ending }
+{
+    matches!(ending, Ending::Stuck)
+}
+
+/// Returns what is told of a script's runs under seeds.
+///
+/// # Errors
+///
+/// `Memory`.
+fn told_of(
+    alloc: Global,
+    script: &Script,
+    faults: Option<Faults>,
+    find: Option<Ending>,
+    first: u64,
+    last: u64,
+) -> Result<Printed, Memory>
+    ensures { (input : List ℕ) → script_of input ≡ Ok script.now
+        → IfOk result (λ told. IsTold faults find first last input (string_bytes told.text) told.finished) }
+{
+    match find {
+        None => counted_of(alloc, script, faults, first, last),
+        Some(ending) => found_of(alloc, script, faults, ending, first, last),
+    }
+}
+
+/// Reads the text of a script, drives a cluster through it by chance, with faults or without, under each seed from the first to the last,
+/// both of them included, each in at most 16,777,216 turns, and writes what came of them; or, where an end is looked for, goes up to the
+/// first seed whose run comes to it, and writes its trace, or `none`. Returns whether each run is finished, or the run of the trace, or
+/// where there is no trace whether it is runs that are stuck that were looked for. It takes at most 65,537 bytes from the reader, and no
+/// read or write that failed is tried again.
 ///
 /// # Errors
 ///
@@ -38,18 +123,19 @@ fn all_finished(survey: &Survey) -> bool
 pub fn survey_script<R: Read, W: Write>(
     alloc: Global,
     faults: Option<Faults>,
+    find: Option<Ending>,
     first: u64,
     last: u64,
     reader: &mut R,
     writer: &mut W,
 ) -> Result<bool, RunScriptError>
-    ensures ok { IfOk result (SurveysBy faults first last (R.remaining reader.old) (R.remaining reader.new)
+    ensures ok { IfOk result (SurveysBy faults find first last (R.remaining reader.old) (R.remaining reader.new)
         (W.contents writer.old) (W.contents writer.new)) }
     ensures refused { IfErr result (λ fault.
-        IfSome (R.remaining reader.old) (λ input. RefusesSurvey faults first last input fault)) }
+        IfSome (R.remaining reader.old) (λ input. RefusesSurvey faults find first last input fault)) }
     ensures unwritten { IfErr result (λ fault. fault ≢ RunScriptError.Write → writer.new ≡ writer.old) }
     ensures front { IsErrOf result RunScriptError.Write → IfSome (R.remaining reader.old) (λ input.
-        (front back : List ℕ) × (finished : Bool) × IsSurveyed faults first last input (front ++ back) finished × (back ≢ [])
+        (front back : List ℕ) × (finished : Bool) × IsTold faults find first last input (front ++ back) finished × (back ≢ [])
         × Appends (W.contents writer.old) (W.contents writer.new) front) }
     // A fault of the reader comes only before it gave all that may be taken.
     ensures failed { IsErrOf result RunScriptError.Read → (taken : List ℕ) × (length taken < 65537)
@@ -58,9 +144,7 @@ pub fn survey_script<R: Read, W: Write>(
         × Consumes (R.remaining reader.old) (R.remaining reader.new) taken }
 {
     let script = script_from(alloc, reader)?;
-    let counted = survey(alloc, &script, faults, first, last, MAX_TURNS)?;
-    let finished = all_finished(&counted);
-    let text = survey_text(alloc, &counted)?;
-    write_out(writer, text.as_bytes())?;
-    Ok(finished)
+    let told = told_of(alloc, &script, faults, find, first, last)?;
+    write_out(writer, told.text.as_bytes())?;
+    Ok(told.finished)
 }

@@ -1,5 +1,5 @@
 //! What the parser says of words that are no command line, on one line.
-use crate::command_line::{command, text_of};
+use crate::command_line::{command, has_word, text_of};
 use clap::error::ErrorKind;
 use clap::{Command, Error as ParseError};
 use std::alloc::{AllocError, Global};
@@ -13,7 +13,14 @@ const FAULTS_TEXT: &str =
 
 /// What is said of seeds that are no range, or for which there is no chance.
 const SEEDS_TEXT: &str =
-    "--seeds is A..B, as 1..1000, with --policy seeded or faulty and without --trace; see ra sim --help";
+    "--seeds is A..B, as 1..1000, with --policy seeded or faulty and without --trace and --as-choices; see ra sim --help";
+
+/// What is said where an end is looked for among no seeds.
+const FIND_TEXT: &str = "--find looks for one of --seeds; see ra sim --help";
+
+/// What is said of choices that can't be printed.
+const AS_CHOICES_TEXT: &str =
+    "--as-choices is without --trace, and with --policy faulty only where --repeat is 0; see ra sim --help";
 
 /// Returns the command that the words name, or `None`.
 fn command_named(words: &[String]) -> Option<&str> {
@@ -106,6 +113,10 @@ fn error_text(alloc: Global, words: &[String], error: &ParseError) -> Result<Str
 fn unseen_text(words: &[String]) -> &'static str {
     if text_of(words, "--seeds").is_some() {
         SEEDS_TEXT
+    } else if text_of(words, "--find").is_some() {
+        FIND_TEXT
+    } else if has_word(words, "--as-choices") {
+        AS_CHOICES_TEXT
     } else {
         FAULTS_TEXT
     }

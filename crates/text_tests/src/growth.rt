@@ -1,12 +1,15 @@
 //! Each growth refused: the call answers `Memory`, writes nothing, and does what it should when it is made again.
+use crate::explaining::{A_DEADLOCK, DEADLOCK_NOTE};
 use crate::helpers::{ONE_LOCK, ONE_LOCK_SCRIPT, failing};
 use crate::mark_logs::TWO_WRITERS;
 use crate::performing::ONE_LOCK_LINES;
 use crate::traces::one_lock;
+use ra_explain::{choices_note, unfinished_note};
 use ra_schedule::Policy;
 use ra_script::{
     ChoicesError, PerformError, ScriptError, perform, perform_trace, read_choices, read_script,
 };
+use ra_stamp::Memory;
 use ra_trace::{
     MarksVerdict, TraceError, Verdict, WriteTraceError, check, check_marks, trace_text, write_trace,
 };
@@ -175,4 +178,41 @@ fn growth_of_a_performance_that_is_traced(rt: HostRuntime) {
         &rt,
         again(try_performance(alloc, true), try_performance(alloc, true)),
     );
+}
+
+/// Looks what a note says. Where it was refused, returns that memory ran out.
+fn try_note(said: Result<Option<String>, Memory>, text: &str) -> Result<Tried, bool> {
+    match said {
+        Ok(Some(note)) => Ok(tried_if(note.as_str() == text)),
+        Ok(None) => Ok(Tried::Wrong),
+        Err(Memory) => Err(true),
+    }
+}
+
+/// Says what a run leaves to do.
+fn try_unfinished(alloc: Global) -> Result<Tried, bool> {
+    let said = unfinished_note(alloc, A_DEADLOCK.as_bytes(), &Policy::Oldest);
+    try_note(said, DEADLOCK_NOTE)
+}
+
+#[test]
+fn growth_of_what_is_said_of_a_run(rt: HostRuntime) {
+    end(
+        &rt,
+        again(try_unfinished(rt.alloc()), try_unfinished(rt.alloc())),
+    );
+}
+
+/// Says which choice can't be made.
+fn try_choice(alloc: Global) -> Result<Tried, bool> {
+    let said = choices_note(alloc, ONE_LOCK_SCRIPT.as_bytes(), "c1 m0 m3");
+    try_note(
+        said,
+        "choice 3 of --choices, m3, can't be made: one message is under way then, at place 0",
+    )
+}
+
+#[test]
+fn growth_of_what_is_said_of_choices(rt: HostRuntime) {
+    end(&rt, again(try_choice(rt.alloc()), try_choice(rt.alloc())));
 }

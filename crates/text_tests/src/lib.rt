@@ -1,8 +1,12 @@
-//! Tests of `ra_trace` and `ra_script` through their public calls.
+//! Tests of `ra_trace`, `ra_draw`, `ra_script` and `ra_explain` through their public calls.
 #![tactic(auto)]
 
 #[cfg(test)]
 mod checks;
+#[cfg(test)]
+mod choices;
+#[cfg(test)]
+mod explaining;
 #[cfg(test)]
 mod fronts;
 #[cfg(test)]

@@ -1,8 +1,8 @@
 //! How a script is performed by readers that fail while it is read, and by writers that fail while what comes of it is written.
 use crate::helpers::{ONE_LOCK, ONE_LOCK_LENGTH, ONE_LOCK_SCRIPT, assert_rows, failing};
-use Format::{Lines, Trace};
+use Format::{Choices, Lines, Trace};
 use ra_schedule::Policy;
-use ra_script::{PerformError, perform, perform_trace};
+use ra_script::{Format, PerformError, perform, perform_as, perform_trace};
 use std::alloc::Global;
 use std::io;
 use test_support::{FailingReader, FailingWriter};
@@ -22,18 +22,18 @@ queued 0
 /// How many bytes these lines have.
 const ONE_LOCK_LINES_LENGTH: usize = 110;
 
-/// What is written of a run: the lines of its report, or its trace.
-#[derive(Clone, Copy)]
-enum Format {
-    Lines,
-    Trace,
-}
+/// The line of its choices.
+const ONE_LOCK_CHOICES: &str = "c1 m0 m0 c1\n";
+
+/// How many bytes it has.
+const ONE_LOCK_CHOICES_LENGTH: usize = 12;
 
 /// Returns what is written of the script.
 fn text_of(format: Format) -> &'static str {
     match format {
         Lines => ONE_LOCK_LINES,
         Trace => ONE_LOCK,
+        Choices => ONE_LOCK_CHOICES,
     }
 }
 
@@ -57,6 +57,7 @@ fn fault_of(
     let performed = match format {
         Lines => perform(alloc, reader, writer, &Policy::Oldest),
         Trace => perform_trace(alloc, reader, writer, &Policy::Oldest),
+        Choices => perform_as(alloc, reader, writer, Choices, &Policy::Oldest),
     };
     performed.err()
 }
@@ -90,6 +91,11 @@ fn a_reader_that_fails_behind_any_byte_is_a_fault(rt: HostRuntime) {
     assert_rows(
         &rt,
         named_when_read(rt.alloc(), Trace),
+        ONE_LOCK_SCRIPT.len() + 1,
+    );
+    assert_rows(
+        &rt,
+        named_when_read(rt.alloc(), Choices),
         ONE_LOCK_SCRIPT.len() + 1,
     );
 }
@@ -135,6 +141,8 @@ fn a_writer_that_fails_behind_any_byte_has_those_before(rt: HostRuntime) {
     assert_rows(&rt, lines, ONE_LOCK_LINES_LENGTH);
     let trace = named_when_written(rt.alloc(), Trace, ONE_LOCK_LENGTH);
     assert_rows(&rt, trace, ONE_LOCK_LENGTH);
+    let choices = named_when_written(rt.alloc(), Choices, ONE_LOCK_CHOICES_LENGTH);
+    assert_rows(&rt, choices, ONE_LOCK_CHOICES_LENGTH);
 }
 
 /// Returns whether all is written byte by byte, to a writer that would fail after it.
@@ -152,4 +160,5 @@ fn is_written_byte_by_byte(alloc: Global, format: Format, length: usize) -> bool
 fn a_writer_that_takes_one_byte_at_a_time_gets_all(rt: HostRuntime) {
     assert!(rt; is_written_byte_by_byte(rt.alloc(), Lines, ONE_LOCK_LINES_LENGTH));
     assert!(rt; is_written_byte_by_byte(rt.alloc(), Trace, ONE_LOCK_LENGTH));
+    assert!(rt; is_written_byte_by_byte(rt.alloc(), Choices, ONE_LOCK_CHOICES_LENGTH));
 }

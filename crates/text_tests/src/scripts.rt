@@ -615,6 +615,7 @@ const PERFORM_FAULTS: &[(PerformError, &str)] = &[
     (PerformError::Read, "Read"),
     (PerformError::Script(ScriptError::Toml), "Toml"),
     (PerformError::Drive(DriveError::TurnLimit), "TurnLimit"),
+    (PerformError::Choice, "Choice"),
     (PerformError::Memory, "Memory"),
     (PerformError::Write, "Write"),
 ];

@@ -5,13 +5,15 @@ use Rattle.ra_cli.proofs.serving.simulate.Goals as goal
 
 pub returns-in-Ok-true-clause-done : goal.returns-in-Ok-true-clause-done
 returns-in-Ok-true-clause-done g c is =
-    let told = rw c.in-Ok-true.field-0-test at c.in-Ok-true.ensures.ok in
-    (c.in-Ok.policy, c.in-Ok.ensures.ok, told)
+    let known = rw c.in-Ok-true.field-0-test at c.in-Ok-true.ensures.ok in
+    let some = rw c.in-Ok-true.field-0-test at c.in-Ok-true.ensures.performed in
+    (c.in-Ok.policy, c.in-Ok.ensures.ok, (known, some))
 
 pub returns-in-Ok-false-clause-unfinished : goal.returns-in-Ok-false-clause-unfinished
 returns-in-Ok-false-clause-unfinished g c is =
-    let told = rw c.in-Ok-false.field-0-test at c.in-Ok-false.ensures.ok in
-    (c.in-Ok.policy, c.in-Ok.ensures.ok, told)
+    let known = rw c.in-Ok-false.field-0-test at c.in-Ok-false.ensures.ok in
+    let some = rw c.in-Ok-false.field-0-test at c.in-Ok-false.ensures.performed in
+    (c.in-Ok.policy, c.in-Ok.ensures.ok, (known, some))
 
 pub returns-in-Err-clause-refused : goal.returns-in-Err-clause-refused
 returns-in-Err-clause-refused g c two =
@@ -40,7 +42,7 @@ returns-clause-broken g c words one =
     let before = g.W.Write.contents c.args.writer.now in
     let between = g.W.Write.contents c.perform_as.new.writer in
     broken words old before between (g.W.Write.contents c.refuse-in-Err-perform_as.new.writer) (Perform fault)
-    (λ is. of_performed words c.in-Ok.policy c.args.trace old before between (c.in-Err-perform_as.ensures.front (ap Err (of_perform fault is))))
+    (λ is. of_performed words c.in-Ok.policy c.args.format old before between (c.in-Err-perform_as.ensures.front (ap Err (of_perform fault is))))
     (λ is. ap g.W.Write.contents (c.refuse-in-Err-perform_as.ensures.unwritten is).1)
     (λ other. ap g.W.Write.contents (c.in-Err-perform_as.ensures.unwritten (λ e. other (inr (inl (ap Perform e))))))
     (c.refuse-in-Err-perform_as.ensures.broken one)

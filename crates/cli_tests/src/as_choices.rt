@@ -1,0 +1,143 @@
+//! The choices of a run, printed by `ra sim --as-choices`, and the run that they make again.
+use crate::helpers::{Answered, Case, Refused, assert_meets, assert_refuses, run};
+use crate::scripts::{A_QUEUE, A_WRITER, ONE_CLIENT, TWO_CLIENTS};
+use std::process::Abort;
+use std::sync::Wait;
+use std::thread::Threads;
+
+/// Runs whose choices can be told by hand.
+const PRINTED: &[Case] = &[
+    Case {
+        shows: "a client asks, its REQUEST and the REPLY are delivered, and it leaves",
+        words: "ra sim --as-choices",
+        input: ONE_CLIENT,
+        status: 0,
+        output: "c1 m0 m0 c1\n",
+    },
+    Case {
+        shows: "what is listed is printed, and the status is that of the run",
+        words: "ra sim --policy listed --choices=c1 --as-choices",
+        input: ONE_CLIENT,
+        status: 3,
+        output: "c1\n",
+    },
+    Case {
+        shows: "a run of no step has the empty list of choices",
+        words: "ra sim --policy listed --as-choices",
+        input: ONE_CLIENT,
+        status: 3,
+        output: "\n",
+    },
+    Case {
+        shows: "what is lost has a word",
+        words: "ra sim --policy faulty --lose 1000 --as-choices",
+        input: ONE_CLIENT,
+        status: 3,
+        output: "c1 l0\n",
+    },
+    Case {
+        shows: "no policy but that of faults repeats a message",
+        words: "ra sim --policy newest --repeat 400 --as-choices",
+        input: ONE_CLIENT,
+        status: 0,
+        output: "c1 m0 m0 c1\n",
+    },
+];
+
+#[test]
+fn the_choices_of_a_run_are_printed(rt: HostRuntime) {
+    assert_meets(&rt, PRINTED);
+}
+
+/// What has no choices to print.
+const REFUSED: &[Refused] = &[
+    Refused {
+        words: "ra sim --as-choices --trace",
+        input: ONE_CLIENT,
+        word: "Usage",
+    },
+    Refused {
+        words: "ra sim --policy faulty --repeat 1 --as-choices",
+        input: ONE_CLIENT,
+        word: "Usage",
+    },
+    Refused {
+        words: "ra sim --policy seeded --seeds 1..2 --as-choices",
+        input: ONE_CLIENT,
+        word: "Usage",
+    },
+    Refused {
+        words: "ra sim --as-choices",
+        input: "nodes = 0",
+        word: "Shape",
+    },
+    Refused {
+        words: "ra sim --policy listed --choices=m0 --as-choices",
+        input: ONE_CLIENT,
+        word: "BadPlace",
+    },
+];
+
+#[test]
+fn what_has_no_choices_is_refused(rt: HostRuntime) {
+    assert_refuses(&rt, REFUSED);
+}
+
+/// Returns the line without its end, or `None` where it has none.
+fn words_in(output: &[u8]) -> Option<&str> {
+    let line = output.strip_suffix(b"\n")?;
+    str::from_utf8(line).ok()
+}
+
+/// Returns whether two answers are the same.
+fn are_the_same(one: &Answered, other: &Answered) -> bool {
+    one.status == other.status && one.output.as_slice() == other.output.as_slice()
+}
+
+/// Returns whether the choices of a policy, listed, have its trace and its status.
+fn makes_again<T: AllocGlobal + Threads + Wait + Abort + Sync>(
+    rt: &T,
+    policy: &str,
+    script: &str,
+) -> bool {
+    let (Ok(asked), Ok(traced)) = (
+        format!(in rt.alloc(); "ra sim {policy} --as-choices"),
+        format!(in rt.alloc(); "ra sim {policy} --trace"),
+    ) else {
+        return false;
+    };
+    let printed = run(rt, asked.as_str(), None, script);
+    let trace = run(rt, traced.as_str(), None, script);
+    let Some(choices) = words_in(printed.output.as_slice()) else {
+        return false;
+    };
+    let line = "ra sim --trace --policy listed --choices";
+    let again = run(rt, line, Some(choices), script);
+    printed.status == trace.status && are_the_same(&again, &trace)
+}
+
+/// Returns whether it is so by chance from a seed, and where that loses messages, too.
+fn makes_seed_again<T: AllocGlobal + Threads + Wait + Abort + Sync>(
+    rt: &T,
+    seed: u64,
+    script: &str,
+) -> bool {
+    let (Ok(seeded), Ok(faulty)) = (
+        format!(in rt.alloc(); "--policy seeded --seed {seed}"),
+        format!(in rt.alloc(); "--policy faulty --lose 200 --seed {seed}"),
+    ) else {
+        return false;
+    };
+    makes_again(rt, seeded.as_str(), script) && makes_again(rt, faulty.as_str(), script)
+}
+
+#[test]
+fn the_choices_of_a_run_make_it_again(rt: HostRuntime) {
+    for script in [A_WRITER, TWO_CLIENTS, A_QUEUE] {
+        assert!(rt; makes_again(&rt, "--policy oldest", script));
+        assert!(rt; makes_again(&rt, "--policy newest", script));
+        for seed in 0..10u64 {
+            assert!(rt; makes_seed_again(&rt, seed, script), "seed {seed}");
+        }
+    }
+}

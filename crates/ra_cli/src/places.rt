@@ -1,0 +1,136 @@
+//! Where in what was read stands what a note is about, and who waits for whom.
+use crate::AnswerError;
+use crate::command_line::{Task, parse, text_of};
+use crate::error::RunScriptError;
+use crate::note_texts::{cause_text, mark_cause_text};
+use crate::outcome::Remark;
+use crate::refusal::Refusal;
+use crate::seen::Seen;
+use crate::serving::policy_of;
+use ra_cluster::ClusterError;
+use ra_explain::{
+    LineCause, choices_note, digits_note, frame_note, line_note, order_note, unfinished_note,
+};
+use ra_schedule::Policy;
+use ra_script::{PerformError, explain_script};
+use ra_stamp::Memory;
+use std::alloc::Global;
+
+/// What is said of a place, or nothing, where there is nothing to say or no memory for it: then the cause alone is named.
+type Said = Result<Option<String>, Memory>;
+
+/// Returns what is said of a script that is not performed.
+fn perform_place(alloc: Global, words: &[String], script: &[u8], why: PerformError) -> Said {
+    match why {
+        PerformError::Script(_) => explain_script(alloc, script),
+        PerformError::Drive(_) => {
+            choices_note(alloc, script, text_of(words, "--choices").unwrap_or(""))
+        }
+        _ => Ok(None),
+    }
+}
+
+/// Returns what is said of a script that threads do not run.
+fn run_place(alloc: Global, script: &[u8], why: RunScriptError) -> Said {
+    match why {
+        RunScriptError::Script(_) => explain_script(alloc, script),
+        RunScriptError::Cluster(ClusterError::OutOfOrder | ClusterError::Unreleased) => {
+            order_note(alloc, script)
+        }
+        _ => Ok(None),
+    }
+}
+
+/// Returns what is said of a frame that is not answered.
+fn answer_place(alloc: Global, input: &[u8], why: AnswerError) -> Said {
+    match why {
+        AnswerError::Frame(fault) => frame_note(alloc, input, fault),
+        AnswerError::Line | AnswerError::Hex => digits_note(alloc, input),
+        _ => Ok(None),
+    }
+}
+
+/// Returns the policy that words name, or `None` where they name none.
+fn policy_in(alloc: Global, words: &[String]) -> Option<Policy> {
+    let task = parse(alloc, words).ok()?;
+    match &task {
+        Task::Sim {
+            policy,
+            choices,
+            ..
+        } => policy_of(alloc, *policy, choices).ok(),
+        _ => None,
+    }
+}
+
+/// Returns what is said of a run that ended with something left to do.
+fn unfinished_place(alloc: Global, words: &[String], script: &[u8]) -> Said {
+    match policy_in(alloc, words) {
+        Some(policy) => unfinished_note(alloc, script, &policy),
+        None => Ok(None),
+    }
+}
+
+/// Returns a text up to the end of one of its lines, counted from 1, and how many lines are in that.
+fn through_line(text: &[u8], line: u64) -> (&[u8], u64) {
+    let mut feeds: u64 = 0;
+    for (place, byte) in text.iter().enumerate() {
+        if *byte == b'\n' {
+            feeds = feeds.saturating_add(1);
+            if feeds == line {
+                return (text.get(..place + 1).unwrap_or(text), feeds);
+            }
+        }
+    }
+    (text, feeds)
+}
+
+/// Returns what is said of a wrong line of a text that was read whole before it was looked at.
+fn line_in(alloc: Global, bytes: &[u8], line: u64, cause: LineCause, text: &str) -> Said {
+    let (tail, feeds) = through_line(bytes, line);
+    // Of a longer text only the first bytes are remembered.
+    if feeds < line && bytes.len() >= Seen::MAX_BYTES {
+        return Ok(None);
+    }
+    line_note(alloc, line, tail, feeds, cause, text)
+}
+
+/// Returns what is said of a wrong line.
+fn line_place(alloc: Global, seen: &Seen, line: u64, cause: LineCause, text: &str) -> Said {
+    if let Some(bytes) = seen.bytes() {
+        return line_in(alloc, bytes, line, cause, text);
+    }
+    let mut tail = Vec::new(alloc);
+    if seen.is_after_end() {
+        tail.extend_from_slice(b"end\n")?;
+    }
+    tail.extend_from_slice(seen.line())?;
+    line_note(alloc, line, &tail, seen.feeds(), cause, text)
+}
+
+/// Returns what is said of a remark that is about what was read.
+fn place_in(alloc: Global, words: &[String], bytes: &[u8], remark: &Remark) -> Said {
+    match *remark {
+        Remark::Refused(Refusal::Perform(why)) => perform_place(alloc, words, bytes, why),
+        Remark::Refused(Refusal::Cluster(why)) => run_place(alloc, bytes, why),
+        Remark::Refused(Refusal::Answer(why)) => answer_place(alloc, bytes, why),
+        Remark::Unfinished => unfinished_place(alloc, words, bytes),
+        _ => Ok(None),
+    }
+}
+
+/// Returns what there is to say of the place of what a remark is about, or `None`.
+pub fn place_of(alloc: Global, words: &[String], seen: &Seen, remark: &Remark) -> Option<String> {
+    let said = match *remark {
+        Remark::NoTrace { line, cause } => {
+            let text = cause_text(cause);
+            line_place(alloc, seen, line, LineCause::Trace(cause), text)
+        }
+        Remark::NoLog { line, cause } => {
+            let text = mark_cause_text(cause);
+            line_place(alloc, seen, line, LineCause::Marks(cause), text)
+        }
+        _ => place_in(alloc, words, seen.bytes()?, remark),
+    };
+    said.unwrap_or(None)
+}

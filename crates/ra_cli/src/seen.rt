@@ -1,0 +1,165 @@
+//! A reader that remembers what was read of it, so that it can be said where something is wrong.
+ghost use Rattle.std.specs.Prelude.{◌≡◌};
+
+use arrayvec::ArrayVec;
+use std::alloc::Global;
+use std::io;
+use std::io::{BufRead, Read};
+
+/// The most bytes of a line that are remembered: as many as are read of one.
+const MAX_LINE: usize = 128;
+
+/// What was read.
+#[derive(Drop)]
+pub struct Seen {
+    /// The first bytes that were read.
+    bytes: Vec<u8>,
+    /// Whether there was memory for them, and none was taken that was only looked at.
+    is_whole: bool,
+    /// The last line, and what the reader showed behind what was taken of it.
+    line: ArrayVec<u8, MAX_LINE>,
+    /// How many bytes of the line were taken.
+    taken: usize,
+    /// How many lines were taken whole.
+    feeds: u64,
+    /// Whether the line before was `end`.
+    is_after_end: bool,
+}
+
+impl Seen {
+    /// The most bytes that are remembered: as many as are read of a script.
+    pub const MAX_BYTES: usize = 65_537;
+
+    /// Makes that of a reader of which nothing was read.
+    fn new(alloc: Global) -> Seen {
+        Seen {
+            bytes: Vec::new(alloc),
+            is_whole: true,
+            line: ArrayVec::new(),
+            taken: 0,
+            feeds: 0,
+            is_after_end: false,
+        }
+    }
+
+    /// Returns the first bytes that were read, at most 65,537, or `None` if memory ran out, or where some were only looked at and then taken,
+    /// as those of a trace are.
+    pub fn bytes(&self) -> Option<&[u8]> {
+        if self.is_whole {
+            Some(self.bytes.as_slice())
+        } else {
+            None
+        }
+    }
+
+    /// Returns what was taken of the last line, at most 128 bytes, and its line feed if it came. It does not allocate.
+    pub fn line(&self) -> &[u8] {
+        let line = self.line.as_slice();
+        &line[..self.taken.min(line.len())]
+    }
+
+    /// Returns whether the line before the last one was `end`.
+    pub fn is_after_end(&self) -> bool {
+        self.is_after_end
+    }
+
+    /// Returns how many lines were taken with their line feeds.
+    pub fn feeds(&self) -> u64 {
+        self.feeds
+    }
+
+    /// Returns whether the last line was taken with its line feed.
+    fn is_over(&self) -> bool {
+        self.line().last() == Some(&b'\n')
+    }
+
+    /// Remembers the bytes that were read.
+    fn keep(&mut self, bytes: &[u8]) {
+        let room = Seen::MAX_BYTES.saturating_sub(self.bytes.len());
+        let first = &bytes[..bytes.len().min(room)];
+        // What comes after bytes for which there was no memory would stand at a wrong place.
+        self.is_whole = self.is_whole && self.bytes.extend_from_slice(first).is_ok();
+    }
+
+    /// Remembers what comes next, of which nothing is taken yet.
+    fn show(&mut self, next: &[u8]) {
+        if self.is_over() {
+            self.is_after_end = self.line() == b"end\n".as_slice();
+            self.taken = 0;
+        }
+        self.line.truncate(self.taken);
+        let room = self.line.remaining_capacity();
+        let shown = &next[..next.len().min(room)];
+        self.line.try_extend_from_slice(shown).ok();
+    }
+
+    /// Remembers that so many bytes are taken that were only looked at.
+    fn pass(&mut self, count: usize) {
+        self.is_whole = self.is_whole && count == 0;
+        self.take(count);
+    }
+
+    /// Remembers that so many bytes of what was shown are taken.
+    fn take(&mut self, count: usize) {
+        self.taken = self.taken.saturating_add(count).min(self.line.len());
+        if count > 0 && self.is_over() {
+            self.feeds = self.feeds.saturating_add(1);
+        }
+    }
+}
+
+/// A reader that remembers what was read of it. What it gives is what the reader in it gives.
+#[derive(Drop)]
+pub struct SeenReader<R> {
+    inner: R,
+    seen: Seen,
+}
+
+impl<R> SeenReader<R> {
+    /// Makes one of a reader. It does not allocate, and reads that follow do so for what they remember, unless memory runs out.
+    pub fn new(alloc: Global, inner: R) -> SeenReader<R>
+        ensures { result.inner ≡ inner }
+    {
+        SeenReader {
+            inner,
+            seen: Seen::new(alloc),
+        }
+    }
+
+    /// Returns what was read.
+    pub fn seen(&self) -> &Seen {
+        &self.seen
+    }
+}
+
+impl<R: Read> Read for SeenReader<R> {
+    ghost remaining = { λ reader. R.remaining reader.inner };
+
+    fn read(&mut self, buf: &mut [u8]) -> io::Result<usize> {
+        let count = self.inner.read(buf)?;
+        let read = &buf[..count];
+        self.seen.keep(read);
+        self.seen.show(read);
+        self.seen.take(count);
+        Ok(count)
+    }
+}
+
+impl<R: BufRead> BufRead for SeenReader<R> {
+    ghost consumable_len = { λ reader. R.consumable_len reader.inner };
+
+    fn fill_buf(&mut self) -> io::Result<&[u8]> {
+        let shown = self.inner.fill_buf()?;
+        self.seen.show(shown);
+        if shown.is_empty() {
+            return Ok(b"");
+        }
+        // It shows the same once more, so that it is clear that the result is lent by the reader in it.
+        self.inner.fill_buf()
+    }
+
+    fn consume(&mut self, amount: usize) {
+        self.seen.pass(amount);
+        self.inner.consume(amount);
+    }
+}

@@ -1,0 +1,68 @@
+//! The requests that wait and hold at the end of a run, by its marks.
+use crate::note::Note;
+use ra_stamp::{Entry, Mark, conflicts};
+use std::alloc::Global;
+
+/// A request that was made and not given back.
+#[derive(Clone, Copy)]
+pub struct Claim {
+    pub entry: Entry,
+    /// Whether it was granted. Else it waits.
+    pub holds: bool,
+}
+
+impl Claim {
+    /// Returns whether it keeps out an entry that waits: it is another one on its name in a mode that conflicts, and holds or is earlier.
+    pub fn blocks(&self, entry: &Entry) -> bool {
+        self.entry.name == entry.name
+            && conflicts(self.entry.mode, entry.mode)
+            && (self.holds || self.entry.stamp < entry.stamp)
+    }
+}
+
+/// Returns where the claim of an entry stands, or the number of claims.
+fn place_of(claims: &[Claim], entry: &Entry) -> usize {
+    for (place, claim) in claims.iter().enumerate() {
+        if claim.entry == *entry {
+            return place;
+        }
+    }
+    claims.len()
+}
+
+/// Notes a mark, and returns whether there was memory for it.
+fn notes(claims: &mut Vec<Claim>, mark: &Mark) -> bool {
+    match mark {
+        Mark::Requested(entry) => claims
+            .push(Claim {
+                entry: *entry,
+                holds: false,
+            })
+            .is_ok(),
+        Mark::Entered(entry) => {
+            let place = place_of(claims, entry);
+            if let Some(claim) = claims.get_mut(place) {
+                claim.holds = true;
+            }
+            true
+        }
+        Mark::Left(entry) => {
+            let place = place_of(claims, entry);
+            if place < claims.len() {
+                claims.remove(place);
+            }
+            true
+        }
+    }
+}
+
+/// Returns what waits and holds after these marks, in the order of the requests. Where memory ran out the note keeps that. The cost is the
+/// number of marks times that of the requests that wait and hold at once.
+pub fn claims_after(alloc: Global, note: &mut Note, marks: &[Mark]) -> Vec<Claim> {
+    let mut claims = Vec::new(alloc);
+    for mark in marks {
+        let noted = notes(&mut claims, mark);
+        note.refuse_if(!noted);
+    }
+    claims
+}

@@ -1,0 +1,67 @@
+//! Which names a script leaves locked.
+use crate::note::Note;
+use crate::order::{Lock, kept_at};
+use crate::script::script_in;
+use ra_schedule::Script;
+use ra_stamp::Memory;
+use std::alloc::Global;
+
+/// The most clients of which something is said, and the most names of each.
+const MOST: u64 = 4;
+
+/// Adds the names that a client holds at its end, after so many other clients, and returns of how many there is something to say then.
+fn push_kept(note: &mut Note, script: &Script, client: u32, clients: u64) -> u64 {
+    let mut names = 0;
+    for place in 0..script.ops_of(client).unwrap_or(0) {
+        if let Some(lock) = kept_at(script, client, place) {
+            if clients < MOST && names < MOST {
+                push_lock(note, client, &lock, clients, names);
+            }
+            names = u64::saturating_add(names, 1);
+        }
+    }
+    if clients < MOST {
+        note.push_more(" and ", names, MOST);
+    }
+    clients.saturating_add(names.min(1))
+}
+
+/// Adds a name that a client holds, after so many other clients, and so many other names of this one.
+fn push_lock(note: &mut Note, client: u32, lock: &Lock, clients: u64, names: u64) {
+    if names > 0 {
+        note.push(", ");
+    } else {
+        note.push(if clients > 0 {
+            "; "
+        } else {
+            "the run is finished, with names still locked: "
+        });
+        note.client(client);
+        note.push(" holds ");
+    }
+    note.name(&lock.name);
+    note.mode(lock.mode);
+}
+
+/// Adds which clients hold names at their ends.
+fn push_holders(note: &mut Note, script: &Script) {
+    let mut clients = 0;
+    for place in 0..script.clients() {
+        clients = push_kept(note, script, place + 1, clients);
+    }
+    note.push_more("; and ", clients, MOST);
+}
+
+/// Returns which names the clients of the script of a text hold at their ends; or `None` where they hold none. It is meant for a run that
+/// is finished.
+///
+/// # Errors
+///
+/// `Memory`: memory ran out.
+pub fn script_end_note(alloc: Global, script: &[u8]) -> Result<Option<String>, Memory> {
+    let mut note = Note::new(alloc);
+    if let Some(script) = script_in(alloc, &mut note, script) {
+        push_holders(&mut note, &script);
+    }
+    note.finish()
+}

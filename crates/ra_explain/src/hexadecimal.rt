@@ -1,0 +1,73 @@
+//! Why an input is no line of hexadecimal digits.
+use crate::note::Note;
+use ra_stamp::Memory;
+use std::alloc::Global;
+
+/// The most bytes that a line may have, without its line feed.
+const MAX_LINE: usize = 256;
+
+/// Returns the first line of an input, without its line feed, and whether nothing stands after that.
+pub fn first_line(input: &[u8]) -> (&[u8], bool) {
+    for (place, byte) in input.iter().enumerate() {
+        if *byte == b'\n' {
+            return (&input[..place], place + 1 == input.len());
+        }
+    }
+    (input, true)
+}
+
+/// Returns the first byte that is no hexadecimal digit, and its place, or `None`.
+fn no_digit(line: &[u8]) -> Option<(usize, u8)> {
+    for (place, byte) in line.iter().enumerate() {
+        if !byte.is_ascii_hexdigit() {
+            return Some((place, *byte));
+        }
+    }
+    None
+}
+
+/// Adds which byte of a line is no hexadecimal digit.
+fn push_no_digit(note: &mut Note, place: usize, byte: u8) {
+    note.push("byte ");
+    note.number(place as u64);
+    note.push(" of the line, counted from 0, is no hexadecimal digit: it is ");
+    match byte {
+        b'\r' => note.push(
+            "a carriage return, and the line ends with a line feed alone, or with none",
+        ),
+        b'\t' => note.push("a tab"),
+        _ => note.quoted(&[byte]),
+    }
+}
+
+/// Adds what is wrong with the bytes of a line that is not too long.
+fn push_fault(note: &mut Note, line: &[u8]) {
+    if let Some((place, byte)) = no_digit(line) {
+        push_no_digit(note, place, byte);
+    } else if line.len() % 2 == 1 {
+        note.push("the line has ");
+        note.number(line.len() as u64);
+        note.push(" hexadecimal digits, an odd number: each byte of a frame has two");
+    }
+}
+
+/// Returns what is said of an input that is no line of an even number of hexadecimal digits: which byte is none, how many there are, or what
+/// stands after the line; or `None` where nothing is found. Its first 258 bytes are enough.
+///
+/// # Errors
+///
+/// `Memory`: memory ran out.
+pub fn digits_note(alloc: Global, input: &[u8]) -> Result<Option<String>, Memory> {
+    let mut note = Note::new(alloc);
+    let (line, is_alone) = first_line(input);
+    if line.len() > MAX_LINE {
+        note.push("the line has more than 256 bytes, and a frame has at most 56, in 112 digits");
+    } else if !is_alone {
+        note.push("something stands after the first line, which has ");
+        note.number(line.len() as u64);
+        note.push(" bytes: one frame is read at a time");
+    } else {
+        push_fault(&mut note, line);
+    }
+    note.finish()
+}

@@ -1,0 +1,27 @@
+//! What is said to a person of an input, after the fact: where in it the cause stands, and what would be right there. No clause speaks of
+//! what is said.
+#![tactic(auto)]
+
+mod choosing;
+mod claim;
+mod digits;
+mod ending;
+mod field;
+mod frame;
+mod hexadecimal;
+mod hint;
+mod line;
+mod note;
+mod order;
+mod script;
+mod standing;
+mod tail;
+mod unfinished;
+
+pub use choosing::choices_note;
+pub use ending::script_end_note;
+pub use frame::frame_note;
+pub use hexadecimal::digits_note;
+pub use line::{LineCause, line_note};
+pub use order::order_note;
+pub use unfinished::unfinished_note;

@@ -1,0 +1,30 @@
+//! The script of a text of which something is said, and its runs.
+use crate::note::Note;
+use ra_schedule::{DriveError, Policy, Script, Summary, summarize};
+use ra_script::{ScriptError, read_script};
+use std::alloc::Global;
+
+/// The most turns that a run may have.
+const MAX_TURNS: u64 = 16_777_216;
+
+/// Returns the script of a text, or `None` where it is none. Where memory ran out the note keeps that.
+pub fn script_in(alloc: Global, note: &mut Note, text: &[u8]) -> Option<Script> {
+    match read_script(alloc, text) {
+        Ok(script) => Some(script),
+        Err(fault) => {
+            note.refuse_if(fault == ScriptError::Memory);
+            None
+        }
+    }
+}
+
+/// Returns what comes of a script by a policy, or `None` where that is refused. Where memory ran out the note keeps that.
+pub fn run_of(alloc: Global, note: &mut Note, script: &Script, policy: &Policy) -> Option<Summary> {
+    match summarize(alloc, script, policy, MAX_TURNS) {
+        Ok(summary) => Some(summary),
+        Err(fault) => {
+            note.refuse_if(fault == DriveError::Memory);
+            None
+        }
+    }
+}

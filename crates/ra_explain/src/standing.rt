@@ -1,0 +1,129 @@
+//! Where the clients of a script stand when a run of it ends.
+use crate::claim::{Claim, claims_after};
+use crate::note::Note;
+use ra_schedule::{Choice, Choices, Op, Policy, Script};
+use ra_stamp::{Entry, Mark, Mode, Name};
+use ra_world::Report;
+use std::alloc::Global;
+
+/// The end of a run.
+#[derive(Drop)]
+pub struct Ending<'a> {
+    pub script: &'a Script,
+    pub policy: &'a Policy,
+    pub report: &'a Report,
+    /// What waits and holds then.
+    pub claims: Vec<Claim>,
+}
+
+/// Where a client stands.
+#[derive(Clone, Copy)]
+pub enum Standing {
+    /// It has done all its operations.
+    Done,
+    /// Its request waits.
+    Waits(Entry),
+    /// It asked, and is queued behind another client of its node.
+    Queued { name: Name, mode: Mode },
+    /// It has not begun its operation with this number, counted from 1.
+    Idle(u64),
+}
+
+impl Standing {
+    /// Adds where the client stands.
+    pub fn push(&self, note: &mut Note) {
+        match self {
+            Standing::Done => note.push(" has done all its operations"),
+            Standing::Waits(entry) => {
+                note.push(" waits for ");
+                note.name(&entry.name);
+                note.mode(entry.mode);
+            }
+            Standing::Queued { name, mode } => {
+                note.push(" queues for ");
+                note.name(name);
+                note.mode(*mode);
+            }
+            Standing::Idle(op) => {
+                note.push(" has not begun its operation ");
+                note.number(*op);
+            }
+        }
+    }
+}
+
+/// Returns how many operations of a client are done by these marks.
+fn done_by(marks: &[Mark], client: u32) -> u64 {
+    let mut done = 0;
+    for mark in marks {
+        if let Mark::Entered(entry) | Mark::Left(entry) = mark {
+            if entry.client == client {
+                done = u64::saturating_add(done, 1);
+            }
+        }
+    }
+    done
+}
+
+/// Returns how many of these choices are operations of a client.
+fn begun_by(choices: &Choices, client: u32) -> u64 {
+    let mut begun = 0;
+    for choice in choices.as_slice() {
+        if *choice == Choice::Client(client) {
+            begun = u64::saturating_add(begun, 1);
+        }
+    }
+    begun
+}
+
+/// Returns the request of a client that waits, if one does.
+fn waiting_of(claims: &[Claim], client: u32) -> Option<Entry> {
+    for claim in claims {
+        if claim.entry.client == client && !claim.holds {
+            return Some(claim.entry);
+        }
+    }
+    None
+}
+
+impl<'a> Ending<'a> {
+    /// Returns the end of a run of a script by a policy, of which this is the report. Where memory ran out the note keeps that.
+    pub fn new(
+        alloc: Global,
+        note: &mut Note,
+        script: &'a Script,
+        policy: &'a Policy,
+        report: &'a Report,
+    ) -> Ending<'a> {
+        Ending {
+            script,
+            policy,
+            report,
+            claims: claims_after(alloc, note, report.marks.as_slice()),
+        }
+    }
+
+    /// Returns whether a client has begun more operations than so many. Where the choices are not listed, each client goes on as long as
+    /// it can.
+    fn has_begun(&self, client: u32, done: u64) -> bool {
+        match self.policy {
+            Policy::Listed(choices) => begun_by(choices, client) > done,
+            _ => true,
+        }
+    }
+
+    /// Returns where a client stands.
+    pub fn standing(&self, client: u32) -> Standing {
+        let done = done_by(self.report.marks.as_slice(), client);
+        let Some(op) = self.script.op(client, done) else {
+            return Standing::Done;
+        };
+        if let Some(entry) = waiting_of(&self.claims, client) {
+            return Standing::Waits(entry);
+        }
+        match op {
+            Op::Lock(name, mode) if self.has_begun(client, done) => Standing::Queued { name, mode },
+            _ => Standing::Idle(done.saturating_add(1)),
+        }
+    }
+}

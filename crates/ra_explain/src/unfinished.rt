@@ -1,0 +1,151 @@
+//! Who waits for whom at the end of a run.
+use crate::claim::Claim;
+use crate::note::Note;
+use crate::script::{run_of, script_in};
+use crate::standing::{Ending, Standing};
+use ra_schedule::{Policy, Script};
+use ra_stamp::{Entry, Memory, Name, NodeId};
+use ra_world::Report;
+use std::alloc::Global;
+
+/// The most clients of which something is said.
+const MAX_CLIENTS: u64 = 4;
+
+/// The most requests that are named as those in the way of one.
+const MAX_BLOCKERS: u64 = 3;
+
+/// Returns what is said of messages where no client keeps a request out: it wants for one of them.
+fn want_text(report: &Report) -> &'static str {
+    if report.under_way == 0 {
+        "no client keeps it out, but a message was lost"
+    } else if report.lost == 0 {
+        "no client keeps it out, but a message is under way"
+    } else {
+        "no client keeps it out, but a message was lost or is under way"
+    }
+}
+
+/// Adds that a claim is in the way.
+fn push_blocker(note: &mut Note, ending: &Ending<'_>, claim: &Claim) {
+    note.client(claim.entry.client);
+    if claim.holds {
+        if let Standing::Done = ending.standing(claim.entry.client) {
+            note.push(", which has done all,");
+        }
+        note.push(" holds it");
+    } else {
+        note.push(" asked before");
+    }
+    note.mode(claim.entry.mode);
+}
+
+/// Adds what keeps a request out.
+fn push_blockers(note: &mut Note, ending: &Ending<'_>, entry: &Entry) {
+    let mut count = 0;
+    for claim in &ending.claims {
+        if claim.blocks(entry) {
+            if count < MAX_BLOCKERS {
+                note.push(if count == 0 { ": " } else { ", " });
+                push_blocker(note, ending, claim);
+            }
+            count = u64::saturating_add(count, 1);
+        }
+    }
+    note.push_more(" and ", count, MAX_BLOCKERS);
+    if count == 0 {
+        note.push(": ");
+        note.push(want_text(ending.report));
+    }
+}
+
+/// Returns the request of a node for a name that waits or holds, if one does.
+fn first_at(claims: &[Claim], node: NodeId, name: &Name) -> Option<Claim> {
+    for claim in claims {
+        if claim.entry.stamp.node == node && claim.entry.name == *name {
+            return Some(*claim);
+        }
+    }
+    None
+}
+
+/// Adds behind whom a client of this node queues for a name.
+fn push_first(note: &mut Note, claims: &[Claim], node: NodeId, name: &Name) {
+    let Some(first) = first_at(claims, node, name) else {
+        return;
+    };
+    note.push(" behind ");
+    note.client(first.entry.client);
+    note.push(if first.holds {
+        ", which holds it"
+    } else {
+        ", which waits for it"
+    });
+    note.mode(first.entry.mode);
+}
+
+/// Adds where a client stands that has something left to do.
+fn push_standing(note: &mut Note, ending: &Ending<'_>, client: u32, standing: &Standing) {
+    let Some(node) = ending.script.node_of(client) else {
+        return;
+    };
+    note.client(client);
+    note.push(" at node ");
+    note.number(u64::from(node.get()));
+    standing.push(note);
+    match standing {
+        Standing::Waits(entry) => push_blockers(note, ending, entry),
+        Standing::Queued { name, .. } => push_first(note, &ending.claims, node, name),
+        Standing::Done | Standing::Idle(_) => {}
+    }
+}
+
+/// Adds what is left to do at the end of a run.
+fn push_ending(note: &mut Note, ending: &Ending<'_>) {
+    note.push("the run ended with something left to do: ");
+    let mut count = 0;
+    for place in 0..ending.script.clients() {
+        let client = place + 1;
+        let standing = ending.standing(client);
+        if let Standing::Done = standing {
+            continue;
+        }
+        if count < MAX_CLIENTS {
+            note.push(if count == 0 { "" } else { "; " });
+            push_standing(note, ending, client, &standing);
+        }
+        count = u64::saturating_add(count, 1);
+    }
+    note.push_more("; and ", count, MAX_CLIENTS);
+    if count == 0 {
+        note.push("each client has done all its operations, and messages are under way");
+    }
+}
+
+/// Adds what is left to do where a script is driven by a policy.
+fn push_run(alloc: Global, note: &mut Note, script: &Script, policy: &Policy) {
+    let Some(summary) = run_of(alloc, note, script, policy) else {
+        return;
+    };
+    if !summary.finished {
+        let ending = Ending::new(alloc, note, script, policy, &summary.report);
+        push_ending(note, &ending);
+    }
+}
+
+/// Returns what is left to do where the script of a text is driven by a policy: of each client that waits or is queued, for what, and who is
+/// in its way; or `None` where the run is finished or refused. It costs as much as the run.
+///
+/// # Errors
+///
+/// `Memory`: memory ran out.
+pub fn unfinished_note(
+    alloc: Global,
+    script: &[u8],
+    policy: &Policy,
+) -> Result<Option<String>, Memory> {
+    let mut note = Note::new(alloc);
+    if let Some(script) = script_in(alloc, &mut note, script) {
+        push_run(alloc, &mut note, &script, policy);
+    }
+    note.finish()
+}

@@ -1,0 +1,105 @@
+//! How lists of choices are written, and which ones have no text.
+use crate::helpers::{ONE_LOCK_SCRIPT, assert_rows};
+use Choice::{Client, Lost, Message, Repeated};
+use ra_schedule::{Choice, Choices, Faults, Policy};
+use ra_script::{ChoicesError, Format, PerformError, choices_text, perform_as};
+use std::alloc::Global;
+
+/// Makes a list of choices, or `None` where there is no memory for it.
+fn listed(alloc: Global, choices: &[Choice]) -> Option<Choices> {
+    let mut list = Choices::new(alloc);
+    for choice in choices {
+        list.push(*choice).ok()?;
+    }
+    Some(list)
+}
+
+/// Returns whether this is how choices are written.
+fn is_written(alloc: Global, choices: &[Choice], text: &str) -> bool {
+    let Some(list) = listed(alloc, choices) else {
+        return false;
+    };
+    match choices_text(alloc, &list) {
+        Ok(written) => written.as_str() == text,
+        Err(_) => false,
+    }
+}
+
+/// Returns how many lists are written as is said beside them, up to the first that is not.
+fn are_written(alloc: Global, rows: &[(&[Choice], &str)]) -> usize {
+    for place in 0..rows.len() {
+        if !is_written(alloc, rows[place].0, rows[place].1) {
+            return place;
+        }
+    }
+    rows.len()
+}
+
+#[test]
+fn choices_are_written_in_order(rt: HostRuntime) {
+    const ROWS: &[(&[Choice], &str)] = &[
+        (&[], ""),
+        (&[Client(0)], "c0"),
+        (&[Message(0), Lost(0)], "m0 l0"),
+        (
+            &[Client(1), Message(0), Lost(12), Client(999_999_999)],
+            "c1 m0 l12 c999999999",
+        ),
+    ];
+    assert_rows(&rt, are_written(rt.alloc(), ROWS), ROWS.len());
+}
+
+/// Returns whether choices have no text.
+fn is_wordless(alloc: Global, choices: &[Choice]) -> bool {
+    match listed(alloc, choices) {
+        Some(list) => matches!(choices_text(alloc, &list), Err(ChoicesError::Choice)),
+        None => false,
+    }
+}
+
+/// Returns how many of these lists have no text, up to the first that has one.
+fn are_wordless(alloc: Global, rows: &[&[Choice]]) -> usize {
+    for place in 0..rows.len() {
+        if !is_wordless(alloc, rows[place]) {
+            return place;
+        }
+    }
+    rows.len()
+}
+
+#[test]
+fn repeats_and_ten_digits_have_no_text(rt: HostRuntime) {
+    const ROWS: &[&[Choice]] = &[
+        &[Repeated(0)],
+        &[Client(1), Message(0), Repeated(1)],
+        &[Client(1_000_000_000)],
+        &[Message(1_000_000_000), Client(1)],
+        &[Lost(18_446_744_073_709_551_615)],
+    ];
+    assert_rows(&rt, are_wordless(rt.alloc(), ROWS), ROWS.len());
+}
+
+/// Performs a script by chance that repeats 400 of 1,000 messages, by a seed, and returns why its choices are not written, or `None` where
+/// they are.
+fn fault_by(alloc: Global, seed: u64, output: &mut Vec<u8>) -> Option<PerformError> {
+    let faults = Faults::new(0, 400)?;
+    let policy = Policy::Faulty { seed, faults };
+    let mut reader = ONE_LOCK_SCRIPT.as_bytes();
+    perform_as(alloc, &mut reader, output, Format::Choices, &policy).err()
+}
+
+/// Returns whether by some seed below 100 a message is repeated, for which there is no word, so that nothing is written.
+fn is_refused_by_some_seed(alloc: Global) -> bool {
+    for seed in 0..100 {
+        let mut output = Vec::new(alloc);
+        if fault_by(alloc, seed, &mut output) == Some(PerformError::Choice) {
+            return output.is_empty();
+        }
+    }
+    false
+}
+
+#[test]
+fn a_run_with_a_repeat_has_no_words(rt: HostRuntime) {
+    assert!(rt; is_refused_by_some_seed(rt.alloc()));
+}
