@@ -2,9 +2,10 @@
 use crate::cut::cut;
 use crate::flights::{Fate, Flights, Moment, Start};
 use crate::part::Part;
-use crate::reading::{Line, Seat, line_of};
+use crate::seat::Seat;
 use crate::stays::Stays;
-use ra_stamp::{Memory, Message, Mode};
+use ra_stamp::{Mark, Memory, Message, Mode};
+use ra_trace::Line;
 use ra_world::{MarklessWorld, Step};
 use std::alloc::Global;
 
@@ -145,13 +146,13 @@ impl Course {
         is_drawn: bool,
     ) -> Result<(), Memory> {
         match line {
-            Line::First { .. } => {}
             Line::Stepped(step) => {
                 self.begin_row(number, step, is_drawn)?;
                 self.make_step(alloc, world, step)?;
             }
-            Line::Entered(seat) => self.stays.enter(seat, self.now),
-            Line::Left(seat) => self.stays.leave(seat, self.now),
+            Line::Marked(Mark::Entered(entry)) => self.stays.enter(&Seat::of(entry), self.now),
+            Line::Marked(Mark::Left(entry)) => self.stays.leave(&Seat::of(entry), self.now),
+            Line::Marked(Mark::Requested(_)) | Line::First { .. } | Line::Last => {}
         }
         Ok(())
     }
@@ -171,7 +172,7 @@ impl Course {
             }
             let (text, behind) = cut(b'\n', rest);
             rest = behind;
-            if let Some(line) = line_of(text) {
+            if let Some(line) = Line::parse(text) {
                 let number = before + 1;
                 self.take(alloc, world, number, &line, number >= part.from)?;
             }

@@ -11,7 +11,7 @@ mod page;
 mod part;
 mod pen;
 mod picture;
-mod reading;
+mod seat;
 mod shapes;
 mod stays;
 mod words;

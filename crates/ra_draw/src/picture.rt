@@ -9,10 +9,10 @@ use crate::page::Page;
 use crate::part::Part;
 use crate::pen::Pen;
 use crate::pen::Piece::{Number, Text};
-use crate::reading::{Line, line_of};
 use crate::shapes::Sheet;
 use crate::words::ending_of;
 use ra_stamp::Memory;
+use ra_trace::Line;
 use std::alloc::Global;
 
 /// How many requests and messages the whole run has.
@@ -106,12 +106,22 @@ fn draw_trace(alloc: Global, sheet: &mut Sheet, start: u64, trace: &[u8], headli
     draw_course(alloc, sheet, &mut course, start, trace, headline);
 }
 
+/// Returns the number of nodes and that with which each resource begins, where this is the first line of a trace.
+fn opening_of(line: &Line) -> Option<(u16, u64)> {
+    match line {
+        Line::First { nodes, start, .. } => Some((nodes.get(), *start)),
+        Line::Stepped(_) | Line::Marked(_) | Line::Last => None,
+    }
+}
+
 /// Returns what stands in the picture of a part of a trace, its attributes first.
 fn inner_of(alloc: Global, trace: &[u8], part: Part, totals: Totals) -> Result<Vec<u8>, Memory> {
     let mut sheet = Sheet::new(alloc);
     let (first, _) = cut(b'\n', trace);
     // A trace begins with a first line.
-    if let Some(Line::First { nodes, start }) = line_of(first) {
+    if let Some(line) = Line::parse(first)
+        && let Some((nodes, start)) = opening_of(&line)
+    {
         let headline = Headline {
             nodes,
             requests: short(totals.requests),

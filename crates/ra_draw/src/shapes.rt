@@ -4,7 +4,7 @@ use crate::flights::{Fate, Flight, Moment};
 use crate::page::{Bar, COLUMN, Page, Point, TOP};
 use crate::pen::Pen;
 use crate::pen::Piece::{Front, Node, Number, Text, Whole};
-use crate::reading::Seat;
+use crate::seat::Seat;
 use crate::stays::Stay;
 use crate::words::{kind_of, mode_text, start_word};
 use ra_stamp::{Memory, Message, Mode, Name, NodeId};

@@ -1,10 +1,12 @@
 -- A text begins with at most one line, and it is the one that is read.
-use Rattle.std.proofs.Common.{◌≡◌, ℕ, List, ◌++◌, ◌∷◌, Some, None, sym, ap, ◌∙◌, codes, append_assoc}
+use Rattle.std.proofs.Common.{◌≡◌, ℕ, List, ◌++◌, ◌∷◌, Option, Some, None, sym, ap, ◌∙◌, codes, append_assoc}
+use Rattle.std.specs.Prelude.{IfSome}
+use Rattle.std.proofs.lemmas.List.{append_cancel_right}
 use Rattle.std.proofs.lemmas.Option.{same_Some, some_pair_parts}
 use Rattle.ra_trace.specs.declared.line.Line.{Line}
 use Rattle.ra_trace.specs.declared.version.Version.{Version}
-use Rattle.ra_trace.specs.Forms.{BeginsReadable, cut, line_in}
-use Rattle.ra_trace.specs.TraceText.{BeginsWith}
+use Rattle.ra_trace.specs.Forms.{BeginsReadable, IsReadable, cut, line_in}
+use Rattle.ra_trace.specs.TraceText.{BeginsWith, line_text}
 use Rattle.ra_trace.proofs.Cuts.{cut-append, cut-only}
 use Rattle.ra_trace.proofs.Rows.{body, has_body, line_in-only}
 use Rattle.ra_trace.proofs.Versions.{begins_readable}
@@ -44,3 +46,17 @@ unread text bytes others cuts none line rest h =
     let same = some_pair_parts (body line) bytes rest others (sym (cut_line text line rest h) ∙ cuts) in
     let read = sym (ap line_in same.0) ∙ (has_body line h.0).read in
     cc
+
+-- nor is a text without its line feed a line, where none is read
+pub is_no_line : (text : List ℕ) → line_in text ≡ None → (line : Line) → IsReadable line → text ++ codes "\n" ≡ line_text line → ⊥
+is_no_line text none line fits same =
+    let has = has_body line fits in
+    let is = append_cancel_right text (body line) (codes "\n") (same ∙ has.text_is) in
+    let read = sym (ap line_in is) ∙ none in
+    let body_read = has.read in
+    cc
+
+-- and what is read is one
+pub is_line : (text : List ℕ) (found : Option Line) → found ≡ line_in text → IfSome found (λ line. IsReadable line × (text ++ codes "\n" ≡ line_text line))
+is_line text None same = tt
+is_line text (Some line) same = line_in-only text line (sym same)

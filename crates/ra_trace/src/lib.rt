@@ -27,7 +27,9 @@ pub use laws::{
     each_mark_log_has_one_verdict, each_text_has_one_verdict, texts_tell_their_steps,
     traces_tell_their_runs,
 };
+pub use line::Line;
 pub use marks::{check_marks, check_marks_buffered, check_marks_within};
 pub use marks_verdict::{MarkCause, MarksVerdict};
 pub use verdict::{Cause, Verdict};
+pub use version::Version;
 pub use writing::{trace_text, write_trace};

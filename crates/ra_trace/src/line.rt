@@ -1,3 +1,10 @@
+//! The lines of traces.
+ghost use Rattle.std.specs.Prelude.{◌≡◌, ◌++◌, None, IfSome, codes};
+ghost use Rattle.ra_trace.specs.declared.line.Line.{Line};
+ghost use Rattle.ra_trace.specs.Forms.{IsReadable};
+ghost use Rattle.ra_trace.specs.TraceText.{line_text};
+
+use crate::forms::line_of;
 use crate::version::Version;
 use ra_stamp::{Mark, NodeId};
 use ra_world::Step;
@@ -17,4 +24,15 @@ pub enum Line {
     Marked(Mark),
     /// The last one.
     Last,
+}
+
+impl Line {
+    /// Returns the line that a text is without its line feed, or `None` where it is that of no trace of either version. Whether it may stand
+    /// where it stands is not asked. It does not allocate, and the cost is linear in the text.
+    pub fn parse(text: &[u8]) -> Option<Line>
+        ensures line { IfSome result (λ line. IsReadable line × (text.now ++ codes "\n" ≡ line_text line)) }
+        ensures none { result ≡ None → (line : Line) → IsReadable line → text.now ++ codes "\n" ≡ line_text line → ⊥ }
+    {
+        line_of(text)
+    }
 }
