@@ -222,13 +222,67 @@ const LINES: &[Noted] = &[
         input: "request 1 1 r X 1\nenter 1 1 r X 1\nrequest 2 2 r X 2\nenter 2 2 r X 2\n",
         status: 3,
         output: "invalid 4 Held\n",
-        note: "ra: line 4, 'enter 2 2 r X 2': an entry that conflicts with this one holds the name\n",
+        note: "ra: line 4, 'enter 2 2 r X 2': an entry that conflicts with this one holds the name: client 1 at node 1 holds it (X) since line 2\n",
+    },
+    Noted {
+        words: "ra check",
+        input: "trace 1 2 0\nask 1 1 r X\nrequest 1 1 r X 1\nask 2 2 r X\nrequest 2 2 r X 1\nenter 2 2 r X 1\n",
+        status: 3,
+        output: "invalid 6 Table\n",
+        note: "ra: line 6, 'enter 2 2 r X 1': a lock table does not allow this mark: client 1 at node 1 asked for it (X) in line 3\n",
+    },
+    Noted {
+        words: "ra draw",
+        input: "trace 1 2 0\nask 1 1 r X\nrequest 1 1 r X 1\nask 2 2 r X\nrequest 2 2 r X 1\nenter 2 2 r X 1\n",
+        status: 3,
+        output: "invalid 6 Table\n",
+        note: "ra: line 6, 'enter 2 2 r X 1': a lock table does not allow this mark: client 1 at node 1 asked for it (X) in line 3\n",
     },
 ];
 
 #[test]
 fn why_a_line_is_wrong_is_said(rt: HostRuntime) {
     assert_says(&rt, LINES);
+}
+
+/// A client that is alone: a run takes two turns.
+const ONE_NODE: &str = "nodes = 1\nclient = [{ node = 1, ops = [\"X r\", \"U r\"] }]\n";
+
+/// Many seeds. A line is written each 2^23 turns, a run counted as 16 besides its own: that is 466,034 times 18, and no fewer.
+const MANY_SEEDS: &[Noted] = &[
+    Noted {
+        words: "ra sim --policy seeded --seeds 1..466033",
+        input: ONE_NODE,
+        status: 0,
+        output: "finished 466033 first 1\nturns 2 2\nmessages 0 0\n",
+        note: "",
+    },
+    Noted {
+        words: "ra sim --policy seeded --seeds 2..466035 --find stuck",
+        input: ONE_NODE,
+        status: 0,
+        output: "none\n",
+        note: "ra: 466034 seeds are done, up to 466035; finished: 466034\n",
+    },
+];
+
+/// The first of some seeds whose run is stuck, since the REQUEST is lost.
+const FIRST_STUCK: &[Noted] = &[Noted {
+    words: "ra sim --policy faulty --lose 1000 --seeds 3..9 --find stuck",
+    input: ONE_CLIENT,
+    status: 3,
+    output: "trace 2 2 0\nask 1 1 r X\nrequest 1 1 r X 1\nlose request 1 2 r X 1\nend\n",
+    note: "ra: the run ended with something left to do: client 1 at node 1 waits for 'r' (X): no client keeps it out, but a message was lost\n",
+}];
+
+#[test]
+fn who_waits_by_the_first_stuck_seed_is_said(rt: HostRuntime) {
+    assert_says(&rt, FIRST_STUCK);
+}
+
+#[test]
+fn how_far_many_seeds_are_is_said(rt: HostRuntime) {
+    assert_says(&rt, MANY_SEEDS);
 }
 
 /// Texts that are no script.

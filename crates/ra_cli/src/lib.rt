@@ -13,6 +13,7 @@ mod outcome;
 mod places;
 mod refusal;
 mod running;
+mod seed_progress;
 mod seen;
 mod serving;
 mod survey_text;

@@ -20,16 +20,22 @@ use std::alloc::{AllocError, Global};
 use std::io::Write;
 
 /// Writes the note on what came of words and of what was read, unless memory runs out, and where nothing is refused a line for each
-/// option that says nothing. That the writer fails is passed over.
+/// option that says nothing. Of many seeds the last one that was tried is told. That the writer fails is passed over.
 pub fn write_notes<N: Write>(
     alloc: Global,
     words: &[String],
     seen: &Seen,
     outcome: &Outcome,
+    last_seed: Option<u64>,
     notes: &mut N,
 ) {
     if let Some(remark) = &outcome.remark
-        && let Ok(note) = note_of(alloc, words, remark, place_of(alloc, words, seen, remark))
+        && let Ok(note) = note_of(
+            alloc,
+            words,
+            remark,
+            place_of(alloc, words, seen, remark, last_seed),
+        )
     {
         write_out(notes, note.as_bytes()).ok();
     }

@@ -11,7 +11,7 @@ use ra_cluster::ClusterError;
 use ra_explain::{
     LineCause, choices_note, digits_note, frame_note, line_note, order_note, unfinished_note,
 };
-use ra_schedule::Policy;
+use ra_schedule::{Policy, chance};
 use ra_script::{PerformError, explain_script};
 use ra_stamp::Memory;
 use std::alloc::Global;
@@ -50,8 +50,8 @@ fn answer_place(alloc: Global, input: &[u8], why: AnswerError) -> Said {
     }
 }
 
-/// Returns the policy that words name, or `None` where they name none.
-fn policy_in(alloc: Global, words: &[String]) -> Option<Policy> {
+/// Returns the policy that words name, of many seeds with the last one that was tried, or `None` where they name none.
+fn policy_in(alloc: Global, words: &[String], last_seed: Option<u64>) -> Option<Policy> {
     let task = parse(alloc, words).ok()?;
     match &task {
         Task::Sim {
@@ -59,13 +59,19 @@ fn policy_in(alloc: Global, words: &[String]) -> Option<Policy> {
             choices,
             ..
         } => policy_of(alloc, *policy, choices).ok(),
+        Task::Survey { faults, .. } => Some(chance(*faults, last_seed?)),
         _ => None,
     }
 }
 
 /// Returns what is said of a run that ended with something left to do.
-fn unfinished_place(alloc: Global, words: &[String], script: &[u8]) -> Said {
-    match policy_in(alloc, words) {
+fn unfinished_place(
+    alloc: Global,
+    words: &[String],
+    script: &[u8],
+    last_seed: Option<u64>,
+) -> Said {
+    match policy_in(alloc, words, last_seed) {
         Some(policy) => unfinished_note(alloc, script, &policy),
         None => Ok(None),
     }
@@ -85,42 +91,63 @@ fn through_line(text: &[u8], line: u64) -> (&[u8], u64) {
     (text, feeds)
 }
 
-/// Returns what is said of a wrong line of a text that was read whole before it was looked at.
-fn line_in(alloc: Global, bytes: &[u8], line: u64, cause: LineCause, text: &str) -> Said {
-    let (tail, feeds) = through_line(bytes, line);
-    // Of a longer text only the first bytes are remembered.
-    if feeds < line && bytes.len() >= Seen::MAX_BYTES {
-        return Ok(None);
+/// Returns what is said of a wrong line of a text of which the last line is remembered.
+fn last_line_place(
+    alloc: Global,
+    seen: &Seen,
+    last: &[u8],
+    line: u64,
+    cause: LineCause,
+    text: &str,
+) -> Said {
+    let mut tail = Vec::new(alloc);
+    if seen.is_after_end() {
+        tail.extend_from_slice(b"end\n")?;
     }
-    line_note(alloc, line, tail, feeds, cause, text)
+    tail.extend_from_slice(last)?;
+    line_note(alloc, line, &tail, seen.feeds(), cause, text)
 }
 
 /// Returns what is said of a wrong line.
 fn line_place(alloc: Global, seen: &Seen, line: u64, cause: LineCause, text: &str) -> Said {
     if let Some(bytes) = seen.bytes() {
-        return line_in(alloc, bytes, line, cause, text);
+        let (read, feeds) = through_line(bytes, line);
+        // Of a longer text only the first bytes are remembered.
+        if feeds >= line || bytes.len() < Seen::MAX_BYTES {
+            return line_note(alloc, line, read, feeds, cause, text);
+        }
     }
-    let mut tail = Vec::new(alloc);
-    if seen.is_after_end() {
-        tail.extend_from_slice(b"end\n")?;
+    match seen.line() {
+        Some(last) => last_line_place(alloc, seen, last, line, cause, text),
+        None => Ok(None),
     }
-    tail.extend_from_slice(seen.line())?;
-    line_note(alloc, line, &tail, seen.feeds(), cause, text)
 }
 
 /// Returns what is said of a remark that is about what was read.
-fn place_in(alloc: Global, words: &[String], bytes: &[u8], remark: &Remark) -> Said {
+fn place_in(
+    alloc: Global,
+    words: &[String],
+    bytes: &[u8],
+    remark: &Remark,
+    last_seed: Option<u64>,
+) -> Said {
     match *remark {
         Remark::Refused(Refusal::Perform(why)) => perform_place(alloc, words, bytes, why),
         Remark::Refused(Refusal::Cluster(why)) => run_place(alloc, bytes, why),
         Remark::Refused(Refusal::Answer(why)) => answer_place(alloc, bytes, why),
-        Remark::Unfinished => unfinished_place(alloc, words, bytes),
+        Remark::Unfinished => unfinished_place(alloc, words, bytes, last_seed),
         _ => Ok(None),
     }
 }
 
 /// Returns what there is to say of the place of what a remark is about, or `None`.
-pub fn place_of(alloc: Global, words: &[String], seen: &Seen, remark: &Remark) -> Option<String> {
+pub fn place_of(
+    alloc: Global,
+    words: &[String],
+    seen: &Seen,
+    remark: &Remark,
+    last_seed: Option<u64>,
+) -> Option<String> {
     let said = match *remark {
         Remark::NoTrace { line, cause } => {
             let text = cause_text(cause);
@@ -130,7 +157,7 @@ pub fn place_of(alloc: Global, words: &[String], seen: &Seen, remark: &Remark) -
             let text = mark_cause_text(cause);
             line_place(alloc, seen, line, LineCause::Marks(cause), text)
         }
-        _ => place_in(alloc, words, seen.bytes()?, remark),
+        _ => place_in(alloc, words, seen.bytes()?, remark, last_seed),
     };
     said.unwrap_or(None)
 }

@@ -14,8 +14,10 @@ const MAX_LINE: usize = 128;
 pub struct Seen {
     /// The first bytes that were read.
     bytes: Vec<u8>,
-    /// Whether there was memory for them, and none was taken that was only looked at.
+    /// Whether there was memory for them, and none was taken that was not remembered.
     is_whole: bool,
+    /// Whether they were looked at before they were taken, no more than a line at once.
+    is_by_lines: bool,
     /// The last line, and what the reader showed behind what was taken of it.
     line: ArrayVec<u8, MAX_LINE>,
     /// How many bytes of the line were taken.
@@ -24,6 +26,14 @@ pub struct Seen {
     feeds: u64,
     /// Whether the line before was `end`.
     is_after_end: bool,
+}
+
+/// Adds bytes to the first ones, as far as these are remembered, and returns whether there was memory for them.
+fn has_kept(first: &mut Vec<u8>, more: &[u8]) -> bool {
+    let room = Seen::MAX_BYTES.saturating_sub(first.len());
+    first
+        .extend_from_slice(&more[..more.len().min(room)])
+        .is_ok()
 }
 
 impl Seen {
@@ -35,6 +45,7 @@ impl Seen {
         Seen {
             bytes: Vec::new(alloc),
             is_whole: true,
+            is_by_lines: false,
             line: ArrayVec::new(),
             taken: 0,
             feeds: 0,
@@ -42,8 +53,8 @@ impl Seen {
         }
     }
 
-    /// Returns the first bytes that were read, at most 65,537, or `None` if memory ran out, or where some were only looked at and then taken,
-    /// as those of a trace are.
+    /// Returns the first bytes that were read, at most 65,537, or `None` if memory ran out, or more than a line was taken at once of what
+    /// was looked at.
     pub fn bytes(&self) -> Option<&[u8]> {
         if self.is_whole {
             Some(self.bytes.as_slice())
@@ -53,9 +64,19 @@ impl Seen {
     }
 
     /// Returns what was taken of the last line, at most 128 bytes, and its line feed if it came. It does not allocate.
-    pub fn line(&self) -> &[u8] {
+    fn taken_line(&self) -> &[u8] {
         let line = self.line.as_slice();
         &line[..self.taken.min(line.len())]
+    }
+
+    /// Returns what was taken of the last line, at most 128 bytes, and its line feed if it came, or `None` where it was not read line by line,
+    /// as a trace is. It does not allocate.
+    pub fn line(&self) -> Option<&[u8]> {
+        if self.is_by_lines {
+            Some(self.taken_line())
+        } else {
+            None
+        }
     }
 
     /// Returns whether the line before the last one was `end`.
@@ -70,21 +91,19 @@ impl Seen {
 
     /// Returns whether the last line was taken with its line feed.
     fn is_over(&self) -> bool {
-        self.line().last() == Some(&b'\n')
+        self.taken_line().last() == Some(&b'\n')
     }
 
     /// Remembers the bytes that were read.
     fn keep(&mut self, bytes: &[u8]) {
-        let room = Seen::MAX_BYTES.saturating_sub(self.bytes.len());
-        let first = &bytes[..bytes.len().min(room)];
         // What comes after bytes for which there was no memory would stand at a wrong place.
-        self.is_whole = self.is_whole && self.bytes.extend_from_slice(first).is_ok();
+        self.is_whole = self.is_whole && has_kept(&mut self.bytes, bytes);
     }
 
     /// Remembers what comes next, of which nothing is taken yet.
     fn show(&mut self, next: &[u8]) {
         if self.is_over() {
-            self.is_after_end = self.line() == b"end\n".as_slice();
+            self.is_after_end = self.taken_line() == b"end\n".as_slice();
             self.taken = 0;
         }
         self.line.truncate(self.taken);
@@ -93,9 +112,14 @@ impl Seen {
         self.line.try_extend_from_slice(shown).ok();
     }
 
-    /// Remembers that so many bytes are taken that were only looked at.
+    /// Remembers that so many bytes are taken that were looked at.
     fn pass(&mut self, count: usize) {
-        self.is_whole = self.is_whole && count == 0;
+        self.is_by_lines = true;
+        self.is_whole = self.is_whole
+            && match self.line.get(self.taken..self.taken.saturating_add(count)) {
+                Some(passed) => has_kept(&mut self.bytes, passed),
+                None => false,
+            };
         self.take(count);
     }
 

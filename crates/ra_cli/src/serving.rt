@@ -22,12 +22,13 @@ use crate::notes::{write_notes, write_words_note};
 use crate::outcome::{Outcome, Remark, UNFINISHED, marks_remark_of, remark_of};
 use crate::refusal::{Refusal, line_of};
 use crate::running::run_script;
+use crate::seed_progress::SeedProgress;
 use crate::seen::SeenReader;
 use crate::surveying::survey_script;
 use crate::verdict::verdict_text;
 use crate::{AnswerError, CommandFault, answer};
 use ra_draw::{DrawError, Part, draw};
-use ra_schedule::{Ending, Faults, Policy};
+use ra_schedule::{Ending, Faults, Observer, Policy};
 use ra_script::{ChoicesError, Format, PerformError, perform_as, read_choices};
 use ra_trace::{Cause, MarksVerdict, TraceError, Verdict, check_buffered, check_marks_buffered};
 use ra_world::write_out;
@@ -211,7 +212,7 @@ fn remark_on(find: Option<Ending>) -> Remark {
 
 /// Drives a cluster through the script of the reader under each of many seeds, and writes the lines of what came of them, or
 /// the first trace of those that come to an end.
-fn survey_seeds<R: Read, W: Write>(
+fn survey_seeds<R: Read, W: Write, O: Observer>(
     alloc: Global,
     faults: Option<Faults>,
     find: Option<Ending>,
@@ -219,6 +220,7 @@ fn survey_seeds<R: Read, W: Write>(
     last: u64,
     reader: &mut R,
     writer: &mut W,
+    observer: &mut O,
 ) -> Outcome
     ensures range { result.status ≤ 3 }
     ensures done { result.status ≡ 0 → SurveysBy faults find first last (R.remaining reader.old) (R.remaining reader.new)
@@ -229,7 +231,7 @@ fn survey_seeds<R: Read, W: Write>(
     ensures broken { (words : List (List ℕ)) → result.status ≡ 1
         → IsBroken words (R.remaining reader.old) (W.contents writer.old) (W.contents writer.new) }
 {
-    match survey_script(alloc, faults, find, first, last, reader, writer) {
+    match survey_script(alloc, faults, find, first, last, reader, writer, observer) {
         Ok(true) => Outcome::new(DONE, None),
         Ok(false) => Outcome::new(UNFINISHED, Some(remark_on(find))),
         Err(fault) => refuse(writer, Refusal::Cluster(fault)),
@@ -345,11 +347,12 @@ fn paint<R: Read, W: Write>(alloc: Global, part: Part, reader: &mut R, writer: &
 
 /// Does what the words ask for but the command `cluster`, and returns what came of it. Where they ask for that it does nothing,
 /// and returns `None`. It waits for nobody but the reader and the writer.
-fn serve_alone<R: BufRead, W: Write>(
+fn serve_alone<R: BufRead, W: Write, O: Observer>(
     alloc: Global,
     words: &[String],
     reader: &mut R,
     writer: &mut W,
+    observer: &mut O,
 ) -> Option<Outcome>
     ensures range { IfSome result (λ outcome. outcome.status ≤ 3) }
     ensures done { IfSome result (λ outcome. outcome.status ≡ 0
@@ -383,7 +386,7 @@ fn serve_alone<R: BufRead, W: Write>(
                 first,
                 last,
             },
-        ) => survey_seeds(alloc, faults, find, first, last, reader, writer),
+        ) => survey_seeds(alloc, faults, find, first, last, reader, writer, observer),
         Ok(Task::Check) => judge(alloc, reader, writer),
         Ok(Task::CheckMarks) => judge_marks(alloc, reader, writer),
         Ok(Task::Draw(part)) => paint(alloc, part, reader, writer),
@@ -395,12 +398,13 @@ fn serve_alone<R: BufRead, W: Write>(
 }
 
 /// Does what the words ask for, and returns what came of it.
-fn outcome_of<T: Threads + Wait + Sync, R: BufRead, W: Write>(
+fn outcome_of<T: Threads + Wait + Sync, R: BufRead, W: Write, O: Observer>(
     rt: &T,
     alloc: Global,
     words: &[String],
     reader: &mut R,
     writer: &mut W,
+    observer: &mut O,
 ) -> Outcome
     ensures range { result.status ≤ 3 }
     ensures done { result.status ≡ 0
@@ -415,7 +419,7 @@ fn outcome_of<T: Threads + Wait + Sync, R: BufRead, W: Write>(
     ensures broken { result.status ≡ 1
         → IsBroken (map string_bytes words.now) (R.remaining reader.old) (W.contents writer.old) (W.contents writer.new) }
 {
-    if let Some(outcome) = serve_alone(alloc, words, reader, writer) {
+    if let Some(outcome) = serve_alone(alloc, words, reader, writer, observer) {
         return outcome;
     }
     match run_script(rt, alloc, reader, writer) {
@@ -454,12 +458,12 @@ pub fn serve<T: Threads + Wait + Sync, R: BufRead, W: Write>(
     ensures broken { result ≡ 1
         → IsBroken (map string_bytes words.now) (R.remaining reader.old) (W.contents writer.old) (W.contents writer.new) }
 {
-    outcome_of(rt, alloc, words, reader, writer).status
+    outcome_of(rt, alloc, words, reader, writer, &mut ()).status
 }
 
 /// Does as [`serve`], and then writes a line for a person to `notes`, where something was refused, a text is no trace or a log is none,
 /// or a run ended with something left to do: what is wrong, where in what was read, and what would be right; and one for each option that
-/// says nothing. Each line begins with `ra: `. Nothing of it goes to `writer`, and it is left out where memory or `notes` fails, which
+/// says nothing. While many seeds take long, it writes there how far it is. Each line begins with `ra: `. Nothing of it goes to `writer`, and it is left out where memory or `notes` fails, which
 /// changes nothing else. To find the place in a script it is read once more, and for who waits for whom it is run once more.
 pub fn serve_with_notes<T: Threads + Wait + Sync, R: BufRead, W: Write, N: Write>(
     rt: &T,
@@ -483,7 +487,9 @@ pub fn serve_with_notes<T: Threads + Wait + Sync, R: BufRead, W: Write, N: Write
     ensures broken { result ≡ 1
         → IsBroken (map string_bytes words.now) (R.remaining reader.old.inner) (W.contents writer.old) (W.contents writer.new) }
 {
-    let outcome = outcome_of(rt, alloc, words, reader, writer);
-    write_notes(alloc, words, reader.seen(), &outcome, notes);
+    let mut progress = SeedProgress::new(alloc, notes);
+    let outcome = outcome_of(rt, alloc, words, reader, writer, &mut progress);
+    let last = progress.last();
+    write_notes(alloc, words, reader.seen(), &outcome, last, notes);
     outcome.status
 }

@@ -8,15 +8,12 @@ ghost use Rattle.ra_cli.specs.Surveyed as spec;
 use crate::error::RunScriptError;
 use crate::running::script_from;
 use crate::survey_text::survey_text;
-use ra_schedule::{Ending, Faults, Script, Survey, survey};
-use ra_script::{Printed, find_trace};
+use ra_schedule::{Ending, Faults, Observer, Script, Survey, survey};
+use ra_script::{MAX_TURNS, Printed, find_trace};
 use ra_stamp::Memory;
 use ra_world::write_out;
 use std::alloc::Global;
 use std::io::{Read, Write};
-
-/// The most turns that a script may take under each seed.
-const MAX_TURNS: u64 = 16_777_216;
 
 /// Returns whether each seed's run is finished. It does not allocate.
 fn all_finished(survey: &Survey) -> bool
@@ -30,17 +27,18 @@ fn all_finished(survey: &Survey) -> bool
 /// # Errors
 ///
 /// `Memory`.
-fn counted_of(
+fn counted_of<O: Observer>(
     alloc: Global,
     script: &Script,
     faults: Option<Faults>,
     first: u64,
     last: u64,
+    observer: &mut O,
 ) -> Result<Printed, Memory>
     ensures { (input : List ℕ) → script_of input ≡ Ok script.now
         → IfOk result (λ told. IsSurveyed faults first last input (string_bytes told.text) told.finished) }
 {
-    let counted = survey(alloc, script, faults, first, last, MAX_TURNS)?;
+    let counted = survey(alloc, script, faults, first, last, MAX_TURNS, observer)?;
     let text = survey_text(alloc, &counted)?;
     Ok(Printed {
         text,
@@ -54,18 +52,19 @@ fn counted_of(
 /// # Errors
 ///
 /// `Memory`.
-fn found_of(
+fn found_of<O: Observer>(
     alloc: Global,
     script: &Script,
     faults: Option<Faults>,
     ending: Ending,
     first: u64,
     last: u64,
+    observer: &mut O,
 ) -> Result<Printed, Memory>
     ensures { (input : List ℕ) → script_of input ≡ Ok script.now
         → IfOk result (λ told. IsFound faults ending first last input (string_bytes told.text) told.finished) }
 {
-    if let Some(found) = find_trace(alloc, script, faults, ending, first, last)? {
+    if let Some(found) = find_trace(alloc, script, faults, ending, first, last, observer)? {
         return Ok(found);
     }
     let text = String::from_str(alloc, "none\n")?;
@@ -87,27 +86,28 @@ fn none_is_good(ending: Ending) -> bool
 /// # Errors
 ///
 /// `Memory`.
-fn told_of(
+fn told_of<O: Observer>(
     alloc: Global,
     script: &Script,
     faults: Option<Faults>,
     find: Option<Ending>,
     first: u64,
     last: u64,
+    observer: &mut O,
 ) -> Result<Printed, Memory>
     ensures { (input : List ℕ) → script_of input ≡ Ok script.now
         → IfOk result (λ told. IsTold faults find first last input (string_bytes told.text) told.finished) }
 {
     match find {
-        None => counted_of(alloc, script, faults, first, last),
-        Some(ending) => found_of(alloc, script, faults, ending, first, last),
+        None => counted_of(alloc, script, faults, first, last, observer),
+        Some(ending) => found_of(alloc, script, faults, ending, first, last, observer),
     }
 }
 
 /// Reads the text of a script, drives a cluster through it by chance, with faults or without, under each seed from the first to the last,
 /// both of them included, each in at most 16,777,216 turns, and writes what came of them; or, where an end is looked for, goes up to the
 /// first seed whose run comes to it, and writes its trace, or `none`. Returns whether each run is finished, or the run of the trace, or
-/// where there is no trace whether it is runs that are stuck that were looked for. It takes at most 65,537 bytes from the reader, and no
+/// where there is no trace whether it is runs that are stuck that were looked for. The observer is told of each seed. It takes at most 65,537 bytes from the reader, and no
 /// read or write that failed is tried again.
 ///
 /// # Errors
@@ -120,7 +120,7 @@ fn told_of(
 /// 4. `Write`: the writer failed or took nothing, with bytes left to write. A prefix of the lines was written.
 ///
 /// After each of the others the writer is as before.
-pub fn survey_script<R: Read, W: Write>(
+pub fn survey_script<R: Read, W: Write, O: Observer>(
     alloc: Global,
     faults: Option<Faults>,
     find: Option<Ending>,
@@ -128,6 +128,7 @@ pub fn survey_script<R: Read, W: Write>(
     last: u64,
     reader: &mut R,
     writer: &mut W,
+    observer: &mut O,
 ) -> Result<bool, RunScriptError>
     ensures ok { IfOk result (SurveysBy faults find first last (R.remaining reader.old) (R.remaining reader.new)
         (W.contents writer.old) (W.contents writer.new)) }
@@ -144,7 +145,7 @@ pub fn survey_script<R: Read, W: Write>(
         × Consumes (R.remaining reader.old) (R.remaining reader.new) taken }
 {
     let script = script_from(alloc, reader)?;
-    let told = told_of(alloc, &script, faults, find, first, last)?;
+    let told = told_of(alloc, &script, faults, find, first, last, observer)?;
     write_out(writer, told.text.as_bytes())?;
     Ok(told.finished)
 }

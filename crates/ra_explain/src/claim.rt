@@ -1,4 +1,4 @@
-//! The requests that wait and hold at the end of a run, by its marks.
+//! The requests that wait and hold, by the marks that came.
 use crate::note::Note;
 use ra_stamp::{Entry, Mark, conflicts};
 use std::alloc::Global;
@@ -9,6 +9,8 @@ pub struct Claim {
     pub entry: Entry,
     /// Whether it was granted. Else it waits.
     pub holds: bool,
+    /// The place of the mark since which it does so, counted from 1.
+    pub since: u64,
 }
 
 impl Claim {
@@ -30,19 +32,21 @@ fn place_of(claims: &[Claim], entry: &Entry) -> usize {
     claims.len()
 }
 
-/// Notes a mark, and returns whether there was memory for it.
-fn notes(claims: &mut Vec<Claim>, mark: &Mark) -> bool {
+/// Notes the mark with this place, and returns whether there was memory for it.
+pub fn notes(claims: &mut Vec<Claim>, mark: &Mark, since: u64) -> bool {
     match mark {
         Mark::Requested(entry) => claims
             .push(Claim {
                 entry: *entry,
                 holds: false,
+                since,
             })
             .is_ok(),
         Mark::Entered(entry) => {
             let place = place_of(claims, entry);
             if let Some(claim) = claims.get_mut(place) {
                 claim.holds = true;
+                claim.since = since;
             }
             true
         }
@@ -60,8 +64,8 @@ fn notes(claims: &mut Vec<Claim>, mark: &Mark) -> bool {
 /// number of marks times that of the requests that wait and hold at once.
 pub fn claims_after(alloc: Global, note: &mut Note, marks: &[Mark]) -> Vec<Claim> {
     let mut claims = Vec::new(alloc);
-    for mark in marks {
-        let noted = notes(&mut claims, mark);
+    for (before, mark) in marks.iter().enumerate() {
+        let noted = notes(&mut claims, mark, (before as u64).saturating_add(1));
         note.refuse_if(!noted);
     }
     claims

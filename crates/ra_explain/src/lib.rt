@@ -12,6 +12,7 @@ mod hexadecimal;
 mod hint;
 mod line;
 mod note;
+mod obstacle;
 mod order;
 mod script;
 mod standing;

@@ -1,6 +1,7 @@
 //! What stands in the first wrong line of a trace or of a mark log.
 use crate::hint::{AT_FIRST, AT_MARKS, hint_at};
 use crate::note::Note;
+use crate::obstacle::{obstacle_of, push_claim};
 use crate::tail::{Tail, tail_of};
 use ra_stamp::Memory;
 use ra_trace::{Cause, MarkCause};
@@ -58,10 +59,20 @@ fn line_text<'a>(line: u64, tail: &Tail<'_>, cause: LineCause, other: &'a str) -
     }
 }
 
+/// Returns what is said of a mark before who is in its way, or an other text.
+fn obstacle_text(cause: LineCause, other: &str) -> &str {
+    match cause {
+        LineCause::Trace(_) => "a lock table does not allow this mark",
+        LineCause::Marks(_) => other,
+    }
+}
+
 /// Returns what is said of the first wrong line of a text, the one with the number `line`, counted from 1: which it is, the line itself, and
-/// what is wrong with it, which is `text` where nothing more precise is found. `tail` are the last bytes that were read, best some 256 of
-/// them: where they begin in the line before, what stands after `end` is known as such. `feeds` is how many line feeds were read in all:
-/// as many as `line` where the line was read to its line feed, and fewer where it has none or the text ends before it.
+/// what is wrong with it, which is `text` where nothing more precise is found. `read` are the last bytes that were read, up to the end of
+/// that line. Where they begin with the line before, what stands after `end` is known as such; and where they are all that were read, it is
+/// said who is in the way of a mark. `feeds` is how many line feeds were read in all: as many as `line` where the line was read to its line
+/// feed, and fewer where it has none or the text ends before it. The cost is the number of lines times that of the requests that wait and
+/// hold at once.
 ///
 /// # Errors
 ///
@@ -69,13 +80,13 @@ fn line_text<'a>(line: u64, tail: &Tail<'_>, cause: LineCause, other: &'a str) -
 pub fn line_note(
     alloc: Global,
     line: u64,
-    tail: &[u8],
+    read: &[u8],
     feeds: u64,
     cause: LineCause,
     text: &str,
 ) -> Result<Option<String>, Memory> {
     let mut note = Note::new(alloc);
-    let tail = tail_of(tail, feeds >= line);
+    let tail = tail_of(read, feeds >= line);
     note.push("line ");
     note.number(line);
     if tail.has_feed || !tail.line.is_empty() {
@@ -83,6 +94,12 @@ pub fn line_note(
         note.quoted(tail.line);
     }
     note.push(": ");
-    note.push(line_text(line, &tail, cause, text));
+    match obstacle_of(alloc, &mut note, line, tail.line, read, cause) {
+        Some(claim) => {
+            note.push(obstacle_text(cause, text));
+            push_claim(&mut note, &claim);
+        }
+        None => note.push(line_text(line, &tail, cause, text)),
+    }
     note.finish()
 }

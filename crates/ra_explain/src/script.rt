@@ -1,11 +1,8 @@
 //! The script of a text of which something is said, and its runs.
 use crate::note::Note;
 use ra_schedule::{DriveError, Policy, Script, Summary, summarize};
-use ra_script::{ScriptError, read_script};
+use ra_script::{MAX_TURNS, ScriptError, read_script};
 use std::alloc::Global;
-
-/// The most turns that a run may have.
-const MAX_TURNS: u64 = 16_777_216;
 
 /// Returns the script of a text, or `None` where it is none. Where memory ran out the note keeps that.
 pub fn script_in(alloc: Global, note: &mut Note, text: &[u8]) -> Option<Script> {

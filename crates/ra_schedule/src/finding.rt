@@ -2,10 +2,12 @@
 ghost use Rattle.std.specs.Prelude.{◌≡◌, IfOk};
 ghost use Rattle.ra_schedule.specs.Finding.{EndsSo, IsFirstSeed};
 ghost use Rattle.ra_schedule.specs.Finding as spec;
+ghost use Rattle.ra_schedule.specs.Survey.{chance};
 
+use crate::observer::Observer;
 use crate::outcomes::Outcome;
-use crate::surveying::{chance, outcome_of};
-use crate::{Faults, Policy, Script};
+use crate::surveying::outcome_by;
+use crate::{Faults, Script};
 use ra_stamp::Memory;
 use std::alloc::Global;
 
@@ -28,31 +30,34 @@ fn is_end(ending: Ending, outcome: Outcome) -> bool
     }
 }
 
-/// Returns whether a script comes to such an end under a policy, within `limit` turns.
+/// Returns whether a script comes to such an end by chance under a seed, within `limit` turns, and tells an observer what came of it.
 ///
 /// # Errors
 ///
 /// `Memory`.
-fn ends_so(
+fn ends_so<O: Observer>(
     alloc: Global,
     script: &Script,
-    policy: &Policy,
+    faults: &Option<Faults>,
+    seed: u64,
     limit: u64,
     ending: Ending,
+    observer: &mut O,
 ) -> Result<bool, Memory>
-    ensures { IfOk result (EndsSo script.now policy.now limit ending) }
+    ensures { IfOk result (EndsSo script.now (chance faults.now seed) limit ending) }
 {
-    let outcome = outcome_of(alloc, script, policy, limit)?;
+    let outcome = outcome_by(alloc, script, faults, seed, limit, observer)?;
     Ok(is_end(ending, outcome))
 }
 
 /// Looks for the least seed from the first to the last, both of them included, by which a script comes to an end by chance, with faults or
-/// without, within `limit` turns. It costs what [`summarize`](crate::summarize) costs, for each seed up to that one.
+/// without, within `limit` turns. The observer is told of each seed up to that one. It costs what [`summarize`](crate::summarize) costs, for
+/// each of them.
 ///
 /// # Errors
 ///
 /// `Memory`: memory ran out.
-pub fn first_seed(
+pub fn first_seed<O: Observer>(
     alloc: Global,
     script: &Script,
     faults: Option<Faults>,
@@ -60,6 +65,7 @@ pub fn first_seed(
     first: u64,
     last: u64,
     limit: u64,
+    observer: &mut O,
 ) -> Result<Option<u64>, Memory>
     ensures { IfOk result (IsFirstSeed script.now faults limit ending first last) }
 {
@@ -67,10 +73,10 @@ pub fn first_seed(
         return Ok(None);
     }
     for seed in first..last {
-        if ends_so(alloc, script, &chance(faults, seed), limit, ending)? {
+        if ends_so(alloc, script, &faults, seed, limit, ending, observer)? {
             return Ok(Some(seed));
         }
     }
-    let found = ends_so(alloc, script, &chance(faults, last), limit, ending)?;
+    let found = ends_so(alloc, script, &faults, last, limit, ending, observer)?;
     Ok(if found { Some(last) } else { None })
 }

@@ -4,31 +4,36 @@ ghost use Rattle.ra_script.specs.Finding.{IsFirstTrace, NoneEndsSo};
 ghost use Rattle.ra_script.specs.ScriptText.{script_of};
 
 use crate::performing::{MAX_TURNS, Printed, trace_of};
-use ra_schedule::{Ending, Faults, Script, chance, first_seed};
+use ra_schedule::{Ending, Faults, Observer, Script, chance, first_seed};
 use ra_stamp::Memory;
 use std::alloc::Global;
 
 /// Returns the trace of a script by the least seed from the first to the last, both of them included, by which it comes to an end by chance,
-/// with faults or without, each in at most 16,777,216 turns, or `None` where it does so by none of them. The cost is that of the runs up to
+/// with faults or without, each in at most 16,777,216 turns, or `None` where it does so by none of them. The observer is told of each seed up
+/// to it. The cost is that of the runs up to
 /// that one, and of [`perform_trace`](crate::perform_trace) for it.
 ///
 /// # Errors
 ///
 /// `Memory`: memory ran out.
-pub fn find_trace(
+pub fn find_trace<O: Observer>(
     alloc: Global,
     script: &Script,
     faults: Option<Faults>,
     ending: Ending,
     first: u64,
     last: u64,
+    observer: &mut O,
 ) -> Result<Option<Printed>, Memory>
     ensures { (input : List ℕ) → script_of input ≡ Ok script.now → IfOk result (λ found. MatchOption found
         (NoneEndsSo faults ending first last input)
         (λ printed. IsFirstTrace faults ending first last input (string_bytes printed.text) printed.finished)) }
 {
     let again = copy_of(&faults);
-    let Some(seed) = first_seed(alloc, script, faults, ending, first, last, MAX_TURNS)? else {
+    let found = first_seed(
+        alloc, script, faults, ending, first, last, MAX_TURNS, observer,
+    )?;
+    let Some(seed) = found else {
         return Ok(None);
     };
     // By that seed it comes to an end, so only `Memory` can come.

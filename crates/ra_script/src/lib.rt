@@ -20,6 +20,6 @@ pub use error::{ChoicesError, PerformError, ScriptError};
 pub use explaining::explain_script;
 pub use finding::find_trace;
 pub use format::Format;
-pub use performing::{Printed, perform, perform_as, perform_trace};
+pub use performing::{MAX_TURNS, Printed, perform, perform_as, perform_trace};
 pub use reading::read_script;
 pub use spelling::choices_text;

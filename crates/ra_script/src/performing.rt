@@ -16,7 +16,7 @@ use std::io::{Read, Write};
 /// The most bytes that are read: one more than a script may have.
 const MAX_INPUT: usize = 65_537;
 
-/// The most turns that a script may take.
+/// The most turns that a run of a script may take.
 pub const MAX_TURNS: u64 = 16_777_216;
 
 /// What is written of a script's run.
@@ -106,7 +106,8 @@ fn choices_of(alloc: Global, policy: &Policy, script: &Script) -> Result<Printed
     // What holds of each script is that it has 1 to 64 nodes.
     let _nodes = script.nodes();
     let recording = drive(alloc, script, policy, MAX_TURNS)?;
-    // The steps are those of a run of the script, so only `Memory` can come.
+    // The steps are those of a run of the script, so they have choices. That is tested and not proved; where none were found, it would be
+    // answered as if memory had run out.
     let Ok(Some(choices)) = list_choices(alloc, script, &recording.steps) else {
         return Err(PerformError::Memory);
     };

@@ -403,6 +403,57 @@ const LINES: &[Line] = &[
         cause: NO_MARK,
         text: "line 7, 'requests 2': this looks like the six totals that a report has after its marks, and that a mark log has not",
     },
+    Line {
+        number: 6,
+        tail: "trace 1 2 0\nask 1 1 r X\nrequest 1 1 r X 1\nask 2 2 r S\nrequest 2 2 r S 1\nenter 2 2 r S 1\n",
+        feeds: 6,
+        cause: LineCause::Trace(Cause::Table),
+        text: "line 6, 'enter 2 2 r S 1': a lock table does not allow this mark: client 1 at node 1 asked for it (X) in line 3",
+    },
+    Line {
+        number: 5,
+        tail: "request 1 7 r IX 1\nenter 1 7 r IX 1\nrequest 2 8 q X 1\nrequest 2 8 r S 2\nenter 2 8 r S 2\n",
+        feeds: 5,
+        cause: LineCause::Marks(MarkCause::Held),
+        text: "line 5, 'enter 2 8 r S 2': said of all: client 7 at node 1 holds it (IX) since line 2",
+    },
+    Line {
+        number: 5,
+        tail: "request 3 9 r S 1\nenter 3 9 r S 1\nrequest 1 7 r X 1\nrequest 2 8 r S 1\nenter 2 8 r S 1\n",
+        feeds: 5,
+        cause: LineCause::Marks(MarkCause::Earlier),
+        text: "line 5, 'enter 2 8 r S 1': said of all: client 7 at node 1 asked for it (X) in line 3",
+    },
+    Line {
+        number: 4,
+        tail: "request 1 7 r X 1\nrequest 2 8 r S 1\nenter 1 7 r X 1\nrequest 1 9 r S 2\n",
+        feeds: 4,
+        cause: LineCause::Marks(MarkCause::NodeBusy),
+        text: "line 4, 'request 1 9 r S 2': said of all: client 7 at node 1 holds it (X) since line 3",
+    },
+    // What was given back is in nobody's way.
+    Line {
+        number: 6,
+        tail: "request 1 7 r X 1\nenter 1 7 r X 1\nleave 1 7 r X 1\nrequest 3 9 r X 2\nrequest 1 7 r X 2\nrequest 1 7 r X 3\n",
+        feeds: 6,
+        cause: LineCause::Marks(MarkCause::NodeBusy),
+        text: "line 6, 'request 1 7 r X 3': said of all: client 7 at node 1 asked for it (X) in line 5",
+    },
+    // Nobody is named where lines before are missing, or nobody is in the way.
+    Line {
+        number: 6,
+        tail: "request 1 7 r X 1\nenter 1 7 r X 1\nrequest 2 8 r S 2\nenter 2 8 r S 2\n",
+        feeds: 6,
+        cause: LineCause::Marks(MarkCause::Held),
+        text: "line 6, 'enter 2 8 r S 2': said of all",
+    },
+    Line {
+        number: 2,
+        tail: "request 1 7 r X 1\nleave 1 7 r X 1\n",
+        feeds: 2,
+        cause: LineCause::Marks(MarkCause::NotHeld),
+        text: "line 2, 'leave 1 7 r X 1': said of all",
+    },
 ];
 
 /// Returns whether the row is said of its line.

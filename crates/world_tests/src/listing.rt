@@ -2,7 +2,8 @@
 use crate::helpers::r;
 use Ending::{Finished, Stuck};
 use ra_schedule::{
-    Choices, Ending, Faults, Op, Policy, Recording, Script, drive, first_seed, list_choices,
+    Choices, Ending, Faults, Figures, Observer, Op, Outcome, Policy, Recording, Script, drive,
+    first_seed, list_choices, survey,
 };
 use ra_stamp::{Memory, Mode, NodeId};
 use ra_world::{Step, Steps};
@@ -108,7 +109,7 @@ fn first_of(
     limit: u64,
 ) -> Result<Option<u64>, Memory> {
     match lockers(alloc, 1) {
-        Some(script) => first_seed(alloc, &script, None, ending, first, last, limit),
+        Some(script) => first_seed(alloc, &script, None, ending, first, last, limit, &mut ()),
         None => Err(Memory),
     }
 }
@@ -131,4 +132,55 @@ fn the_first_seed_of_an_end_is_found(rt: HostRuntime) {
     assert!(rt; matches!(first_of(alloc, Finished, 5, 7, 3), Ok(None)));
     assert!(rt; matches!(first_of(alloc, Stuck, 5, 7, 3), Ok(None)));
     assert!(rt; matches!(first_of(alloc, Finished, 7, 5, 4), Ok(None)));
+}
+
+/// What an observer was told.
+#[derive(Drop)]
+struct Told {
+    ended: Vec<(u64, Outcome)>,
+    is_whole: bool,
+}
+
+impl Observer for Told {
+    fn ended(&mut self, seed: u64, outcome: Outcome) {
+        self.is_whole = self.is_whole && self.ended.push((seed, outcome)).is_ok();
+    }
+}
+
+/// What comes of one client at two nodes: it asks, its REQUEST and the REPLY are delivered, and it leaves.
+const ONE_LOCK: Outcome = Outcome::Finished(Figures {
+    turns: 4,
+    messages: 2,
+});
+
+/// Makes an observer that was told nothing.
+fn nothing_told(alloc: Global) -> Told {
+    Told {
+        ended: Vec::new(alloc),
+        is_whole: true,
+    }
+}
+
+#[test]
+fn a_survey_tells_what_came_of_each_seed(rt: HostRuntime) {
+    let mut told = nothing_told(rt.alloc());
+    let script = lockers(rt.alloc(), 1).expect(&rt, "the script of one client");
+    assert!(rt; survey(rt.alloc(), &script, None, 5, 7, 4, &mut told).is_ok());
+    assert!(rt; told.is_whole);
+    assert!(rt; told.ended.as_slice() == [(5, ONE_LOCK), (6, ONE_LOCK), (7, ONE_LOCK)].as_slice());
+}
+
+#[test]
+fn a_search_tells_what_came_of_each_seed_up_to_the_one_it_finds(rt: HostRuntime) {
+    let mut told = nothing_told(rt.alloc());
+    let script = lockers(rt.alloc(), 1).expect(&rt, "the script of one client");
+    let found = first_seed(rt.alloc(), &script, None, Finished, 5, 7, 4, &mut told);
+    assert!(rt; matches!(found, Ok(Some(5))));
+    assert!(rt; told.ended.as_slice() == [(5, ONE_LOCK)].as_slice());
+    let cut_off = first_seed(rt.alloc(), &script, None, Finished, 6, 7, 3, &mut told);
+    assert!(rt; matches!(cut_off, Ok(None)));
+    assert!(rt;
+        told.ended.as_slice()
+            == [(5, ONE_LOCK), (6, Outcome::Limit), (7, Outcome::Limit)].as_slice()
+    );
 }

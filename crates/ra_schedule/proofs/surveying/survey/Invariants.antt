@@ -2,4 +2,4 @@ use Rattle.ra_schedule.proofs.SeedBySeed.{SoFar}
 use Rattle.ra_schedule.proofs.surveying.survey.Given as goal
 
 abbrev pub invariant-loop-seed : goal.invariant-loop-seed
-invariant-loop-seed l = SoFar l.script l.faults l.limit l.first l.seed l.survey
+invariant-loop-seed g l = SoFar l.script l.faults l.limit l.first l.seed l.survey

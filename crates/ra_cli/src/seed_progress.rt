@@ -1,0 +1,77 @@
+//! What is said to a person while many seeds take long.
+use crate::notes::write_line;
+use ra_schedule::{Figures, Observer, Outcome};
+use std::alloc::Global;
+use std::io::Write;
+
+/// The work after which a line is written, in turns: it takes some seconds.
+const WORK_OF_A_LINE: u64 = 1 << 23;
+
+/// What a run takes besides its turns, in turns.
+const WORK_OF_A_RUN: u64 = 16;
+
+/// What is known of the seeds that are done.
+#[derive(Drop)]
+pub struct SeedProgress<'a, N> {
+    alloc: Global,
+    notes: &'a mut N,
+    /// The work since the last line.
+    work: u64,
+    done: u64,
+    finished: u64,
+    /// The last one.
+    last: Option<u64>,
+}
+
+impl<'a, N: Write> SeedProgress<'a, N> {
+    /// Makes that of no seeds. It does not allocate.
+    pub fn new(alloc: Global, notes: &'a mut N) -> SeedProgress<'a, N> {
+        SeedProgress {
+            alloc,
+            notes,
+            work: 0,
+            done: 0,
+            finished: 0,
+            last: None,
+        }
+    }
+
+    /// Returns the last seed that is done, if one is.
+    pub fn last(&self) -> Option<u64> {
+        self.last
+    }
+
+    /// Writes how far it is, unless memory runs out. That the writer fails is passed over.
+    fn write(&mut self, seed: u64) {
+        let SeedProgress { done, finished, .. } = self;
+        let text = format!(in self.alloc;
+            "{done} seeds are done, up to {seed}; finished: {finished}"
+        );
+        if let Ok(text) = text {
+            write_line(self.notes, text.as_str());
+        }
+    }
+}
+
+impl<'a, N: Write> Observer for SeedProgress<'a, N> {
+    fn ended(&mut self, seed: u64, outcome: Outcome) {
+        let turns = match outcome {
+            Outcome::Finished(Figures { turns, .. }) | Outcome::Stuck(Figures { turns, .. }) =>
+                turns,
+            Outcome::Limit => WORK_OF_A_LINE,
+        };
+        self.last = Some(seed);
+        self.done = self.done.saturating_add(1);
+        if let Outcome::Finished(_) = outcome {
+            self.finished = self.finished.saturating_add(1);
+        }
+        self.work = self
+            .work
+            .saturating_add(turns)
+            .saturating_add(WORK_OF_A_RUN);
+        if self.work >= WORK_OF_A_LINE {
+            self.work = 0;
+            self.write(seed);
+        }
+    }
+}
