@@ -1,6 +1,7 @@
 mod Inputs
 mod Replies
 mod Refusals
+mod Answered
 mod Scripts
 mod ClusterRuns
 mod Surveys

@@ -1,5 +1,6 @@
 pub mod Line
 pub mod Answer
+pub mod Answered
 pub mod Words
 pub mod Refusals
 pub mod Performs

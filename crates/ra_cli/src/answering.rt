@@ -4,6 +4,7 @@ ghost use Rattle.hex.specs.Hex.{decode_of, encode_lower};
 ghost use Rattle.ra_frame.specs.Fits.{Fits};
 ghost use Rattle.ra_frame.specs.FrameText.{IsWrittenText};
 ghost use Rattle.ra_cli.specs.Answer.{Carries, IsMember, IsUnwanted, Reacts, AreLines, IsAnswered, Refuses};
+ghost use Rattle.ra_cli.specs.Answered.{ComesTo};
 ghost use Rattle.ra_automaton.specs.State.{IsForNode};
 
 use crate::AnswerError;
@@ -83,6 +84,19 @@ fn frame_in(alloc: Global, input: &[u8]) -> Result<Frame, AnswerError>
     Ok(frame)
 }
 
+/// Adds digits and a line feed to the text.
+///
+/// # Errors
+///
+/// `Memory`: a prefix of the line may be there.
+fn push_digits(text: &mut Vec<u8>, digits: &[u8]) -> Result<(), Memory>
+    ensures { OnOk result (text.new.items ≡ text.old.items ++ (digits.now ++ 10 ∷ [])) }
+{
+    text.extend_from_slice(digits)?;
+    text.push(b'\n')?;
+    Ok(())
+}
+
 /// Adds a frame's line to the text.
 ///
 /// # Errors
@@ -95,9 +109,7 @@ fn push_line(alloc: Global, text: &mut Vec<u8>, frame: &Frame) -> Result<(), Mem
 {
     let bytes = encode(alloc, frame)?;
     let digits = hex::encode(alloc, &bytes)?;
-    text.extend_from_slice(digits.as_bytes())?;
-    text.push(b'\n')?;
-    Ok(())
+    push_digits(text, digits.as_bytes())
 }
 
 /// Returns the lines of the frames of messages that are sent at a clock, in time linear in their number.
@@ -168,6 +180,29 @@ fn answer_to(alloc: Global, me: NodeId, nodes: u16, input: &[u8]) -> Result<Vec<
     Ok(lines_of(alloc, frame.clock + 1, &reaction.sends)?)
 }
 
+/// Reads one line and writes the answer to it, as `answer` does. Its clause is one relation, of which the clauses of `answer` are parts:
+/// each way out is looked at once then.
+///
+/// # Errors
+///
+/// Those of `answer`.
+fn answer_line<R: Read, W: Write>(
+    alloc: Global,
+    node: u16,
+    nodes: u16,
+    reader: &mut R,
+    writer: &mut W,
+) -> Result<(), AnswerError>
+    ensures { ComesTo node nodes (R.remaining reader.old) (R.remaining reader.new) (W.contents writer.old)
+        (W.contents writer.new) (reader.new ≡ reader.old) (writer.new ≡ writer.old) result }
+{
+    let me = member(node, nodes)?;
+    let input = read_up_to(alloc, reader, MAX_LINE + 2)?;
+    let output = answer_to(alloc, me, nodes, &input)?;
+    write_out(writer, &output)?;
+    Ok(())
+}
+
 /// Reads one line, a frame of version 1 or 2 in hexadecimal digits, and writes the frames that an idle node sends when it
 /// receives that frame, in version 2, in lower case, a line each. The node is number `node` of `nodes`, it has met no
 /// number before, and its clock was 0. It takes at most 258 bytes from the reader, and no read or write that failed is
@@ -223,9 +258,5 @@ pub fn answer<R: Read, W: Write>(
     ensures at_most { (taken : List ℕ) × (length taken ≤ 258)
         × Consumes (R.remaining reader.old) (R.remaining reader.new) taken }
 {
-    let me = member(node, nodes)?;
-    let input = read_up_to(alloc, reader, MAX_LINE + 2)?;
-    let output = answer_to(alloc, me, nodes, &input)?;
-    write_out(writer, &output)?;
-    Ok(())
+    answer_line(alloc, node, nodes, reader, writer)
 }

@@ -1,8 +1,11 @@
 ghost use Rattle.std.specs.Prelude.{◌≡◌, ◌↔◌, ◌∷◌, ◌++◌, ℕ, List, Any, map, IsTrue, IfOk, IfSome, string_bytes};
 ghost use Rattle.ra_cli.specs.Words.{ChecksBy, Gives, GivesNode, GivesText, IsHelpWord, OnAnswer, OnHelp};
 
+use crate::option_rows::{
+    ANSWER_OPTIONS, CHECK_OPTIONS, DRAW_OPTIONS, OptionRow, SIM_OPTIONS, with_options,
+};
 use clap::error::ErrorKind;
-use clap::{Arg, ArgAction, ArgMatches, Command, Error as ParseError, value_parser};
+use clap::{ArgMatches, Command, Error as ParseError};
 use ra_draw::Part;
 use ra_schedule::{Ending, Faults};
 use ra_script::Format;
@@ -12,12 +15,6 @@ use thiserror::Error;
 
 /// The version of the program, and those of what it reads.
 const VERSION: &str = "0.1.0 (frames 1 and 2, traces 1 and 2)";
-
-/// The words for the policies.
-const POLICIES: &[&str] = &["oldest", "newest", "seeded", "faulty", "listed"];
-
-/// The words for the ends of runs.
-const ENDINGS: &[&str] = &["finished", "stuck"];
 
 /// What is said of the command `answer` below its options.
 const ANSWER_HELP: &str = "\
@@ -228,6 +225,49 @@ Status 0: done. Status 1: the input or the output failed. Status 2: refused, by
 one line with the word that says why. Status 3: a run that ended with something
 left to do, or a trace or a log that is none.";
 
+/// A command: what it is called, what help says of it above and below its options, and those.
+#[derive(Clone, Copy)]
+struct CommandRow<'a> {
+    name: &'a str,
+    about: &'a str,
+    help: &'a str,
+    options: &'a [OptionRow<'a>],
+}
+
+/// The commands, in the order of help.
+const COMMANDS: &[CommandRow] = &[
+    CommandRow {
+        name: "answer",
+        about: "Answer one frame, a line of hexadecimal digits, as an idle node does",
+        help: ANSWER_HELP,
+        options: ANSWER_OPTIONS,
+    },
+    CommandRow {
+        name: "sim",
+        about: "Drive a cluster through a script: who asked, entered and left",
+        help: SIM_HELP,
+        options: SIM_OPTIONS,
+    },
+    CommandRow {
+        name: "cluster",
+        about: "Run a script by threads: who asked, entered and left",
+        help: CLUSTER_HELP,
+        options: &[],
+    },
+    CommandRow {
+        name: "check",
+        about: "Check the trace of a run, or the log of a lock service, line by line",
+        help: CHECK_HELP,
+        options: CHECK_OPTIONS,
+    },
+    CommandRow {
+        name: "draw",
+        about: "Draw the trace of a run as an SVG file",
+        help: DRAW_HELP,
+        options: DRAW_OPTIONS,
+    },
+];
+
 /// Which policy the words name.
 #[derive(Clone, Copy)]
 pub enum PolicyName {
@@ -292,208 +332,46 @@ impl fmt::Display for CommandFault {
     }
 }
 
-/// Makes an option with a value.
-fn valued<'a>(alloc: Global, name: &'a str, help: &'a str) -> Arg<'a> {
-    Arg::new(alloc, name)
-        .long(name)
-        .help(help)
-        .action(ArgAction::Set)
+/// Makes a command.
+fn command_of<'a>(alloc: Global, row: &CommandRow<'a>) -> Result<Command<'a>, AllocError> {
+    let command = Command::new(alloc, row.name)
+        .about(row.about)
+        .after_help(row.help);
+    with_options(alloc, command, row.options)
 }
 
-/// Makes the option of a number that must be given.
-fn number<'a>(alloc: Global, name: &'a str, help: &'a str) -> Arg<'a> {
-    valued(alloc, name, help)
-        .required(true)
-        .value_parser(value_parser!(u16))
-}
-
-/// Makes the option `--policy`.
-fn policy_option<'a>(alloc: Global) -> Arg<'a> {
-    valued(alloc, "policy", "Who chooses what comes next")
-        .value_parser(POLICIES)
-        .hide_possible_values(true)
-        .default_value("oldest")
-}
-
-/// Makes the option `--seed`.
-fn seed_option<'a>(alloc: Global) -> Arg<'a> {
-    valued(alloc, "seed", "The seed of chance, 0 to 2^64 - 1")
-        .value_parser(value_parser!(u64))
-        .default_value("0")
-}
-
-/// Makes an option for how many messages meet a fault.
-fn fault_option<'a>(alloc: Global, name: &'a str, help: &'a str) -> Arg<'a> {
-    valued(alloc, name, help)
-        .value_parser(value_parser!(u16))
-        .default_value("0")
-}
-
-/// Gives the command `sim` the options `--lose` and `--repeat`.
-fn with_fault_options<'a>(alloc: Global, sim: Command<'a>) -> Result<Command<'a>, AllocError> {
-    let (lose, repeat) = (
-        "How many of 1000 messages faulty loses",
-        "How many it repeats, 0 to 400",
-    );
-    sim.arg(fault_option(alloc, "lose", lose))?
-        .arg(fault_option(alloc, "repeat", repeat))
-}
-
-/// Makes the option `--choices`.
-fn choices_option<'a>(alloc: Global) -> Arg<'a> {
-    valued(
-        alloc,
-        "choices",
-        "The choices of the policy listed, as below",
-    )
-    .default_value("")
-    .hide_default_value(true)
-}
-
-/// Makes the option `--seeds`.
-fn seeds_option<'a>(alloc: Global) -> Arg<'a> {
-    valued(
-        alloc,
-        "seeds",
-        "Each of many seeds, as 1..1000: what came of them",
-    )
-}
-
-/// Makes the option `--find`.
-fn find_option<'a>(alloc: Global) -> Arg<'a> {
-    valued(
-        alloc,
-        "find",
-        "The first trace of them that ends so, as stuck",
-    )
-    .value_parser(ENDINGS)
-    .hide_possible_values(true)
-}
-
-/// Makes the option `--as-choices`.
-fn as_choices_option<'a>(alloc: Global) -> Arg<'a> {
-    Arg::new(alloc, "as-choices")
-        .long("as-choices")
-        .help("Print the choices of the run")
-        .action(ArgAction::SetTrue)
-}
-
-/// Makes the option `--trace`.
-fn trace_option<'a>(alloc: Global) -> Arg<'a> {
-    Arg::new(alloc, "trace")
-        .long("trace")
-        .help("Print the trace of the run")
-        .action(ArgAction::SetTrue)
-}
-
-/// Makes the command `answer`.
-fn answer_command<'a>(alloc: Global) -> Result<Command<'a>, AllocError> {
-    Command::new(alloc, "answer")
-        .about("Answer one frame, a line of hexadecimal digits, as an idle node does")
-        .after_help(ANSWER_HELP)
-        .arg(number(
-            alloc,
-            "node",
-            "The number of the node that answers, 1 to that of --nodes",
-        ))?
-        .arg(number(alloc, "nodes", "How many nodes there are, 1 to 64"))
-}
-
-/// Makes the command `sim`.
-fn sim_command<'a>(alloc: Global) -> Result<Command<'a>, AllocError> {
-    let sim = Command::new(alloc, "sim")
-        .about("Drive a cluster through a script: who asked, entered and left")
-        .after_help(SIM_HELP)
-        .arg(policy_option(alloc))?
-        .arg(seed_option(alloc))?;
-    with_fault_options(alloc, sim)?
-        .arg(choices_option(alloc))?
-        .arg(seeds_option(alloc))?
-        .arg(find_option(alloc))?
-        .arg(trace_option(alloc))?
-        .arg(as_choices_option(alloc))
-}
-
-/// Makes the option `--marks`.
-fn marks_option<'a>(alloc: Global) -> Arg<'a> {
-    Arg::new(alloc, "marks")
-        .long("marks")
-        .help("Check the log of any lock service, which has marks alone")
-        .action(ArgAction::SetTrue)
-}
-
-/// Makes the command `check`.
-fn check_command<'a>(alloc: Global) -> Result<Command<'a>, AllocError> {
-    Command::new(alloc, "check")
-        .about("Check the trace of a run, or the log of a lock service, line by line")
-        .after_help(CHECK_HELP)
-        .arg(marks_option(alloc))
-}
-
-/// Makes the option of the line with which the part of a trace begins.
-fn from_option<'a>(alloc: Global) -> Arg<'a> {
-    valued(alloc, "from", "The first line to draw")
-        .value_parser(value_parser!(u64))
-        .default_value("1")
-}
-
-/// Makes the option of the line with which it ends.
-fn to_option<'a>(alloc: Global) -> Arg<'a> {
-    valued(alloc, "to", "The last line to draw [default: the last one]")
-        .value_parser(value_parser!(u64))
-        .default_value("18446744073709551615")
-        .hide_default_value(true)
-}
-
-/// Makes the command `draw`.
-fn draw_command<'a>(alloc: Global) -> Result<Command<'a>, AllocError> {
-    Command::new(alloc, "draw")
-        .about("Draw the trace of a run as an SVG file")
-        .after_help(DRAW_HELP)
-        .arg(from_option(alloc))?
-        .arg(to_option(alloc))
-}
-
-/// Makes the command `cluster`.
-fn cluster_command<'a>(alloc: Global) -> Command<'a> {
-    Command::new(alloc, "cluster")
-        .about("Run a script by threads: who asked, entered and left")
-        .after_help(CLUSTER_HELP)
-}
-
-/// Makes the program without its commands.
-fn program<'a>(alloc: Global) -> Command<'a> {
+/// Makes the program with what is said of it.
+fn named_program<'a>(alloc: Global) -> Command<'a> {
     Command::new(alloc, "ra")
         .version(VERSION)
         .about("Lock named resources by messages alone")
         .after_help(STATUS_HELP)
+}
+
+/// Makes the program without its commands, of which one has to be named.
+fn program<'a>(alloc: Global) -> Command<'a> {
+    named_program(alloc)
         .disable_help_subcommand(true)
         .subcommand_required(true)
 }
 
-/// Gives the program a command, where there was memory to make it.
-fn with_command<'a>(
-    program: Command<'a>,
-    made: Result<Command<'a>, AllocError>,
-) -> Result<Command<'a>, AllocError> {
-    program.subcommand(made?)
-}
-
-/// Makes the command line that `ra` understands. The commands are listed in this order.
+/// Makes the command line that `ra` understands.
 pub fn command<'a>(alloc: Global) -> Result<Command<'a>, AllocError> {
-    let ra = with_command(program(alloc), answer_command(alloc))?;
-    let ra = with_command(ra, sim_command(alloc))?;
-    let ra = with_command(ra, Ok(cluster_command(alloc)))?;
-    let ra = with_command(ra, check_command(alloc))?;
-    with_command(ra, draw_command(alloc))
+    let mut ra = program(alloc);
+    for row in COMMANDS {
+        let made = command_of(alloc, row)?;
+        ra = ra.subcommand(made)?;
+    }
+    Ok(ra)
 }
 
-/// Returns the text after an option and `=` in a word, or `None` where it is no such word. It does not allocate.
+/// Returns the text after an option and `=` in a word, or `None` where it is no such word. No option has an `=` in it. It does not
+/// allocate.
 fn text_in<'a>(word: &'a str, option: &str) -> Option<&'a str>
     ensures { IfSome result (λ text. word.now ≡ option.now ++ 61 ∷ text.now) }
 {
-    let (name, text) = word.split_once('=')?;
-    if name == option { Some(text) } else { None }
+    let rest = word.strip_prefix(option)?;
+    rest.strip_prefix('=')
 }
 
 /// Returns the text that the words give an option, or `None`. The first word is the program's name. It does not allocate.
@@ -533,24 +411,34 @@ fn answer_task<'a>(words: &[String]) -> Option<Task<'a>>
     Some(Task::Answer { node, nodes })
 }
 
-/// Returns the policy that the words of the command `sim` name, or `None` where there are no such faults, whatever the policy.
-fn policy_name(sim: &ArgMatches) -> Option<PolicyName> {
-    let seed = sim.get_one("seed")?;
-    let faults = Faults::new(sim.get_one("lose")?, sim.get_one("repeat")?)?;
-    Some(match sim.get_str("policy")? {
+/// Returns the faults of chance that the words of the command `sim` give, or `None` where there are no such.
+fn faults_of(sim: &ArgMatches) -> Option<Faults> {
+    Faults::new(sim.get_one("lose")?, sim.get_one("repeat")?)
+}
+
+/// Returns the policy of a word, with what the words give policies of chance.
+fn policy_called(word: &str, seed: u64, faults: Faults) -> PolicyName {
+    match word {
         "newest" => PolicyName::Newest,
         "seeded" => PolicyName::Seeded(seed),
         "faulty" => PolicyName::Faulty { seed, faults },
         "listed" => PolicyName::Listed,
         _ => PolicyName::Oldest,
-    })
+    }
+}
+
+/// Returns the policy that the words of the command `sim` name, or `None` where there are no such faults, whatever the policy.
+fn policy_name(sim: &ArgMatches) -> Option<PolicyName> {
+    let seed = sim.get_one("seed")?;
+    let faults = faults_of(sim)?;
+    let word = sim.get_str("policy")?;
+    Some(policy_called(word, seed, faults))
 }
 
 /// Returns the first and the last seed of a text, as of `1..1000`, or `None` where it is none, or the first is above the last. It does not
 /// allocate.
 fn seeds_of(text: &str) -> Option<(u64, u64)> {
-    let (first, rest) = text.split_once('.')?;
-    let last = rest.strip_prefix('.')?;
+    let (first, last) = text.split_once("..")?;
     let first = first.parse().ok()?;
     let last = last.parse().ok()?;
     if first <= last {

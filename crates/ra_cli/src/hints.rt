@@ -40,21 +40,42 @@ const LIMITED: &[Limited] = &[
     },
 ];
 
-/// Writes a line for each option of `sim` that is given and says nothing. That the writer fails is passed over. It does not allocate.
-fn write_sim_hints<N: Write>(words: &[String], notes: &mut N) {
-    let policy = text_of(words, "--policy").unwrap_or("oldest");
-    for limited in LIMITED {
-        if text_of(words, limited.option).is_some() && !limited.policies.contains(&policy) {
+/// Returns whether the words give an option a text. It does not allocate.
+pub fn is_given(words: &[String], option: &str) -> bool {
+    text_of(words, option).is_some()
+}
+
+/// Returns whether an option says something to a policy. It does not allocate.
+fn is_for(limited: &Limited, policy: &str) -> bool {
+    for &other in limited.policies {
+        if other == policy {
+            return true;
+        }
+    }
+    false
+}
+
+/// Writes a line for each of the options that is given and says nothing to the policy. That the writer fails is passed over. It does not
+/// allocate.
+fn write_limits<N: Write>(words: &[String], options: &[Limited], policy: &str, notes: &mut N) {
+    for limited in options {
+        if is_given(words, limited.option) && !is_for(limited, policy) {
             write_line(notes, limited.text);
         }
     }
-    if policy == "listed" && text_of(words, "--choices").is_none() {
+}
+
+/// Writes a line for each option of `sim` that is given and says nothing. That the writer fails is passed over. It does not allocate.
+fn write_sim_hints<N: Write>(words: &[String], notes: &mut N) {
+    let policy = text_of(words, "--policy").unwrap_or("oldest");
+    write_limits(words, LIMITED, policy, notes);
+    if policy == "listed" && !is_given(words, "--choices") {
         write_line(
             notes,
             "--policy listed makes the choices that --choices lists, and there are none",
         );
     }
-    if text_of(words, "--seeds").is_some() && text_of(words, "--seed").is_some() {
+    if is_given(words, "--seeds") && is_given(words, "--seed") {
         write_line(notes, "--seed is ignored: --seeds says which ones");
     }
 }
@@ -81,7 +102,7 @@ pub fn write_hints<N: Write>(
     };
     if command.as_str() == "sim" && !asks_for_help(words) {
         write_sim_hints(words, notes);
-        if is_done && text_of(words, "--seeds").is_none() {
+        if is_done && !is_given(words, "--seeds") {
             write_end(alloc, seen, notes);
         }
     }

@@ -9,6 +9,7 @@ mod input;
 mod marks_verdict;
 mod note_texts;
 mod notes;
+mod option_rows;
 mod outcome;
 mod places;
 mod refusal;

@@ -3,6 +3,7 @@ ghost use Rattle.std.specs.Prelude.{◌≡◌, ◌++◌, string_bytes, IfOk, OnO
 ghost use Rattle.ra_trace.specs.declared.marks_verdict.MarksVerdict.{MarksVerdict};
 ghost use Rattle.ra_cli.specs.Checks as spec;
 
+use crate::verdict::push_total;
 use ra_stamp::Memory;
 use ra_trace::{MarkCause, MarksVerdict};
 use ra_world::{push_field, push_number};
@@ -32,12 +33,9 @@ fn push_valid(text: &mut String, requests: u64, grants: u64) -> Result<(), Memor
     ensures { OnOk result
         (string_bytes text.new ≡ string_bytes text.old ++ spec.marks_verdict_text (MarksVerdict.Valid requests grants)) }
 {
-    text.push_str("valid\nrequests")?;
-    push_number(text, requests)?;
-    text.push_str("\ngrants")?;
-    push_number(text, grants)?;
-    text.push_str("\n")?;
-    Ok(())
+    text.push_str("valid\n")?;
+    push_total(text, "requests", u128::from(requests))?;
+    push_total(text, "grants", u128::from(grants))
 }
 
 /// Adds the line of a log whose marks are none, with its first wrong line and why.

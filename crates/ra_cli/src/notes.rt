@@ -164,7 +164,11 @@ fn answer_text(why: AnswerError) -> &'static str {
         AnswerError::ClockFull =>
             "the clock of the frame is 2^62, so that there is none for an answer",
         AnswerError::Memory => NO_MEMORY,
-        _ => "",
+        AnswerError::BadCount
+        | AnswerError::BadNode
+        | AnswerError::WrongNode
+        | AnswerError::Stranger
+        | AnswerError::Write => "",
     }
 }
 
@@ -182,10 +186,15 @@ fn choices_note(alloc: Global, words: &[String], why: ChoicesError) -> Result<St
     }
 }
 
+/// Returns whether a word is a choice.
+fn is_choice(alloc: Global, word: &str) -> bool {
+    !word.is_empty() && read_choices(alloc, word).is_ok()
+}
+
 /// Returns the first word of a text that is no choice, or an empty one.
 fn first_no_choice(alloc: Global, text: &str) -> &str {
     for word in text.split(' ') {
-        if word.is_empty() || read_choices(alloc, word).is_err() {
+        if !is_choice(alloc, word) {
             return word;
         }
     }

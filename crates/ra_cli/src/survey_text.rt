@@ -1,11 +1,27 @@
 //! The lines of a survey.
-ghost use Rattle.std.specs.Prelude.{◌≡◌, ◌++◌, string_bytes, IfOk, OnOk};
+ghost use Rattle.std.specs.Prelude.{◌≡◌, ◌++◌, codes, decimal, string_bytes, IfOk, OnOk};
+ghost use Rattle.ra_world.specs.Lines.{field};
 ghost use Rattle.ra_cli.specs.Surveyed as spec;
 
 use ra_schedule::{Spread, Survey, Tally};
 use ra_stamp::Memory;
 use ra_world::{push_field, push_number};
 use std::alloc::Global;
+
+/// Adds the first of the seeds that came to an end, and ends the line.
+///
+/// # Errors
+///
+/// `Memory`: there is none for it. A prefix of it may have been added.
+fn push_first(text: &mut String, first: u64) -> Result<(), Memory>
+    ensures { OnOk result
+        (string_bytes text.new ≡ string_bytes text.old ++ (field (codes "first") ++ field (decimal first) ++ codes "\n")) }
+{
+    push_field(text, "first")?;
+    push_number(text, first)?;
+    text.push_str("\n")?;
+    Ok(())
+}
 
 /// Adds the line of an end, where a seed came to it.
 ///
@@ -20,10 +36,7 @@ fn push_tally(text: &mut String, word: &str, tally: Option<Tally>) -> Result<(),
     };
     text.push_str(word)?;
     push_number(text, seeds)?;
-    push_field(text, "first")?;
-    push_number(text, first)?;
-    text.push_str("\n")?;
-    Ok(())
+    push_first(text, first)
 }
 
 /// Adds the line of a figure, where there is any.

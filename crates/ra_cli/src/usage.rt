@@ -1,11 +1,9 @@
 //! What the parser says of words that are no command line, on one line.
-use crate::command_line::{command, has_word, text_of};
+use crate::command_line::{command, has_word};
+use crate::hints::is_given;
 use clap::error::ErrorKind;
 use clap::{Command, Error as ParseError};
 use std::alloc::{AllocError, Global};
-
-/// The commands, each of which reads standard input.
-const COMMANDS: [&str; 5] = ["answer", "sim", "cluster", "check", "draw"];
 
 /// What is said of faults that can't be.
 const FAULTS_TEXT: &str =
@@ -22,14 +20,15 @@ const FIND_TEXT: &str = "--find looks for one of --seeds; see ra sim --help";
 const AS_CHOICES_TEXT: &str =
     "--as-choices is without --trace, and with --policy faulty only where --repeat is 0; see ra sim --help";
 
+/// Returns whether a word is a command, each of which reads standard input.
+fn is_command(word: &str) -> bool {
+    matches!(word, "answer" | "sim" | "cluster" | "check" | "draw")
+}
+
 /// Returns the command that the words name, or `None`.
 fn command_named(words: &[String]) -> Option<&str> {
     let name = words.get(1)?.as_str();
-    if COMMANDS.contains(&name) {
-        Some(name)
-    } else {
-        None
-    }
+    if is_command(name) { Some(name) } else { None }
 }
 
 /// Returns the word that the parser did not expect, where it is no option.
@@ -53,17 +52,13 @@ fn push_shown(text: &mut String, line: &str) -> Result<(), AllocError> {
 
 /// Adds a line of what the parser says: a tip after a semicolon, and any other after a space.
 fn push_line(text: &mut String, line: &str) -> Result<(), AllocError> {
-    if line.is_empty() {
-        return Ok(());
-    }
-    if let Some(tip) = line.strip_prefix("tip: ") {
-        text.push_str("; ")?;
-        return push_shown(text, tip);
-    }
-    if !text.is_empty() {
-        text.push_str(" ")?;
-    }
-    push_shown(text, line)
+    let (joint, shown) = match line.strip_prefix("tip: ") {
+        Some(tip) => ("; ", tip),
+        None if text.is_empty() || line.is_empty() => ("", line),
+        None => (" ", line),
+    };
+    text.push_str(joint)?;
+    push_shown(text, shown)
 }
 
 /// Adds what the parser says, without the lines of the usage and what stands after them.
@@ -92,28 +87,38 @@ fn push_advice(text: &mut String, words: &[String], said: &str) -> Result<(), Al
     write!(text, "; see ra {name} --help")
 }
 
+/// Returns what is said of words for help that stand beside others, and where more is said.
+fn help_text(alloc: Global, words: &[String]) -> Result<String, AllocError> {
+    let mut text = String::from_str(alloc, "-h and -V stand for themselves")?;
+    push_advice(&mut text, words, "")?;
+    Ok(text)
+}
+
+/// Returns what the parser says, and where more is said.
+fn said_text(alloc: Global, words: &[String], said: &str) -> Result<String, AllocError> {
+    let mut text = String::new(alloc);
+    push_said(&mut text, said)?;
+    push_advice(&mut text, words, said)?;
+    Ok(text)
+}
+
 /// Returns what the parser says of words by its error, and where more is said.
 fn error_text(alloc: Global, words: &[String], error: &ParseError) -> Result<String, AllocError> {
-    let mut text = String::new(alloc);
     if matches!(
         error.kind(),
         ErrorKind::DisplayHelp | ErrorKind::DisplayVersion
     ) {
-        text.push_str("-h and -V stand for themselves")?;
-        push_advice(&mut text, words, "")?;
-        return Ok(text);
+        return help_text(alloc, words);
     }
     let said = format!(in alloc; "{error}")?;
-    push_said(&mut text, said.as_str())?;
-    push_advice(&mut text, words, said.as_str())?;
-    Ok(text)
+    said_text(alloc, words, said.as_str())
 }
 
 /// Returns what is said of words with which the parser finds nothing wrong.
 fn unseen_text(words: &[String]) -> &'static str {
-    if text_of(words, "--seeds").is_some() {
+    if is_given(words, "--seeds") {
         SEEDS_TEXT
-    } else if text_of(words, "--find").is_some() {
+    } else if is_given(words, "--find") {
         FIND_TEXT
     } else if has_word(words, "--as-choices") {
         AS_CHOICES_TEXT

@@ -1,5 +1,6 @@
 //! The lines of a verdict.
 ghost use Rattle.std.specs.Prelude.{◌≡◌, ◌++◌, string_bytes, IfOk, OnOk};
+ghost use Rattle.ra_world.specs.Lines.{total_line};
 ghost use Rattle.ra_trace.specs.declared.verdict.Verdict.{Verdict};
 ghost use Rattle.ra_cli.specs.Checks as spec;
 
@@ -21,6 +22,20 @@ fn word_of(cause: Cause) -> &'static str
     }
 }
 
+/// Adds the line of a total.
+///
+/// # Errors
+///
+/// `Memory`: there is none for it. A prefix of it may have been added.
+pub fn push_total(text: &mut String, word: &str, total: u128) -> Result<(), Memory>
+    ensures { OnOk result (string_bytes text.new ≡ string_bytes text.old ++ total_line word.now total) }
+{
+    text.push_str(word)?;
+    push_number(text, total)?;
+    text.push_str("\n")?;
+    Ok(())
+}
+
 /// Adds the lines of a text that is a trace, of this many requests and messages.
 ///
 /// # Errors
@@ -30,12 +45,9 @@ fn push_valid(text: &mut String, requests: u128, messages: u128) -> Result<(), M
     ensures { OnOk result
         (string_bytes text.new ≡ string_bytes text.old ++ spec.verdict_text (Verdict.Valid requests messages)) }
 {
-    text.push_str("valid\nrequests")?;
-    push_number(text, requests)?;
-    text.push_str("\nmessages")?;
-    push_number(text, messages)?;
-    text.push_str("\n")?;
-    Ok(())
+    text.push_str("valid\n")?;
+    push_total(text, "requests", requests)?;
+    push_total(text, "messages", messages)
 }
 
 /// Adds the line of a text that is not one, with its first wrong line and why.

@@ -1,14 +1,17 @@
-use Rattle.std.proofs.Common.{◌∷◌, ◌++◌, ℕ, List, sym, ap, ◌∙◌, arith}
-use Rattle.std.specs.List.{after_first}
-use Rattle.std.proofs.Math.Dec.{eqb}
-use lib.Pointwise.{bytes_decides}
-use Rattle.ra_cli.proofs.Options.{cut}
+use Rattle.std.proofs.Common.{◌≡◌, ◌≢◌, ℕ, List, ◌∷◌, ◌++◌, Option, Some, None, MatchOption, IfSome, Bor, sym, ap, ◌∙◌, arith}
+use Rattle.std.proofs.lemmas.Str.Pattern.{strip_prefix_char}
 use Rattle.ra_cli.proofs.command_line.text_in.Goals as goal
 
-pub returns-then-eq : goal.returns-then-eq
-returns-then-eq c =
-    let word = c.args.word.now in
-    let same = (bytes_decides c.in_ok-name.name.now c.args.option.now).0 (sym c.eq.ensures ∙ c.if-eq.true) in
-    let (front, back, less) = c.in_ok-name.ensures.byte (omega arith) (λ w o h. h) in
-    cut 61 word less ∙ ap (λ (xs : List ℕ). xs ++ 61 ∷ after_first (λ b. eqb b 61) word) (sym front ∙ same)
-    ∙ ap (λ (xs : List ℕ). c.args.option.now ++ 61 ∷ xs) (sym back)
+-- a word that is an option and a rest is the option, a byte and what stands behind that byte in the rest
+behind : (byte : ℕ) (word option rest : List ℕ) (text : Option (Bor (List ℕ))) → word ≡ option ++ rest
+    → MatchOption text ((any : List ℕ) → rest ≢ byte ∷ any) (λ text. rest ≡ byte ∷ text.now) → IfSome text (λ text. word ≡ option ++ byte ∷ text.now)
+behind byte word option rest None whole stripped = tt
+behind byte word option rest (Some text) whole stripped = whole ∙ ap (λ (back : List ℕ). option ++ back) stripped
+
+pub returns : goal.returns
+returns c =
+    let rest = c.in_ok-rest.rest.now in
+    let (place, found, left, length) = c.in_ok-rest.ensures.cases in
+    behind 61 c.args.word.now c.args.option.now rest c.strip_prefix-2.result
+    (found.1 ∙ ap (λ (back : List ℕ). c.args.option.now ++ back) (sym left))
+    (strip_prefix_char 61 rest c.strip_prefix-2.result c.strip_prefix-2.ensures.cases (omega arith))
