@@ -30,6 +30,16 @@ mod many_seeds;
 #[cfg(test)]
 mod mark_logs;
 #[cfg(test)]
+mod noted_faults;
+#[cfg(test)]
+mod noted_lines;
+#[cfg(test)]
+mod noted_runs;
+#[cfg(test)]
+mod noted_scripts;
+#[cfg(test)]
+mod noted_words;
+#[cfg(test)]
 mod notes;
 #[cfg(test)]
 mod refused_frames;

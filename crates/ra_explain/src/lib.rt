@@ -5,6 +5,7 @@
 mod choosing;
 mod claim;
 mod digits;
+mod due;
 mod ending;
 mod field;
 mod frame;

@@ -1,4 +1,5 @@
 //! What stands in the first wrong line of a trace or of a mark log.
+use crate::due::push_due;
 use crate::hint::{AT_FIRST, AT_MARKS, hint_at};
 use crate::note::Note;
 use crate::obstacle::{obstacle_of, push_claim};
@@ -59,6 +60,11 @@ fn line_text<'a>(line: u64, tail: &Tail<'_>, cause: LineCause, other: &'a str) -
     }
 }
 
+/// Returns whether a line is wrong since another mark is due, or none.
+fn is_about_marks(cause: LineCause) -> bool {
+    matches!(cause, LineCause::Trace(Cause::Marks))
+}
+
 /// Returns what is said of a mark before who is in its way, or an other text.
 fn obstacle_text(cause: LineCause, other: &str) -> &str {
     match cause {
@@ -70,9 +76,9 @@ fn obstacle_text(cause: LineCause, other: &str) -> &str {
 /// Returns what is said of the first wrong line of a text, the one with the number `line`, counted from 1: which it is, the line itself, and
 /// what is wrong with it, which is `text` where nothing more precise is found. `read` are the last bytes that were read, up to the end of
 /// that line. Where they begin with the line before, what stands after `end` is known as such; and where they are all that were read, it is
-/// said who is in the way of a mark. `feeds` is how many line feeds were read in all: as many as `line` where the line was read to its line
-/// feed, and fewer where it has none or the text ends before it. The cost is the number of lines times that of the requests that wait and
-/// hold at once.
+/// said who is in the way of a mark, or which mark is due. `feeds` is how many line feeds were read in all: as many as `line` where the line
+/// was read to its line feed, and fewer where it has none or the text ends before it. The cost is the number of lines times that of the
+/// requests that wait and hold at once, or for the mark that is due that of the steps before it.
 ///
 /// # Errors
 ///
@@ -94,6 +100,9 @@ pub fn line_note(
         note.quoted(tail.line);
     }
     note.push(": ");
+    if is_about_marks(cause) && push_due(alloc, &mut note, line, read) {
+        return note.finish();
+    }
     match obstacle_of(alloc, &mut note, line, tail.line, read, cause) {
         Some(claim) => {
             note.push(obstacle_text(cause, text));

@@ -1,5 +1,5 @@
 //! Each growth refused: the call answers `Memory`, writes nothing, and does what it should when it is made again.
-use crate::explaining::{A_DEADLOCK, DEADLOCK_NOTE};
+use crate::explained_runs::{A_DEADLOCK, DEADLOCK_NOTE};
 use crate::helpers::{ONE_LOCK, ONE_LOCK_SCRIPT, failing};
 use crate::mark_logs::TWO_WRITERS;
 use crate::performing::ONE_LOCK_LINES;

@@ -4,9 +4,15 @@
 #[cfg(test)]
 mod checks;
 #[cfg(test)]
+mod choice_words;
+#[cfg(test)]
 mod choices;
 #[cfg(test)]
-mod explaining;
+mod explained_frames;
+#[cfg(test)]
+mod explained_lines;
+#[cfg(test)]
+mod explained_runs;
 #[cfg(test)]
 mod fronts;
 #[cfg(test)]
@@ -25,6 +31,12 @@ mod performing;
 mod pictures;
 #[cfg(test)]
 mod readers;
+#[cfg(test)]
+mod refusals;
+#[cfg(test)]
+mod script_cases;
+#[cfg(test)]
+mod script_clients;
 #[cfg(test)]
 mod scripts;
 #[cfg(test)]

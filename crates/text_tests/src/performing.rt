@@ -1,4 +1,4 @@
-//! How a script is performed by readers that fail while it is read, and by writers that fail while what comes of it is written.
+//! How a script is performed: as its trace, by readers that fail while it is read, and by writers that fail while its text is written.
 use crate::helpers::{ONE_LOCK, ONE_LOCK_LENGTH, ONE_LOCK_SCRIPT, assert_rows, failing};
 use Format::{Choices, Lines, Trace};
 use ra_schedule::Policy;
@@ -161,4 +161,21 @@ fn a_writer_that_takes_one_byte_at_a_time_gets_all(rt: HostRuntime) {
     assert!(rt; is_written_byte_by_byte(rt.alloc(), Lines, ONE_LOCK_LINES_LENGTH));
     assert!(rt; is_written_byte_by_byte(rt.alloc(), Trace, ONE_LOCK_LENGTH));
     assert!(rt; is_written_byte_by_byte(rt.alloc(), Choices, ONE_LOCK_CHOICES_LENGTH));
+}
+
+/// Returns whether a script is driven to its end, from the oldest message on, and this is its trace.
+fn is_traced(alloc: Global, script: &str, trace: &str) -> bool {
+    let mut reader = script.as_bytes();
+    let mut output = Vec::new(alloc);
+    match perform_trace(alloc, &mut reader, &mut output, &Policy::Oldest) {
+        Ok(finished) => finished && output.as_slice() == trace.as_bytes(),
+        Err(_) => false,
+    }
+}
+
+#[test]
+fn a_run_is_written_as_its_trace(rt: HostRuntime) {
+    let script = "nodes = 2\nclient = [{ node = 1, ops = [\"X r\", \"U r\"] }]\n";
+    assert!(rt; is_traced(rt.alloc(), script, ONE_LOCK));
+    assert!(rt; ONE_LOCK.len() == ONE_LOCK_LENGTH);
 }

@@ -1,0 +1,166 @@
+//! What is said of words: of those that are no command line, of options that say nothing, and on a terminal of what they wait for.
+use crate::frames::REQUEST;
+use crate::helpers::words_of;
+use crate::notes::{Noted, assert_says};
+use crate::scripts::{ONE_CLIENT, ONE_CLIENT_PRINTED};
+use ra_cli::{CommandFault, refuse_words_with_note, write_waiting_note};
+use std::alloc::Global;
+
+/// Words that are no command line.
+const USAGES: &[Noted] = &[
+    Noted {
+        words: "ra",
+        input: "",
+        status: 2,
+        output: "refused Usage\n",
+        note: "ra: 'ra' requires a subcommand but one was not provided [subcommands: answer, sim, cluster, check, draw]; see ra --help\n",
+    },
+    Noted {
+        words: "ra simm",
+        input: "",
+        status: 2,
+        output: "refused Usage\n",
+        note: "ra: unrecognized subcommand 'simm'; a similar subcommand exists: 'sim'; see ra --help\n",
+    },
+    Noted {
+        words: "ra check --mark",
+        input: "",
+        status: 2,
+        output: "refused Usage\n",
+        note: "ra: unexpected argument '--mark' found; a similar argument exists: '--marks'; see ra check --help\n",
+    },
+    Noted {
+        words: "ra sim script.toml",
+        input: ONE_CLIENT,
+        status: 2,
+        output: "refused Usage\n",
+        note: "ra: unexpected argument 'script.toml' found; a file is read as standard input: ra sim < script.toml; see ra sim --help\n",
+    },
+    Noted {
+        words: "ra answer --node 2",
+        input: REQUEST,
+        status: 2,
+        output: "refused Usage\n",
+        note: "ra: the following required arguments were not provided: --nodes <nodes>; see ra answer --help\n",
+    },
+    Noted {
+        words: "ra sim --policy older",
+        input: ONE_CLIENT,
+        status: 2,
+        output: "refused Usage\n",
+        note: "ra: invalid value 'older' for '--policy <policy>' [possible values: oldest, newest, seeded, faulty, listed]; a similar value exists: 'oldest'; see ra sim --help\n",
+    },
+    Noted {
+        words: "ra sim --policy faulty --lose 601 --repeat 400",
+        input: ONE_CLIENT,
+        status: 2,
+        output: "refused Usage\n",
+        note: "ra: --lose and --repeat are at most 1000 together, and --repeat is at most 400; see ra sim --help\n",
+    },
+    Noted {
+        words: "ra sim --policy seeded --seeds 2..1",
+        input: ONE_CLIENT,
+        status: 2,
+        output: "refused Usage\n",
+        note: "ra: --seeds is A..B, as 1..1000, with --policy seeded or faulty and without --trace and --as-choices; see ra sim --help\n",
+    },
+    Noted {
+        words: "ra sim --policy seeded --find stuck",
+        input: ONE_CLIENT,
+        status: 2,
+        output: "refused Usage\n",
+        note: "ra: --find looks for one of --seeds; see ra sim --help\n",
+    },
+    Noted {
+        words: "ra sim --policy faulty --repeat 1 --as-choices",
+        input: ONE_CLIENT,
+        status: 2,
+        output: "refused Usage\n",
+        note: "ra: --as-choices is without --trace, and with --policy faulty only where --repeat is 0; see ra sim --help\n",
+    },
+];
+
+#[test]
+fn what_the_parser_says_is_said_on_one_line(rt: HostRuntime) {
+    assert_says(&rt, USAGES);
+}
+
+/// Runs with an option that says nothing to them.
+const IGNORED: &[Noted] = &[
+    Noted {
+        words: "ra sim --seed 3",
+        input: ONE_CLIENT,
+        status: 0,
+        output: ONE_CLIENT_PRINTED,
+        note: "ra: --seed is ignored: a seed is for --policy seeded or faulty\n",
+    },
+    Noted {
+        words: "ra sim --policy seeded --lose 3 --repeat=4",
+        input: ONE_CLIENT,
+        status: 0,
+        output: ONE_CLIENT_PRINTED,
+        note: "ra: --lose is ignored: messages are lost by chance under --policy faulty alone\nra: --repeat is ignored: messages are repeated by chance under --policy faulty alone\n",
+    },
+    Noted {
+        words: "ra sim --policy=newest --choices c1",
+        input: ONE_CLIENT,
+        status: 0,
+        output: ONE_CLIENT_PRINTED,
+        note: "ra: --choices is ignored: choices are for --policy listed\n",
+    },
+    Noted {
+        words: "ra sim --policy seeded --seeds 1..2 --seed 3",
+        input: ONE_CLIENT,
+        status: 0,
+        output: "finished 2 first 1\nturns 4 4\nmessages 2 2\n",
+        note: "ra: --seed is ignored: --seeds says which ones\n",
+    },
+];
+
+#[test]
+fn an_option_that_says_nothing_is_said(rt: HostRuntime) {
+    assert_says(&rt, IGNORED);
+}
+
+/// Returns whether this is said of a line of words on a terminal.
+fn waits_for(alloc: Global, line: &str, said: &str) -> bool {
+    let mut notes = Vec::new(alloc);
+    let Some(words) = words_of(alloc, line, None) else {
+        return false;
+    };
+    write_waiting_note(words.as_slice(), &mut notes);
+    notes.as_slice() == said.as_bytes()
+}
+
+#[test]
+fn what_a_command_waits_for_is_said_on_a_terminal(rt: HostRuntime) {
+    let alloc = rt.alloc();
+    let frame =
+        "ra: a frame is read from standard input: type its digits and Enter, and then Ctrl-D\n";
+    let script =
+        "ra: a script is read from standard input: type it and then Ctrl-D, or name a file by < FILE\n";
+    let trace =
+        "ra: a trace is read from standard input: type it and then Ctrl-D, or name a file by < FILE\n";
+    assert!(rt; waits_for(alloc, "ra answer --node 1 --nodes 2", frame));
+    assert!(rt; waits_for(alloc, "ra sim", script) && waits_for(alloc, "ra cluster", script));
+    assert!(rt; waits_for(alloc, "ra check", trace) && waits_for(alloc, "ra draw", trace));
+    assert!(rt; waits_for(alloc, "ra sim --help", "") && waits_for(alloc, "ra", ""));
+    assert!(rt; waits_for(alloc, "ra simm", ""));
+}
+
+/// Returns whether this is said of words that are not there, and printed as ever.
+fn is_said(alloc: Global, fault: CommandFault, printed: &str, note: &str) -> bool {
+    let (mut output, mut notes) = (Vec::new(alloc), Vec::new(alloc));
+    let status = refuse_words_with_note(&mut output, fault, &mut notes);
+    let is_printed = status == 2 && output.as_slice() == printed.as_bytes();
+    is_printed && notes.as_slice() == note.as_bytes()
+}
+
+#[test]
+fn why_words_are_not_there_is_said(rt: HostRuntime) {
+    let alloc = rt.alloc();
+    let usage = "ra: a word of the command line is not UTF-8\n";
+    assert!(rt; is_said(alloc, CommandFault::Usage, "refused Usage\n", usage));
+    let memory = "ra: memory ran out\n";
+    assert!(rt; is_said(alloc, CommandFault::Memory, "refused Memory\n", memory));
+}

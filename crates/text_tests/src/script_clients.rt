@@ -1,0 +1,248 @@
+//! The nodes, the clients and the operations of a script: what is read of them, and when they are refused.
+use crate::helpers::Part::{Text, Times};
+use crate::helpers::{Part, all_kinds, assert_rows, r};
+use crate::script_cases::Answer::{Accepted, Refused};
+use crate::script_cases::{Around, Case, assert_cases, assert_refused, assert_refused_in};
+use ra_schedule::{Op, Script};
+use ra_script::{ScriptError, read_script};
+use ra_stamp::Mode;
+use std::alloc::Global;
+use std::process::Abort;
+
+/// Three clients at two nodes.
+const EXAMPLE: &str = r#"# a script
+nodes = 2
+
+[[client]]
+node = 1
+ops = ["X r", "U r"]
+
+[[client]]
+node = 2
+ops = ["S r", "X a-B_9.z", "U a-B_9.z", "X a-B_9.z"]
+
+[[client]]
+node = 1
+ops = []
+"#;
+
+/// Asserts that a script of one client of the one node is refused so with each of these lists of operations.
+fn assert_ops_refused(rt: &(impl Abort + AllocGlobal), lists: &[&str], wanted: ScriptError) {
+    let around = Around("client = [{node = 1, ops = [", "]}]\nnodes = 1\n");
+    assert_refused_in(rt, around, lists, wanted);
+}
+
+/// Returns whether a client is at this node and has so many operations.
+fn has_client(script: &Script, client: u32, node: u16, ops: u64) -> bool {
+    match (script.node_of(client), script.ops_of(client)) {
+        (Some(found), Some(count)) => found.get() == node && count == ops,
+        _ => false,
+    }
+}
+
+/// Returns whether a client has this operation at this place.
+fn has_op(script: &Script, client: u32, place: u64, wanted: Op) -> bool {
+    match script.op(client, place) {
+        Some(op) => op == wanted,
+        None => false,
+    }
+}
+
+/// Returns whether the operations of the example's clients are these.
+fn has_ops_of_example(script: &Script) -> bool {
+    has_op(script, 1, 0, Op::Lock(r(), Mode::Exclusive))
+        && has_op(script, 1, 1, Op::Unlock(r()))
+        && has_op(script, 2, 0, Op::Lock(r(), Mode::Shared))
+        && has_op(script, 2, 1, Op::Lock(all_kinds(), Mode::Exclusive))
+        && has_op(script, 2, 2, Op::Unlock(all_kinds()))
+}
+
+/// Returns whether a script has the nodes, the clients and the operations of the example.
+fn is_example(script: &Script) -> bool {
+    script.nodes() == 2
+        && script.clients() == 3
+        && has_client(script, 1, 1, 2)
+        && has_client(script, 2, 2, 4)
+        && has_client(script, 3, 1, 0)
+        && has_ops_of_example(script)
+}
+
+/// Returns whether the example is read.
+fn example_is_read(alloc: Global) -> bool {
+    match read_script(alloc, EXAMPLE.as_bytes()) {
+        Ok(script) => is_example(&script),
+        Err(_) => false,
+    }
+}
+
+#[test]
+fn an_example_gives_its_nodes_clients_and_operations(rt: HostRuntime) {
+    assert!(rt; example_is_read(rt.alloc()));
+}
+
+const WRONG_NODES: &[&str] = &[
+    // The nodes are looked at before the clients.
+    "nodes = 0\nclient = []\n",
+    "nodes = -1\nclient = []\n",
+    "nodes = 65\nclient = []\n",
+    "nodes = 65537\nclient = []\n",
+];
+
+#[test]
+fn there_are_1_to_64_nodes(rt: HostRuntime) {
+    const FIRST: &str = "nodes = 1\nclient = [{node = 1, ops = []}]\n";
+    const LAST: &str = "nodes = 64\nclient = [{node = 64, ops = []}]\n";
+    const CASES: &[Case] = &[
+        Case(&[Text(FIRST)], Accepted),
+        Case(&[Text(LAST)], Accepted),
+    ];
+    assert_refused(&rt, WRONG_NODES, ScriptError::Nodes);
+    assert_cases(&rt, CASES);
+}
+
+const WRONG_CLIENTS: &[&str] = &[
+    "nodes = 2\nclient = []\n",
+    "nodes = 2\nclient = [{node = 0, ops = []}]\n",
+    "nodes = 2\nclient = [{node = -1, ops = []}]\n",
+    // Each client's node is looked at before an operation.
+    "nodes = 2\nclient = [{node = 1, ops = ['?']}, {node = 3, ops = []}]\n",
+];
+
+/// 64 clients are accepted, and one more is refused before its operation is looked at.
+#[test]
+fn there_are_1_to_64_clients_each_at_a_node(rt: HostRuntime) {
+    const NODES: Part = Text("nodes = 2\n");
+    const CLIENTS: Part = Times(b"[[client]]\nnode = 2\nops = []\n", 64);
+    const PAST: Part = Text("[[client]]\nnode = 2\nops = ['?']\n");
+    const CASES: &[Case] = &[
+        Case(&[NODES, CLIENTS], Accepted),
+        Case(&[NODES, CLIENTS, PAST], Refused(ScriptError::Clients)),
+    ];
+    assert_refused(&rt, WRONG_CLIENTS, ScriptError::Clients);
+    assert_cases(&rt, CASES);
+}
+
+/// 1,024 operations of a client are accepted, and one more is refused before any is looked at, and before the next client is.
+#[test]
+fn a_client_has_at_most_1024_operations(rt: HostRuntime) {
+    const FRONT: Part = Text("nodes = 1\nclient = [{node = 1, ops = [\n");
+    const OPS: Part = Times(b"'X r', 'U r',\n", 512);
+    const PAST: Part = Text("'?']}, {node = 1, ops = ['?']}]\n");
+    const CASES: &[Case] = &[
+        Case(&[FRONT, OPS, Text("]}]\n")], Accepted),
+        Case(&[FRONT, OPS, PAST], Refused(ScriptError::Limit)),
+    ];
+    assert_cases(&rt, CASES);
+}
+
+const NO_OPS: &[&str] = &[
+    "'X  r'",
+    "'X r '",
+    "' X r'",
+    "'x r'",
+    "''",
+    "'X'",
+    "'X '",
+    "'Xr'",
+    "\"X\\tr\"",
+    "'Y r'",
+    "'X r', 'X é'",
+    // Words that are nearly those of modes.
+    "'SI r'",
+    "'XI r'",
+    "'SX r'",
+    "'SIXX r'",
+    "'ISX r'",
+    "'I r'",
+    "'six r'",
+    "'US r'",
+    // A word with no space or more than one after it.
+    "'SIX'",
+    "'SIX '",
+    "'SIXr'",
+    "'IS  r'",
+    "'S IX r'",
+    // A name of 33 bytes.
+    "'X 0123456789abcdef0123456789abcdefg'",
+];
+
+/// A name of 32 bytes is locked twice.
+const LONGEST: &str = "'X 0123456789abcdef0123456789abcdef', 'X 0123456789abcdef0123456789abcdef'";
+
+#[test]
+fn an_operation_is_a_word_a_space_and_a_name(rt: HostRuntime) {
+    assert_ops_refused(&rt, NO_OPS, ScriptError::Op);
+    assert_ops_refused(&rt, &[LONGEST], ScriptError::AlreadyHeld);
+}
+
+/// A client for each mode.
+const EACH_MODE: &str = r#"nodes = 1
+client = [
+    { node = 1, ops = ["S r", "U r"] },
+    { node = 1, ops = ["X r", "U r"] },
+    { node = 1, ops = ["IS r", "U r"] },
+    { node = 1, ops = ["IX r", "U r"] },
+    { node = 1, ops = ["SIX r", "U r"] },
+]
+"#;
+
+/// The modes of these clients, in their order.
+const MODES: &[Mode] = &[
+    Mode::Shared,
+    Mode::Exclusive,
+    Mode::IntentShared,
+    Mode::IntentExclusive,
+    Mode::SharedIntentExclusive,
+];
+
+/// Returns how many clients lock the name in their mode, and unlock it, up to the first that doesn't.
+fn modes_read(script: &Script) -> usize {
+    for place in 0..MODES.len() {
+        let client = (place as u32).wrapping_add(1);
+        let is_so = has_op(script, client, 0, Op::Lock(r(), MODES[place]))
+            && has_op(script, client, 1, Op::Unlock(r()));
+        if !is_so {
+            return place;
+        }
+    }
+    MODES.len()
+}
+
+/// Returns how many modes are read so in the script, up to the first that is not.
+fn modes_read_in_script(alloc: Global) -> usize {
+    match read_script(alloc, EACH_MODE.as_bytes()) {
+        Ok(script) => modes_read(&script),
+        Err(_) => 0,
+    }
+}
+
+#[test]
+fn each_mode_is_read_from_its_word(rt: HostRuntime) {
+    assert_rows(&rt, modes_read_in_script(rt.alloc()), MODES.len());
+}
+
+const NOT_HELD: &[&str] = &[
+    "'U r'",
+    "'X r', 'U s'",
+    "'X r', 'U r', 'U r'",
+    // The first fault of the first client that has one.
+    "'U r', '?'",
+];
+
+const ALREADY_HELD: &[&str] = &["'X r', 'X r'", "'S r', 'X s', 'X r'"];
+
+/// The first client is refused before the second is looked at.
+const FIRST_OF_TWO: &str =
+    "nodes = 1\nclient = [{node = 1, ops = ['U r']}, {node = 1, ops = ['?']}]\n";
+
+/// Two clients lock one name, and one of them locks it again in turn.
+const IN_TURN: &str =
+    "nodes = 1\nclient = [{node = 1, ops = ['S r', 'X s', 'U r', 'X r']}, {node = 1, ops = ['X s']}]\n";
+
+#[test]
+fn a_name_is_locked_and_unlocked_in_turn(rt: HostRuntime) {
+    assert_ops_refused(&rt, NOT_HELD, ScriptError::NotHeld);
+    assert_ops_refused(&rt, ALREADY_HELD, ScriptError::AlreadyHeld);
+    assert_refused(&rt, &[FIRST_OF_TWO], ScriptError::NotHeld);
+    assert_cases(&rt, &[Case(&[Text(IN_TURN)], Accepted)]);
+}
