@@ -3,7 +3,9 @@
 
 mod answering;
 mod command_line;
+mod command_rows;
 mod error;
+mod helps;
 mod hints;
 mod input;
 mod marks_verdict;

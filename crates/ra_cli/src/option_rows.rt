@@ -1,4 +1,5 @@
 //! The options of the commands, each a row of a table, so that they are all made by the same few lines.
+use crate::command_rows::CommandKind;
 use clap::builder::ValueParser;
 use clap::{Arg, ArgAction, Command};
 use std::alloc::{AllocError, Global};
@@ -53,7 +54,7 @@ const LONG: OptionRow = OptionRow {
 };
 
 /// The options of the command `answer`.
-pub const ANSWER_OPTIONS: &[OptionRow] = &[
+const ANSWER_OPTIONS: &[OptionRow] = &[
     OptionRow {
         name: "node",
         help: "The number of the node that answers, 1 to that of --nodes",
@@ -69,7 +70,7 @@ pub const ANSWER_OPTIONS: &[OptionRow] = &[
 ];
 
 /// The options of the command `sim`, in the order of help.
-pub const SIM_OPTIONS: &[OptionRow] = &[
+const SIM_OPTIONS: &[OptionRow] = &[
     OptionRow {
         name: "policy",
         help: "Who chooses what comes next",
@@ -126,14 +127,14 @@ pub const SIM_OPTIONS: &[OptionRow] = &[
 ];
 
 /// The option of the command `check`.
-pub const CHECK_OPTIONS: &[OptionRow] = &[OptionRow {
+const CHECK_OPTIONS: &[OptionRow] = &[OptionRow {
     name: "marks",
     help: "Check the log of any lock service, which has marks alone",
     ..FLAG
 }];
 
 /// The options of the command `draw`: the lines with which the part of the trace begins and ends.
-pub const DRAW_OPTIONS: &[OptionRow] = &[
+const DRAW_OPTIONS: &[OptionRow] = &[
     OptionRow {
         name: "from",
         help: "The first line to draw",
@@ -148,6 +149,17 @@ pub const DRAW_OPTIONS: &[OptionRow] = &[
         ..LONG
     },
 ];
+
+/// Returns the options of a command, in their order.
+pub fn options_of(kind: CommandKind) -> &'static [OptionRow<'static>] {
+    match kind {
+        CommandKind::Answer => ANSWER_OPTIONS,
+        CommandKind::Sim => SIM_OPTIONS,
+        CommandKind::Check => CHECK_OPTIONS,
+        CommandKind::Draw => DRAW_OPTIONS,
+        CommandKind::Cluster => &[],
+    }
+}
 
 /// Makes an option, with its name and what is said of it.
 fn named<'a>(alloc: Global, row: &OptionRow<'a>) -> Arg<'a> {

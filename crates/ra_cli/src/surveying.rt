@@ -107,8 +107,8 @@ fn told_of<O: Observer>(
 /// Reads the text of a script, drives a cluster through it by chance, with faults or without, under each seed from the first to the last,
 /// both of them included, each in at most 16,777,216 turns, and writes what came of them; or, where an end is looked for, goes up to the
 /// first seed whose run comes to it, and writes its trace, or `none`. Returns whether each run is finished, or the run of the trace, or
-/// where there is no trace whether it is runs that are stuck that were looked for. The observer is told of each seed. It takes at most 65,537 bytes from the reader, and no
-/// read or write that failed is tried again.
+/// where there is no trace whether it is runs that are stuck that were looked for. The observer is told of each seed. It takes at most
+/// 65,537 bytes from the reader, and no read or write that failed is tried again.
 ///
 /// # Errors
 ///

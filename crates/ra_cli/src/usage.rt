@@ -1,5 +1,6 @@
 //! What the parser says of words that are no command line, on one line.
-use crate::command_line::{command, has_word};
+use crate::command_line::has_word;
+use crate::command_rows::command;
 use crate::hints::is_given;
 use clap::error::ErrorKind;
 use clap::{Command, Error as ParseError};

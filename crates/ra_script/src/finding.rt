@@ -10,8 +10,7 @@ use std::alloc::Global;
 
 /// Returns the trace of a script by the least seed from the first to the last, both of them included, by which it comes to an end by chance,
 /// with faults or without, each in at most 16,777,216 turns, or `None` where it does so by none of them. The observer is told of each seed up
-/// to it. The cost is that of the runs up to
-/// that one, and of [`perform_trace`](crate::perform_trace) for it.
+/// to it. The cost is that of the runs up to that one, and of [`perform_trace`](crate::perform_trace) for it.
 ///
 /// # Errors
 ///

@@ -1,0 +1,88 @@
+//! The commands of `ra`, each a row of a table, so that they are all made by the same few lines.
+use crate::helps::{help_on, status_help};
+use crate::option_rows::{options_of, with_options};
+use clap::Command;
+use std::alloc::{AllocError, Global};
+
+/// The version of the program, and those of what it reads.
+const VERSION: &str = "0.1.0 (frames 1 and 2, traces 1 and 2)";
+
+/// Which command it is.
+#[derive(Clone, Copy)]
+pub enum CommandKind {
+    Answer,
+    Sim,
+    Cluster,
+    Check,
+    Draw,
+}
+
+/// A command, what it is called, and what help says of it first.
+#[derive(Clone, Copy)]
+struct CommandRow<'a> {
+    kind: CommandKind,
+    name: &'a str,
+    about: &'a str,
+}
+
+/// The commands, in the order of help.
+const COMMANDS: &[CommandRow] = &[
+    CommandRow {
+        kind: CommandKind::Answer,
+        name: "answer",
+        about: "Answer one frame, a line of hexadecimal digits, as an idle node does",
+    },
+    CommandRow {
+        kind: CommandKind::Sim,
+        name: "sim",
+        about: "Drive a cluster through a script: who asked, entered and left",
+    },
+    CommandRow {
+        kind: CommandKind::Cluster,
+        name: "cluster",
+        about: "Run a script by threads: who asked, entered and left",
+    },
+    CommandRow {
+        kind: CommandKind::Check,
+        name: "check",
+        about: "Check the trace of a run, or the log of a lock service, line by line",
+    },
+    CommandRow {
+        kind: CommandKind::Draw,
+        name: "draw",
+        about: "Draw the trace of a run as an SVG file",
+    },
+];
+
+/// Makes a command.
+fn command_of<'a>(alloc: Global, row: &CommandRow<'a>) -> Result<Command<'a>, AllocError> {
+    let command = Command::new(alloc, row.name)
+        .about(row.about)
+        .after_help(help_on(row.kind));
+    with_options(alloc, command, options_of(row.kind))
+}
+
+/// Makes the program with what is said of it.
+fn named_program<'a>(alloc: Global) -> Command<'a> {
+    Command::new(alloc, "ra")
+        .version(VERSION)
+        .about("Lock named resources by messages alone")
+        .after_help(status_help())
+}
+
+/// Makes the program without its commands, of which one has to be named.
+fn program<'a>(alloc: Global) -> Command<'a> {
+    named_program(alloc)
+        .disable_help_subcommand(true)
+        .subcommand_required(true)
+}
+
+/// Makes the command line that `ra` understands.
+pub fn command<'a>(alloc: Global) -> Result<Command<'a>, AllocError> {
+    let mut ra = program(alloc);
+    for row in COMMANDS {
+        let made = command_of(alloc, row)?;
+        ra = ra.subcommand(made)?;
+    }
+    Ok(ra)
+}
