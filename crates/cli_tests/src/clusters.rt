@@ -513,9 +513,9 @@ waits at the end.
 
 Status 0: each operation is done, and nothing waits, is queued, lost or under
 way. Status 1: the input or the output failed. Status 2: the words or the script
-are refused, or the run failed: Fault where a node was stopped, as for want of
-memory or of threads, and Settle, PlanUnmet, Lost or UnderWay where what the
-nodes wrote down is no run, or not that of the whole script.
+are refused, or the run failed: Fault where a node was stopped, as where memory
+ran out or no thread could be started, and Settle, PlanUnmet, Lost or UnderWay
+where what the nodes wrote down is no run, or not that of the whole script.
 ";
 
 #[test]

@@ -141,11 +141,13 @@ fn what_a_command_waits_for_is_said_on_a_terminal(rt: HostRuntime) {
         "ra: a script is read from standard input: type it and then Ctrl-D, or name a file by < FILE\n";
     let trace =
         "ra: a trace is read from standard input: type it and then Ctrl-D, or name a file by < FILE\n";
+    let log =
+        "ra: a log of marks is read from standard input: type it and then Ctrl-D, or name a file by < FILE\n";
     assert!(rt; waits_for(alloc, "ra answer --node 1 --nodes 2", frame));
     assert!(rt; waits_for(alloc, "ra sim", script) && waits_for(alloc, "ra cluster", script));
     assert!(rt; waits_for(alloc, "ra check", trace) && waits_for(alloc, "ra draw", trace));
     assert!(rt; waits_for(alloc, "ra sim --help", "") && waits_for(alloc, "ra", ""));
-    assert!(rt; waits_for(alloc, "ra simm", ""));
+    assert!(rt; waits_for(alloc, "ra simm", "") && waits_for(alloc, "ra check --marks", log));
 }
 
 /// Returns whether this is said of words that are not there, and printed as ever.

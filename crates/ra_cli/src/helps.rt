@@ -198,9 +198,9 @@ waits at the end.
 
 Status 0: each operation is done, and nothing waits, is queued, lost or under
 way. Status 1: the input or the output failed. Status 2: the words or the script
-are refused, or the run failed: Fault where a node was stopped, as for want of
-memory or of threads, and Settle, PlanUnmet, Lost or UnderWay where what the
-nodes wrote down is no run, or not that of the whole script.";
+are refused, or the run failed: Fault where a node was stopped, as where memory
+ran out or no thread could be started, and Settle, PlanUnmet, Lost or UnderWay
+where what the nodes wrote down is no run, or not that of the whole script.";
 
 /// What is said of the program below its commands.
 const STATUS_HELP: &str = "\
@@ -211,7 +211,7 @@ one line with the word that says why. Status 3: a run that ended with something
 left to do, or a trace or a log that is none.";
 
 /// Returns what is said of the command `answer`. Each of these texts has a function of its own, since what a function takes to prove
-/// grows with the square of the texts that it names.
+/// grows with the square of the bytes of the texts that it names.
 fn answer_help() -> &'static str {
     ANSWER_HELP
 }
@@ -236,7 +236,7 @@ fn draw_help() -> &'static str {
     DRAW_HELP
 }
 
-/// Returns what is said of a command.
+/// Returns what is said of a command below its options.
 pub fn help_on(kind: CommandKind) -> &'static str {
     match kind {
         CommandKind::Answer => answer_help(),

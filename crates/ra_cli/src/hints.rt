@@ -1,6 +1,6 @@
 //! What is said to a person where nothing is refused, and one would wonder: of options that say nothing, of names that stay locked, and
 //! on a terminal of what is waited for.
-use crate::command_line::{asks_for_help, text_of};
+use crate::command_line::{asks_for_help, has_word, text_of};
 use crate::notes::write_line;
 use crate::seen::Seen;
 use ra_explain::script_end_note;
@@ -69,7 +69,7 @@ fn write_limits<N: Write>(words: &[String], options: &[Limited], policy: &str, n
 fn write_sim_hints<N: Write>(words: &[String], notes: &mut N) {
     let policy = text_of(words, "--policy").unwrap_or("oldest");
     write_limits(words, LIMITED, policy, notes);
-    if policy == "listed" && !is_given(words, "--choices") {
+    if policy == "listed" && text_of(words, "--choices").unwrap_or("").is_empty() {
         write_line(
             notes,
             "--policy listed makes the choices that --choices lists, and there are none",
@@ -108,14 +108,17 @@ pub fn write_hints<N: Write>(
     }
 }
 
-/// Returns what a command reads, or `None` where there is no such command.
-fn input_text(command: &str) -> Option<&'static str> {
+/// Returns what a command reads, or `None` where there is no such command. The command `check` may read marks.
+fn input_text(command: &str, reads_marks: bool) -> Option<&'static str> {
     match command {
         "answer" => Some(
             "a frame is read from standard input: type its digits and Enter, and then Ctrl-D",
         ),
         "sim" | "cluster" => Some(
             "a script is read from standard input: type it and then Ctrl-D, or name a file by < FILE",
+        ),
+        "check" if reads_marks => Some(
+            "a log of marks is read from standard input: type it and then Ctrl-D, or name a file by < FILE",
         ),
         "check" | "draw" => Some(
             "a trace is read from standard input: type it and then Ctrl-D, or name a file by < FILE",
@@ -131,7 +134,7 @@ pub fn write_waiting_note<N: Write>(words: &[String], notes: &mut N) {
         return;
     }
     if let Some(command) = words.get(1)
-        && let Some(text) = input_text(command.as_str())
+        && let Some(text) = input_text(command.as_str(), has_word(words, "--marks"))
     {
         write_line(notes, text);
     }

@@ -464,8 +464,8 @@ pub fn serve<T: Threads + Wait + Sync, R: BufRead, W: Write>(
 /// Does as [`serve`], and then writes a line for a person to `notes`, where something was refused, a text is no trace or a log is none,
 /// or a run ended with something left to do: what is wrong, where in what was read, and what would be right; and one for each option that
 /// says nothing. While many seeds take long, it writes there how far it is. Each line begins with `ra: `. Nothing of it goes to `writer`,
-/// and it is left out where memory or `notes` fails, which changes nothing else. To find the place in a script it is read once more, for who
-/// waits for whom it is run once more, and for the mark that is due the steps of a trace are made once more.
+/// and it is left out where memory or `notes` fails, which changes nothing else. To find the place in a script it is read once more, for
+/// who waits for whom it is run once more, and for the mark that is due the steps of a trace are made once more.
 pub fn serve_with_notes<T: Threads + Wait + Sync, R: BufRead, W: Write, N: Write>(
     rt: &T,
     alloc: Global,

@@ -17,9 +17,13 @@ struct Course {
 }
 
 impl Course {
-    /// Opens the world of the first line.
-    fn open(&mut self, alloc: Global, nodes: u16, start: u64) {
-        self.world = MarklessWorld::new(alloc, nodes, start).ok();
+    /// Opens the world of the first line. Where memory runs out the note keeps that.
+    fn open(&mut self, alloc: Global, note: &mut Note, nodes: u16, start: u64) {
+        match MarklessWorld::new(alloc, nodes, start) {
+            Ok(world) => self.world = Some(world),
+            // A first line has a number of nodes, so memory ran out.
+            Err(_) => note.refuse_if(true),
+        }
     }
 
     /// Makes a step. Where memory runs out the note keeps that.
@@ -40,14 +44,14 @@ impl Course {
     /// Takes a line that is not wrong.
     fn take(&mut self, alloc: Global, note: &mut Note, line: &Line) {
         match line {
-            Line::First { nodes, start, .. } => self.open(alloc, nodes.get(), *start),
+            Line::First { nodes, start, .. } => self.open(alloc, note, nodes.get(), *start),
             Line::Stepped(step) => self.make(alloc, note, step),
             Line::Marked(_) => self.come = self.come.saturating_add(1),
             Line::Last => {}
         }
     }
 
-    /// Takes the lines of a text before the one with the number `line`, and returns how many there are up to that one, with it.
+    /// Takes the lines of a text before the one with the number `line`, and returns how many line feeds the text has.
     fn follow(&mut self, alloc: Global, note: &mut Note, line: u64, text: &[u8]) -> u64 {
         let mut lines: u64 = 0;
         let mut start = 0;
@@ -79,7 +83,7 @@ fn push_mark(alloc: Global, note: &mut Note, mark: &Mark) {
 }
 
 /// Adds which mark is due at the line with the number `line` of a trace, and returns whether that is known: where the text begins with the
-/// first line and ends with that one. The cost is that of the steps before it.
+/// first line and ends with that one, and memory does not run out. The cost is linear in the text, and that of the steps in it.
 pub fn push_due(alloc: Global, note: &mut Note, line: u64, text: &[u8]) -> bool {
     let mut course = Course {
         world: None,

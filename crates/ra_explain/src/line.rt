@@ -73,12 +73,12 @@ fn obstacle_text(cause: LineCause, other: &str) -> &str {
     }
 }
 
-/// Returns what is said of the first wrong line of a text, the one with the number `line`, counted from 1: which it is, the line itself, and
-/// what is wrong with it, which is `text` where nothing more precise is found. `read` are the last bytes that were read, up to the end of
-/// that line. Where they begin with the line before, what stands after `end` is known as such; and where they are all that were read, it is
-/// said who is in the way of a mark, or which mark is due. `feeds` is how many line feeds were read in all: as many as `line` where the line
-/// was read to its line feed, and fewer where it has none or the text ends before it. The cost is the number of lines times that of the
-/// requests that wait and hold at once, or for the mark that is due that of the steps before it.
+/// Returns what is said of the first wrong line of a text, the one with the number `line`, counted from 1: which it is, the line itself,
+/// and what is wrong with it, which is `text` where nothing more precise is found. `read` are the last bytes that were read, up to the
+/// end of that line. Where they begin with the line before, what stands after `end` is known as such; and where they are all that were
+/// read, it is said who is in the way of a mark, or which mark is due. `feeds` is how many line feeds were read in all: as many as `line`
+/// where the line was read to its line feed, and fewer where it has none or the text ends before it. The cost is the number of lines
+/// times that of the requests that wait and hold at once, or for the mark that is due that of the steps before it.
 ///
 /// # Errors
 ///

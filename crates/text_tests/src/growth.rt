@@ -4,14 +4,15 @@ use crate::helpers::{ONE_LOCK, ONE_LOCK_SCRIPT, failing};
 use crate::mark_logs::TWO_WRITERS;
 use crate::performing::ONE_LOCK_LINES;
 use crate::traces::one_lock;
-use ra_explain::{choices_note, unfinished_note};
+use ra_explain::{LineCause, choices_note, line_note, unfinished_note};
 use ra_schedule::Policy;
 use ra_script::{
     ChoicesError, PerformError, ScriptError, perform, perform_trace, read_choices, read_script,
 };
 use ra_stamp::Memory;
 use ra_trace::{
-    MarksVerdict, TraceError, Verdict, WriteTraceError, check, check_marks, trace_text, write_trace,
+    Cause, MarksVerdict, TraceError, Verdict, WriteTraceError, check, check_marks, trace_text,
+    write_trace,
 };
 use std::alloc::Global;
 use std::process::Abort;
@@ -215,4 +216,25 @@ fn try_choice(alloc: Global) -> Result<Tried, bool> {
 #[test]
 fn growth_of_what_is_said_of_choices(rt: HostRuntime) {
     end(&rt, again(try_choice(rt.alloc()), try_choice(rt.alloc())));
+}
+
+/// Says which mark is due at a line.
+fn try_line(alloc: Global) -> Result<Tried, bool> {
+    let said = line_note(
+        alloc,
+        3,
+        b"trace 2 2 0\nask 1 1 r X\nask 2 2 r X\n",
+        3,
+        LineCause::Trace(Cause::Marks),
+        "said of all",
+    );
+    try_note(
+        said,
+        "line 3, 'ask 2 2 r X': the mark 'request 1 1 r X 1' is due here",
+    )
+}
+
+#[test]
+fn growth_of_what_is_said_of_a_line(rt: HostRuntime) {
+    end(&rt, again(try_line(rt.alloc()), try_line(rt.alloc())));
 }

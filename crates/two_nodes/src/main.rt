@@ -1,6 +1,6 @@
 //! Two nodes lock a name between them. This program is their host: it lets the events happen, the asks and leaves of its
 //! clients and the frames that come; it prints the marks, carries the messages as the bytes of frames, and keeps the event
-//! clock of each node. Where it has a list of frames in flight, another host has sockets or channels.
+//! clock of each node. Where it has a list of frames under way, another host has sockets or channels.
 #![tactic(auto)]
 
 use anyhow::{Context, Result, ensure};
@@ -62,11 +62,11 @@ impl Site {
     }
 }
 
-/// Two nodes, and the frames in flight between them, each with the node that it is for.
+/// Two nodes, and the frames under way between them, each with the node that it is for.
 #[derive(Drop)]
 struct Host {
     sites: [Site; 2],
-    in_flight: VecDeque<(NodeId, Vec<u8>)>,
+    under_way: VecDeque<(NodeId, Vec<u8>)>,
 }
 
 impl Host {
@@ -86,16 +86,16 @@ impl Host {
             let bytes = encode(alloc, &frame)?;
             let digits = hex::encode(alloc, &bytes)?;
             println!(rt; "frame {} to {}: {digits}", message.from(), message.to())?;
-            self.in_flight.push_back((message.to(), bytes))?;
+            self.under_way.push_back((message.to(), bytes))?;
         }
         Ok(())
     }
 
-    /// Hands each frame to its node, the oldest first, until none is in flight. Any order would do, but each is handed over
+    /// Hands each frame to its node, the oldest first, until none is under way. Any order would do, but each is handed over
     /// once, and none that was not sent.
     fn deliver_all(&mut self, rt: &impl Print, alloc: Global) -> Result<()> {
         for _turn in 0..u64::MAX {
-            let Some((node, bytes)) = self.in_flight.pop_front() else {
+            let Some((node, bytes)) = self.under_way.pop_front() else {
                 break;
             };
             let frame = decode(&bytes)?;
@@ -112,7 +112,7 @@ fn main(rt: HostRuntime) -> Result<()> {
     let name = Name::new(b"disk")?;
     let mut host = Host {
         sites: [Site::new(alloc, one)?, Site::new(alloc, two)?],
-        in_flight: VecDeque::new(alloc),
+        under_way: VecDeque::new(alloc),
     };
 
     // Both ask before a frame came, so both requests have the number 1. Then the lower node goes first: node 1 defers its
