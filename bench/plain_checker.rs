@@ -422,7 +422,7 @@ fn next_line(input: &mut impl BufRead, bytes: &mut Vec<u8>, left: &mut usize) ->
     let count = input.read_until(b'\n', bytes).expect("an input");
     *left = left.checked_sub(count).expect("at most 16,777,216 bytes");
     match bytes.split_last() {
-        Some((b'\n', front)) if front.len() < MAX_LINE => line(std::str::from_utf8(front).ok()?),
+        Some((b'\n', prefix)) if prefix.len() < MAX_LINE => line(std::str::from_utf8(prefix).ok()?),
         _ => None,
     }
 }

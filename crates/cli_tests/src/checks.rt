@@ -1,6 +1,6 @@
 //! The command `check`, and the traces that `sim` prints.
 use crate::helpers::{
-    Answered, Case, Refused, assert_answers, assert_fails_at_each_byte, assert_fails_in_fronts,
+    Answered, Case, Refused, assert_answers, assert_fails_at_each_byte, assert_fails_in_prefixes,
     assert_meets, assert_refuses, assert_written, is_answer, is_refusal, prints, run, status_alone,
 };
 use crate::scripts::{A_DEADLOCK, A_QUEUE, A_TABLE, A_WRITER, ONE_CLIENT, ONE_ORDER, TWO_CLIENTS};
@@ -349,9 +349,10 @@ its marks on the lines below it:
   enter 1 1 r X 1
   end
 The first line says which version of traces it is, how many nodes there are, and
-the number that each resource begins with. In version 2, which `ra sim --trace`
-prints, there are 1 to 64 nodes and five modes; version 1 has 1 to 16 nodes and
-the modes S and X:
+the number that each resource begins with, 0 to 2^64 - 1. The others have nodes,
+a client, 0 to 2^32 - 1, the name, the mode and the number, 1 to 2^64 - 1. In
+version 2, which `ra sim --trace` prints, there are 1 to 64 nodes and five
+modes; version 1 has 1 to 16 nodes and the modes S and X:
   S    shared
   X    exclusive
   IS   intent shared
@@ -371,9 +372,9 @@ the first line that is wrong, and why:
 Example: ra sim --trace < script.toml | ra check
 
 With --marks the text is a log of marks alone, a line for each request, grant
-and release of any lock service, with the number of a node, 1 to 64, a client,
-the name, the mode, and a number that is above each one granted on the name so
-far:
+and release of any lock service, with the number of a node, 1 to 64, a client, 0
+to 2^32 - 1, the name, the mode, and a number, 1 to 2^64 - 1, that is above each
+one granted on the name so far:
   request 1 1 r X 1
   enter 1 1 r X 1
   leave 1 1 r X 1
@@ -430,9 +431,9 @@ fn a_reader_that_fails_behind_any_byte_of_a_trace_is_a_fault(rt: HostRuntime) {
 }
 
 #[test]
-fn a_writer_that_fails_has_a_front_of_the_verdict(rt: HostRuntime) {
+fn a_writer_that_fails_has_a_prefix_of_the_verdict(rt: HostRuntime) {
     let printed = "valid\nrequests 1\nmessages 2\n";
-    assert_fails_in_fronts(&rt, "ra check", ALONE, printed);
+    assert_fails_in_prefixes(&rt, "ra check", ALONE, printed);
     assert_written(&rt, "ra check", ALONE, printed, 0);
 }
 

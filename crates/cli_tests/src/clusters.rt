@@ -1,6 +1,6 @@
 //! The command `cluster`.
 use crate::helpers::{
-    Case, Refused, assert_answers, assert_fails_in_fronts, assert_meets, assert_prints,
+    Case, Refused, assert_answers, assert_fails_in_prefixes, assert_meets, assert_prints,
     assert_refuses, assert_written, is_answer, is_read_fault, run,
 };
 use crate::scripts::{
@@ -28,12 +28,12 @@ fn word_at(line: &str, place: usize) -> &str {
 }
 
 /// Returns whether the marks of a client begin with these texts, in their order, and are no more.
-fn has_marks(output: &str, client: &str, fronts: &[&str]) -> bool {
-    let mut left = fronts;
+fn has_marks(output: &str, client: &str, prefixes: &[&str]) -> bool {
+    let mut left = prefixes;
     for line in output.split_terminator('\n') {
         if word_at(line, 2) == client {
             match left {
-                [front, rest @ ..] if line.starts_with(front) => left = rest,
+                [prefix, rest @ ..] if line.starts_with(prefix) => left = rest,
                 _ => return false,
             }
         }
@@ -394,9 +394,9 @@ fn a_fault_of_the_reader_comes_before_what_is_wrong_with_the_script(rt: HostRunt
 }
 
 #[test]
-fn a_writer_that_fails_has_a_front_of_what_the_threads_did(rt: HostRuntime) {
-    assert_fails_in_fronts(&rt, "ra cluster", ONE_CLIENT, ONE_CLIENT_PRINTED);
-    assert_fails_in_fronts(&rt, "ra cluster", TWO_NAMES, "refused OutOfOrder\n");
+fn a_writer_that_fails_has_a_prefix_of_what_the_threads_did(rt: HostRuntime) {
+    assert_fails_in_prefixes(&rt, "ra cluster", ONE_CLIENT, ONE_CLIENT_PRINTED);
+    assert_fails_in_prefixes(&rt, "ra cluster", TWO_NAMES, "refused OutOfOrder\n");
     // It fails only where something is left to be written.
     assert_written(&rt, "ra cluster", ONE_CLIENT, ONE_CLIENT_PRINTED, 0);
 }

@@ -284,7 +284,7 @@ pub fn assert_fails_at_each_byte<T: AllocGlobal + Threads + Wait + Abort + Sync>
 
 /// Returns whether `ra` answers this status where a writer fails once, or takes nothing once, after this many bytes of what it
 /// prints, and whether the writer has those bytes and no more.
-fn leaves_a_front<T: AllocGlobal + Threads + Wait + Abort + Sync>(
+fn leaves_a_prefix<T: AllocGlobal + Threads + Wait + Abort + Sync>(
     rt: &T,
     line: &str,
     input: &str,
@@ -300,7 +300,7 @@ fn leaves_a_front<T: AllocGlobal + Threads + Wait + Abort + Sync>(
 }
 
 /// Ends the test where a fault of a writer, after one of these bytes but the last, is not status 1 or does not leave a prefix of them.
-pub fn assert_fails_in_fronts<T: AllocGlobal + Threads + Wait + Abort + Sync>(
+pub fn assert_fails_in_prefixes<T: AllocGlobal + Threads + Wait + Abort + Sync>(
     rt: &T,
     line: &str,
     input: &str,
@@ -310,7 +310,7 @@ pub fn assert_fails_in_fronts<T: AllocGlobal + Threads + Wait + Abort + Sync>(
     for fault in WRITER_FAULTS {
         for place in 0..printed.len() {
             assert!(rt;
-                leaves_a_front(rt, line, input, printed, place, fault, 1),
+                leaves_a_prefix(rt, line, input, printed, place, fault, 1),
                 "{line}: behind {place} bytes"
             );
         }
@@ -328,7 +328,7 @@ pub fn assert_written<T: AllocGlobal + Threads + Wait + Abort + Sync>(
     let fault = Some(io::ErrorKind::BrokenPipe);
     let (bytes, place) = (printed.as_bytes(), printed.len());
     assert!(rt;
-        leaves_a_front(rt, line, input, bytes, place, fault, status),
+        leaves_a_prefix(rt, line, input, bytes, place, fault, status),
         "{line}"
     );
 }

@@ -1,8 +1,8 @@
 //! The command `check --marks`.
 use crate::checks::ALONE;
 use crate::helpers::{
-    Case, Refused, assert_answers, assert_fails_at_each_byte, assert_fails_in_fronts, assert_meets,
-    assert_refuses, assert_written,
+    Case, Refused, assert_answers, assert_fails_at_each_byte, assert_fails_in_prefixes,
+    assert_meets, assert_refuses, assert_written,
 };
 
 /// The log of a service in which two writers take turns.
@@ -159,8 +159,8 @@ fn a_reader_that_fails_behind_any_byte_of_a_log_is_a_fault(rt: HostRuntime) {
 }
 
 #[test]
-fn a_writer_that_fails_has_a_front_of_the_verdict_on_marks(rt: HostRuntime) {
-    assert_fails_in_fronts(&rt, "ra check --marks", IN_TURN, IN_TURN_VERDICT);
+fn a_writer_that_fails_has_a_prefix_of_the_verdict_on_marks(rt: HostRuntime) {
+    assert_fails_in_prefixes(&rt, "ra check --marks", IN_TURN, IN_TURN_VERDICT);
     assert_written(&rt, "ra check --marks", IN_TURN, IN_TURN_VERDICT, 0);
-    assert_fails_in_fronts(&rt, "ra check --marks", BOTH_INSIDE, "invalid 4 Held\n");
+    assert_fails_in_prefixes(&rt, "ra check --marks", BOTH_INSIDE, "invalid 4 Held\n");
 }

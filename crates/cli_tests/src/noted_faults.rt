@@ -1,8 +1,11 @@
 //! What is said where the reader fails, or the writer, and what becomes of a command where what is said can't be written.
 use crate::checks::ALONE;
+use crate::frames::{ANSWER, REPLY, REQUEST};
 use crate::helpers::WRITER_FAULTS;
 use crate::notes::run_noted;
 use crate::scripts::{ONE_CLIENT, ONE_CLIENT_PRINTED};
+use ra_cli::{CommandFault, SeenWriter, refuse_words_with_note};
+use std::alloc::Global;
 use std::io;
 use std::process::Abort;
 use std::sync::Wait;
@@ -23,26 +26,215 @@ fn a_reader_that_fails_is_said(rt: HostRuntime) {
     assert!(rt; notes.as_slice() == b"ra: standard input could not be read\n".as_slice());
 }
 
-/// Returns whether a fault of the writer after 7 bytes gives status 1, and nothing is said of it.
-fn breaks_off_unsaid<T: AllocGlobal + Threads + Wait + Abort + Sync>(
+/// What is said of a writer that fails.
+const UNWRITTEN: &str = "ra: standard output could not be written\n";
+
+/// How a writer fails, or that it takes nothing, and what is said of that.
+const SAID: &[(Option<io::ErrorKind>, &str)] = &[
+    (Some(io::ErrorKind::BrokenPipe), ""),
+    (
+        Some(io::ErrorKind::StorageFull),
+        "ra: standard output could not be written: no space is left\n",
+    ),
+    (Some(io::ErrorKind::Interrupted), UNWRITTEN),
+    (Some(io::ErrorKind::WouldBlock), UNWRITTEN),
+    (Some(io::ErrorKind::Other), UNWRITTEN),
+    (None, UNWRITTEN),
+];
+
+/// A command, how what it prints begins, and what is said of it whether or not that can be written.
+#[derive(Clone, Copy)]
+struct Broken {
+    words: &'static str,
+    input: &'static str,
+    printed: &'static str,
+    note: &'static str,
+}
+
+/// Of each kind of command one or more.
+const BROKEN: &[Broken] = &[
+    Broken {
+        words: ANSWER,
+        input: REQUEST,
+        printed: REPLY,
+        note: "",
+    },
+    Broken {
+        words: "ra sim",
+        input: ONE_CLIENT,
+        printed: ONE_CLIENT_PRINTED,
+        note: "",
+    },
+    Broken {
+        words: "ra sim --trace",
+        input: ONE_CLIENT,
+        printed: ALONE,
+        note: "",
+    },
+    Broken {
+        words: "ra sim --as-choices",
+        input: ONE_CLIENT,
+        printed: "c1 m0 m0 c1\n",
+        note: "",
+    },
+    Broken {
+        words: "ra sim --policy seeded --seeds 1..2",
+        input: ONE_CLIENT,
+        printed: "finished 2 first 1\n",
+        note: "",
+    },
+    Broken {
+        words: "ra sim --policy seeded --seeds 1..2 --find finished",
+        input: ONE_CLIENT,
+        printed: "trace 2 2 0\n",
+        note: "",
+    },
+    Broken {
+        words: "ra cluster",
+        input: ONE_CLIENT,
+        printed: ONE_CLIENT_PRINTED,
+        note: "",
+    },
+    Broken {
+        words: "ra check",
+        input: ALONE,
+        printed: "valid\nrequests 1\n",
+        note: "",
+    },
+    Broken {
+        words: "ra check",
+        input: "",
+        printed: "invalid 1 Line\n",
+        note: "",
+    },
+    Broken {
+        words: "ra check --marks",
+        input: "",
+        printed: "valid\nrequests 0\n",
+        note: "",
+    },
+    Broken {
+        words: "ra check --marks",
+        input: "no mark\n",
+        printed: "invalid 1 Line\n",
+        note: "",
+    },
+    Broken {
+        words: "ra draw",
+        input: ALONE,
+        printed: "<svg xmlns=",
+        note: "",
+    },
+    Broken {
+        words: "ra draw",
+        input: "",
+        printed: "invalid 1 Line\n",
+        note: "",
+    },
+    Broken {
+        words: "ra --help",
+        input: "",
+        printed: "Lock named resources",
+        note: "",
+    },
+    Broken {
+        words: "ra sim --help",
+        input: "",
+        printed: "Drive a cluster",
+        note: "",
+    },
+    Broken {
+        words: "ra --version",
+        input: "",
+        printed: "ra 0.1.0",
+        note: "",
+    },
+    Broken {
+        words: "ra sim --find stuck",
+        input: ONE_CLIENT,
+        printed: "refused Usage\n",
+        note: "ra: --find looks for one of --seeds; see ra sim --help\n",
+    },
+    Broken {
+        words: "ra answer --node 4 --nodes 3",
+        input: REQUEST,
+        printed: "refused BadNode\n",
+        note: "ra: there is no node 4 among 3: --node is 1 to 3\n",
+    },
+];
+
+/// Returns whether a fault of the writer after 7 bytes gives status 1, and this is said of it behind what is said of the command.
+fn breaks_off<T: AllocGlobal + Threads + Wait + Abort + Sync>(
     rt: &T,
-    words: &str,
-    input: &str,
-    printed: &str,
+    case: &Broken,
+    fault: Option<io::ErrorKind>,
+    said: &str,
 ) -> bool {
-    let mut input = input.as_bytes();
-    let mut writer = failing_writer(printed.as_bytes(), 7, None);
+    let (mut input, printed) = (case.input.as_bytes(), case.printed.as_bytes());
+    let mut writer = failing_writer(printed, 7, fault);
     let mut notes = Vec::new(rt.alloc());
-    let status = run_noted(rt, words, None, &mut input, &mut writer, &mut notes);
-    status == 1 && notes.is_empty() && writer.has_taken(printed.as_bytes(), 7)
+    let status = run_noted(rt, case.words, None, &mut input, &mut writer, &mut notes);
+    status == 1
+        && writer.has_taken(printed, 7)
+        && notes.as_slice().strip_prefix(case.note.as_bytes()) == Some(said.as_bytes())
+}
+
+/// Ends the test where something else is said of a fault of the writer.
+fn assert_said<T: AllocGlobal + Threads + Wait + Abort + Sync>(
+    rt: &T,
+    fault: Option<io::ErrorKind>,
+    said: &str,
+) {
+    for case in BROKEN {
+        assert!(rt; breaks_off(rt, case, fault, said), "{}: {said}", case.words);
+    }
 }
 
 #[test]
-fn nothing_is_said_where_the_writer_fails(rt: HostRuntime) {
-    let invalid = "invalid 1 Line\n";
-    assert!(rt; breaks_off_unsaid(&rt, "ra sim", ONE_CLIENT, ONE_CLIENT_PRINTED));
-    assert!(rt; breaks_off_unsaid(&rt, "ra check", "", invalid));
-    assert!(rt; breaks_off_unsaid(&rt, "ra check --marks", "no mark\n", invalid));
+fn a_writer_that_fails_is_said_unless_nobody_reads_on(rt: HostRuntime) {
+    for row in SAID {
+        assert_said(&rt, row.0, row.1);
+    }
+}
+
+/// Returns whether it is said of a reader and a writer that both fail, of the writer after 7 bytes.
+fn says_both<T: AllocGlobal + Threads + Wait + Abort + Sync>(rt: &T) -> bool {
+    let mut reader = FailingReader {
+        bytes: "".as_bytes(),
+        size: 1,
+        before_fault: Some(0),
+        fault: io::ErrorKind::Other,
+    };
+    let mut writer = failing_writer("refused Read\n".as_bytes(), 7, Some(io::ErrorKind::Other));
+    let mut notes = Vec::new(rt.alloc());
+    let status = run_noted(rt, "ra sim", None, &mut reader, &mut writer, &mut notes);
+    let said = "ra: standard input could not be read\nra: standard output could not be written\n";
+    status == 1 && notes.as_slice() == said.as_bytes()
+}
+
+#[test]
+fn a_reader_and_a_writer_that_fail_are_said_both(rt: HostRuntime) {
+    assert!(rt; says_both(&rt));
+}
+
+/// Returns whether a fault of the writer is said of words that are not there.
+fn is_said_of_no_words(alloc: Global, fault: Option<io::ErrorKind>, said: &str) -> bool {
+    let printed = "refused Memory\n".as_bytes();
+    let mut output = failing_writer(printed, 7, fault);
+    let mut notes = Vec::new(alloc);
+    let mut writer = SeenWriter::new(&mut output);
+    let status = refuse_words_with_note(&mut writer, CommandFault::Memory, &mut notes);
+    let note = b"ra: memory ran out\n".as_slice();
+    status == 1
+        && output.has_taken(printed, 7)
+        && notes.as_slice().strip_prefix(note) == Some(said.as_bytes())
+}
+
+#[test]
+fn a_writer_that_fails_is_said_of_words_that_are_not_there(rt: HostRuntime) {
+    for row in SAID {
+        assert!(rt; is_said_of_no_words(rt.alloc(), row.0, row.1));
+    }
 }
 
 /// What is said of the line of a trace that is no mark.

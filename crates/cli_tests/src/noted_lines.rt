@@ -23,7 +23,21 @@ const FRAMES: &[Noted] = &[
         input: REQUEST,
         status: 2,
         output: "refused WrongNode\n",
-        note: "ra: the frame is for another node than 3\n",
+        note: "ra: the receiver, byte 3 counted from 0, is 02: the frame is for node 2, and this is node 3\n",
+    },
+    Noted {
+        words: ANSWER,
+        input: "0101040201000000000000000100000000000000010172",
+        status: 2,
+        output: "refused Stranger\n",
+        note: "ra: the sender, byte 2 counted from 0, is 04: the frame is from node 4, and the nodes are 1 to 3\n",
+    },
+    Noted {
+        words: ANSWER,
+        input: "0101010201000000000000000140000000000000000172",
+        status: 2,
+        output: "refused ClockFull\n",
+        note: "ra: the event clock, bytes 13 to 20 counted from 0, is 4000000000000000, the last clock: there is none above it for an answer\n",
     },
     Noted {
         words: ANSWER,
@@ -60,7 +74,29 @@ const LINES: &[Noted] = &[
         input: "trace 2 2 0\nask 3 1 r X\n",
         status: 3,
         output: "invalid 2 Refused\n",
-        note: "ra: line 2, 'ask 3 1 r X': the client may not ask or leave then: there is no such node, or it waits, is queued or holds already, or it leaves what it does not hold\n",
+        note: "ra: line 2, 'ask 3 1 r X': there is no node 3: the nodes of the trace are 1 to 2\n",
+    },
+    // Of what stands after end only the first byte is read, and the line is shown.
+    Noted {
+        words: "ra check",
+        input: "trace 2 2 0\nend\nhello world\nand more\n",
+        status: 3,
+        output: "invalid 3 Line\n",
+        note: "ra: line 3, 'hello world': this stands after end, which is the last line of a trace\n",
+    },
+    Noted {
+        words: "ra check",
+        input: "trace 2 2 0\nend\n\nand more\n",
+        status: 3,
+        output: "invalid 3 Line\n",
+        note: "ra: line 3, '': this stands after end, which is the last line of a trace\n",
+    },
+    Noted {
+        words: "ra check",
+        input: "trace 2 2 0\nask 65 1 r X\n",
+        status: 3,
+        output: "invalid 2 Line\n",
+        note: "ra: line 2, 'ask 65 1 r X': NODE is '65': it is 1 to 64, with no zeros before it\n",
     },
     Noted {
         words: "ra check --marks",

@@ -151,14 +151,14 @@ const TRACE: &str = "trace 2 2 0\n";
 fn is_no_document<T: AllocGlobal + Threads + Wait + Abort + Sync>(
     rt: &T,
     text: &[u8],
-    front: &str,
+    prefix: &str,
     end: &str,
 ) -> bool {
     let mut input = text;
     let (mut output, mut notes) = (Vec::new(rt.alloc()), Vec::new(rt.alloc()));
     let status = run_noted(rt, "ra sim", None, &mut input, &mut output, &mut notes);
     let is_refused = status == 2 && output.as_slice() == b"refused Toml\n".as_slice();
-    is_refused && notes.starts_with(front.as_bytes()) && notes.ends_with(end.as_bytes())
+    is_refused && notes.starts_with(prefix.as_bytes()) && notes.ends_with(end.as_bytes())
 }
 
 #[test]

@@ -3,7 +3,7 @@ use crate::frames::REQUEST;
 use crate::helpers::words_of;
 use crate::notes::{Noted, assert_says};
 use crate::scripts::{ONE_CLIENT, ONE_CLIENT_PRINTED};
-use ra_cli::{CommandFault, refuse_words_with_note, write_waiting_note};
+use ra_cli::{CommandFault, SeenWriter, refuse_words_with_note, write_waiting_note};
 use std::alloc::Global;
 
 /// Words that are no command line.
@@ -153,7 +153,8 @@ fn what_a_command_waits_for_is_said_on_a_terminal(rt: HostRuntime) {
 /// Returns whether this is said of words that are not there, and printed as ever.
 fn is_said(alloc: Global, fault: CommandFault, printed: &str, note: &str) -> bool {
     let (mut output, mut notes) = (Vec::new(alloc), Vec::new(alloc));
-    let status = refuse_words_with_note(&mut output, fault, &mut notes);
+    let mut writer = SeenWriter::new(&mut output);
+    let status = refuse_words_with_note(&mut writer, fault, &mut notes);
     let is_printed = status == 2 && output.as_slice() == printed.as_bytes();
     is_printed && notes.as_slice() == note.as_bytes()
 }

@@ -5,7 +5,7 @@ use crate::frames::{ANSWER, REPLY, REQUEST};
 use crate::helpers::words_of;
 use crate::scripts::{ONE_CLIENT, ONE_CLIENT_PRINTED};
 use crate::threads::in_a_thread;
-use ra_cli::{SeenReader, serve_with_notes};
+use ra_cli::{SeenReader, SeenWriter, serve_with_notes};
 use std::io::{BufRead, Write};
 use std::process::Abort;
 use std::sync::Wait;
@@ -34,8 +34,16 @@ fn run_noted_alone<T: AllocGlobal + Threads + Wait + Sync, R: BufRead, W: Write,
 ) -> u8 {
     let alloc = rt.alloc();
     let mut reader = SeenReader::new(alloc, reader);
+    let mut writer = SeenWriter::new(writer);
     match words_of(alloc, line, last) {
-        Some(words) => serve_with_notes(rt, alloc, words.as_slice(), &mut reader, writer, notes),
+        Some(words) => serve_with_notes(
+            rt,
+            alloc,
+            words.as_slice(),
+            &mut reader,
+            &mut writer,
+            notes,
+        ),
         None => u8::MAX,
     }
 }

@@ -389,9 +389,10 @@ repeat, so faulty has to have --repeat 0 then.
 
 Example: ra sim --policy seeded --seed 7 --as-choices < script.toml
 
-With --seeds A..B and a policy of chance it runs the script by each seed from A
-to B, and prints how many of them ended finished, and stuck, and the first of
-each, and the least and the most of the turns and of the messages sent.
+With --seeds A..B, where each is 0 to 2^64 - 1 and A at most B, and a policy of
+chance it runs the script by each seed from A to B, both included, and prints
+how many of them ended finished, and stuck, and the first of each, and the least
+and the most of the turns and of the messages sent.
 
 Example: ra sim --policy seeded --seeds 1..1000 < script.toml
 

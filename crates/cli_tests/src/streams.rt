@@ -2,7 +2,7 @@
 use crate::checks;
 use crate::frames::{ANSWER, FED_TWICE, FOLLOWED, REPLY, REQUEST, REQUEST_LINE};
 use crate::helpers::{
-    FAULTS, WRITER_FAULTS, assert_fails_at_each_byte, assert_fails_in_fronts, assert_written,
+    FAULTS, WRITER_FAULTS, assert_fails_at_each_byte, assert_fails_in_prefixes, assert_written,
     is_read_fault, repeated,
 };
 use crate::scripts::{ONE_CLIENT, ONE_CLIENT_PRINTED};
@@ -115,11 +115,11 @@ fn a_writer_that_fails_once_has_the_bytes_before_and_no_more(rt: HostRuntime) {
 }
 
 #[test]
-fn a_writer_that_fails_has_a_front_of_what_is_printed(rt: HostRuntime) {
-    assert_fails_in_fronts(&rt, ANSWER, REQUEST, REPLY);
-    assert_fails_in_fronts(&rt, ANSWER, "zz", "refused Hex\n");
-    assert_fails_in_fronts(&rt, "ra", REQUEST, "refused Usage\n");
-    assert_fails_in_fronts(&rt, "ra --help", "", "Lock named resources");
+fn a_writer_that_fails_has_a_prefix_of_what_is_printed(rt: HostRuntime) {
+    assert_fails_in_prefixes(&rt, ANSWER, REQUEST, REPLY);
+    assert_fails_in_prefixes(&rt, ANSWER, "zz", "refused Hex\n");
+    assert_fails_in_prefixes(&rt, "ra", REQUEST, "refused Usage\n");
+    assert_fails_in_prefixes(&rt, "ra --help", "", "Lock named resources");
 }
 
 #[test]
@@ -139,10 +139,10 @@ fn a_reader_that_fails_behind_any_byte_of_a_script_is_a_fault(rt: HostRuntime) {
 }
 
 #[test]
-fn a_writer_that_fails_has_a_front_of_the_lines(rt: HostRuntime) {
+fn a_writer_that_fails_has_a_prefix_of_the_lines(rt: HostRuntime) {
     let traced = "ra sim --trace";
-    assert_fails_in_fronts(&rt, "ra sim", ONE_CLIENT, ONE_CLIENT_PRINTED);
+    assert_fails_in_prefixes(&rt, "ra sim", ONE_CLIENT, ONE_CLIENT_PRINTED);
     assert_written(&rt, "ra sim", ONE_CLIENT, ONE_CLIENT_PRINTED, 0);
-    assert_fails_in_fronts(&rt, traced, ONE_CLIENT, checks::ALONE);
+    assert_fails_in_prefixes(&rt, traced, ONE_CLIENT, checks::ALONE);
     assert_written(&rt, traced, ONE_CLIENT, checks::ALONE, 0);
 }

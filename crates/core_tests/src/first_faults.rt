@@ -152,75 +152,75 @@ fn each_part_of_a_frame_is_short(rt: HostRuntime) {
 }
 
 /// How many bytes of a REQUEST there are, the changes in them, and why they are then refused.
-struct Front(usize, &'static [Change], FrameError);
+struct Prefix(usize, &'static [Change], FrameError);
 
-const FRONTS_1: &[Front] = &[
-    Front(1, &[(0, 3)], FrameError::Version),
-    Front(2, &[(1, 0)], FrameError::Kind),
-    Front(3, &[(2, 17)], FrameError::From),
-    Front(4, &[(3, 17)], FrameError::To),
-    Front(4, &[(3, 1)], FrameError::SameNode),
-    Front(5, &[(4, 2)], FrameError::Mode),
-    Front(12, &[(11, 1)], FrameError::Short),
-    Front(13, &[(12, 0)], FrameError::Seq),
-    Front(20, &[(13, 0x41)], FrameError::Short),
-    Front(21, &[(13, 0x41)], FrameError::Clock),
-    Front(22, &[(21, 0)], FrameError::NameLength),
-    Front(22, &[(21, 33)], FrameError::NameLength),
-    Front(22, &[(20, 0)], FrameError::Clock),
+const PREFIXES_1: &[Prefix] = &[
+    Prefix(1, &[(0, 3)], FrameError::Version),
+    Prefix(2, &[(1, 0)], FrameError::Kind),
+    Prefix(3, &[(2, 17)], FrameError::From),
+    Prefix(4, &[(3, 17)], FrameError::To),
+    Prefix(4, &[(3, 1)], FrameError::SameNode),
+    Prefix(5, &[(4, 2)], FrameError::Mode),
+    Prefix(12, &[(11, 1)], FrameError::Short),
+    Prefix(13, &[(12, 0)], FrameError::Seq),
+    Prefix(20, &[(13, 0x41)], FrameError::Short),
+    Prefix(21, &[(13, 0x41)], FrameError::Clock),
+    Prefix(22, &[(21, 0)], FrameError::NameLength),
+    Prefix(22, &[(21, 33)], FrameError::NameLength),
+    Prefix(22, &[(20, 0)], FrameError::Clock),
 ];
 
-const FRONTS_2: &[Front] = &[
-    Front(1, &[(0, 3)], FrameError::Version),
-    Front(2, &[(1, 0)], FrameError::Kind),
-    Front(3, &[(1, 0)], FrameError::Kind),
+const PREFIXES_2: &[Prefix] = &[
+    Prefix(1, &[(0, 3)], FrameError::Version),
+    Prefix(2, &[(1, 0)], FrameError::Kind),
+    Prefix(3, &[(1, 0)], FrameError::Kind),
     // The number of a node is looked at once both of its bytes are there.
-    Front(3, &[(2, 1)], FrameError::Short),
-    Front(4, &[(2, 1)], FrameError::From),
-    Front(4, &[(3, 65)], FrameError::From),
-    Front(5, &[(3, 65)], FrameError::From),
-    Front(5, &[(4, 1)], FrameError::Short),
-    Front(6, &[(4, 1)], FrameError::To),
-    Front(6, &[(5, 65)], FrameError::To),
-    Front(6, &[(5, 1)], FrameError::SameNode),
-    Front(7, &[(6, 5)], FrameError::Mode),
-    Front(14, &[(13, 1)], FrameError::Short),
-    Front(15, &[(14, 0)], FrameError::Seq),
-    Front(22, &[(15, 0x41)], FrameError::Short),
-    Front(23, &[(15, 0x41)], FrameError::Clock),
-    Front(24, &[(23, 0)], FrameError::NameLength),
-    Front(24, &[(23, 33)], FrameError::NameLength),
-    Front(24, &[(22, 0)], FrameError::Clock),
+    Prefix(3, &[(2, 1)], FrameError::Short),
+    Prefix(4, &[(2, 1)], FrameError::From),
+    Prefix(4, &[(3, 65)], FrameError::From),
+    Prefix(5, &[(3, 65)], FrameError::From),
+    Prefix(5, &[(4, 1)], FrameError::Short),
+    Prefix(6, &[(4, 1)], FrameError::To),
+    Prefix(6, &[(5, 65)], FrameError::To),
+    Prefix(6, &[(5, 1)], FrameError::SameNode),
+    Prefix(7, &[(6, 5)], FrameError::Mode),
+    Prefix(14, &[(13, 1)], FrameError::Short),
+    Prefix(15, &[(14, 0)], FrameError::Seq),
+    Prefix(22, &[(15, 0x41)], FrameError::Short),
+    Prefix(23, &[(15, 0x41)], FrameError::Clock),
+    Prefix(24, &[(23, 0)], FrameError::NameLength),
+    Prefix(24, &[(23, 33)], FrameError::NameLength),
+    Prefix(24, &[(22, 0)], FrameError::Clock),
     // From node 40, to change parts.
-    Front(24, &[(3, 40), (6, 3)], FrameError::Short),
+    Prefix(24, &[(3, 40), (6, 3)], FrameError::Short),
 ];
 
 /// Returns whether the bytes of a REQUEST that there are, with the changes, are refused as is said.
-fn is_met<const N: usize>(text: &[u8; N], front: &Front) -> bool {
-    match with(text, front.1).get(..front.0) {
-        Some(bytes) => is_refused(bytes, front.2),
+fn is_met<const N: usize>(text: &[u8; N], prefix: &Prefix) -> bool {
+    match with(text, prefix.1).get(..prefix.0) {
+        Some(bytes) => is_refused(bytes, prefix.2),
         None => false,
     }
 }
 
 /// Returns how many are so, up to the first that is not.
-fn fronts_met<const N: usize>(text: &[u8; N], fronts: &[Front]) -> usize {
-    for row in 0..fronts.len() {
-        if !is_met(text, &fronts[row]) {
+fn prefixes_met<const N: usize>(text: &[u8; N], prefixes: &[Prefix]) -> usize {
+    for row in 0..prefixes.len() {
+        if !is_met(text, &prefixes[row]) {
             return row;
         }
     }
-    fronts.len()
+    prefixes.len()
 }
 
 #[test]
 fn a_field_is_short_at_its_place_in_version_1(rt: HostRuntime) {
-    assert_rows(&rt, fronts_met(&ASKS_1, FRONTS_1), FRONTS_1.len());
+    assert_rows(&rt, prefixes_met(&ASKS_1, PREFIXES_1), PREFIXES_1.len());
 }
 
 #[test]
 fn a_field_is_short_at_its_place_in_version_2(rt: HostRuntime) {
-    assert_rows(&rt, fronts_met(&ASKS_2, FRONTS_2), FRONTS_2.len());
+    assert_rows(&rt, prefixes_met(&ASKS_2, PREFIXES_2), PREFIXES_2.len());
 }
 
 /// Returns whether the REQUESTs with this byte after them are refused.

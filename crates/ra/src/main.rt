@@ -2,7 +2,8 @@
 #![tactic(auto)]
 
 use ra_cli::{
-    CommandFault, SeenReader, refuse_words_with_note, serve_with_notes, write_waiting_note,
+    CommandFault, SeenReader, SeenWriter, refuse_words_with_note, serve_with_notes,
+    write_waiting_note,
 };
 use std::io::{BufReader, IsTerminal};
 use std::process::ExitCode;
@@ -23,7 +24,7 @@ fn words(rt: &HostRuntime) -> Result<Vec<String>, CommandFault> {
 
 fn main(rt: HostRuntime) -> ExitCode {
     let alloc = rt.alloc();
-    let mut writer = io::writer(&rt);
+    let mut writer = SeenWriter::new(io::writer(&rt));
     let mut notes = rt.stderr();
     let words = match words(&rt) {
         Ok(words) => words,

@@ -290,7 +290,8 @@ impl Automaton {
     }
 
     /// Returns whether a message is the last REPLY that the node awaits: received as a message for it about this resource, it lets
-    /// the node enter. It does not allocate. The cost is constant.
+    /// the node enter. It does not allocate. The cost is constant. It is asked before anything changes: few messages let a node enter,
+    /// and only for those it needs room for a mark.
     pub fn lets_enter(&self, message: &Message) -> bool
         ensures { IsTrue result ↔ LetsEnter self.now message.now }
     {

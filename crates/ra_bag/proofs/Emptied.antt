@@ -49,16 +49,16 @@ there_in (None ∷ slots) m there = let (j, less, same) = there_in slots m there
 there_in (Some x ∷ slots) m (zero, lt, is) = (0, omega arith, ap Some is)
 there_in (Some x ∷ slots) m (suc k, lt, is) = let (j, less, same) = there_in slots m (k, omega (arith, lt), is) in (suc j, omega (arith, less), same)
 
-pub at_seam : (front back : List Message) (m d : Message) → get_or (front ++ m ∷ back) (length front) d ≡ m
-at_seam [] back m d = refl
-at_seam (x ∷ front) back m d = at_seam front back m d
+pub at_seam : (prefix suffix : List Message) (m d : Message) → get_or (prefix ++ m ∷ suffix) (length prefix) d ≡ m
+at_seam [] suffix m d = refl
+at_seam (x ∷ prefix) suffix m d = at_seam prefix suffix m d
 
 pub out_there : (slots : List (Option Message)) (m : Message) (i : ℕ) → i < length slots → get_or slots i (Some m) ≡ Some m → Contains (messages_in slots) m
 out_there slots m i lt is =
-    let front = before slots i in
-    let back = behind slots i in
+    let prefix = before slots i in
+    let suffix = behind slots i in
     subst (λ (ms : List Message). Contains ms m) (sym (split slots i m lt is))
-    (length front, omega (arith, length-append front (m ∷ back)), at_seam front back m m)
+    (length prefix, omega (arith, length-append prefix (m ∷ suffix)), at_seam prefix suffix m m)
 
 pub contains_both : (slots : List (Option Message)) (m : Message) → Contains slots (Some m) ↔ Contains (messages_in slots) m
 contains_both slots m = (λ there. out_there slots m there.0 there.1 there.2, there_in slots m)
@@ -69,8 +69,8 @@ pub takes_first : (slots : List (Option Message)) (i : ℕ) (m : Message) (new :
     → ((k : ℕ) → k < i → get_or slots k (Some m) ≢ Some m) → new ≡ before slots i ++ behind slots i → TakesFirst (messages_in slots) m new
 takes_first slots i m new lt is first new_is =
     record {
-      front = before slots i;
-      back = behind slots i;
+      prefix = before slots i;
+      suffix = behind slots i;
       old_is = split slots i m lt is;
       first = λ k d below e.
           let (j, less, same) = there_in (take i slots) m (k, below, get_or_default (before slots i) k m d below ∙ e) in
@@ -79,17 +79,17 @@ takes_first slots i m new lt is first new_is =
       new_is = new_is;
     }
 
-drop_seam : (front back : List Message) (m : Message) → drop (suc (length front)) (front ++ m ∷ back) ≡ back
-drop_seam [] back m = refl
-drop_seam (x ∷ front) back m = drop_seam front back m
+drop_seam : (prefix suffix : List Message) (m : Message) → drop (suc (length prefix)) (prefix ++ m ∷ suffix) ≡ suffix
+drop_seam [] suffix m = refl
+drop_seam (x ∷ prefix) suffix m = drop_seam prefix suffix m
 
-one_of : (front back : List Message) (m : Message) → TakesOne (front ++ m ∷ back) m (front ++ back)
-one_of front back m = (
-  length front,
-  omega (arith, length-append front (m ∷ back)),
-  at_seam front back m m,
-  sym (ap (λ (ms : List Message). ms ++ drop (suc (length front)) (front ++ m ∷ back)) (take-append_seam front (m ∷ back))
-      ∙ ap (λ (ms : List Message). front ++ ms) (drop_seam front back m)),
+one_of : (prefix suffix : List Message) (m : Message) → TakesOne (prefix ++ m ∷ suffix) m (prefix ++ suffix)
+one_of prefix suffix m = (
+  length prefix,
+  omega (arith, length-append prefix (m ∷ suffix)),
+  at_seam prefix suffix m m,
+  sym (ap (λ (ms : List Message). ms ++ drop (suc (length prefix)) (prefix ++ m ∷ suffix)) (take-append_seam prefix (m ∷ suffix))
+      ∙ ap (λ (ms : List Message). prefix ++ ms) (drop_seam prefix suffix m)),
 )
 
 pub takes_one : (slots : List (Option Message)) (i : ℕ) (m : Message) (new : List Message) → i < length slots → get_or slots i (Some m) ≡ Some m
@@ -217,7 +217,7 @@ few_behind slots ms empty few = omega (arith, few, ap length (put_behind slots m
 pub first_is_one : (old : List Message) (m : Message) (new : List Message) → TakesFirst old m new → TakesOne old m new
 first_is_one old m new takes =
     subst (λ (ms : List Message). TakesOne ms m new) (sym takes.old_is)
-    (subst (λ (ms : List Message). TakesOne (takes.front ++ m ∷ takes.back) m ms) (sym takes.new_is) (one_of takes.front takes.back m))
+    (subst (λ (ms : List Message). TakesOne (takes.prefix ++ m ∷ takes.suffix) m ms) (sym takes.new_is) (one_of takes.prefix takes.suffix m))
 
 pub one_is_taken : (taken : Option Message) (old new : List Message) (m : Message) → Contains old m → IfSome taken (λ t. (t ≡ m) × TakesFirst old m new)
     → (IsNone taken → Contains old m → ⊥) → TakesOne old m new

@@ -11,8 +11,8 @@ pub takes_at : (messages : List Message) (place : ℕ) (message : Message) → p
     → ((k : ℕ) → k < place → get_or messages k message ≢ message) → TakesFirst messages message (remove messages place)
 takes_at messages place message lt is first =
     record {
-      front = take place messages;
-      back = drop (suc place) messages;
+      prefix = take place messages;
+      suffix = drop (suc place) messages;
       old_is = split_at messages place message lt is;
       first = λ k d below e.
           let before : k < place = omega (arith, below, length-take-le place messages (omega (arith, lt))) in

@@ -5,11 +5,11 @@ use Rattle.ra_stamp.specs.declared.message.Message.{Message}
 
 -- the new list is the old one without the first message that is equal to this one
 pub record TakesFirst (old : List Message) (message : Message) (new : List Message) : Type 0 where
-  pub front : List Message
-  pub back : List Message
-  pub old_is : old ≡ front ++ message ∷ back
-  pub first : All (λ m. m ≢ message) front
-  pub new_is : new ≡ front ++ back
+  pub prefix : List Message
+  pub suffix : List Message
+  pub old_is : old ≡ prefix ++ message ∷ suffix
+  pub first : All (λ m. m ≢ message) prefix
+  pub new_is : new ≡ prefix ++ suffix
 
 -- the new list is the old one without a message that is equal to this one, at whichever place
 abbrev pub TakesOne : List Message → Message → List Message → Type 0

@@ -20,7 +20,7 @@ use std::marker::Model;
 pub struct Bag {
     /// The messages, with an empty slot for each one that was taken from between others since the slots were closed up.
     slots: VecDeque<Option<Message>>,
-    /// How many slots are empty: no more than have a message.
+    /// How many slots are empty: no more than have a message, so that to go through all slots is linear in the messages.
     empty: u64,
     /// In which slots the messages stand, for finding them.
     places: Places,
@@ -48,7 +48,7 @@ impl Bag {
     ///
     /// # Errors
     ///
-    /// `Memory`: there is no bag.
+    /// `Memory`: there is no bag. It takes none yet, and no caller has to change when it does.
     pub fn new(alloc: Global) -> Result<Bag, Memory>
         ensures empty { IfOk result (λ bag. bag.items ≡ []) }
     {
@@ -78,7 +78,8 @@ impl Bag {
     }
 
     /// Returns whether a message that is equal to this one is under way. It does not allocate. The cost is constant on average where
-    /// one is and `find` had to look among many since the slots were closed up last; else it is linear in the number of messages.
+    /// one is and `find` had to look among many since the slots were closed up last; else it is linear in the number of messages, as
+    /// a bag that may not change learns no places.
     pub fn contains(&self, message: &Message) -> bool
         ensures { IsTrue result ↔ Contains self.now.items message.now }
     {
@@ -98,7 +99,7 @@ impl Bag {
     /// Returns in which slot a message stands that is equal to this one, for `take_from`, or `None` where there is none.
     ///
     /// Where no slot is empty the one at the place `near` is looked at first, at constant cost. Else it is the first one, and the cost
-    /// is that of `take`.
+    /// is that of `take`. Which number a slot has no clause says, so that `take_from` looks whether the message is there.
     #[inline(always)]
     pub fn find(&mut self, message: &Message, near: u64) -> Option<u64>
         ensures same { self.new ≡ self.old }
@@ -120,7 +121,8 @@ impl Bag {
     }
 
     /// Makes room for this many more messages, in time linear in the number of messages. The messages stay, and
-    /// the spare is no smaller, whatever comes.
+    /// the spare is no smaller, whatever comes. A refusal may leave it larger, so that a bag may come to keep
+    /// more than one list.
     ///
     /// # Errors
     ///

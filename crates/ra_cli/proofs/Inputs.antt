@@ -22,24 +22,24 @@ is_read limit input rest taken h =
 -- ---- The line of an input
 
 -- a line has no line feed at its end
-no_feed_at_end : (front : List ℕ) → All (λ byte. byte ≢ 10) (front ++ 10 ∷ []) → ⊥
+no_feed_at_end : (prefix : List ℕ) → All (λ byte. byte ≢ 10) (prefix ++ 10 ∷ []) → ⊥
 no_feed_at_end [] h = All-head (λ byte. byte ≢ 10) 10 [] h refl
 no_feed_at_end (x ∷ xs) h = no_feed_at_end xs (All-tail (λ byte. byte ≢ 10) x (xs ++ 10 ∷ []) h)
 
 -- the line of an input that ends in a line feed
-pub line_before : (front line : List ℕ) → All (λ byte. byte ≢ 10) line
-    → (front ++ 10 ∷ [] ≡ line) ⊎ (front ++ 10 ∷ [] ≡ line ++ 10 ∷ []) → line ≡ front
-line_before front line none (inl whole) = absurd (no_feed_at_end front (subst (All (λ byte. byte ≢ 10)) (sym whole) none))
-line_before front line none (inr feed) = sym (append_cancel_right front line (10 ∷ []) feed)
+pub line_before : (prefix line : List ℕ) → All (λ byte. byte ≢ 10) line
+    → (prefix ++ 10 ∷ [] ≡ line) ⊎ (prefix ++ 10 ∷ [] ≡ line ++ 10 ∷ []) → line ≡ prefix
+line_before prefix line none (inl whole) = absurd (no_feed_at_end prefix (subst (All (λ byte. byte ≢ 10)) (sym whole) none))
+line_before prefix line none (inr feed) = sym (append_cancel_right prefix line (10 ∷ []) feed)
 
-same_last : (front line : List ℕ) (x y : ℕ) → front ++ x ∷ [] ≡ line ++ y ∷ [] → x ≡ y
+same_last : (prefix line : List ℕ) (x y : ℕ) → prefix ++ x ∷ [] ≡ line ++ y ∷ [] → x ≡ y
 same_last [] [] x y e = cc
 same_last [] (z ∷ zs) x y e = absurd (omega (arith, ap length e, length-append zs (y ∷ [])))
 same_last (w ∷ ws) [] x y e = absurd (omega (arith, ap length e, length-append ws (x ∷ [])))
 same_last (w ∷ ws) (z ∷ zs) x y e = same_last ws zs x y (cc)
 
 -- the line of an input that ends in another byte
-pub line_whole : (front line : List ℕ) (last : ℕ) → last ≢ 10
-    → (front ++ last ∷ [] ≡ line) ⊎ (front ++ last ∷ [] ≡ line ++ 10 ∷ []) → line ≡ front ++ last ∷ []
-line_whole front line last other (inl whole) = sym whole
-line_whole front line last other (inr feed) = absurd (other (same_last front line last 10 feed))
+pub line_whole : (prefix line : List ℕ) (last : ℕ) → last ≢ 10
+    → (prefix ++ last ∷ [] ≡ line) ⊎ (prefix ++ last ∷ [] ≡ line ++ 10 ∷ []) → line ≡ prefix ++ last ∷ []
+line_whole prefix line last other (inl whole) = sym whole
+line_whole prefix line last other (inr feed) = absurd (other (same_last prefix line last 10 feed))

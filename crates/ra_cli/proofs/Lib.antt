@@ -1,11 +1,11 @@
 mod Inputs
 mod Replies
 mod Refusals
-mod Answered
+mod AnswerCallLemmas
 mod Scripts
 mod ClusterRuns
 mod Surveys
 mod Options
 mod Statuses
 mod Helping
-mod Drawings
+mod PictureLemmas

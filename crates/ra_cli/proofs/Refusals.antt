@@ -60,6 +60,6 @@ for_each None node nodes why h = tt
 for_each (Some input) node nodes why h = h input
 
 -- a list of which an end is left
-pub not_nil : (bytes front back : List ℕ) → bytes ≡ front ++ back → back ≢ [] → bytes ≢ []
-not_nil bytes [] back e left nothing = left (sym e ∙ nothing)
-not_nil bytes (x ∷ xs) back e left nothing = absurd cc
+pub not_nil : (bytes prefix suffix : List ℕ) → bytes ≡ prefix ++ suffix → suffix ≢ [] → bytes ≢ []
+not_nil bytes [] suffix e left nothing = left (sym e ∙ nothing)
+not_nil bytes (x ∷ xs) suffix e left nothing = absurd cc

@@ -100,8 +100,8 @@ line_of_reader refusal (inr (inr (inr (inr is)))) = ap (λ (r : Refusal). refuse
 -- of a refusal that is not the writer's
 said : (words : List (List ℕ)) (old before after : Option (List ℕ)) (refusal : Refusal) → IsSaid refusal before after → IsBroken words old before after
 said words old before after refusal (inl (reader, all)) = inl (subst (Appends before after) (line_of_reader refusal reader) all)
-said words old before after refusal (inr (front, back, is, left, some)) =
-    inr (for_each old (λ input. BreaksOff words input before after) (λ input. (front, back, inl (refusal, sym is), left, some)))
+said words old before after refusal (inr (prefix, rest, is, left, some)) =
+    inr (for_each old (λ input. BreaksOff words input before after) (λ input. (prefix, rest, inl (refusal, sym is), left, some)))
 
 -- of any refusal
 pub broken : (words : List (List ℕ)) (old before between after : Option (List ℕ)) (refusal : Refusal)
@@ -114,11 +114,11 @@ broken words old before between after refusal fails stays same (inr (other, says
     said words old before after refusal (subst (λ (o : Option (List ℕ)). IsSaid refusal o after) (same other) says)
 
 -- of a text of which the writer took a prefix
-pub front_of : (words : List (List ℕ)) (old before after : Option (List ℕ)) (text front back : List ℕ) → IfSome old (λ input. IsPrinted words input text)
-    → text ≡ front ++ back → back ≢ [] → Appends before after front → IsBroken words old before after
-front_of words old before after text front back printed is left some =
+pub prefix_of : (words : List (List ℕ)) (old before after : Option (List ℕ)) (text prefix rest : List ℕ) → IfSome old (λ input. IsPrinted words input text)
+    → text ≡ prefix ++ rest → rest ≢ [] → Appends before after prefix → IsBroken words old before after
+prefix_of words old before after text prefix rest printed is left some =
     inr (of_known old (λ input. IsPrinted words input text) (λ input. BreaksOff words input before after)
-    (λ input h. (front, back, subst (IsPrinted words input) is h, left, some)) printed)
+    (λ input h. (prefix, rest, subst (IsPrinted words input) is h, left, some)) printed)
 
 -- ---- What is printed
 
@@ -135,36 +135,36 @@ of_marks_verdict words old verdict some =
     (λ input h. inr (inr (inr (inl (inr (some, verdict, h, refl))))))
 
 pub of_answered : (words : List (List ℕ)) (node nodes : ℕ) (old before after : Option (List ℕ)) → GivesNode words node nodes
-    → IfSome old (λ input. (front back : List ℕ) × IsAnswered node nodes input (front ++ back) × (back ≢ []) × Appends before after front)
+    → IfSome old (λ input. (prefix rest : List ℕ) × IsAnswered node nodes input (prefix ++ rest) × (rest ≢ []) × Appends before after prefix)
     → IfSome old (λ input. BreaksOff words input before after)
 of_answered words node nodes old before after gives =
-    of_known old (λ input. (front back : List ℕ) × IsAnswered node nodes input (front ++ back) × (back ≢ []) × Appends before after front)
+    of_known old (λ input. (prefix rest : List ℕ) × IsAnswered node nodes input (prefix ++ rest) × (rest ≢ []) × Appends before after prefix)
     (λ input. BreaksOff words input before after)
-    (λ input (front, back, answered, left, some). (front, back, inr (inl (node, nodes, gives, answered)), left, some))
+    (λ input (prefix, rest, answered, left, some). (prefix, rest, inr (inl (node, nodes, gives, answered)), left, some))
 
 pub of_performed : (words : List (List ℕ)) (policy : Policy) (format : Format) (old before after : Option (List ℕ))
-    → IfSome old (λ input. (front back : List ℕ) × (finished : Bool) × IsPerformedAs format policy input (front ++ back) finished × (back ≢ [])
-    × Appends before after front)
+    → IfSome old (λ input. (prefix rest : List ℕ) × (finished : Bool) × IsPerformedAs format policy input (prefix ++ rest) finished × (rest ≢ [])
+    × Appends before after prefix)
     → IfSome old (λ input. BreaksOff words input before after)
 of_performed words policy format old before after =
-    of_known old (λ input. (front back : List ℕ) × (finished : Bool) × IsPerformedAs format policy input (front ++ back) finished × (back ≢ [])
-    × Appends before after front) (λ input. BreaksOff words input before after)
-    (λ input (front, back, finished, prints, left, some). (front, back, inr (inr (inl (policy, format, finished, prints))), left, some))
+    of_known old (λ input. (prefix rest : List ℕ) × (finished : Bool) × IsPerformedAs format policy input (prefix ++ rest) finished × (rest ≢ [])
+    × Appends before after prefix) (λ input. BreaksOff words input before after)
+    (λ input (prefix, rest, finished, prints, left, some). (prefix, rest, inr (inr (inl (policy, format, finished, prints))), left, some))
 
 pub of_cluster_run : (words : List (List ℕ)) (old before after : Option (List ℕ))
-    → IfSome old (λ input. (front back : List ℕ) × IsClusterRun input (front ++ back) × (back ≢ []) × Appends before after front)
+    → IfSome old (λ input. (prefix rest : List ℕ) × IsClusterRun input (prefix ++ rest) × (rest ≢ []) × Appends before after prefix)
     → IfSome old (λ input. BreaksOff words input before after)
 of_cluster_run words old before after =
-    of_known old (λ input. (front back : List ℕ) × IsClusterRun input (front ++ back) × (back ≢ []) × Appends before after front)
+    of_known old (λ input. (prefix rest : List ℕ) × IsClusterRun input (prefix ++ rest) × (rest ≢ []) × Appends before after prefix)
     (λ input. BreaksOff words input before after)
-    (λ input (front, back, runs, left, some). (front, back, inr (inr (inr (inr (inl runs)))), left, some))
+    (λ input (prefix, rest, runs, left, some). (prefix, rest, inr (inr (inr (inr (inl runs)))), left, some))
 
 pub of_surveyed : (words : List (List ℕ)) (faults : Option FaultRates) (find : Option Ending) (first last : ℕ) (old before after : Option (List ℕ))
-    → IfSome old (λ input. (front back : List ℕ) × (finished : Bool) × IsTold faults find first last input (front ++ back) finished × (back ≢ [])
-    × Appends before after front)
+    → IfSome old (λ input. (prefix rest : List ℕ) × (finished : Bool) × IsTold faults find first last input (prefix ++ rest) finished × (rest ≢ [])
+    × Appends before after prefix)
     → IfSome old (λ input. BreaksOff words input before after)
 of_surveyed words faults find first last old before after =
-    of_known old (λ input. (front back : List ℕ) × (finished : Bool) × IsTold faults find first last input (front ++ back) finished × (back ≢ [])
-    × Appends before after front) (λ input. BreaksOff words input before after)
-    (λ input (front, back, finished, says, left, some).
-    (front, back, inr (inr (inr (inr (inr (inr (inr (faults, find, first, last, finished, says))))))), left, some))
+    of_known old (λ input. (prefix rest : List ℕ) × (finished : Bool) × IsTold faults find first last input (prefix ++ rest) finished × (rest ≢ [])
+    × Appends before after prefix) (λ input. BreaksOff words input before after)
+    (λ input (prefix, rest, finished, says, left, some).
+    (prefix, rest, inr (inr (inr (inr (inr (inr (inr (faults, find, first, last, finished, says))))))), left, some))

@@ -1,11 +1,11 @@
 pub mod Line
 pub mod Answer
-pub mod Answered
+pub mod AnswerCall
 pub mod Words
 pub mod Refusals
 pub mod Performs
 pub mod Checks
-pub mod Draws
+pub mod Pictures
 pub mod ClusterRun
 pub mod Surveyed
 pub mod Statuses

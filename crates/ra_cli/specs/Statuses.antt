@@ -12,7 +12,7 @@ use Rattle.ra_cli.specs.Words.{IsHelpWord, GivesNode}
 use Rattle.ra_cli.specs.Performs.{Performs}
 use Rattle.ra_cli.specs.Checks.{Judges, IsJudged}
 use Rattle.ra_cli.specs.ClusterRun.{IsClusterRun}
-use Rattle.ra_cli.specs.Draws.{IsDrawn, IsNoTrace, IsDrawing}
+use Rattle.ra_cli.specs.Pictures.{IsDrawn, IsNoTrace, IsDrawing}
 use Rattle.ra_cli.specs.Surveyed.{IsTold, Surveys}
 use Rattle.ra_cli.specs.Refusals.{IsOfReader, IsOfWriter, refused_line, word_of}
 
@@ -44,7 +44,7 @@ IsRefused before after = (refusal : Refusal) × (IsOfReader refusal → ⊥) × 
 -- of a refusal that is not the writer's: the reader failed and the line was written, or the writer failed at the line
 abbrev pub IsSaid : Refusal → (before after : Option (List ℕ)) → Type 0
 IsSaid refusal before after = (IsOfReader refusal × Appends before after (refused_line (word_of refusal)))
-    ⊎ ((front back : List ℕ) × (refused_line (word_of refusal) ≡ front ++ back) × (back ≢ []) × Appends before after front)
+    ⊎ ((prefix rest : List ℕ) × (refused_line (word_of refusal) ≡ prefix ++ rest) × (rest ≢ []) × Appends before after prefix)
 
 -- what the words have printed of an input: the line of a refusal, or what came of it, or a text of help
 abbrev pub IsPrinted : (words : List (List ℕ)) → (input text : List ℕ) → Type 0
@@ -60,8 +60,8 @@ IsPrinted words input text =
 
 -- a prefix of what is to be printed was written, and not all of it
 abbrev pub BreaksOff : (words : List (List ℕ)) → (input : List ℕ) → (before after : Option (List ℕ)) → Type 0
-BreaksOff words input before after = (front back : List ℕ) × IsPrinted words input (front ++ back) × (back ≢ [])
-    × Appends before after front
+BreaksOff words input before after = (prefix rest : List ℕ) × IsPrinted words input (prefix ++ rest) × (rest ≢ [])
+    × Appends before after prefix
 
 -- status 1: the reader failed and the line that says so was written, or the writer failed; where what was to be read is known, a prefix
 -- of what is printed was written then

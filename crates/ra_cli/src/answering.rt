@@ -4,7 +4,7 @@ ghost use Rattle.hex.specs.Hex.{decode_of, encode_lower};
 ghost use Rattle.ra_frame.specs.Fits.{Fits};
 ghost use Rattle.ra_frame.specs.FrameText.{IsWrittenText};
 ghost use Rattle.ra_cli.specs.Answer.{Carries, IsMember, IsUnwanted, Reacts, AreLines, IsAnswered, Refuses};
-ghost use Rattle.ra_cli.specs.Answered.{ComesTo};
+ghost use Rattle.ra_cli.specs.AnswerCall.{ComesTo};
 ghost use Rattle.ra_automaton.specs.State.{IsForNode};
 
 use crate::AnswerError;
@@ -248,9 +248,9 @@ pub fn answer<R: Read, W: Write>(
         (fault ≡ AnswerError.BadCount) ⊎ (fault ≡ AnswerError.BadNode) → reader.new ≡ reader.old) }
     ensures unwritten { IfErr result (λ fault. fault ≢ AnswerError.Write → writer.new ≡ writer.old) }
     // A fault of the writer comes only with something left to write.
-    ensures front { IsErrOf result AnswerError.Write → IfSome (R.remaining reader.old) (λ input.
-        (front : List ℕ) × (back : List ℕ) × IsAnswered node nodes input (front ++ back) × (back ≢ [])
-        × Appends (W.contents writer.old) (W.contents writer.new) front) }
+    ensures prefix { IsErrOf result AnswerError.Write → IfSome (R.remaining reader.old) (λ input.
+        (prefix : List ℕ) × (rest : List ℕ) × IsAnswered node nodes input (prefix ++ rest) × (rest ≢ [])
+        × Appends (W.contents writer.old) (W.contents writer.new) prefix) }
 
     // A fault of the reader comes only before it gave all that may be taken.
     ensures failed { IsErrOf result AnswerError.Read → (taken : List ℕ) × (length taken < 258)

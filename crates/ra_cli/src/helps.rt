@@ -69,9 +69,10 @@ repeat, so faulty has to have --repeat 0 then.
 
 Example: ra sim --policy seeded --seed 7 --as-choices < script.toml
 
-With --seeds A..B and a policy of chance it runs the script by each seed from A
-to B, and prints how many of them ended finished, and stuck, and the first of
-each, and the least and the most of the turns and of the messages sent.
+With --seeds A..B, where each is 0 to 2^64 - 1 and A at most B, and a policy of
+chance it runs the script by each seed from A to B, both included, and prints
+how many of them ended finished, and stuck, and the first of each, and the least
+and the most of the turns and of the messages sent.
 
 Example: ra sim --policy seeded --seeds 1..1000 < script.toml
 
@@ -97,9 +98,10 @@ its marks on the lines below it:
   enter 1 1 r X 1
   end
 The first line says which version of traces it is, how many nodes there are, and
-the number that each resource begins with. In version 2, which `ra sim --trace`
-prints, there are 1 to 64 nodes and five modes; version 1 has 1 to 16 nodes and
-the modes S and X:
+the number that each resource begins with, 0 to 2^64 - 1. The others have nodes,
+a client, 0 to 2^32 - 1, the name, the mode and the number, 1 to 2^64 - 1. In
+version 2, which `ra sim --trace` prints, there are 1 to 64 nodes and five
+modes; version 1 has 1 to 16 nodes and the modes S and X:
   S    shared
   X    exclusive
   IS   intent shared
@@ -119,9 +121,9 @@ the first line that is wrong, and why:
 Example: ra sim --trace < script.toml | ra check
 
 With --marks the text is a log of marks alone, a line for each request, grant
-and release of any lock service, with the number of a node, 1 to 64, a client,
-the name, the mode, and a number that is above each one granted on the name so
-far:
+and release of any lock service, with the number of a node, 1 to 64, a client, 0
+to 2^32 - 1, the name, the mode, and a number, 1 to 2^64 - 1, that is above each
+one granted on the name so far:
   request 1 1 r X 1
   enter 1 1 r X 1
   leave 1 1 r X 1

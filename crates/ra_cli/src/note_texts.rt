@@ -11,6 +11,12 @@ pub const NO_MEMORY: &str = "memory ran out";
 /// What is said where the reader failed.
 pub const NO_INPUT: &str = "standard input could not be read";
 
+/// What is said where the writer failed.
+pub const NO_OUTPUT: &str = "standard output could not be written";
+
+/// What is said where the writer failed as no space is left.
+pub const NO_SPACE: &str = "standard output could not be written: no space is left";
+
 /// What is said where a word of the command line is no text.
 pub const NO_TEXT: &str = "a word of the command line is not UTF-8";
 
@@ -109,7 +115,8 @@ pub fn cluster_text(fault: ClusterError) -> &'static str {
     }
 }
 
-/// Returns what is said of the cause for which a node was stopped.
+/// Returns what is said of the cause for which a node was stopped. Which node it was `run_cluster` does not tell: memory and threads are
+/// those of the whole process, so that which node wanted for them first is chance, and most other causes are defects of `ra`.
 fn stop_text(stop: Stop) -> &'static str {
     match stop {
         Stop::Memory => "a node was stopped, as memory ran out",

@@ -3,13 +3,14 @@ use crate::command_line::text_of;
 use crate::error::RunScriptError;
 use crate::hints::write_hints;
 use crate::note_texts::{
-    NO_INPUT, NO_MEMORY, NO_TEXT, NO_WORD, cause_text, cluster_text, drive_text, frame_text,
-    mark_cause_text, script_text,
+    NO_INPUT, NO_MEMORY, NO_OUTPUT, NO_SPACE, NO_TEXT, NO_WORD, cause_text, cluster_text,
+    drive_text, frame_text, mark_cause_text, script_text,
 };
 use crate::outcome::{Outcome, Remark, UNFINISHED};
 use crate::places::place_of;
 use crate::refusal::Refusal;
 use crate::seen::Seen;
+use crate::seen_writer::OutputFault;
 use crate::usage::usage_text;
 use crate::{AnswerError, CommandFault};
 use ra_draw::DrawError;
@@ -62,6 +63,16 @@ pub fn write_words_note<N: Write>(fault: CommandFault, notes: &mut N) {
     write_line(notes, text);
 }
 
+/// Writes the note on a fault of what is printed to, if there was one. Where nobody reads on, there is nobody to tell, and it is none.
+/// That the writer fails is passed over. It does not allocate.
+pub fn write_output_note<N: Write>(fault: Option<OutputFault>, notes: &mut N) {
+    match fault {
+        Some(OutputFault::Full) => write_line(notes, NO_SPACE),
+        Some(OutputFault::Other) => write_line(notes, NO_OUTPUT),
+        Some(OutputFault::Unread) | None => {}
+    }
+}
+
 /// Returns the line of a text.
 fn line_of(alloc: Global, text: &str) -> Result<String, AllocError> {
     format!(in alloc; "ra: {text}\n")
@@ -80,7 +91,7 @@ fn note_of(
     }
 }
 
-/// Returns the note on the cause of a remark, which is empty where the writer failed: mostly nobody reads on then.
+/// Returns the note on the cause of a remark, which is empty where the writer failed: how it did no remark knows.
 fn cause_note(alloc: Global, words: &[String], remark: &Remark) -> Result<String, AllocError> {
     match remark {
         Remark::Refused(refusal) => refusal_note(alloc, words, *refusal),

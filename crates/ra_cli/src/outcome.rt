@@ -7,7 +7,8 @@ use ra_trace::{Cause, MarkCause, MarksVerdict, Verdict};
 /// The run ended with something left to do, or the trace or the log is none.
 pub const UNFINISHED: u8 = 3;
 
-/// What there is to say to a person of what came of a command.
+/// What there is to say to a person of what came of a command. A note is made of it when all else is done, so that it takes no part in what
+/// is printed.
 #[derive(Drop)]
 pub enum Remark {
     /// It was refused.
@@ -49,7 +50,7 @@ impl Outcome {
         matches!(self.status, 0 | UNFINISHED)
     }
 
-    /// Makes that of a verdict. Of one that could not be printed there is nothing to say.
+    /// Makes that of a verdict. Of one that could not be printed there is nothing to say but that.
     pub fn judged(status: u8, remark: Option<Remark>) -> Outcome
         ensures { result.status ≡ status }
     {

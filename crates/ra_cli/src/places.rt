@@ -9,7 +9,8 @@ use crate::seen::Seen;
 use crate::serving::policy_of;
 use ra_cluster::ClusterError;
 use ra_explain::{
-    LineCause, choices_note, digits_note, frame_note, line_note, order_note, unfinished_note,
+    LineCause, Unanswered, choices_note, digits_note, frame_note, line_note, order_note,
+    unanswered_note, unfinished_note,
 };
 use ra_schedule::{Policy, chance};
 use ra_script::{PerformError, explain_script};
@@ -41,11 +42,21 @@ fn run_place(alloc: Global, script: &[u8], why: RunScriptError) -> Said {
     }
 }
 
+/// Returns what is said of a frame that a node does not answer.
+fn unanswered_place(alloc: Global, words: &[String], input: &[u8], why: Unanswered) -> Said {
+    let node = text_of(words, "--node").unwrap_or("");
+    let nodes = text_of(words, "--nodes").unwrap_or("");
+    unanswered_note(alloc, input, node, nodes, why)
+}
+
 /// Returns what is said of a frame that is not answered.
-fn answer_place(alloc: Global, input: &[u8], why: AnswerError) -> Said {
+fn answer_place(alloc: Global, words: &[String], input: &[u8], why: AnswerError) -> Said {
     match why {
         AnswerError::Frame(fault) => frame_note(alloc, input, fault),
         AnswerError::Line | AnswerError::Hex => digits_note(alloc, input),
+        AnswerError::WrongNode => unanswered_place(alloc, words, input, Unanswered::WrongNode),
+        AnswerError::Stranger => unanswered_place(alloc, words, input, Unanswered::Stranger),
+        AnswerError::ClockFull => unanswered_place(alloc, words, input, Unanswered::ClockFull),
         _ => Ok(None),
     }
 }
@@ -91,7 +102,7 @@ fn through_line(text: &[u8], line: u64) -> (&[u8], u64) {
     (text, feeds)
 }
 
-/// Returns what is said of a wrong line of a text of which the last line is remembered.
+/// Returns what is said of a wrong line of a text of which the last line is remembered, and perhaps that the line before is `end`.
 fn last_line_place(
     alloc: Global,
     seen: &Seen,
@@ -110,6 +121,10 @@ fn last_line_place(
 
 /// Returns what is said of a wrong line.
 fn line_place(alloc: Global, seen: &Seen, line: u64, cause: LineCause, text: &str) -> Said {
+    // Only its first byte is read of a line behind the last one of a trace.
+    if let (true, Some(shown)) = (seen.is_after_end(), seen.shown_line()) {
+        return last_line_place(alloc, seen, shown, line, cause, text);
+    }
     if let Some(bytes) = seen.bytes() {
         let (read, feeds) = through_line(bytes, line);
         // Of a longer text only the first bytes are remembered.
@@ -134,7 +149,7 @@ fn place_in(
     match *remark {
         Remark::Refused(Refusal::Perform(why)) => perform_place(alloc, words, bytes, why),
         Remark::Refused(Refusal::Cluster(why)) => run_place(alloc, bytes, why),
-        Remark::Refused(Refusal::Answer(why)) => answer_place(alloc, bytes, why),
+        Remark::Refused(Refusal::Answer(why)) => answer_place(alloc, words, bytes, why),
         Remark::Unfinished => unfinished_place(alloc, words, bytes, last_seed),
         _ => Ok(None),
     }

@@ -57,9 +57,9 @@ fn write_report<W: Write>(
     ensures ok { OnOk result
         (Appends (W.contents writer.old) (W.contents writer.new) (lines.report_text report.now)) }
     ensures err { IfErr result (λ fault. ((fault ≡ RunScriptError.Memory) × (writer.new ≡ writer.old))
-        ⊎ ((fault ≡ RunScriptError.Write) × (front : List ℕ) × (back : List ℕ)
-        × (lines.report_text report.now ≡ front ++ back) × (back ≢ [])
-        × Appends (W.contents writer.old) (W.contents writer.new) front)) }
+        ⊎ ((fault ≡ RunScriptError.Write) × (prefix : List ℕ) × (rest : List ℕ)
+        × (lines.report_text report.now ≡ prefix ++ rest) × (rest ≢ [])
+        × Appends (W.contents writer.old) (W.contents writer.new) prefix)) }
 {
     let text = report_text(alloc, report)?;
     write_out(writer, text.as_bytes())?;
@@ -93,9 +93,9 @@ pub fn run_script<T: Threads + Wait + Sync, R: Read, W: Write>(
     ensures refused { IfErr result (λ fault.
         IfSome (R.remaining reader.old) (λ input. RefusesRun input fault)) }
     ensures unwritten { IfErr result (λ fault. fault ≢ RunScriptError.Write → writer.new ≡ writer.old) }
-    ensures front { IsErrOf result RunScriptError.Write → IfSome (R.remaining reader.old) (λ input.
-        (front back : List ℕ) × IsClusterRun input (front ++ back) × (back ≢ [])
-        × Appends (W.contents writer.old) (W.contents writer.new) front) }
+    ensures prefix { IsErrOf result RunScriptError.Write → IfSome (R.remaining reader.old) (λ input.
+        (prefix rest : List ℕ) × IsClusterRun input (prefix ++ rest) × (rest ≢ [])
+        × Appends (W.contents writer.old) (W.contents writer.new) prefix) }
     // A fault of the reader comes only before it gave all that may be taken.
     ensures failed { IsErrOf result RunScriptError.Read → (taken : List ℕ) × (length taken < 65537)
         × Consumes (R.remaining reader.old) (R.remaining reader.new) taken }

@@ -4,7 +4,7 @@ use ra_schedule::{Figures, Observer, Outcome};
 use std::alloc::Global;
 use std::io::Write;
 
-/// The work after which a line is written, in turns: it takes some seconds.
+/// The work after which a line is written, in turns: it takes some seconds, and there is no clock to ask.
 const WORK_OF_A_LINE: u64 = 1 << 23;
 
 /// What a run takes besides its turns, in turns.

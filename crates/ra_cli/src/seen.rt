@@ -36,6 +36,16 @@ fn has_kept(first: &mut Vec<u8>, more: &[u8]) -> bool {
         .is_ok()
 }
 
+/// Returns what stands before the first line feed of some bytes, or all where there is none.
+fn up_to_feed(bytes: &[u8]) -> &[u8] {
+    for (place, byte) in bytes.iter().enumerate() {
+        if *byte == b'\n' {
+            return &bytes[..place];
+        }
+    }
+    bytes
+}
+
 impl Seen {
     /// The most bytes that are remembered: as many as are read of a script.
     pub const MAX_BYTES: usize = 65_537;
@@ -79,6 +89,18 @@ impl Seen {
         }
     }
 
+    /// Returns the last line as far as the reader showed it, at most 128 bytes, with its line feed where that was taken; or `None` where it
+    /// was not read line by line, as a trace is. It does not allocate.
+    pub fn shown_line(&self) -> Option<&[u8]> {
+        if !self.is_by_lines {
+            return None;
+        }
+        if self.is_over() {
+            return Some(self.taken_line());
+        }
+        Some(up_to_feed(self.line.as_slice()))
+    }
+
     /// Returns whether the line before the last one was `end`.
     pub fn is_after_end(&self) -> bool {
         self.is_after_end
@@ -110,6 +132,30 @@ impl Seen {
         let room = self.line.remaining_capacity();
         let shown = &next[..next.len().min(room)];
         self.line.try_extend_from_slice(shown).ok();
+    }
+
+    /// Returns what was shown behind a line that was taken whole, where that goes on behind these bytes, which are read next.
+    fn shown_behind(&self, read: &[u8]) -> Option<ArrayVec<u8, MAX_LINE>> {
+        let shown = self.line.as_slice().get(self.taken..)?;
+        if !self.is_over() || shown.len() <= read.len() || !shown.starts_with(read) {
+            return None;
+        }
+        let mut line = ArrayVec::new();
+        line.try_extend_from_slice(shown).ok();
+        Some(line)
+    }
+
+    /// Remembers what is read next without being looked at, as the one byte that is asked for behind the last line of a trace. What was
+    /// shown there stays known.
+    fn show_read(&mut self, read: &[u8]) {
+        match self.shown_behind(read) {
+            Some(line) => {
+                self.is_after_end = self.taken_line() == b"end\n".as_slice();
+                self.taken = 0;
+                self.line = line;
+            }
+            None => self.show(read),
+        }
     }
 
     /// Remembers that so many bytes are taken that were looked at.
@@ -163,7 +209,7 @@ impl<R: Read> Read for SeenReader<R> {
         let count = self.inner.read(buf)?;
         let read = &buf[..count];
         self.seen.keep(read);
-        self.seen.show(read);
+        self.seen.show_read(read);
         self.seen.take(count);
         Ok(count)
     }

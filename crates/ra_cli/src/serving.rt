@@ -6,7 +6,7 @@ ghost use Rattle.ra_cli.specs.Performs.{IsNamed, PerformsBy};
 ghost use Rattle.ra_cli.specs.Checks.{Checks, ChecksMarks, is_run, is_valid};
 ghost use Rattle.ra_cli.specs.Checks.{verdict_text as spec_text};
 ghost use Rattle.ra_trace.specs.declared.verdict.Verdict.{Verdict};
-ghost use Rattle.ra_cli.specs.Draws.{IsDrawn, IsNoTrace};
+ghost use Rattle.ra_cli.specs.Pictures.{IsDrawn, IsNoTrace};
 ghost use Rattle.ra_cli.specs.Statuses.{IsBroken, IsDone, IsPrinted, IsRefused, IsSaid, IsUnfinished};
 ghost use Rattle.ra_cli.specs.ClusterRun.{RunsCluster};
 ghost use Rattle.ra_cli.specs.Surveyed.{SurveysBy};
@@ -18,12 +18,13 @@ ghost use Rattle.ra_cli.specs.Refusals.{IsOfReader, IsOfWriter, refused_line, wo
 use crate::command_line::{PolicyName, Task, parse};
 use crate::error::RunScriptError;
 use crate::marks_verdict::marks_verdict_text;
-use crate::notes::{write_notes, write_words_note};
+use crate::notes::{write_notes, write_output_note, write_words_note};
 use crate::outcome::{Outcome, Remark, UNFINISHED, marks_remark_of, remark_of};
 use crate::refusal::{Refusal, line_of};
 use crate::running::run_script;
 use crate::seed_progress::SeedProgress;
 use crate::seen::SeenReader;
+use crate::seen_writer::SeenWriter;
 use crate::surveying::survey_script;
 use crate::verdict::verdict_text;
 use crate::{AnswerError, CommandFault, answer};
@@ -51,8 +52,8 @@ fn written<W: Write>(writer: &mut W, text: &[u8], status: u8) -> u8
     requires { status ≤ 3 }
     ensures range { result ≤ 3 }
     ensures value { ((result ≡ status) × Appends (W.contents writer.old) (W.contents writer.new) text.now)
-        ⊎ ((result ≡ 1) × (front : List ℕ) × (back : List ℕ) × (text.now ≡ front ++ back) × (back ≢ [])
-        × Appends (W.contents writer.old) (W.contents writer.new) front) }
+        ⊎ ((result ≡ 1) × (prefix : List ℕ) × (rest : List ℕ) × (text.now ≡ prefix ++ rest) × (rest ≢ [])
+        × Appends (W.contents writer.old) (W.contents writer.new) prefix) }
 {
     match write_out(writer, text) {
         Ok(()) => status,
@@ -113,8 +114,8 @@ fn refuse<W: Write>(writer: &mut W, refusal: Refusal) -> Outcome
 /// allocate.
 pub fn refuse_words<W: Write>(writer: &mut W, fault: CommandFault) -> u8
     ensures { ((result ≡ 2) × Appends (W.contents writer.old) (W.contents writer.new) (spec.refusal_line fault))
-        ⊎ ((result ≡ 1) × (front : List ℕ) × (back : List ℕ) × (spec.refusal_line fault ≡ front ++ back) × (back ≢ [])
-        × Appends (W.contents writer.old) (W.contents writer.new) front) }
+        ⊎ ((result ≡ 1) × (prefix : List ℕ) × (rest : List ℕ) × (spec.refusal_line fault ≡ prefix ++ rest) × (rest ≢ [])
+        × Appends (W.contents writer.old) (W.contents writer.new) prefix) }
 {
     match write_out(writer, refusal_line(fault)) {
         Ok(()) => REFUSED,
@@ -122,18 +123,20 @@ pub fn refuse_words<W: Write>(writer: &mut W, fault: CommandFault) -> u8
     }
 }
 
-/// Does as [`refuse_words`], and then writes a line for a person to `notes`. That it fails changes nothing else.
+/// Does as [`refuse_words`], and then writes a line for a person to `notes`, and one where `writer` failed, but for a pipe that nobody
+/// reads on. That `notes` fails changes nothing else.
 pub fn refuse_words_with_note<W: Write, N: Write>(
-    writer: &mut W,
+    writer: &mut SeenWriter<W>,
     fault: CommandFault,
     notes: &mut N,
 ) -> u8
-    ensures { ((result ≡ 2) × Appends (W.contents writer.old) (W.contents writer.new) (spec.refusal_line fault))
-        ⊎ ((result ≡ 1) × (front : List ℕ) × (back : List ℕ) × (spec.refusal_line fault ≡ front ++ back) × (back ≢ [])
-        × Appends (W.contents writer.old) (W.contents writer.new) front) }
+    ensures { ((result ≡ 2) × Appends (W.contents writer.old.inner) (W.contents writer.new.inner) (spec.refusal_line fault))
+        ⊎ ((result ≡ 1) × (prefix : List ℕ) × (rest : List ℕ) × (spec.refusal_line fault ≡ prefix ++ rest) × (rest ≢ [])
+        × Appends (W.contents writer.old.inner) (W.contents writer.new.inner) prefix) }
 {
     let status = refuse_words(writer, fault);
     write_words_note(fault, notes);
+    write_output_note(writer.fault(), notes);
     status
 }
 
@@ -147,7 +150,7 @@ fn refusal_line(fault: CommandFault) -> &'static [u8]
     }
 }
 
-/// Returns the policy of a name. The choices are read whatever the name.
+/// Returns the policy of a name. The choices are read whatever the name, so that who wrote a wrong word is told.
 ///
 /// # Errors
 ///
@@ -321,7 +324,7 @@ fn deny<W: Write>(alloc: Global, line: u64, cause: Cause, writer: &mut W) -> Out
     match verdict_text(alloc, &verdict) {
         Ok(text) => {
             let status = written(writer, text.as_bytes(), UNFINISHED);
-            Outcome::new(status, remark_of(&verdict))
+            Outcome::judged(status, remark_of(&verdict))
         }
         Err(_) => refuse(writer, Refusal::Draw(DrawError::Memory)),
     }
@@ -432,7 +435,7 @@ fn outcome_of<T: Threads + Wait + Sync, R: BufRead, W: Write, O: Observer>(
 /// the input or the output, 2 refused, 3 a run that ended with something left to do, or a trace or a log that is not one. A refusal is
 /// printed as one line, `refused` and its word. No read or write that failed is tried again, and after a fault of the output
 /// nothing more is written. It waits for nobody but the reader and the writer, and with the command `cluster` for the threads
-/// that it starts.
+/// that it starts. The reader has a buffer for the command `check`, which takes of it what it reads.
 pub fn serve<T: Threads + Wait + Sync, R: BufRead, W: Write>(
     rt: &T,
     alloc: Global,
@@ -453,7 +456,8 @@ pub fn serve<T: Threads + Wait + Sync, R: BufRead, W: Write>(
         → IsUnfinished (map string_bytes words.now) (R.remaining reader.old) (R.remaining reader.new)
         (W.contents writer.old) (W.contents writer.new) }
     // Status 2 comes only with the line of a refusal that is neither the reader's nor the writer's; and status 1 only where one of
-    // these failed: with the line that says so of the reader, or a prefix of what is printed.
+    // these failed: with the line that says so of the reader, or a prefix of what is printed. Of a reader that tells nothing of its input
+    // no clause says of what a prefix was written; nor is it said what the texts of help and of the version are, which are the parser's.
     ensures refused { result ≡ 2 → IsRefused (W.contents writer.old) (W.contents writer.new) }
     ensures broken { result ≡ 1
         → IsBroken (map string_bytes words.now) (R.remaining reader.old) (W.contents writer.old) (W.contents writer.new) }
@@ -463,15 +467,16 @@ pub fn serve<T: Threads + Wait + Sync, R: BufRead, W: Write>(
 
 /// Does as [`serve`], and then writes a line for a person to `notes`, where something was refused, a text is no trace or a log is none,
 /// or a run ended with something left to do: what is wrong, where in what was read, and what would be right; and one for each option that
-/// says nothing. While many seeds take long, it writes there how far it is. Each line begins with `ra: `. Nothing of it goes to `writer`,
-/// and it is left out where memory or `notes` fails, which changes nothing else. To find the place in a script it is read once more, for
-/// who waits for whom it is run once more, and for the mark that is due the steps of a trace are made once more.
+/// says nothing, and one where `writer` failed, but for a pipe that nobody reads on. While many seeds take long, it writes there how far
+/// it is. Each line begins with `ra: `. Nothing of it goes to `writer`, and it is left out where memory or `notes` fails, which changes
+/// nothing else. To find the place in a script it is read once more, for who waits for whom it is run once more, and for the mark that is
+/// due the steps of a trace are made once more.
 pub fn serve_with_notes<T: Threads + Wait + Sync, R: BufRead, W: Write, N: Write>(
     rt: &T,
     alloc: Global,
     words: &[String],
     reader: &mut SeenReader<R>,
-    writer: &mut W,
+    writer: &mut SeenWriter<W>,
     notes: &mut N,
 ) -> u8
     // What is promised of the status, the reader and the writer is the same, whatever becomes of the note.
@@ -479,18 +484,21 @@ pub fn serve_with_notes<T: Threads + Wait + Sync, R: BufRead, W: Write, N: Write
     ensures done { result ≡ 0
         → ((reader.new ≡ reader.old) × Any (λ word. IsHelpWord (string_bytes word)) words.now)
         ⊎ IsDone (map string_bytes words.now) (R.remaining reader.old.inner) (R.remaining reader.new.inner)
-        (W.contents writer.old) (W.contents writer.new)
-        ⊎ RunsCluster (R.remaining reader.old.inner) (R.remaining reader.new.inner) (W.contents writer.old) (W.contents writer.new) }
+        (W.contents writer.old.inner) (W.contents writer.new.inner)
+        ⊎ RunsCluster (R.remaining reader.old.inner) (R.remaining reader.new.inner)
+        (W.contents writer.old.inner) (W.contents writer.new.inner) }
     ensures unfinished { result ≡ 3
         → IsUnfinished (map string_bytes words.now) (R.remaining reader.old.inner) (R.remaining reader.new.inner)
-        (W.contents writer.old) (W.contents writer.new) }
-    ensures refused { result ≡ 2 → IsRefused (W.contents writer.old) (W.contents writer.new) }
+        (W.contents writer.old.inner) (W.contents writer.new.inner) }
+    ensures refused { result ≡ 2 → IsRefused (W.contents writer.old.inner) (W.contents writer.new.inner) }
     ensures broken { result ≡ 1
-        → IsBroken (map string_bytes words.now) (R.remaining reader.old.inner) (W.contents writer.old) (W.contents writer.new) }
+        → IsBroken (map string_bytes words.now) (R.remaining reader.old.inner)
+        (W.contents writer.old.inner) (W.contents writer.new.inner) }
 {
     let mut progress = SeedProgress::new(alloc, notes);
     let outcome = outcome_of(rt, alloc, words, reader, writer, &mut progress);
     let last = progress.last();
     write_notes(alloc, words, reader.seen(), &outcome, last, notes);
+    write_output_note(writer.fault(), notes);
     outcome.status
 }

@@ -135,9 +135,9 @@ pub fn survey_script<R: Read, W: Write, O: Observer>(
     ensures refused { IfErr result (λ fault.
         IfSome (R.remaining reader.old) (λ input. RefusesSurvey faults find first last input fault)) }
     ensures unwritten { IfErr result (λ fault. fault ≢ RunScriptError.Write → writer.new ≡ writer.old) }
-    ensures front { IsErrOf result RunScriptError.Write → IfSome (R.remaining reader.old) (λ input.
-        (front back : List ℕ) × (finished : Bool) × IsTold faults find first last input (front ++ back) finished × (back ≢ [])
-        × Appends (W.contents writer.old) (W.contents writer.new) front) }
+    ensures prefix { IsErrOf result RunScriptError.Write → IfSome (R.remaining reader.old) (λ input.
+        (prefix rest : List ℕ) × (finished : Bool) × IsTold faults find first last input (prefix ++ rest) finished × (rest ≢ [])
+        × Appends (W.contents writer.old) (W.contents writer.new) prefix) }
     // A fault of the reader comes only before it gave all that may be taken.
     ensures failed { IsErrOf result RunScriptError.Read → (taken : List ℕ) × (length taken < 65537)
         × Consumes (R.remaining reader.old) (R.remaining reader.new) taken }

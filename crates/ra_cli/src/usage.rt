@@ -129,7 +129,7 @@ fn unseen_text(words: &[String]) -> &'static str {
 }
 
 /// Returns what the parser says of words that are no command line of `ra`, with the nearest word where it knows one, and where more is
-/// said.
+/// said. The parser is asked again, so that the contract of `parse` knows nothing of notes.
 pub fn usage_text<'a>(alloc: Global, words: &'a [String]) -> Result<String, AllocError> {
     let command: Command<'a> = command(alloc)?;
     match command.try_get_matches_from(words) {

@@ -32,29 +32,29 @@ use Rattle.ra_cluster.proofs.LossesApart.{messages_of, lost_is_sent, all_apart}
 -- ---- Where a place of a list is
 
 -- a place of two joined lists is in the first or in the second
-place_in : {X : Type 0} (xs ys front : List X) (z : X) (back : List X) → xs ++ ys ≡ front ++ z ∷ back
-    → ((rest : List X) × (xs ≡ front ++ z ∷ rest)) ⊎ ((more : List X) × (front ≡ xs ++ more) × (ys ≡ more ++ z ∷ back))
-place_in [] ys front z back e = inr (front, refl, e)
-place_in (x ∷ xs) ys [] z back e = let same : x ≡ z = cc in inl (xs, ap (λ y. y ∷ xs) same)
-place_in {X} (x ∷ xs) ys (f ∷ front) z back e =
+place_in : {X : Type 0} (xs ys prefix : List X) (z : X) (suffix : List X) → xs ++ ys ≡ prefix ++ z ∷ suffix
+    → ((rest : List X) × (xs ≡ prefix ++ z ∷ rest)) ⊎ ((more : List X) × (prefix ≡ xs ++ more) × (ys ≡ more ++ z ∷ suffix))
+place_in [] ys prefix z suffix e = inr (prefix, refl, e)
+place_in (x ∷ xs) ys [] z suffix e = let same : x ≡ z = cc in inl (xs, ap (λ y. y ∷ xs) same)
+place_in {X} (x ∷ xs) ys (f ∷ prefix) z suffix e =
     let same : x ≡ f = cc in
-    let behind : xs ++ ys ≡ front ++ z ∷ back = cc in
-    elim (place_in xs ys front z back behind) [
+    let behind : xs ++ ys ≡ prefix ++ z ∷ suffix = cc in
+    elim (place_in xs ys prefix z suffix behind) [
       | inl found ↦ inl (found.0, λ i. same i ∷ found.1 i)
       | inr found ↦ inr (found.0, λ i. sym same i ∷ found.1 i, found.2)
     ]
 
 -- a place of a list of values is that of a value
-record Cut {X Y : Type 0} (f : X → Y) (xs : List X) (front : List Y) (y : Y) : Type 0 where
+record Cut {X Y : Type 0} (f : X → Y) (xs : List X) (prefix : List Y) (y : Y) : Type 0 where
   before : List X
   this : X
   behind : List X
   parts : xs ≡ before ++ this ∷ behind
-  before_is : map f before ≡ front
+  before_is : map f before ≡ prefix
   this_is : f this ≡ y
 
-cut_more : {X Y : Type 0} (f : X → Y) (x : X) (xs : List X) (z : Y) (front : List Y) (y : Y) → f x ≡ z → Cut f xs front y → Cut f (x ∷ xs) (z ∷ front) y
-cut_more f x xs z front y head found =
+cut_more : {X Y : Type 0} (f : X → Y) (x : X) (xs : List X) (z : Y) (prefix : List Y) (y : Y) → f x ≡ z → Cut f xs prefix y → Cut f (x ∷ xs) (z ∷ prefix) y
+cut_more f x xs z prefix y head found =
     record {
       before = x ∷ found.before;
       this = found.this;
@@ -64,14 +64,14 @@ cut_more f x xs z front y head found =
       this_is = found.this_is;
     }
 
-cut : {X Y : Type 0} (f : X → Y) (xs : List X) (front : List Y) (y : Y) (back : List Y) → map f xs ≡ front ++ y ∷ back → Cut f xs front y
-cut f [] [] y back e = absurd (cc)
-cut f [] (z ∷ front) y back e = absurd (cc)
-cut f (x ∷ xs) [] y back e = record { before = []; this = x; behind = xs; parts = refl; before_is = refl; this_is = cc }
-cut f (x ∷ xs) (z ∷ front) y back e =
+cut : {X Y : Type 0} (f : X → Y) (xs : List X) (prefix : List Y) (y : Y) (suffix : List Y) → map f xs ≡ prefix ++ y ∷ suffix → Cut f xs prefix y
+cut f [] [] y suffix e = absurd (cc)
+cut f [] (z ∷ prefix) y suffix e = absurd (cc)
+cut f (x ∷ xs) [] y suffix e = record { before = []; this = x; behind = xs; parts = refl; before_is = refl; this_is = cc }
+cut f (x ∷ xs) (z ∷ prefix) y suffix e =
     let head : f x ≡ z = cc in
-    let tail : map f xs ≡ front ++ y ∷ back = cc in
-    cut_more f x xs z front y head (cut f xs front y back tail)
+    let tail : map f xs ≡ prefix ++ y ∷ suffix = cc in
+    cut_more f x xs z prefix y head (cut f xs prefix y suffix tail)
 
 -- ---- The losses
 
@@ -171,22 +171,22 @@ module _ (books : List BookState) (placed : List Placed) (cluster : IsCluster bo
     abbrev steps : List Step
     steps = steps_of placed ++ losses ms
 
-    sent_in_time : (front : List Step) (step : Step) (back : List Step) → steps ≡ front ++ step ∷ back → All (WasSentBy n happens front) (taken_in step)
-    sent_in_time front step back parts =
-        elim (place_in (steps_of placed) (losses ms) front step back parts) [
+    sent_in_time : (prefix : List Step) (step : Step) (suffix : List Step) → steps ≡ prefix ++ step ∷ suffix → All (WasSentBy n happens prefix) (taken_in step)
+    sent_in_time prefix step suffix parts =
+        elim (place_in (steps_of placed) (losses ms) prefix step suffix parts) [
           | inl found ↦
-              let at = cut (λ p. step_at p.node p.event.kind) placed front step found.0 found.1 in
-              subst (λ (s : Step). All (WasSentBy n happens front) (taken_in s)) at.this_is
+              let at = cut (λ p. step_at p.node p.event.kind) placed prefix step found.0 found.1 in
+              subst (λ (s : Step). All (WasSentBy n happens prefix) (taken_in s)) at.this_is
               (subst (λ (ss : List Step). All (WasSentBy n happens ss) (taken_in (step_at at.this.node at.this.event.kind))) at.before_is
               (sent_before books placed cluster histories order all_sent at.before at.this at.behind at.parts))
           | inr found ↦
-              let at = cut (λ m. Lose m) ms found.0 step back found.2 in
+              let at = cut (λ m. Lose m) ms found.0 step suffix found.2 in
               let out : WentOut at.this = All-contains WentOut ms at.this went_out
               (subst (λ (xs : List Message). Contains xs at.this) (sym at.parts) (Contains-append_right at.before (at.this ∷ at.behind) at.this (0, omega arith, refl)))
               in
-              let front_is : steps_of placed ++ losses at.before ≡ front = ap (λ (ss : List Step). steps_of placed ++ ss) at.before_is ∙ sym found.1 in
-              subst (λ (s : Step). All (WasSentBy n happens front) (taken_in s)) at.this_is
-              (subst (λ (ss : List Step). All (WasSentBy n happens ss) (at.this ∷ [])) front_is (loss_in_time at.before at.this out))
+              let prefix_is : steps_of placed ++ losses at.before ≡ prefix = ap (λ (ss : List Step). steps_of placed ++ ss) at.before_is ∙ sym found.1 in
+              subst (λ (s : Step). All (WasSentBy n happens prefix) (taken_in s)) at.this_is
+              (subst (λ (ss : List Step). All (WasSentBy n happens ss) (at.this ∷ [])) prefix_is (loss_in_time at.before at.this out))
         ]
 
     fit : FitTogether n start steps happens

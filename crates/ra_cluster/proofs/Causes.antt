@@ -11,7 +11,7 @@ use Rattle.ra_cluster.specs.declared.grant.Grant.{Grant}
 use Rattle.ra_cluster.specs.declared.settled.Settled.{Settled}
 use Rattle.ra_cluster.specs.Book.{BookState}
 use Rattle.ra_cluster.specs.Settled.{IsSettledOrder, IsSettledRun, Placed, IsGranted, BooksFit, HasUnsent, HasTwice, Repeats, settled_steps, start_of}
-use Rattle.ra_cluster.specs.Settling.{Settles, Refuses, RefusesReceived}
+use Rattle.ra_cluster.specs.SettlingParts.{Settles, Refuses, RefusesReceived}
 
 -- ---- A refusal that `?` passes on
 

@@ -48,19 +48,19 @@ not_after : (a b : Placed) → IsBefore a b → a.event.clock ≤ b.event.clock
 not_after a b (inl less) = omega (arith, less)
 not_after a b (inr same) = omega (arith, same.0)
 
-from_there : (front : List Placed) (p : Placed) (back : List Placed) → AllPairs IsBefore (front ++ p ∷ back) → All (λ q. p.event.clock ≤ q.event.clock) (p ∷ back)
-from_there front p back sorted =
-    All-cons (λ q. p.event.clock ≤ q.event.clock) p back (omega arith)
-    (All-weaker (IsBefore p) (λ q. p.event.clock ≤ q.event.clock) (λ q. not_after p q) back (pairs_first IsBefore p back (pairs_right IsBefore front (p ∷ back) sorted)))
+from_there : (prefix : List Placed) (p : Placed) (suffix : List Placed) → AllPairs IsBefore (prefix ++ p ∷ suffix) → All (λ q. p.event.clock ≤ q.event.clock) (p ∷ suffix)
+from_there prefix p suffix sorted =
+    All-cons (λ q. p.event.clock ≤ q.event.clock) p suffix (omega arith)
+    (All-weaker (IsBefore p) (λ q. p.event.clock ≤ q.event.clock) (λ q. not_after p q) suffix (pairs_first IsBefore p suffix (pairs_right IsBefore prefix (p ∷ suffix) sorted)))
 
 events_late : (clock i : ℕ) (placed : List Placed) → All (λ q. clock ≤ q.event.clock) placed → All (λ e. clock ≤ e.clock) (events_of i placed)
 events_late clock i placed late =
     All-map (λ e. clock ≤ e.clock) (λ p. p.event) (filter (λ p. eqb p.node i) placed) (All-filter (λ p. eqb p.node i) (λ q. clock ≤ q.event.clock) placed late)
 
-events_of_parts : (i : ℕ) (front back : List Placed) → events_of i (front ++ back) ≡ events_of i front ++ events_of i back
-events_of_parts i front back =
-    ap (λ (ps : List Placed). map (λ p. p.event) ps) (filter-append (λ p. eqb p.node i) front back)
-    ∙ map-append (λ p. p.event) (filter (λ p. eqb p.node i) front) (filter (λ p. eqb p.node i) back)
+events_of_parts : (i : ℕ) (prefix suffix : List Placed) → events_of i (prefix ++ suffix) ≡ events_of i prefix ++ events_of i suffix
+events_of_parts i prefix suffix =
+    ap (λ (ps : List Placed). map (λ p. p.event) ps) (filter-append (λ p. eqb p.node i) prefix suffix)
+    ∙ map-append (λ p. p.event) (filter (λ p. eqb p.node i) prefix) (filter (λ p. eqb p.node i) suffix)
 
 -- ---- Joined lists
 
@@ -136,44 +136,44 @@ module _ (books : List BookState) (placed : List Placed) (cluster : IsCluster bo
     sent_all = all_placed (λ i e. All (λ f. WasSent books f) (frames_in e.kind)) books placed cluster order
         (λ k d low. all_in_each (λ f. WasSent books f) (λ e. frames_in e.kind) (get_or books k d).events (all_in_each (λ f. WasSent books f) (λ b. received_among b.events) books all_sent k d low))
 
-    module _ (front : List Placed) (p : Placed) (back : List Placed) (parts : placed ≡ front ++ p ∷ back) where
-      addressed_front : All (λ p. IsAddressed p.node p.event.kind) front
-      addressed_front = all_left (λ p. IsAddressed p.node p.event.kind) front (p ∷ back) (subst (All (λ p. IsAddressed p.node p.event.kind)) parts addressed_all)
+    module _ (prefix : List Placed) (p : Placed) (suffix : List Placed) (parts : placed ≡ prefix ++ p ∷ suffix) where
+      addressed_prefix : All (λ p. IsAddressed p.node p.event.kind) prefix
+      addressed_prefix = all_left (λ p. IsAddressed p.node p.event.kind) prefix (p ∷ suffix) (subst (All (λ p. IsAddressed p.node p.event.kind)) parts addressed_all)
 
       abbrev Here : (Placed → Type 0) → Type 0
-      Here P = All P (p ∷ back)
+      Here P = All P (p ∷ suffix)
 
       here : (P : Placed → Type 0) → All P placed → P p
-      here P all = All-head P p back (all_right P front (p ∷ back) (subst (All P) parts all))
+      here P all = All-head P p suffix (all_right P prefix (p ∷ suffix) (subst (All P) parts all))
 
-      late : (i : ℕ) → All (λ e. p.event.clock ≤ e.clock) (events_of i (p ∷ back))
-      late i = events_late p.event.clock i (p ∷ back) (from_there front p back (subst (AllPairs IsBefore) parts order.sorted))
+      late : (i : ℕ) → All (λ e. p.event.clock ≤ e.clock) (events_of i (p ∷ suffix))
+      late i = events_late p.event.clock i (p ∷ suffix) (from_there prefix p suffix (subst (AllPairs IsBefore) parts order.sorted))
 
-      frame_before : (f : Frame) → f.clock < p.event.clock → WasSent books f → WasSentBy n happened (steps_of front) f.message
+      frame_before : (f : Frame) → f.clock < p.event.clock → WasSent books f → WasSentBy n happened (steps_of prefix) f.message
       frame_before f less (k, b, low, at, is) =
           let i : ℕ = k + 1 in
           let found = happened_at_place books histories k b low in
           let it = get_or books k b in
           let number : it.me ≡ i = number_at books cluster k b low in
-          let parts_are : it.events ≡ events_of i front ++ events_of i (p ∷ back) =
-          sym (order.each k b low) ∙ ap (λ (m : ℕ). events_of m placed) number ∙ ap (events_of i) parts ∙ events_of_parts i front (p ∷ back)
+          let parts_are : it.events ≡ events_of i prefix ++ events_of i (p ∷ suffix) =
+          sym (order.each k b low) ∙ ap (λ (m : ℕ). events_of m placed) number ∙ ap (events_of i) parts ∙ events_of_parts i prefix (p ∷ suffix)
           in
           let kept : Contains it.sent (record { frame = f; lost = false }) = subst (λ (x : BookState). Contains x.sent (record { frame = f; lost = false })) (sym at) is.1 in
-          let first = sent_by_first it found.0 f p.event.clock (events_of i front) (events_of i (p ∷ back)) parts_are (late i) less kept in
-          let many : length (flat_map (events_at i) (steps_of front)) ≡ length (events_of i front) =
-          ap length (projected i front addressed_front) ∙ length-map (events_of i front) (λ e. node_event e.kind)
+          let first = sent_by_first it found.0 f p.event.clock (events_of i prefix) (events_of i (p ∷ suffix)) parts_are (late i) less kept in
+          let many : length (flat_map (events_at i) (steps_of prefix)) ≡ length (events_of i prefix) =
+          ap length (projected i prefix addressed_prefix) ∙ length-map (events_of i prefix) (λ e. node_event e.kind)
           in
           let same : happened i ≡ map happening_of found.0.leads.postings = ap (happened_in books histories) (omega arith) ∙ found.1 in
-          let done : happened_by (happened i) i (steps_of front) ≡ take (length (events_of i front)) (map happening_of found.0.leads.postings) = λ j. take (many j) (same j) in
+          let done : happened_by (happened i) i (steps_of prefix) ≡ take (length (events_of i prefix)) (map happening_of found.0.leads.postings) = λ j. take (many j) (same j) in
           (i, omega arith, omega (arith, low), subst (λ (hs : List Happening). Contains (sent_in hs) f.message) (sym done) first)
 
       -- a frame that comes was sent by what its sender did before
-      pub sent_before : All (WasSentBy n happened (steps_of front)) (taken_in (step_at p.node p.event.kind))
+      pub sent_before : All (WasSentBy n happened (steps_of prefix)) (taken_in (step_at p.node p.event.kind))
       sent_before =
           let earlier = here (λ q. AreEarlier q.event) earlier_all in
           let sent = here (λ q. All (λ f. WasSent books f) (frames_in q.event.kind)) sent_all in
-          subst (All (WasSentBy n happened (steps_of front))) (sym (taken_is p.node p.event.kind))
-          (All-map (WasSentBy n happened (steps_of front)) (λ f. f.message) (frames_in p.event.kind)
+          subst (All (WasSentBy n happened (steps_of prefix))) (sym (taken_is p.node p.event.kind))
+          (All-map (WasSentBy n happened (steps_of prefix)) (λ f. f.message) (frames_in p.event.kind)
           (λ k d low. frame_before (get_or (frames_in p.event.kind) k d) (earlier k d low) (sent k d low)))
 
   -- ---- No message came twice

@@ -64,17 +64,17 @@ late_frames clock (p ∷ postings) late =
     (late_frames clock postings (All-tail (λ p. clock ≤ p.event.clock) p postings late))
 
 -- a frame with a lesser clock than all later events went out before them
-sent_earlier : (clock : ℕ) (front back : List Posting) (f : Frame) → All (λ p. clock ≤ p.event.clock) back → f.clock < clock → Contains (frames_of (front ++ back)) f
-    → Contains (sent_in (map happening_of front)) f.message
-sent_earlier clock [] back f late less is =
-    let low : clock ≤ f.clock = All-contains (λ g. clock ≤ g.clock) (frames_of back) f (late_frames clock back late) is in
+sent_earlier : (clock : ℕ) (prefix rest : List Posting) (f : Frame) → All (λ p. clock ≤ p.event.clock) rest → f.clock < clock → Contains (frames_of (prefix ++ rest)) f
+    → Contains (sent_in (map happening_of prefix)) f.message
+sent_earlier clock [] rest f late less is =
+    let low : clock ≤ f.clock = All-contains (λ g. clock ≤ g.clock) (frames_of rest) f (late_frames clock rest late) is in
     absurd (omega (arith, low, less))
-sent_earlier clock (p ∷ front) back f late less is =
-    elim (Contains-append_cases (frames_at p.event.clock p.sends) (frames_of (front ++ back)) f is) [
+sent_earlier clock (p ∷ prefix) rest f late less is =
+    elim (Contains-append_cases (frames_at p.event.clock p.sends) (frames_of (prefix ++ rest)) f is) [
       | inl here ↦
-          Contains-append_left p.sends (sent_in (map happening_of front)) f.message
+          Contains-append_left p.sends (sent_in (map happening_of prefix)) f.message
           (subst (λ (ms : List Message). Contains ms f.message) (out_again p.event.clock p.sends) (in_map (λ g. g.message) (frames_at p.event.clock p.sends) f here))
-      | inr behind ↦ Contains-append_right p.sends (sent_in (map happening_of front)) f.message (sent_earlier clock front back f late less behind)
+      | inr behind ↦ Contains-append_right p.sends (sent_in (map happening_of prefix)) f.message (sent_earlier clock prefix rest f late less behind)
     ]
 
 -- the same, of the events of a book

@@ -6,7 +6,7 @@ use Rattle.ra_stamp.specs.declared.mode.Mode.{Mode}
 use Rattle.ra_schedule.specs.declared.script.Op.{Op}
 use Rattle.ra_schedule.specs.declared.script.Op.TheVariants.{Lock, Unlock}
 use Rattle.ra_schedule.specs.Script.{IsHeldAfter}
-use Rattle.ra_cluster.specs.Order.{LocksOutOfOrder, EndsHolding, LocksBelow, IsKeptFrom}
+use Rattle.ra_cluster.specs.LockOrder.{LocksOutOfOrder, EndsHolding, LocksBelow, IsKeptFrom}
 
 -- the element at a seam
 at_seam : {X : Type 0} (xs ys : List X) (x : X) → slice_get (xs ++ x ∷ ys) (length xs) ≡ Some x

@@ -47,8 +47,8 @@ requests_are (Left entry ∷ marks) = omega (arith, requests_are marks)
 -- ---- Of the lock table
 
 gained : (old : List Entry) (e : Entry) (new : List Entry) → Gains old e new → length new ≡ length old + 1
-gained old e new (front, back, old_is, new_is) =
-    omega (arith, ap length old_is, ap length new_is, length-append front back, length-append front (e ∷ back))
+gained old e new (prefix, suffix, old_is, new_is) =
+    omega (arith, ap length old_is, ap length new_is, length-append prefix suffix, length-append prefix (e ∷ suffix))
 
 -- a request waits until it is granted
 waiting_after : (marks : List Mark) (old new : LockTable) → TableSteps old marks new

@@ -21,8 +21,8 @@ is_first xs place x frame lost lt at found before flag =
     let s : Sent = record { frame = frame; lost = lost } in
     let is : x ≡ s = λ i. record { frame = frame_is i; lost = flag i } in
     record {
-      front = take place xs;
-      back = drop (suc place) xs;
+      prefix = take place xs;
+      suffix = drop (suc place) xs;
       sent_is = split_at xs place s lt (get_or_default xs place s x lt ∙ sym at ∙ is);
       first = λ k d low e.
           let under : k < place = omega (arith, low, length-take-le place xs (omega (arith, lt))) in
@@ -30,14 +30,14 @@ is_first xs place x frame lost lt at found before flag =
     }
 
 -- two frames that stand first are one
-same_first : (front back : List Sent) (s : Sent) (place : ℕ) (x : Sent) (frame : Frame) → s.frame ≡ frame → All (λ (t : Sent). t.frame ≢ frame) front
-    → x ≡ get_or (front ++ s ∷ back) place x → x.frame ≡ frame
-    → ((k : ℕ) (d : Sent) → k < place → (get_or (front ++ s ∷ back) k d).frame ≢ frame) → x ≡ s
-same_first [] back s zero x frame is others at found before = at
-same_first [] back s (suc place) x frame is others at found before = absurd (before 0 s (omega arith) is)
-same_first (f ∷ fs) back s zero x frame is others at found before = absurd (others 0 f (omega arith) (ap (λ (t : Sent). t.frame) (sym at) ∙ found))
-same_first (f ∷ fs) back s (suc place) x frame is others at found before =
-    same_first fs back s place x frame is (λ k d low. others (suc k) d (omega (arith, low))) at found (λ k d low. before (suc k) d (omega (arith, low)))
+same_first : (prefix suffix : List Sent) (s : Sent) (place : ℕ) (x : Sent) (frame : Frame) → s.frame ≡ frame → All (λ (t : Sent). t.frame ≢ frame) prefix
+    → x ≡ get_or (prefix ++ s ∷ suffix) place x → x.frame ≡ frame
+    → ((k : ℕ) (d : Sent) → k < place → (get_or (prefix ++ s ∷ suffix) k d).frame ≢ frame) → x ≡ s
+same_first [] suffix s zero x frame is others at found before = at
+same_first [] suffix s (suc place) x frame is others at found before = absurd (before 0 s (omega arith) is)
+same_first (f ∷ fs) suffix s zero x frame is others at found before = absurd (others 0 f (omega arith) (ap (λ (t : Sent). t.frame) (sym at) ∙ found))
+same_first (f ∷ fs) suffix s (suc place) x frame is others at found before =
+    same_first fs suffix s place x frame is (λ k d low. others (suc k) d (omega (arith, low))) at found (λ k d low. before (suc k) d (omega (arith, low)))
 
 -- so it has one flag
 flag_is : (xs : List Sent) (place : ℕ) (x : Sent) (frame : Frame) (lost : Bool) → x ≡ get_or xs place x
@@ -46,7 +46,7 @@ flag_is : (xs : List Sent) (place : ℕ) (x : Sent) (frame : Frame) (lost : Bool
 flag_is xs place x frame lost at found before first =
     let s : Sent = record { frame = frame; lost = lost } in
     let frame_is : x.frame ≡ frame = ap (λ (t : Sent). t.frame) at ∙ found x in
-    ap (λ (t : Sent). t.lost) (same_first first.front first.back s place x frame refl first.first
+    ap (λ (t : Sent). t.lost) (same_first first.prefix first.suffix s place x frame refl first.first
     (subst (λ (ys : List Sent). x ≡ get_or ys place x) first.sent_is at) frame_is
     (subst (λ (ys : List Sent). (k : ℕ) (d : Sent) → k < place → (get_or ys k d).frame ≢ frame) first.sent_is before))
 
@@ -54,9 +54,9 @@ flag_is xs place x frame lost at found before first =
 none_first : (xs : List Sent) (frame : Frame) (lost : Bool) → All (λ (t : Sent). t.frame ≢ frame) xs → IsFirst xs frame lost → ⊥
 none_first xs frame lost none first =
     let s : Sent = record { frame = frame; lost = lost } in
-    let at = get_or-append_seam first.front s first.back s in
-    let all : All (λ (t : Sent). t.frame ≢ frame) (first.front ++ s ∷ first.back) = subst (λ (ys : List Sent). All (λ (t : Sent). t.frame ≢ frame) ys) first.sent_is none in
-    all (length first.front) s (omega (arith, length-append first.front (s ∷ first.back))) (ap (λ (t : Sent). t.frame) at)
+    let at = get_or-append_seam first.prefix s first.suffix s in
+    let all : All (λ (t : Sent). t.frame ≢ frame) (first.prefix ++ s ∷ first.suffix) = subst (λ (ys : List Sent). All (λ (t : Sent). t.frame ≢ frame) ys) first.sent_is none in
+    all (length first.prefix) s (omega (arith, length-append first.prefix (s ∷ first.suffix))) (ap (λ (t : Sent). t.frame) at)
 
 -- its flag is set
 loses : (xs : List Sent) (place : ℕ) (x : Sent) (frame : Frame) → place < length xs → x ≡ get_or xs place x

@@ -13,7 +13,7 @@ use Rattle.ra_cluster.specs.declared.event.BookEvent.{BookEvent}
 use Rattle.ra_cluster.specs.declared.event_merge.Turn.{Turn}
 use Rattle.ra_cluster.specs.Book.{BookState, HasHistory}
 use Rattle.ra_cluster.specs.Settled.{IsCluster, IsSettledOrder, Placed, IsBefore, events_of, steps_of, step_at}
-use Rattle.ra_cluster.specs.Ordering.{IsNext, IsNotAfter, IsEarliest}
+use Rattle.ra_cluster.specs.EventMerge.{IsNext, IsNotAfter, IsEarliest}
 use Rattle.ra_cluster.proofs.Taking.{clocks_rise}
 
 abbrev pub at_place : ℕ → BookEvent → Placed

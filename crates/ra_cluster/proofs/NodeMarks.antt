@@ -32,7 +32,7 @@ marks_by happened = flat_map (λ h. h.marks) happened
 abbrev no_event : List Event → (m : Move) → List Happening
 no_event events m = map (λ event. record { event = event; sends = m.sends; marks = m.marks }) events
 
-module _ (n start : ℕ) (fronts : (front back : List Move) → IsRun n start (front ++ back) → IsRun n start front)
+module _ (n start : ℕ) (prefixes : (prefix suffix : List Move) → IsRun n start (prefix ++ suffix) → IsRun n start prefix)
     (goes : (moves : List Move) (message : Message) → IsRun n start moves → IsUnderWay moves message → (1 ≤ to_of message) × (to_of message ≤ n)) (mark : Mark) where
   unmarked : (marks : List Mark) → marks ≡ [] → Contains marks mark → ⊥
   unmarked marks none is = nowhere (subst (λ (ms : List Mark). Contains ms mark) none is)
@@ -41,33 +41,33 @@ module _ (n start : ℕ) (fronts : (front back : List Move) → IsRun n start (f
       nowhere (k, low, at) = omega (arith, low)
 
   -- the node at which a step is an event
-  node_of : (front : List Move) (step : Step) (sends : List Message) (marks : List Mark) → IsRun n start front → IsFit n front step sends marks → Contains marks mark
+  node_of : (prefix : List Move) (step : Step) (sends : List Message) (marks : List Mark) → IsRun n start prefix → IsFit n prefix step sends marks → Contains marks mark
       → (i : ℕ) × ((1 ≤ i) × (i ≤ n)) × (event : Event) × (events_at i step ≡ event ∷ [])
-  node_of front (Ask node client name mode) sends marks run fit is = (node, fit, AskedFor client name mode, ap (λ b. cond b (AskedFor client name mode ∷ []) []) (eq-eqb node node refl))
-  node_of front (Leave node client name) sends marks run fit is = (node, fit, GivenBack client name, ap (λ b. cond b (GivenBack client name ∷ []) []) (eq-eqb node node refl))
-  node_of front (Deliver message) sends marks run fit is =
-      let i = to_of message in (i, goes front message run fit, Received message, ap (λ b. cond b (Received message ∷ []) []) (eq-eqb i i refl))
-  node_of front (Lose message) sends marks run fit is = absurd (unmarked marks fit.2 is)
-  node_of front (Repeat message) sends marks run fit is = absurd (unmarked marks fit.2 is)
+  node_of prefix (Ask node client name mode) sends marks run fit is = (node, fit, AskedFor client name mode, ap (λ b. cond b (AskedFor client name mode ∷ []) []) (eq-eqb node node refl))
+  node_of prefix (Leave node client name) sends marks run fit is = (node, fit, GivenBack client name, ap (λ b. cond b (GivenBack client name ∷ []) []) (eq-eqb node node refl))
+  node_of prefix (Deliver message) sends marks run fit is =
+      let i = to_of message in (i, goes prefix message run fit, Received message, ap (λ b. cond b (Received message ∷ []) []) (eq-eqb i i refl))
+  node_of prefix (Lose message) sends marks run fit is = absurd (unmarked marks fit.2 is)
+  node_of prefix (Repeat message) sends marks run fit is = absurd (unmarked marks fit.2 is)
 
-  pub made_at : (back front : List Move) → IsRun n start (front ++ back) → AreFit n front back → Contains (marks_of back) mark → (i : ℕ) × ((1 ≤ i) × (i ≤ n)) × Contains (marks_by (happened_at i back)) mark
-  made_at [] front run fit is = absurd (omega (arith, is.1))
-  made_at (m ∷ back) front run fit is =
-      elim (Contains-append_cases m.marks (marks_of back) mark is) [
+  pub made_at : (suffix prefix : List Move) → IsRun n start (prefix ++ suffix) → AreFit n prefix suffix → Contains (marks_of suffix) mark → (i : ℕ) × ((1 ≤ i) × (i ≤ n)) × Contains (marks_by (happened_at i suffix)) mark
+  made_at [] prefix run fit is = absurd (omega (arith, is.1))
+  made_at (m ∷ suffix) prefix run fit is =
+      elim (Contains-append_cases m.marks (marks_of suffix) mark is) [
         | inl here ↦
-            let at = node_of front m.step m.sends m.marks (fronts front (m ∷ back) run) fit.0 here in (
+            let at = node_of prefix m.step m.sends m.marks (prefixes prefix (m ∷ suffix) run) fit.0 here in (
               at.0,
               at.1,
               subst (λ (ms : List Mark). Contains ms mark)
-                  (sym (flat_map-append (λ h. h.marks) (no_event (events_at at.0 m.step) m) (happened_at at.0 back) ∙ ap (λ (es : List Event). marks_by (no_event es m) ++ marks_by (happened_at at.0 back)) at.3))
-                  (Contains-append_left (m.marks ++ []) (marks_by (happened_at at.0 back)) mark (Contains-append_left m.marks [] mark here)),
+                  (sym (flat_map-append (λ h. h.marks) (no_event (events_at at.0 m.step) m) (happened_at at.0 suffix) ∙ ap (λ (es : List Event). marks_by (no_event es m) ++ marks_by (happened_at at.0 suffix)) at.3))
+                  (Contains-append_left (m.marks ++ []) (marks_by (happened_at at.0 suffix)) mark (Contains-append_left m.marks [] mark here)),
             )
         | inr later ↦
-            let rest = made_at back (front ++ m ∷ []) (subst (IsRun n start) (sym (append_assoc front (m ∷ []) back)) run) fit.1 later in (
+            let rest = made_at suffix (prefix ++ m ∷ []) (subst (IsRun n start) (sym (append_assoc prefix (m ∷ []) suffix)) run) fit.1 later in (
               rest.0,
               rest.1,
-              subst (λ (ms : List Mark). Contains ms mark) (sym (flat_map-append (λ h. h.marks) (no_event (events_at rest.0 m.step) m) (happened_at rest.0 back)))
-                  (Contains-append_right (marks_by (no_event (events_at rest.0 m.step) m)) (marks_by (happened_at rest.0 back)) mark rest.2),
+              subst (λ (ms : List Mark). Contains ms mark) (sym (flat_map-append (λ h. h.marks) (no_event (events_at rest.0 m.step) m) (happened_at rest.0 suffix)))
+                  (Contains-append_right (marks_by (no_event (events_at rest.0 m.step) m)) (marks_by (happened_at rest.0 suffix)) mark rest.2),
             )
       ]
 

@@ -18,7 +18,7 @@ use Rattle.ra_cluster.specs.declared.grant.Grant.{Grant}
 use Rattle.ra_cluster.specs.declared.settled.Settled.{Settled}
 use Rattle.ra_cluster.specs.Book.{BookState, HasHistory}
 use Rattle.ra_cluster.specs.Settled.{IsCluster, IsSettledOrder, IsSettledRun, IsGranted, BooksFit, Placed, settled_steps, start_of}
-use Rattle.ra_cluster.specs.Settling.{StepsMakeSettledRuns, GrantsAreInTheBooks, RefusesGrants, SettlesBooks, Settles, Refuses}
+use Rattle.ra_cluster.specs.SettlingParts.{StepsMakeSettledRuns, GrantsAreInTheBooks, RefusesGrants, SettlesBooks, Settles, Refuses}
 use Rattle.ra_cluster.proofs.BooksFit.{node_count}
 
 -- a run of these steps

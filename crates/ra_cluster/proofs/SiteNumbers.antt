@@ -63,15 +63,15 @@ how_many n start books left c =
 -- the next one is the node after those that are closed
 pub next_is : (n start : ℕ) (books : List BookState) (me : ℕ) (left : List ℕ) → Closes n start books (me ∷ left) → me ≡ length books + 1
 next_is n start books me left c =
-    let front = numbers_of books in
+    let prefix = numbers_of books in
     let many = how_many n start books (me ∷ left) c in
     let count = length-map books (λ (b : BookState). b.me) in
-    let low : length front < n = omega (arith, many, count) in
+    let low : length prefix < n = omega (arith, many, count) in
     omega (
       arith,
-      get_or-append_seam front me left 0,
-      ap (λ (xs : List ℕ). get_or xs (length front) 0) c.numbers,
-      get_or-range_with_len 1 n (length front) 0 low,
+      get_or-append_seam prefix me left 0,
+      ap (λ (xs : List ℕ). get_or xs (length prefix) 0) c.numbers,
+      get_or-range_with_len 1 n (length prefix) 0 low,
       count,
     )
 
@@ -109,13 +109,13 @@ closes_all n start books left some empty c =
     let count : length books ≡ n = omega (arith, empty, how_many n start books left c) in
     let first = start_of_all start books (omega (arith, count)) c.starts in
     let none : left ≡ [] = nil_from_length left empty in
-    let front = numbers_of books in
+    let prefix = numbers_of books in
     record {
       cluster = record {
         some = omega (arith, count);
         numbers =
-            sym (append-nil front)
-            ∙ ap (λ (xs : List ℕ). front ++ xs) (sym none)
+            sym (append-nil prefix)
+            ∙ ap (λ (xs : List ℕ). prefix ++ xs) (sym none)
             ∙ c.numbers
             ∙ ap (λ (k : ℕ). range_with_len 1 k) (sym count);
         one_count = λ k d within. c.counts k d within ∙ sym count;

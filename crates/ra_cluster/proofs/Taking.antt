@@ -10,7 +10,7 @@ use Rattle.ra_cluster.specs.declared.event_merge.Head.{Head}
 use Rattle.ra_cluster.specs.declared.event_merge.Turn.{Turn}
 use Rattle.ra_cluster.specs.History.{AreClocked, clock_after}
 use Rattle.ra_cluster.specs.Book.{BookState}
-use Rattle.ra_cluster.specs.Ordering.{IsNext, IsNotAfter, IsEarliest, IsHeadOfEarliest, head_of, lesser_of}
+use Rattle.ra_cluster.specs.EventMerge.{IsNext, IsNotAfter, IsEarliest, IsHeadOfEarliest, head_of, lesser_of}
 
 -- ---- The clocks of one book
 

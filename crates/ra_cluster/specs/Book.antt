@@ -90,12 +90,12 @@ pub record Hears (book : BookState) (bytes : List ℕ) (P : Frame → Type 0) : 
 
 -- the first of the sent frames that is equal to this one has this flag
 pub record IsFirst (sent : List Sent) (frame : Frame) (lost : Bool) : Type 0 where
-  pub front : List Sent
-  pub back : List Sent
-  pub sent_is : sent ≡ front ++ record { frame = frame; lost = lost } ∷ back
-  pub first : All (λ s. s.frame ≢ frame) front
+  pub prefix : List Sent
+  pub suffix : List Sent
+  pub sent_is : sent ≡ prefix ++ record { frame = frame; lost = lost } ∷ suffix
+  pub first : All (λ s. s.frame ≢ frame) prefix
 
 -- the new list is the old one with the flag set of the first frame that is equal to this one
 pub record Loses (old : List Sent) (frame : Frame) (new : List Sent) : Type 0 where
   pub was : IsFirst old frame false
-  pub new_is : new ≡ was.front ++ record { frame = frame; lost = true } ∷ was.back
+  pub new_is : new ≡ was.prefix ++ record { frame = frame; lost = true } ∷ was.suffix

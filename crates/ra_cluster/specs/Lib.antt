@@ -3,12 +3,12 @@ pub mod Book
 pub mod Keeping
 pub mod Refused
 pub mod Settled
-pub mod Settling
-pub mod Ordering
+pub mod SettlingParts
+pub mod EventMerge
 pub mod Keys
-pub mod Stopping
-pub mod Granted
-pub mod Order
+pub mod StopCauses
+pub mod ClientGrant
+pub mod LockOrder
 pub mod Plan
 pub mod Outcome
 pub mod Cluster

@@ -4,9 +4,9 @@ ghost use Rattle.ra_frame.specs.declared.error.FrameError.{FrameError};
 ghost use Rattle.ra_node.specs.Resource.{Holds};
 ghost use Rattle.ra_node.specs.Node.{resource_at};
 
+use crate::frame_search::is_kept;
 use crate::heard::hear;
 use crate::keeping::{add, clock_after, flag_lost, kept_histories_go_on};
-use crate::sought::is_kept;
 use crate::{BookError, BookEvent, BookKind, Events, MarkLostError, NewError, Posted, Sent, Stop};
 use ra_frame::Frame;
 use ra_node::Node;
@@ -232,8 +232,8 @@ impl Book {
         is_kept(self.sent.as_slice(), frame)
     }
 
-    /// Gives the book a fault, if it has none. From then on `ask`, `leave` and `receive` answer `Failed`. It does not
-    /// allocate.
+    /// Gives the book a fault, if it has none. From then on `ask`, `leave` and `receive` answer `Failed`, and frames can still be flagged
+    /// as lost: whoever stops the nodes does both, in any order. It does not allocate.
     pub fn fail(&mut self, stop: Stop)
         ensures value { self.new ≡ record self.old { fault = Some (unwrap_or self.old.fault stop) } }
         ensures history { HasHistory self.new }

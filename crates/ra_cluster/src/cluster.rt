@@ -3,7 +3,7 @@ ghost use Rattle.ra_world.specs.Traffic.{Move};
 ghost use Rattle.ra_world.specs.Run.{IsRun};
 ghost use Rattle.ra_world.specs.World.{Reports};
 ghost use Rattle.ra_world.specs.MainTheorem.{MainTheorem};
-ghost use Rattle.ra_cluster.specs.Order.{IsOutOfOrder, IsUnreleased};
+ghost use Rattle.ra_cluster.specs.LockOrder.{IsOutOfOrder, IsUnreleased};
 ghost use Rattle.ra_cluster.specs.Plan.{MeetsPlan, IsQuietEnd, locks_of};
 ghost use Rattle.ra_cluster.specs.Outcome.{IsDone, IsOfThreads};
 

@@ -3,8 +3,8 @@ ghost use Rattle.std.specs.Prelude.{◌≡◌, ◌+◌, ◌<◌, ◌^◌, ℕ, L
 ghost use Rattle.ra_cluster.specs.declared.event.BookEvent.{BookEvent};
 ghost use Rattle.ra_cluster.specs.Book.{HasHistory};
 ghost use Rattle.ra_cluster.specs.Settled.{IsCluster, IsSettledOrder, Placed, steps_of, step_at};
-ghost use Rattle.ra_cluster.specs.Ordering.{IsNext, IsEarliest, IsHeadOfEarliest};
-ghost use Rattle.ra_cluster.specs.Ordering as spec;
+ghost use Rattle.ra_cluster.specs.EventMerge.{IsNext, IsEarliest, IsHeadOfEarliest};
+ghost use Rattle.ra_cluster.specs.EventMerge as spec;
 
 use crate::{Book, BookEvent, BookKind};
 use ra_stamp::{Memory, NodeId};

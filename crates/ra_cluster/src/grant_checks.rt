@@ -1,7 +1,7 @@
 //! That each grant is of a request that was granted, and stands once.
 ghost use Rattle.std.specs.Prelude.{◌≡◌, ◌≢◌, All, map, AllPairs, Contains, IfOk, MatchResult};
 ghost use Rattle.ra_stamp.specs.declared.entry.Mark.{Mark};
-ghost use Rattle.ra_cluster.specs.Settling.{RefusesGrants, RefusesRepeats};
+ghost use Rattle.ra_cluster.specs.SettlingParts.{RefusesGrants, RefusesRepeats};
 ghost use Rattle.ra_cluster.specs.Keys.{HasKeys, entered_in};
 ghost use Rattle.ra_cluster.specs.Keys as spec;
 

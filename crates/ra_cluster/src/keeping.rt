@@ -12,7 +12,7 @@ ghost use Rattle.ra_cluster.specs.Book.{as_sent};
 ghost use Rattle.ra_cluster.specs.Keeping as spec;
 ghost use Rattle.ra_cluster.specs.Keeping.{KeptHistoriesGoOn, Happens, Stays, IsFlagged, Ascends, sends_by};
 
-use crate::sought::place_of;
+use crate::frame_search::place_of;
 use crate::{
     BookError, BookEvent, BookKind, Events, Frames, MarkLostError, Posted, Sent,
     histories_are_determined, histories_go_on,

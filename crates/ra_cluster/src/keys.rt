@@ -1,4 +1,4 @@
-//! Requests and messages as keys, by which sets order them and look them up.
+//! Requests and messages as keys, by which sets order them and look them up: their own types have no order that means anything.
 ghost use Rattle.std.specs.Prelude.{◌≡◌};
 ghost use Rattle.ra_cluster.specs.Keys as spec;
 

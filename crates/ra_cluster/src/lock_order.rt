@@ -3,7 +3,7 @@ ghost use Rattle.std.specs.Prelude.{◌≡◌, ◌≢◌, ◌↔◌, ◌≤◌, 
 ghost use Rattle.ra_stamp.specs.declared.mode.Mode.{Mode};
 ghost use Rattle.ra_schedule.specs.declared.script.Op.{Op};
 ghost use Rattle.ra_schedule.specs.Script.{ScriptClient, client_at, op_at};
-ghost use Rattle.ra_cluster.specs.Order.{IsBelow, IsOutOfOrder, IsUnreleased, LocksOutOfOrder, EndsHolding, LocksBelow, IsKeptFrom, Locks, LocksNotAbove, IsOf};
+ghost use Rattle.ra_cluster.specs.LockOrder.{IsBelow, IsOutOfOrder, IsUnreleased, LocksOutOfOrder, EndsHolding, LocksBelow, IsKeptFrom, Locks, LocksNotAbove, IsOf};
 
 use crate::ClusterError;
 use ra_schedule::{Op, Script};

@@ -114,6 +114,7 @@ impl Post {
     pub fn send<R: Wait>(&self, rt: &R, alloc: Global, frame: &Frame) -> Result<(), SendError>
         requires { Fits frame.now }
     {
+        // They are made before the lock is taken, so that nobody waits for the allocator, and looked at after.
         let bytes = encode(alloc, frame);
         let senders = self.senders.read(rt);
         let Some(senders) = senders.as_ref() else {

@@ -4,7 +4,7 @@ ghost use Rattle.std.specs.List.{Any};
 ghost use Rattle.ra_stamp.specs.declared.message.Message.{Message};
 ghost use Rattle.ra_cluster.specs.Keys.{HasEach, messages_among};
 ghost use Rattle.ra_cluster.specs.Settled.{IsCluster, BooksFit, HasTwice, HasUnsent, Repeats, WasSent, received_among, all_received};
-ghost use Rattle.ra_cluster.specs.Settling.{RefusesReceived};
+ghost use Rattle.ra_cluster.specs.SettlingParts.{RefusesReceived};
 
 use crate::keys::{MessageKey, message_key};
 use crate::{Book, BookEvent, BookKind, SettleError};
@@ -79,7 +79,7 @@ fn was_sent(books: &[Book], frame: &Frame) -> bool
     }
 }
 
-/// Returns whether no message came twice.
+/// Returns whether no message came twice. The set takes memory, and without one it would take time quadratic in the messages.
 fn came_once(alloc: Global, books: &[Book]) -> Result<bool, Memory>
     ensures { IfOk result (λ once. MatchBool once
         (AllPairs (λ a b. a ≢ b) (map (λ f. f.message) (all_received books.now))) (HasTwice books.now)) }

@@ -4,13 +4,13 @@ ghost use Rattle.ra_world.specs.Traffic.{Move};
 ghost use Rattle.ra_world.specs.World.{Reports};
 ghost use Rattle.ra_world.specs.MainTheorem.{MainTheorem};
 ghost use Rattle.ra_cluster.specs.Settled.{IsCluster, IsSettledOrder, IsSettledRun, Placed, settled_steps, start_of, IsGranted, HasUnsent, HasTwice, BooksFit, Repeats};
-ghost use Rattle.ra_cluster.specs.Settling.{Settles, SettlesBooks, Refuses};
+ghost use Rattle.ra_cluster.specs.SettlingParts.{Settles, SettlesBooks, Refuses};
 
 use crate::event_merge::steps_in_order;
 use crate::grant_checks::check_grants;
 use crate::losses::push_losses;
 use crate::receipts::check_received;
-use crate::settled_runs::{
+use crate::settled_laws::{
     books_that_fit_together_settle, grants_of_settled_runs_are_in_the_books,
     settled_steps_make_settled_runs,
 };

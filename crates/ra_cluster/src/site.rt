@@ -62,7 +62,7 @@ impl Model for Site {
 
 impl Site {
     ghost use Rattle.ra_cluster.specs.Book.{HasHistory};
-    ghost use Rattle.ra_cluster.specs.Granted.{IsGrantOf};
+    ghost use Rattle.ra_cluster.specs.ClientGrant.{IsGrantOf};
 
     /// Makes the site of node `me` of `nodes`, with a book in which nothing has happened yet. The highest number of each
     /// resource begins at `start`, 0 to 2^64-1, which is to be the same at all nodes. It does not allocate.
@@ -304,6 +304,7 @@ impl Site {
                 post.send_all(rt, letters.as_mut_slice());
                 self.mark_unsent(rt, letters.as_slice())
             }
+            // No frame is lost for lack of a list. A close may come between these.
             Err(Memory) => self.send_each(rt, alloc, frames, post),
         };
         if !are_sent {
@@ -384,6 +385,7 @@ impl Site {
     ) -> Option<Result<Grant, SiteError>>
         ensures { IfSome result (λ outcome. IfOk outcome (IsGrantOf self.now client name mode)) }
     {
+        // Where the grant and a fault both stand, the client has been let in, and the run that settles says so.
         if let Some(grant) = self.grant_in(book, client, name, mode) {
             return Some(Ok(grant));
         }

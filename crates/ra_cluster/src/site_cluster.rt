@@ -2,7 +2,7 @@
 ghost use Rattle.std.specs.Prelude.{◌≡◌, ◌↔◌, ◌<◌, ◌≤◌, IfOk, IfSome, IsNone, IsErrOf, IsOkUnless, All, vec_len};
 ghost use Rattle.ra_stamp.specs.NodeId.{IsNodeNumber};
 ghost use Rattle.ra_cluster.specs.Book.{HasHistory};
-ghost use Rattle.ra_cluster.specs.Granted.{IsGrantOf};
+ghost use Rattle.ra_cluster.specs.ClientGrant.{IsGrantOf};
 ghost use Rattle.ra_cluster.specs.Settled.{IsCluster, start_of};
 
 use crate::site::stop_all;

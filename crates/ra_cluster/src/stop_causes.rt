@@ -1,5 +1,5 @@
 ghost use Rattle.std.specs.Prelude.{◌≡◌};
-ghost use Rattle.ra_cluster.specs.Stopping as spec;
+ghost use Rattle.ra_cluster.specs.StopCauses as spec;
 
 use crate::{BookError, SiteError, Stop};
 

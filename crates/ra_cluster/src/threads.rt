@@ -43,6 +43,7 @@ pub fn run_threads<R: Threads + Wait + Sync, G: Gate>(
                 stop_all(rt, run.sites, Stop::Spawn);
             }
         }
+        // The scope of the clients' threads ends here, which is the moment at which the post can be closed.
         run_clients(rt, alloc, run);
         run.post.close(rt);
     })

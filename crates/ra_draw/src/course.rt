@@ -1,4 +1,5 @@
-//! What of a run is drawn, made by a world of its own from the lines of its trace.
+//! What of a run is drawn, made by a world of its own from the lines of its trace: these have no line for a message that is sent, and
+//! only the nodes know which ones a step sends.
 use crate::cut::cut;
 use crate::flights::{Fate, Flights, Moment, Start};
 use crate::part::Part;

@@ -16,7 +16,7 @@ use std::io::{Read, Write};
 /// The most bytes that a text may have.
 const MAX_TEXT: usize = 16_777_216;
 
-/// The most lines that are drawn.
+/// The most lines that are drawn, since who reads a trace can count them. A line has at most 126 arrows.
 const MAX_LINES: u64 = 4096;
 
 /// Returns how many line feeds a byte is.
@@ -98,9 +98,9 @@ fn draw_text<W: Write>(
     ensures no_limit { IfErr result (λ fault. fault ≢ DrawError.Limit) }
     ensures too_long { IsErrOf result DrawError.TooLong → (requests messages : ℕ)
         × IsVerdict text.now (Verdict.Valid requests messages) × (line_limit < drawn_lines part text.now) }
-    ensures front { IsErrOf result DrawError.Write → (requests messages : ℕ) × (front back : List ℕ)
-        × IsVerdict text.now (Verdict.Valid requests messages) × IsPicture (front ++ back) × (back ≢ [])
-        × Appends (W.contents writer.old) (W.contents writer.new) front }
+    ensures prefix { IsErrOf result DrawError.Write → (requests messages : ℕ) × (prefix rest : List ℕ)
+        × IsVerdict text.now (Verdict.Valid requests messages) × IsPicture (prefix ++ rest) × (rest ≢ [])
+        × Appends (W.contents writer.old) (W.contents writer.new) prefix }
 {
     let verdict = verdict_on(alloc, text)?;
     if let Verdict::Valid { requests, messages } = verdict {
@@ -151,10 +151,11 @@ pub fn draw<R: Read, W: Write>(
 
     ensures unwritten { IfErr result (λ fault. fault ≢ DrawError.Write → writer.new ≡ writer.old) }
     // A fault of the writer comes only with something left to write.
-    ensures front { IsErrOf result DrawError.Write → (input : List ℕ) × (requests messages : ℕ) × (front back : List ℕ)
+    ensures prefix { IsErrOf result DrawError.Write → (input : List ℕ) × (requests messages : ℕ) × (prefix rest : List ℕ)
         × IsInput (R.remaining reader.old) (R.remaining reader.new) input × IsVerdict input (Verdict.Valid requests messages)
-        × IsPicture (front ++ back) × (back ≢ []) × Appends (W.contents writer.old) (W.contents writer.new) front }
+        × IsPicture (prefix ++ rest) × (rest ≢ []) × Appends (W.contents writer.old) (W.contents writer.new) prefix }
 {
+    // All of it before the verdict: so `Read` and `Limit` come first, and the lines of the part are there once it is known.
     let text = read_up_to(alloc, reader, MAX_TEXT + 1)?;
     if text.len() > MAX_TEXT {
         return Err(DrawError::Limit);

@@ -15,10 +15,10 @@ pub enum Piece<'a> {
     Text(&'a str),
     Whole(&'a Name),
     /// A name, of which a long one is cut off.
-    Front(&'a Name),
+    Prefix(&'a Name),
 }
 
-/// A text that is written from its front to its end. Where memory runs out nothing more is written, and `finish` says so: so what is
+/// A text that is written from its start to its end. Where memory runs out nothing more is written, and `finish` says so: so what is
 /// written with it gives no error of its own.
 ///
 /// No text that is written has a letter that XML reads otherwise: words are those of this crate, names have letters, digits, `_`, `-`
@@ -50,8 +50,8 @@ impl Pen {
         self.put(Buffer::new().format(number).as_bytes());
     }
 
-    /// Adds the front of a name, and dots where that is not all of it.
-    fn put_front(&mut self, name: &[u8]) {
+    /// Adds a prefix of a name, and dots where that is not all of it.
+    fn put_prefix(&mut self, name: &[u8]) {
         if name.len() > LABEL {
             self.put(&name[..LABEL]);
             self.put(b"..");
@@ -67,7 +67,7 @@ impl Pen {
             Piece::Node(node) => self.put_number(u64::from(node.get())),
             Piece::Text(text) => self.put(text.as_bytes()),
             Piece::Whole(name) => self.put(name.bytes()),
-            Piece::Front(name) => self.put_front(name.bytes()),
+            Piece::Prefix(name) => self.put_prefix(name.bytes()),
         }
     }
 

@@ -3,7 +3,7 @@ use crate::course::{Act, Course, Row};
 use crate::flights::{Fate, Flight, Moment};
 use crate::page::{Bar, COLUMN, Page, Point, TOP};
 use crate::pen::Pen;
-use crate::pen::Piece::{Front, Node, Number, Text, Whole};
+use crate::pen::Piece::{Node, Number, Prefix, Text, Whole};
 use crate::seat::Seat;
 use crate::stays::Stay;
 use crate::words::{kind_of, mode_text, start_word};
@@ -349,7 +349,7 @@ impl Sheet {
             &[
                 Number(place.x.saturating_add(8)),
                 Number(place.y.saturating_sub(4)),
-                Front(&seat.name),
+                Prefix(&seat.name),
                 Text(mode_word(mode)),
             ],
         );
@@ -364,7 +364,7 @@ impl Sheet {
             &[
                 Number(place.x.saturating_add(8)),
                 Number(place.y.saturating_sub(4)),
-                Front(&seat.name),
+                Prefix(&seat.name),
             ],
         );
     }

@@ -19,7 +19,8 @@ fn first_of(alloc: Global, note: &mut Note, choices: &Choices, count: u64) -> Po
     Policy::Listed(first)
 }
 
-/// Returns how many of the first choices can be made. The script is run as often as their number can be halved.
+/// Returns how many of the first choices can be made. The script is run as often as their number can be halved: to follow the choices step
+/// by step would be the driver written twice.
 fn makeable(alloc: Global, note: &mut Note, script: &Script, choices: &Choices) -> u64 {
     let (mut low, mut high) = (0, choices.len());
     for _turn in 0..u64::BITS {

@@ -1,6 +1,6 @@
 //! Where in a line of digits the fault of a frame stands.
 use crate::digits::{byte_at, no_name_byte, part};
-use crate::field::{Field, fields_of, place_of};
+use crate::frame_field::{Field, fields_of, place_of};
 use crate::hexadecimal::first_line;
 use crate::note::Note;
 use ra_frame::FrameError;
@@ -24,8 +24,8 @@ fn name_field(digits: &[u8], fields: &[Field]) -> Field {
     }
 }
 
-/// Adds a field and its bytes.
-fn push_field(note: &mut Note, field: &Field) {
+/// Adds a field and where its bytes stand.
+pub fn push_field(note: &mut Note, field: &Field) {
     note.push(field.name);
     let last = field.place.saturating_add(field.width).saturating_sub(1);
     if field.place < last {

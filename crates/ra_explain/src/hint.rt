@@ -3,7 +3,7 @@
 /// What is said of lines that begin so.
 #[derive(Clone, Copy)]
 pub struct Hint {
-    front: &'static str,
+    prefix: &'static str,
     text: &'static str,
 }
 
@@ -35,46 +35,49 @@ const TOTALS: &str =
 const FIRST: &str =
     "a trace begins with trace, its version, 1 or 2, the number of its nodes, at most 16 in version 1 and 64 in version 2, and the number that each name begins with";
 
+/// What is said of a message without its kind.
+const KINDS: &str = "behind deliver, lose and repeat stands request or reply";
+
 /// The hints at the first line of a trace.
 pub const AT_FIRST: &[Hint] = &[
     Hint {
-        front: "\u{feff}",
+        prefix: "\u{feff}",
         text: ENCODED,
     },
     Hint {
-        front: "trace",
+        prefix: "trace",
         text: FIRST,
     },
     Hint {
-        front: "nodes",
+        prefix: "nodes",
         text: SCRIPT,
     },
     Hint {
-        front: "client",
+        prefix: "client",
         text: SCRIPT,
     },
     Hint {
-        front: "[[client]]",
+        prefix: "[[client]]",
         text: SCRIPT,
     },
     Hint {
-        front: "request",
+        prefix: "request",
         text: REPORT,
     },
     Hint {
-        front: "finished ",
+        prefix: "finished ",
         text: SURVEY,
     },
     Hint {
-        front: "stuck ",
+        prefix: "stuck ",
         text: SURVEY,
     },
     Hint {
-        front: "limit ",
+        prefix: "limit ",
         text: SURVEY,
     },
     Hint {
-        front: "refused ",
+        prefix: "refused ",
         text: REFUSAL,
     },
 ];
@@ -82,45 +85,61 @@ pub const AT_FIRST: &[Hint] = &[
 /// The hints at a line of a mark log.
 pub const AT_MARKS: &[Hint] = &[
     Hint {
-        front: "\u{feff}",
+        prefix: "\u{feff}",
         text: ENCODED,
     },
     Hint {
-        front: "trace ",
+        prefix: "trace ",
         text: TRACE,
     },
     Hint {
-        front: "ask ",
+        prefix: "ask ",
         text: TRACE,
     },
     Hint {
-        front: "nodes",
+        prefix: "nodes",
         text: SCRIPT,
     },
     Hint {
-        front: "client",
+        prefix: "client",
         text: SCRIPT,
     },
     Hint {
-        front: "[[client]]",
+        prefix: "[[client]]",
         text: SCRIPT,
     },
     Hint {
-        front: "requests ",
+        prefix: "requests ",
         text: TOTALS,
     },
     Hint {
-        front: "refused ",
+        prefix: "refused ",
         text: REFUSAL,
     },
 ];
 
-/// Returns what is said of a line that begins as one of these, or an other text.
-pub fn hint_at<'a>(hints: &[Hint], line: &[u8], other: &'a str) -> &'a str {
+/// The hints at a later line of a trace.
+pub const AT_LATER: &[Hint] = &[
+    Hint {
+        prefix: "deliver",
+        text: KINDS,
+    },
+    Hint {
+        prefix: "lose",
+        text: KINDS,
+    },
+    Hint {
+        prefix: "repeat",
+        text: KINDS,
+    },
+];
+
+/// Returns what is said of a line that begins as one of these, or `None`.
+pub fn hint_at(hints: &[Hint], line: &[u8]) -> Option<&'static str> {
     for hint in hints {
-        if line.starts_with(hint.front.as_bytes()) {
-            return hint.text;
+        if line.starts_with(hint.prefix.as_bytes()) {
+            return Some(hint.text);
         }
     }
-    other
+    None
 }

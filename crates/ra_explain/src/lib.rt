@@ -2,22 +2,31 @@
 //! what is said.
 #![tactic(auto)]
 
+mod before;
 mod choosing;
 mod claim;
+mod course;
 mod digits;
 mod due;
 mod ending;
-mod field;
 mod frame;
+mod frame_field;
 mod hexadecimal;
 mod hint;
 mod line;
+mod line_fault;
+mod line_field;
+mod line_form;
+mod line_text;
+mod not_under_way;
 mod note;
 mod obstacle;
 mod order;
+mod refused_step;
 mod script;
 mod standing;
 mod tail;
+mod unanswered;
 mod unfinished;
 
 pub use choosing::choices_note;
@@ -26,4 +35,5 @@ pub use frame::frame_note;
 pub use hexadecimal::digits_note;
 pub use line::{LineCause, line_note};
 pub use order::order_note;
+pub use unanswered::{Unanswered, unanswered_note};
 pub use unfinished::unfinished_note;

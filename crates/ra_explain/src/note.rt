@@ -7,7 +7,8 @@ use std::alloc::Global;
 /// The most bytes of an input that are shown at once.
 const MAX_SHOWN: usize = 60;
 
-/// A note as it is made. That there was no memory for a part it keeps to itself until its end.
+/// A note as it is made. That there was no memory for a part it keeps to itself until its end, so that it is made by calls without errors:
+/// an exit at each part is dear to prove.
 #[derive(Drop)]
 pub struct Note {
     text: String,

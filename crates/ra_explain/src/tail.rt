@@ -30,10 +30,10 @@ pub fn tail_of(bytes: &[u8], has_feed: bool) -> Tail<'_> {
         _ => bytes,
     };
     let line = last_line(shown);
-    let front = &shown[..shown.len().saturating_sub(line.len())];
+    let prefix = &shown[..shown.len().saturating_sub(line.len())];
     Tail {
         line,
         has_feed,
-        is_after_end: matches!(front, b"end\n") || front.ends_with(b"\nend\n"),
+        is_after_end: matches!(prefix, b"end\n") || prefix.ends_with(b"\nend\n"),
     }
 }

@@ -52,6 +52,7 @@ fn push_blockers(note: &mut Note, ending: &Ending<'_>, entry: &Entry) {
         }
     }
     note.push_more(" and ", count, MAX_BLOCKERS);
+    // Then a message was lost or is under way, as the main theorem says.
     if count == 0 {
         note.push(": ");
         note.push(want_text(ending.report));

@@ -4,7 +4,7 @@ ghost use Rattle.ra_frame.specs.FrameText as text;
 use Mode::{Exclusive, IntentExclusive, IntentShared, Shared, SharedIntentExclusive};
 use ra_stamp::Mode;
 
-/// The versions of frames, which differ in their nodes and modes.
+/// The versions of frames, which differ in their nodes and modes. Nobody chooses one: all are read, and the newest is written.
 #[derive(Clone, Copy)]
 pub enum Format {
     /// Nodes 1 to 16 in one byte each, and the modes shared and exclusive.

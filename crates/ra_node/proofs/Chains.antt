@@ -9,13 +9,13 @@ use Rattle.ra_node.specs.Events.{Event, Happening, NodeEvent, NodeEvents, IsForT
 use Rattle.ra_node.specs.Events.Event.{Ask, Leave, Receive}
 use Rattle.ra_node.proofs.EventLemmas.{same_node}
 
-pub events_join : (front back : List Happening) (a b c : NodeState) → NodeEvents a front b → NodeEvents b back c → NodeEvents a (front ++ back) c
-events_join [] back a b c p q = subst (λ (n : NodeState). NodeEvents n back c) p q
-events_join (h ∷ front) back a b c p q = (p.0, p.1, events_join front back p.0 b c p.2 q)
+pub events_join : (prefix suffix : List Happening) (a b c : NodeState) → NodeEvents a prefix b → NodeEvents b suffix c → NodeEvents a (prefix ++ suffix) c
+events_join [] suffix a b c p q = subst (λ (n : NodeState). NodeEvents n suffix c) p q
+events_join (h ∷ prefix) suffix a b c p q = (p.0, p.1, events_join prefix suffix p.0 b c p.2 q)
 
-pub events_split : (front back : List Happening) (a c : NodeState) → NodeEvents a (front ++ back) c → (b : NodeState) × NodeEvents a front b × NodeEvents b back c
-events_split [] back a c p = (a, refl, p)
-events_split (h ∷ front) back a c p = let rest = events_split front back p.0 c p.2 in (rest.0, (p.0, p.1, rest.1), rest.2)
+pub events_split : (prefix suffix : List Happening) (a c : NodeState) → NodeEvents a (prefix ++ suffix) c → (b : NodeState) × NodeEvents a prefix b × NodeEvents b suffix c
+events_split [] suffix a c p = (a, refl, p)
+events_split (h ∷ prefix) suffix a c p = let rest = events_split prefix suffix p.0 c p.2 in (rest.0, (p.0, p.1, rest.1), rest.2)
 
 pub events_step : (happened : List Happening) (event : Event) (sends : List Message) (marks : List Mark) (a b c : NodeState) → NodeEvents a happened b → NodeEvent b event sends marks c
     → NodeEvents a (happened ++ record { event = event; sends = sends; marks = marks } ∷ []) c

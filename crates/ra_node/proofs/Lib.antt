@@ -1,5 +1,5 @@
 pub mod Lookups
-pub mod Handed
+pub mod HandOverStep
 pub mod Uses
 pub mod Named
 pub mod Opening

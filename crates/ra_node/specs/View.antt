@@ -18,7 +18,8 @@ abbrev pub Finds : List (List ℕ × Resource) → List (List ℕ × Resource) �
 Finds slots slots' name new =
     (q : List ℕ) → lookup (bytes_eq q) slots' ≡ cond (bytes_eq name q) (Some new) (lookup (bytes_eq q) slots)
 
--- 0 exactly where each queue is shorter than 2^64, as each queue in memory is
+-- 0 exactly where each queue is shorter than 2^64, as each queue in memory is: so their total has room in 128 bits. It is a sum, as the two
+-- totals are, so that the same lemmas keep all three where a slot changes.
 abbrev pub excess_of : NodeState → ℕ
 excess_of n = sum_by (λ e. length e.1.queue / 2 ^ 64) (finmap.entries n.resources)
 

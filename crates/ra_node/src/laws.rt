@@ -117,9 +117,9 @@ pub fn events_go_on()
         (a b c : NodeState)
         → NodeEvents a happened b → NodeEvent b event sends marks c
         → NodeEvents a (happened ++ record { event = event; sends = sends; marks = marks } ∷ []) c }
-    ensures joins { (front back : List Happening) (a b c : NodeState)
-        → NodeEvents a front b → NodeEvents b back c
-        → NodeEvents a (front ++ back) c }
-    ensures splits { (front back : List Happening) (a c : NodeState) → NodeEvents a (front ++ back) c
-        → (b : NodeState) × NodeEvents a front b × NodeEvents b back c }
+    ensures joins { (prefix rest : List Happening) (a b c : NodeState)
+        → NodeEvents a prefix b → NodeEvents b rest c
+        → NodeEvents a (prefix ++ rest) c }
+    ensures splits { (prefix rest : List Happening) (a c : NodeState) → NodeEvents a (prefix ++ rest) c
+        → (b : NodeState) × NodeEvents a prefix b × NodeEvents b rest c }
 {}

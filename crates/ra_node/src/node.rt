@@ -212,7 +212,8 @@ impl Node {
     }
 
     /// Takes a message from another node. By the last REPLY that it awaits the node's request enters, with the mark
-    /// Entered. A REPLY that is not awaited is a stray, which is taken and changes nothing except that its name counts as met.
+    /// Entered. A REPLY that is not awaited is a stray, which is taken and changes nothing except that its name counts as met:
+    /// so a node and an event decide the node after it.
     /// The cost is constant, too, and linear in the number of nodes where the name was not met before.
     ///
     /// # Errors
@@ -263,6 +264,7 @@ impl Node {
 
     /// Returns whether nothing is sent and nothing is marked by a message that comes for this node from another one, as by a
     /// REQUEST whose REPLY is deferred, and by a REPLY that is not the last one awaited. It does not allocate. The cost is constant.
+    /// Who keeps what a node sends and marks can ask it before anything changes.
     pub fn brings_nothing(&self, message: &Message) -> bool
         ensures value { IsTrue result ↔ BringsNothing self.now message.now }
         ensures consistent { IsConsistentNode self.now }

@@ -13,7 +13,7 @@ use Rattle.ra_schedule.specs.declared.choice.Policy.TheVariants.{Oldest, Newest,
 use Rattle.ra_schedule.specs.Script.{ScriptClient, ScriptState}
 use Rattle.ra_schedule.specs.Seeds.{word_of}
 use Rattle.ra_schedule.specs.Schedule.{steps_of, steps_by, IsNext, IsEnabled, IsAtPlace, StandsFor, IsBadPlace, IsNotEnabled, IsFirstEnabled, LeavesMessages, IsNamedBy, with_fault, words_by, Picks, Ends}
-use Rattle.ra_schedule.specs.Drawing.{generator_at}
+use Rattle.ra_schedule.specs.PolicyState.{generator_at}
 use Rattle.ra_schedule.proofs.EnabledLists.{nobody_is_zero}
 use Rattle.ra_schedule.proofs.Naming.{choices_are_one}
 

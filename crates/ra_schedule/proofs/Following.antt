@@ -48,38 +48,38 @@ chosen : (script : ScriptState) (policy : Policy) (moves : List Move) (n : ℕ) 
     → (move : Move) × (choice : Choice) × Picks script policy (take n moves) choice × StandsFor script (take n moves) choice move.step
     × (take (suc n) moves ≡ take n moves ++ move ∷ [])
 chosen script policy moves n follows within =
-    let (move, whole, front) = at_place n moves within in
+    let (move, whole, prefix_is) = at_place n moves within in
     let (choice, picks, means) = follows.each (take n moves) (drop (suc n) moves) move whole in
-    (move, choice, picks, means, front)
+    (move, choice, picks, means, prefix_is)
 
 -- a prefix of a run is one
-front_runs : LawsBelow → (n start k : ℕ) (moves : List Move) → IsRun n start moves → IsRun n start (take k moves)
-front_runs laws n start k moves run =
-    laws.fronts n start (take k moves) (drop k moves) (subst (IsRun n start) (sym (lists.take-append-drop k moves)) run)
+prefix_runs : LawsBelow → (n start k : ℕ) (moves : List Move) → IsRun n start moves → IsRun n start (take k moves)
+prefix_runs laws n start k moves run =
+    laws.prefixes n start (take k moves) (drop k moves) (subst (IsRun n start) (sym (lists.take-append-drop k moves)) run)
 
-pub same_front : LawsBelow → (script : ScriptState) (policy : Policy) (a b : List Move) → IsNodeNumber script.nodes
+pub same_prefix : LawsBelow → (script : ScriptState) (policy : Policy) (a b : List Move) → IsNodeNumber script.nodes
     → Follows script policy a → Follows script policy b → (n : ℕ) → n ≤ length a → n ≤ length b → take n a ≡ take n b
-same_front laws script policy a b count f g zero la lb = refl
-same_front laws script policy a b count f g (suc n) la lb =
-    let before : take n a ≡ take n b = same_front laws script policy a b count f g n (omega arith) (omega arith) in
-    let (move, choice, picks, means, front) = chosen script policy a n f (omega arith) in
-    let (move', choice', picks', means', front') = chosen script policy b n g (omega arith) in
+same_prefix laws script policy a b count f g zero la lb = refl
+same_prefix laws script policy a b count f g (suc n) la lb =
+    let before : take n a ≡ take n b = same_prefix laws script policy a b count f g n (omega arith) (omega arith) in
+    let (move, choice, picks, means, prefix_is) = chosen script policy a n f (omega arith) in
+    let (move', choice', picks', means', prefix_is') = chosen script policy b n g (omega arith) in
     let picks'' = subst (λ (ms : List Move). Picks script policy ms choice') (sym before) picks' in
     let one : choice ≡ choice' = picks_one laws.one_list script policy (take n a) choice choice' picks picks'' in
     let means'' = subst (λ (x : Choice). StandsFor script (take n a) x move'.step) (sym one)
     (subst (λ (ms : List Move). StandsFor script ms choice' move'.step) (sym before) means') in
     let step : move.step ≡ move'.step = means_one laws.one_list script (take n a) choice move.step move'.step means means'' in
-    let left : steps_of (take (suc n) a) ≡ steps_of (take n a) ++ move.step ∷ [] = ap steps_of front ∙ steps_of-append (take n a) (move ∷ []) in
-    let right : steps_of (take (suc n) b) ≡ steps_of (take n b) ++ move'.step ∷ [] = ap steps_of front' ∙ steps_of-append (take n b) (move' ∷ []) in
+    let left : steps_of (take (suc n) a) ≡ steps_of (take n a) ++ move.step ∷ [] = ap steps_of prefix_is ∙ steps_of-append (take n a) (move ∷ []) in
+    let right : steps_of (take (suc n) b) ≡ steps_of (take n b) ++ move'.step ∷ [] = ap steps_of prefix_is' ∙ steps_of-append (take n b) (move' ∷ []) in
     let steps : steps_of (take (suc n) a) ≡ steps_of (take (suc n) b) =
     left ∙ ap (λ (s : Step). steps_of (take n a) ++ s ∷ []) step ∙ ap (λ (ms : List Move). steps_of ms ++ move'.step ∷ []) before ∙ sym right in
     laws.determined script.nodes 0 (take (suc n) a) (take (suc n) b) count
-    (front_runs laws script.nodes 0 (suc n) a f.run) (front_runs laws script.nodes 0 (suc n) b g.run) steps
+    (prefix_runs laws script.nodes 0 (suc n) a f.run) (prefix_runs laws script.nodes 0 (suc n) b g.run) steps
 
 pub same_moves : LawsBelow → (script : ScriptState) (policy : Policy) (a b : List Move) → IsNodeNumber script.nodes
     → Follows script policy a → Follows script policy b → length a ≡ length b → a ≡ b
 same_moves laws script policy a b count f g e =
-    sym (lists.take_all (length a) a (omega arith)) ∙ same_front laws script policy a b count f g (length a) (omega arith) (omega arith)
+    sym (lists.take_all (length a) a (omega arith)) ∙ same_prefix laws script policy a b count f g (length a) (omega arith) (omega arith)
     ∙ lists.take_all (length a) b (omega arith)
 
 -- after the shorter of two lists a choice was made that stands for a step
@@ -87,9 +87,9 @@ pub goes_further : LawsBelow → (script : ScriptState) (policy : Policy) (a b :
     → Follows script policy a → Follows script policy b → length a < length b
     → (choice : Choice) × (step : Step) × Picks script policy a choice × StandsFor script a choice step
 goes_further laws script policy a b count f g less =
-    let (move, choice, picks, means, front) = chosen script policy b (length a) g less in
+    let (move, choice, picks, means, prefix_is) = chosen script policy b (length a) g less in
     let here : take (length a) b ≡ a =
-    sym (same_front laws script policy a b count f g (length a) (omega arith) (omega arith)) ∙ lists.take_all (length a) a (omega arith) in (
+    sym (same_prefix laws script policy a b count f g (length a) (omega arith) (omega arith)) ∙ lists.take_all (length a) a (omega arith) in (
       choice,
       move.step,
       subst (λ (ms : List Move). Picks script policy ms choice) here picks,

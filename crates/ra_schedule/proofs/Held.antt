@@ -13,7 +13,7 @@ abbrev IsHeldThen : Type 0 → Op → List ℕ → Type 0
 IsHeldThen before op name = ((mode : Mode) × (op ≡ Lock name mode)) ⊎ ((op ≢ Unlock name) × before)
 
 -- a list is empty, or it has a last element
-pub ends : {X : Type 0} (xs : List X) → (xs ≡ []) ⊎ ((front : List X) × (last : X) × (xs ≡ front ++ last ∷ []))
+pub ends : {X : Type 0} (xs : List X) → (xs ≡ []) ⊎ ((prefix : List X) × (last : X) × (xs ≡ prefix ++ last ∷ []))
 ends [] = inl refl
 ends (x ∷ xs) =
     elim (ends xs) [
@@ -22,8 +22,8 @@ ends (x ∷ xs) =
     ]
 
 -- what stands before the last element, where a list is split at an earlier one
-pub before_last : {X : Type 0} (xs before front : List X) (x y last : X) → xs ++ x ∷ [] ≡ before ++ y ∷ (front ++ last ∷ []) → (xs ≡ before ++ y ∷ front) × (x ≡ last)
-before_last xs before front x y last e = same_from_push xs (before ++ y ∷ front) x last (e ∙ sym (append_assoc before (y ∷ front) (last ∷ [])))
+pub before_last : {X : Type 0} (xs before prefix : List X) (x y last : X) → xs ++ x ∷ [] ≡ before ++ y ∷ (prefix ++ last ∷ []) → (xs ≡ before ++ y ∷ prefix) × (x ≡ last)
+before_last xs before prefix x y last e = same_from_push xs (before ++ y ∷ prefix) x last (e ∙ sym (append_assoc before (y ∷ prefix) (last ∷ [])))
 
 -- where the operations are split at the lock of the name
 held_by_split : (ops before after : List Op) (op : Op) (name : List ℕ) (mode : Mode) → ops ++ op ∷ [] ≡ before ++ Lock name mode ∷ after → All (λ o. o ≢ Unlock name) after → IsHeldThen (IsHeldAfter ops name) op name
@@ -31,14 +31,14 @@ held_by_split ops before after op name mode e none =
     elim (ends after) [
       | inl empty ↦ inl (mode, (same_from_push ops before op (Lock name mode) (e ∙ ap (λ xs. before ++ Lock name mode ∷ xs) empty)).1)
       | inr w ↦
-          let front = w.0 in
+          let prefix = w.0 in
           let last = w.1 in
           let P = λ (o : Op). o ≢ Unlock name in
-          let is = before_last ops before front op (Lock name mode) last (e ∙ ap (λ xs. before ++ Lock name mode ∷ xs) w.2) in
-          let all : All P (front ++ last ∷ []) = All-same P (front ++ last ∷ []) after (sym w.2) none in
-          let in-front : All P front = All-same P front _ (sym (take_at front (last ∷ []) (length front) refl)) (All-take P (length front) (front ++ last ∷ []) all) in
-          let not-last : last ≢ Unlock name = All-contains P (front ++ last ∷ []) last all (Contains-push front last) in
-          inr (λ o. not-last (sym is.1 ∙ o), (before, front, mode, is.0, in-front))
+          let is = before_last ops before prefix op (Lock name mode) last (e ∙ ap (λ xs. before ++ Lock name mode ∷ xs) w.2) in
+          let all : All P (prefix ++ last ∷ []) = All-same P (prefix ++ last ∷ []) after (sym w.2) none in
+          let in-prefix : All P prefix = All-same P prefix _ (sym (take_at prefix (last ∷ []) (length prefix) refl)) (All-take P (length prefix) (prefix ++ last ∷ []) all) in
+          let not-last : last ≢ Unlock name = All-contains P (prefix ++ last ∷ []) last all (Contains-push prefix last) in
+          inr (λ o. not-last (sym is.1 ∙ o), (before, prefix, mode, is.0, in-prefix))
     ]
 
 -- a client has a name after one more operation exactly where this one locks it, or does not unlock it and it had it before

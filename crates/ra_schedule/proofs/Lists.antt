@@ -22,5 +22,5 @@ pub at_place : {X : Type 0} (n : ℕ) (xs : List X) → n < length xs
 at_place n [] less = absurd (omega arith)
 at_place zero (x ∷ xs) less = (x, refl, refl)
 at_place (suc n) (y ∷ xs) less =
-    let (x, whole, front) = at_place n xs (omega arith) in
-    (x, ap (λ zs. y ∷ zs) whole, ap (λ zs. y ∷ zs) front)
+    let (x, whole, prefix_is) = at_place n xs (omega arith) in
+    (x, ap (λ zs. y ∷ zs) whole, ap (λ zs. y ∷ zs) prefix_is)

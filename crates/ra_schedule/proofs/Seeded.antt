@@ -19,7 +19,7 @@ use Rattle.ra_schedule.specs.declared.choice.Policy.TheVariants.{Oldest, Newest,
 use Rattle.ra_schedule.specs.Script.{ScriptState}
 use Rattle.ra_schedule.specs.Faults.{FaultRates}
 use Rattle.ra_schedule.specs.Seeds.{generator_after, word_of}
-use Rattle.ra_schedule.specs.Drawing.{generator_at, words_drawn, words_of, words_for, IsWithoutFault}
+use Rattle.ra_schedule.specs.PolicyState.{generator_at, words_drawn, words_of, words_for, IsWithoutFault}
 use Rattle.ra_schedule.specs.Schedule.{steps_of, step_of, StandsFor, AreChoices, IsNamedBy, with_fault, words_in, words_by, Picks, Ends}
 use Rattle.ra_schedule.proofs.Naming.{choices_are_one}
 

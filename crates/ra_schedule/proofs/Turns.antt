@@ -22,7 +22,7 @@ use Rattle.ra_schedule.specs.declared.choice.Policy.{Policy}
 use Rattle.ra_schedule.specs.Script.{ScriptClient, ScriptState, client_at, op_at}
 use Rattle.ra_schedule.specs.Schedule.{steps_of, steps_in, steps_by, Enters, IsEnabled, IsAtPlace, StandsFor, Picks, Follows, IsFinished}
 use Rattle.ra_schedule.specs.Progress.{IsProgress, Tracks, OfEach, IsProgressAfter, AreCountable, AreDone, IsStuck, AreStuck, NoneEnters, recorded}
-use Rattle.ra_schedule.specs.Drawing.{AreDraws, AreDrawsElsewhere, generator_at, generator_in, words_drawn, words_for}
+use Rattle.ra_schedule.specs.PolicyState.{AreDraws, AreDrawsElsewhere, generator_at, generator_in, words_drawn, words_for}
 use Rattle.ra_schedule.specs.Driving.{IsDriven, IsReady, IsAtEnd, HasMade, Records}
 use Rattle.ra_schedule.specs.Below.{LawsBelow}
 use Rattle.ra_schedule.proofs.Waiting.{nobody_waits, goes_on}
@@ -329,8 +329,8 @@ records_all script policy world driver limit records (Ok driven) ends within sam
 -- ---- A list that was lent whole comes back whole
 
 pub whole : {X : Type 0} (xs ys : List X) (n : ℕ) → n ≡ length xs → take n (xs ++ ys) ≡ xs
-whole xs ys n e = ap (λ (k : ℕ). take k (xs ++ ys)) e ∙ front xs ys
+whole xs ys n e = ap (λ (k : ℕ). take k (xs ++ ys)) e ∙ prefix_of xs ys
   where
-    front : {X : Type 0} (xs ys : List X) → take (length xs) (xs ++ ys) ≡ xs
-    front [] ys = refl
-    front (x ∷ xs) ys = ap (λ zs. x ∷ zs) (front xs ys)
+    prefix_of : {X : Type 0} (xs ys : List X) → take (length xs) (xs ++ ys) ≡ xs
+    prefix_of [] ys = refl
+    prefix_of (x ∷ xs) ys = ap (λ zs. x ∷ zs) (prefix_of xs ys)

@@ -14,7 +14,7 @@ use Rattle.ra_schedule.specs.declared.choice.Policy.TheVariants.{Oldest, Newest,
 use Rattle.ra_schedule.specs.Faults.{FaultRates}
 use Rattle.ra_schedule.specs.Script.{ScriptState}
 use Rattle.ra_schedule.specs.Seeds.{word_of}
-use Rattle.ra_schedule.specs.Drawing.{IsWithoutFault}
+use Rattle.ra_schedule.specs.PolicyState.{IsWithoutFault}
 use Rattle.ra_schedule.specs.Schedule.{steps_of, words_by, step_of, StandsFor, IsNamedBy, with_fault, Picks, RepeatsNothing, Follows}
 use Rattle.ra_schedule.proofs.Choosing.{same_some}
 

@@ -8,7 +8,7 @@ use Rattle.ra_world.specs.Traffic.{Move, LeavesUnderWay, IsUnderWay}
 use Rattle.ra_world.specs.Run.{IsRun, GoesOn, events_at}
 
 pub record LawsBelow : Type 0 where
-  pub fronts : (n start : ℕ) (front back : List Move) → IsRun n start (front ++ back) → IsRun n start front
+  pub prefixes : (n start : ℕ) (prefix rest : List Move) → IsRun n start (prefix ++ rest) → IsRun n start prefix
   pub determined : (n start : ℕ) (a b : List Move) → IsNodeNumber n → IsRun n start a → IsRun n start b
       → map (λ move. move.step) a ≡ map (λ move. move.step) b → a ≡ b
   pub one_list : (moves : List Move) (a b : List Message)

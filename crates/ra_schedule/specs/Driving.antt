@@ -15,7 +15,7 @@ use Rattle.ra_schedule.specs.declared.error.DriveError.TheVariants.{BadPlace, No
 use Rattle.ra_schedule.specs.Script.{ScriptState}
 use Rattle.ra_schedule.specs.Schedule.{steps_of, StandsFor, Picks, IsBadPlace, IsNotEnabled, Ends, Follows, Stops, IsFinished}
 use Rattle.ra_schedule.specs.Progress.{Tracks, AreStuck, recorded}
-use Rattle.ra_schedule.specs.Drawing.{AreDraws, generator_at, generator_in, words_drawn}
+use Rattle.ra_schedule.specs.PolicyState.{AreDraws, generator_at, generator_in, words_drawn}
 
 -- the cluster has come so far with the script, whoever chose: this is how its clients stand, and what chance knows of them where it
 -- chooses

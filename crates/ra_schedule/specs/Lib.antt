@@ -4,7 +4,7 @@ pub mod Faults
 pub mod Schedule
 pub mod Progress
 pub mod Enabled
-pub mod Drawing
+pub mod PolicyState
 pub mod Below
 pub mod Driving
 pub mod Survey

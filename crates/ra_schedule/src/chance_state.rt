@@ -1,6 +1,6 @@
 //! What the random choice keeps from turn to turn.
 ghost use Rattle.std.specs.Prelude.{◌≡◌, IfOk, IfSome};
-ghost use Rattle.ra_schedule.specs.Drawing.{AreDraws, AreDrawsElsewhere, generator_at, generator_in};
+ghost use Rattle.ra_schedule.specs.PolicyState.{AreDraws, AreDrawsElsewhere, generator_at, generator_in};
 ghost use Rattle.ra_schedule.specs.Progress.{Tracks};
 
 use crate::enabled::Enabled;

@@ -55,7 +55,7 @@ struct Driven {
 ///
 /// The first that holds, at each turn:
 ///
-/// 1. `TurnLimit`: a choice is left after `limit` turns.
+/// 1. `TurnLimit`: a choice is left after `limit` turns, also one that can't be made.
 /// 2. `BadPlace`: the choice names a client or a message that there is not.
 /// 3. `NotEnabled`: it names a client that has nothing left to do, waits, or would be refused.
 /// 4. `Memory`.

@@ -34,7 +34,7 @@ impl Faults {
     pub const MAX_REPEAT: u16 = 400;
 
     /// Returns the faults with these numbers, or `None` where they are more than 1,000 together, or more than 400 are repeats. It does
-    /// not allocate.
+    /// not allocate. They are looked at here, and once, so that `drive` has no refusal more.
     pub fn new(lose: u16, repeat: u16) -> Option<Faults>
         ensures valid { IsSome result ↔ AreFaults (record { lose = lose; repeat = repeat }) }
         ensures value { IfSome result (λ faults. faults ≡ record { lose = lose; repeat = repeat }) }

@@ -8,7 +8,7 @@ ghost use Rattle.ra_schedule.specs.Schedule.{Follows, Ends, RepeatsNothing};
 ghost use Rattle.ra_schedule.specs.Below.{LawsBelow};
 
 use ra_world::{
-    fronts_of_runs_are_runs, messages_under_way_are_between_nodes, runs_are_determined,
+    messages_under_way_are_between_nodes, prefixes_of_runs_are_runs, runs_are_determined,
     runs_go_on_where_steps_are_allowed, steps_elsewhere_leave_a_node,
 };
 
@@ -16,7 +16,7 @@ use ra_world::{
 pub fn schedules_rest_on_runs()
     ensures { LawsBelow }
 {
-    fronts_of_runs_are_runs();
+    prefixes_of_runs_are_runs();
     messages_under_way_are_between_nodes();
     runs_are_determined();
     runs_go_on_where_steps_are_allowed();

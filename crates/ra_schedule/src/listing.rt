@@ -112,7 +112,8 @@ fn makes(alloc: Global, script: &Script, policy: &Policy, steps: &Steps) -> Resu
 /// Returns choices by which a script's steps are made again: driven as `Policy::Listed`, they make these steps and no others, from numbers
 /// that begin at 0, as [`drive`] records them. It is `None` where there are none, as where a client does not do what the script says. A
 /// message stands at the first place at which it is under way. The choices are tried before they are returned, so that it costs what
-/// `drive` costs twice, and for each message that is taken time linear in the number of those under way.
+/// `drive` costs twice, and for each message that is taken time linear in the number of those under way. So what is proved of `drive` says
+/// that they make these steps, whichever way they were found.
 ///
 /// # Errors
 ///

@@ -7,7 +7,7 @@ ghost use Rattle.ra_schedule.specs.Script.{client_at, op_at};
 ghost use Rattle.ra_schedule.specs.Schedule.{Enables, IsEnabled, IsFirstEnabled, StandsFor, Picks, Ends, step_of};
 ghost use Rattle.ra_schedule.specs.Driving.{HasFault, IsMeaning};
 ghost use Rattle.ra_schedule.specs.Progress.{Tracks, IsProgress, AreStuck};
-ghost use Rattle.ra_schedule.specs.Drawing.{AreDraws, generator_at, generator_in, words_drawn, words_for};
+ghost use Rattle.ra_schedule.specs.PolicyState.{AreDraws, generator_at, generator_in, words_drawn, words_for};
 
 use crate::chance_state::Draws;
 use crate::laws::schedules_rest_on_runs;

@@ -3,7 +3,7 @@ ghost use Rattle.std.specs.Prelude.{◌≡◌, ◌+◌, List, [], Some, length, 
 ghost use Rattle.rand_pcg.specs.Pcg.{pcg64};
 ghost use Rattle.ra_schedule.specs.declared.choice.Choice.{Choice};
 ghost use Rattle.ra_schedule.specs.Schedule.{AreChoices, IsNamedBy, Picks, Ends};
-ghost use Rattle.ra_schedule.specs.Drawing.{IsWithoutFault, generator_at, words_drawn, words_for};
+ghost use Rattle.ra_schedule.specs.PolicyState.{IsWithoutFault, generator_at, words_drawn, words_for};
 ghost use Rattle.ra_schedule.specs.Enabled.{AreFlags, numbers_from};
 
 use crate::enabled::Enabled;
@@ -28,6 +28,7 @@ fn draw(
     ensures drawn { IsSome result → generator.new ≡ (pcg64 generator.old).1 }
     ensures kept { IsNone result → generator.new ≡ generator.old }
 {
+    // No contract says that the clients and the messages under way together are fewer than 2^64.
     let count = u128::from(enabled.count);
     let choices = count + u128::from(world.under_way());
     if choices == 0 {

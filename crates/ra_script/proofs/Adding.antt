@@ -105,12 +105,12 @@ pub IsAddedTo-more : (base : ScriptState) (node : ℕ) (strings : List (List ℕ
     → IsScript new → IsAddedTo base node strings place script → IsAddedTo base node strings (place + 1) new
 IsAddedTo-more base node strings place script new string lt at few step valid h =
     let w = step base node h.done h.is (omega (arith, h.count)) in
-    let front = at_drop_more (ops_behind h.done) strings place string lt in
+    let drop_is = at_drop_more (ops_behind h.done) strings place string lt in
     record {
       done = h.done ++ w.0 ∷ [];
       is = w.2;
       count = length_push h.done w.0 ∙ ap (λ n. n + 1) h.count;
-      same = h.same ∙ (front ∙ rw (sym at, w.1));
+      same = h.same ∙ (drop_is ∙ rw (sym at, w.1));
       valid = valid;
     }
 
@@ -118,9 +118,9 @@ pub IsAddedTo-refused : (base : ScriptState) (node : ℕ) (strings : List (List 
     → ((origin : ScriptState) (n : ℕ) (done : List Op) → script ≡ with_last origin (record { node = n; ops = done }) → length done < 1024 → IsRefusal (next_op done string) why)
     → IsAddedTo base node strings place script → IsRefusal (ops_behind [] strings) why
 IsAddedTo-refused base node strings place script string why lt at few step h =
-    let front = at_drop_more (ops_behind h.done) strings place string lt in
+    let drop_is = at_drop_more (ops_behind h.done) strings place string lt in
     elim (step base node h.done h.is (omega (arith, h.count))) [
-      | inl because ↦ inl (h.same ∙ (front ∙ rw (sym at, because)))
+      | inl because ↦ inl (h.same ∙ (drop_is ∙ rw (sym at, because)))
       | inr memory ↦ inr memory
     ]
 

@@ -86,9 +86,9 @@ of_known None P Q f h = tt
 of_known (Some input) P Q f h = f input h
 
 -- a list of which an end is left
-pub not_nil : (bytes front back : List ℕ) → bytes ≡ front ++ back → back ≢ [] → bytes ≢ []
-not_nil bytes [] back e left nothing = left (sym e ∙ nothing)
-not_nil bytes (x ∷ xs) back e left nothing = absurd cc
+pub not_nil : (bytes prefix suffix : List ℕ) → bytes ≡ prefix ++ suffix → suffix ≢ [] → bytes ≢ []
+not_nil bytes [] suffix e left nothing = left (sym e ∙ nothing)
+not_nil bytes (x ∷ xs) suffix e left nothing = absurd cc
 
 -- a reader that failed, and memory that ran out while it was read
 pub read_refuses : (old : Option (List ℕ)) (format : Format) (policy : Policy) (why : ReadFault) → IfSome old (λ input. RefusesAs format policy input (of_read why))

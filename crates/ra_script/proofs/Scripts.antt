@@ -75,12 +75,12 @@ pub IsScriptTo-more : (nodes : ℕ) (tables : List ClientTable) (place : ℕ) (s
     → IsScriptTo nodes tables place script → IsScriptTo nodes tables (place + 1) new
 IsScriptTo-more nodes tables place script new table node lt at same step valid h =
     let client : ScriptClient = record { node = node; ops = step.0 } in
-    let front = at_drop_more (clients_behind script.clients) tables place table lt in
+    let drop_is = at_drop_more (clients_behind script.clients) tables place table lt in
     let clients : new.clients ≡ script.clients ++ client ∷ [] = ap (λ (s : ScriptState). s.clients) step.2 in
     record {
       nodes_are = ap (λ (s : ScriptState). s.nodes) step.2 ∙ h.nodes_are;
       count = ap length clients ∙ (length_push script.clients client ∙ ap (λ n. n + 1) h.count);
-      same = h.same ∙ (front ∙ rw (sym at, script_client-ops table node step.0 same step.1, clients));
+      same = h.same ∙ (drop_is ∙ rw (sym at, script_client-ops table node step.0 same step.1, clients));
       valid = valid;
     }
 
@@ -90,11 +90,11 @@ refused_client o why node e = rw e
 pub IsScriptTo-refused : (nodes : ℕ) (tables : List ClientTable) (place : ℕ) (script : ScriptState) (table : ClientTable) (why : ScriptError) → place < length tables → table ≡ get_or tables place table
     → IsRefusal (script_ops table.ops) why → IsScriptTo nodes tables place script → IsRefusal (clients_behind [] tables) why
 IsScriptTo-refused nodes tables place script table why lt at refusal h =
-    let front = at_drop_more (clients_behind script.clients) tables place table lt in
+    let drop_is = at_drop_more (clients_behind script.clients) tables place table lt in
     elim refusal [
       | inl because ↦
           let no_client : script_client table ≡ Err why = refused_client (script_ops table.ops) why (natural table.node) because in
-          inl (h.same ∙ (front ∙ rw (sym at, no_client)))
+          inl (h.same ∙ (drop_is ∙ rw (sym at, no_client)))
       | inr memory ↦ inr memory
     ]
 

@@ -12,7 +12,8 @@ use std::alloc::Global;
 /// The most digits of a number.
 const MAX_DIGITS: usize = 9;
 
-/// Returns whether these are 1 to 9 digits, of which the first of two or more is not `0`. It does not allocate.
+/// Returns whether these are 1 to 9 digits, of which the first of two or more is not `0`. It does not allocate. Those of a trace have any
+/// length, and each format is read by itself.
 fn is_decimal(digits: &[u8]) -> bool
     ensures { result ≡ spec.is_decimal digits.now }
 {

@@ -17,7 +17,7 @@ pub fn operation(string: &str) -> Option<Op>
 }
 
 /// Returns the operation of the word before the first space and the name after it, or `None` where they say none. It does not
-/// allocate.
+/// allocate. So `SIXX r` is none, and neither is `S IX r`: no name has a space.
 fn operation_of(text: &[u8]) -> Option<Op>
     ensures { result ≡ spec.op_of text.now }
 {

@@ -221,9 +221,9 @@ pub fn perform_as<R: Read, W: Write>(
 
     ensures unwritten { IfErr result (λ fault. fault ≢ PerformError.Write → writer.new ≡ writer.old) }
     // A fault of the writer comes only with something left to write.
-    ensures front { IsErrOf result PerformError.Write → IfSome (R.remaining reader.old) (λ input.
-        (front back : List ℕ) × (finished : Bool) × IsPerformedAs format policy.now input (front ++ back) finished × (back ≢ [])
-        × Appends (W.contents writer.old) (W.contents writer.new) front) }
+    ensures prefix { IsErrOf result PerformError.Write → IfSome (R.remaining reader.old) (λ input.
+        (prefix rest : List ℕ) × (finished : Bool) × IsPerformedAs format policy.now input (prefix ++ rest) finished × (rest ≢ [])
+        × Appends (W.contents writer.old) (W.contents writer.new) prefix) }
 
     ensures failed { IsErrOf result PerformError.Read → (taken : List ℕ) × (length taken < 65537)
         × Consumes (R.remaining reader.old) (R.remaining reader.new) taken }
@@ -272,9 +272,9 @@ pub fn perform<R: Read, W: Write>(
 
     ensures unwritten { IfErr result (λ fault. fault ≢ PerformError.Write → writer.new ≡ writer.old) }
     // A fault of the writer comes only with something left to write.
-    ensures front { IsErrOf result PerformError.Write → IfSome (R.remaining reader.old) (λ input.
-        (front back : List ℕ) × (finished : Bool) × IsPerformed policy.now input (front ++ back) finished × (back ≢ [])
-        × Appends (W.contents writer.old) (W.contents writer.new) front) }
+    ensures prefix { IsErrOf result PerformError.Write → IfSome (R.remaining reader.old) (λ input.
+        (prefix rest : List ℕ) × (finished : Bool) × IsPerformed policy.now input (prefix ++ rest) finished × (rest ≢ [])
+        × Appends (W.contents writer.old) (W.contents writer.new) prefix) }
 
     ensures failed { IsErrOf result PerformError.Read → (taken : List ℕ) × (length taken < 65537)
         × Consumes (R.remaining reader.old) (R.remaining reader.new) taken }
@@ -320,9 +320,9 @@ pub fn perform_trace<R: Read, W: Write>(
 
     ensures unwritten { IfErr result (λ fault. fault ≢ PerformError.Write → writer.new ≡ writer.old) }
     // A fault of the writer comes only with something left to write.
-    ensures front { IsErrOf result PerformError.Write → IfSome (R.remaining reader.old) (λ input.
-        (front back : List ℕ) × (finished : Bool) × IsTraced policy.now input (front ++ back) finished × (back ≢ [])
-        × Appends (W.contents writer.old) (W.contents writer.new) front) }
+    ensures prefix { IsErrOf result PerformError.Write → IfSome (R.remaining reader.old) (λ input.
+        (prefix rest : List ℕ) × (finished : Bool) × IsTraced policy.now input (prefix ++ rest) finished × (rest ≢ [])
+        × Appends (W.contents writer.old) (W.contents writer.new) prefix) }
 
     ensures failed { IsErrOf result PerformError.Read → (taken : List ℕ) × (length taken < 65537)
         × Consumes (R.remaining reader.old) (R.remaining reader.new) taken }

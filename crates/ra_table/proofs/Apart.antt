@@ -23,44 +23,44 @@ Apart-from_pairs R (x ∷ xs) pairs = (
 
 -- ---- each element
 
-pub All-put : {X : Type 0} (P : X → Type 0) (front back : List X) (x : X) → All P (front ++ back) → P x → All P (front ++ x ∷ back)
-All-put P [] back x all p = All-cons P x back p all
-All-put P (y ∷ front) back x all p =
-    All-cons P y (front ++ x ∷ back) (All-head P y (front ++ back) all) (All-put P front back x (All-tail P y (front ++ back) all) p)
+pub All-put : {X : Type 0} (P : X → Type 0) (prefix rest : List X) (x : X) → All P (prefix ++ rest) → P x → All P (prefix ++ x ∷ rest)
+All-put P [] rest x all p = All-cons P x rest p all
+All-put P (y ∷ prefix) rest x all p =
+    All-cons P y (prefix ++ x ∷ rest) (All-head P y (prefix ++ rest) all) (All-put P prefix rest x (All-tail P y (prefix ++ rest) all) p)
 
-pub All-taken : {X : Type 0} (P : X → Type 0) (front back : List X) (x : X) → All P (front ++ x ∷ back) → All P (front ++ back)
-All-taken P [] back x all = All-tail P x back all
-All-taken P (y ∷ front) back x all =
-    All-cons P y (front ++ back) (All-head P y (front ++ x ∷ back) all) (All-taken P front back x (All-tail P y (front ++ x ∷ back) all))
+pub All-taken : {X : Type 0} (P : X → Type 0) (prefix rest : List X) (x : X) → All P (prefix ++ x ∷ rest) → All P (prefix ++ rest)
+All-taken P [] rest x all = All-tail P x rest all
+All-taken P (y ∷ prefix) rest x all =
+    All-cons P y (prefix ++ rest) (All-head P y (prefix ++ x ∷ rest) all) (All-taken P prefix rest x (All-tail P y (prefix ++ x ∷ rest) all))
 
-pub All-there : {X : Type 0} (P : X → Type 0) (front back : List X) (x : X) → All P (front ++ x ∷ back) → P x
-All-there P [] back x all = All-head P x back all
-All-there P (y ∷ front) back x all = All-there P front back x (All-tail P y (front ++ x ∷ back) all)
+pub All-there : {X : Type 0} (P : X → Type 0) (prefix rest : List X) (x : X) → All P (prefix ++ x ∷ rest) → P x
+All-there P [] rest x all = All-head P x rest all
+All-there P (y ∷ prefix) rest x all = All-there P prefix rest x (All-tail P y (prefix ++ x ∷ rest) all)
 
 -- ---- each two elements, where the relation does not depend on their order
 
-pub Apart-put : {X : Type 0} (R : X → X → Type 0) → ((a b : X) → R a b → R b a) → (front back : List X) (x : X)
-    → Apart R (front ++ back) → All (R x) (front ++ back) → Apart R (front ++ x ∷ back)
-Apart-put R flip [] back x apart all = (all, apart)
-Apart-put R flip (y ∷ front) back x apart all = (
-  All-put (R y) front back x apart.0 (flip x y (All-head (R x) y (front ++ back) all)),
-  Apart-put R flip front back x apart.1 (All-tail (R x) y (front ++ back) all),
+pub Apart-put : {X : Type 0} (R : X → X → Type 0) → ((a b : X) → R a b → R b a) → (prefix rest : List X) (x : X)
+    → Apart R (prefix ++ rest) → All (R x) (prefix ++ rest) → Apart R (prefix ++ x ∷ rest)
+Apart-put R flip [] rest x apart all = (all, apart)
+Apart-put R flip (y ∷ prefix) rest x apart all = (
+  All-put (R y) prefix rest x apart.0 (flip x y (All-head (R x) y (prefix ++ rest) all)),
+  Apart-put R flip prefix rest x apart.1 (All-tail (R x) y (prefix ++ rest) all),
 )
 
-pub Apart-taken : {X : Type 0} (R : X → X → Type 0) (front back : List X) (x : X) → Apart R (front ++ x ∷ back) → Apart R (front ++ back)
-Apart-taken R [] back x apart = apart.1
-Apart-taken R (y ∷ front) back x apart = (All-taken (R y) front back x apart.0, Apart-taken R front back x apart.1)
+pub Apart-taken : {X : Type 0} (R : X → X → Type 0) (prefix rest : List X) (x : X) → Apart R (prefix ++ x ∷ rest) → Apart R (prefix ++ rest)
+Apart-taken R [] rest x apart = apart.1
+Apart-taken R (y ∷ prefix) rest x apart = (All-taken (R y) prefix rest x apart.0, Apart-taken R prefix rest x apart.1)
 
-pub All-apart : {X : Type 0} (R : X → X → Type 0) → ((a b : X) → R a b → R b a) → (front back : List X) (x : X)
-    → Apart R (front ++ x ∷ back) → All (R x) (front ++ back)
-All-apart R flip [] back x apart = apart.0
-All-apart R flip (y ∷ front) back x apart =
-    All-cons (R x) y (front ++ back) (flip y x (All-there (R y) front back x apart.0)) (All-apart R flip front back x apart.1)
+pub All-apart : {X : Type 0} (R : X → X → Type 0) → ((a b : X) → R a b → R b a) → (prefix rest : List X) (x : X)
+    → Apart R (prefix ++ x ∷ rest) → All (R x) (prefix ++ rest)
+All-apart R flip [] rest x apart = apart.0
+All-apart R flip (y ∷ prefix) rest x apart =
+    All-cons (R x) y (prefix ++ rest) (flip y x (All-there (R y) prefix rest x apart.0)) (All-apart R flip prefix rest x apart.1)
 
 -- ---- what a list contains
 
-pub Contains-there : {X : Type 0} (front back : List X) (x : X) → Contains (front ++ x ∷ back) x
-Contains-there front back x = (length front, simp length-append (omega arith), get_or_at front x back x (length front) refl)
+pub Contains-there : {X : Type 0} (prefix rest : List X) (x : X) → Contains (prefix ++ x ∷ rest) x
+Contains-there prefix rest x = (length prefix, simp length-append (omega arith), get_or_at prefix x rest x (length prefix) refl)
 
 pub Contains-tail : {X : Type 0} (x : X) (xs : List X) (y : X) → Contains xs y → Contains (x ∷ xs) y
 Contains-tail x xs y at = (suc at.0, omega arith, at.2)
@@ -69,21 +69,21 @@ pub Contains-cons_cases : {X : Type 0} (x : X) (xs : List X) (y : X) → Contain
 Contains-cons_cases x xs y (zero, lt, is) = inl is
 Contains-cons_cases x xs y (suc k, lt, is) = inr (k, omega arith, is)
 
-pub Contains-put : {X : Type 0} (front back : List X) (x y : X) → Contains (front ++ back) y → Contains (front ++ x ∷ back) y
-Contains-put front back x y at =
-    elim (Contains-append_cases front back y at) [
-      | inl before ↦ Contains-append_left front (x ∷ back) y before
-      | inr after ↦ Contains-append_right front (x ∷ back) y (Contains-tail x back y after)
+pub Contains-put : {X : Type 0} (prefix rest : List X) (x y : X) → Contains (prefix ++ rest) y → Contains (prefix ++ x ∷ rest) y
+Contains-put prefix rest x y at =
+    elim (Contains-append_cases prefix rest y at) [
+      | inl before ↦ Contains-append_left prefix (x ∷ rest) y before
+      | inr after ↦ Contains-append_right prefix (x ∷ rest) y (Contains-tail x rest y after)
     ]
 
 -- what is in the longer list is the one element, or is in the shorter list
-pub Contains-cases : {X : Type 0} (front back : List X) (x y : X) → Contains (front ++ x ∷ back) y → (x ≡ y) ⊎ Contains (front ++ back) y
-Contains-cases front back x y at =
-    elim (Contains-append_cases front (x ∷ back) y at) [
-      | inl before ↦ inr (Contains-append_left front back y before)
-      | inr after ↦ elim (Contains-cons_cases x back y after) [
+pub Contains-cases : {X : Type 0} (prefix rest : List X) (x y : X) → Contains (prefix ++ x ∷ rest) y → (x ≡ y) ⊎ Contains (prefix ++ rest) y
+Contains-cases prefix rest x y at =
+    elim (Contains-append_cases prefix (x ∷ rest) y at) [
+      | inl before ↦ inr (Contains-append_left prefix rest y before)
+      | inr after ↦ elim (Contains-cons_cases x rest y after) [
         | inl same ↦ inl same
-        | inr later ↦ inr (Contains-append_right front back y later)
+        | inr later ↦ inr (Contains-append_right prefix rest y later)
       ]
     ]
 

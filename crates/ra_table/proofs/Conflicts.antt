@@ -79,21 +79,21 @@ pub record IsOrdered (table : LockTable) : Type 0 where
 pub empty_is_ordered : IsOrdered empty_table
 empty_is_ordered = record { sound = empty_is_sound; behind = All-nil (λ g. All (IsBehind g) []) }
 
-behind_requested : (front back granted : List Entry) (e : Entry) → All (λ g. All (IsBehind g) (front ++ back)) granted
-    → All (λ x. x.name ≡ e.name → x.stamp.seq < e.stamp.seq) granted → All (λ g. All (IsBehind g) (front ++ e ∷ back)) granted
-behind_requested front back granted e behind above k d lt =
-    All-put (IsBehind (get_or granted k d)) front back e (behind k d lt) (λ ex. inl (above k d lt ex.0))
+behind_requested : (prefix suffix granted : List Entry) (e : Entry) → All (λ g. All (IsBehind g) (prefix ++ suffix)) granted
+    → All (λ x. x.name ≡ e.name → x.stamp.seq < e.stamp.seq) granted → All (λ g. All (IsBehind g) (prefix ++ e ∷ suffix)) granted
+behind_requested prefix suffix granted e behind above k d lt =
+    All-put (IsBehind (get_or granted k d)) prefix suffix e (behind k d lt) (λ ex. inl (above k d lt ex.0))
 
-behind_entered : ConflictIsSymmetric → StampsAreTotal → (front back front' back' : List Entry) (e : Entry) → Apart NotOfOneNode (front ++ e ∷ back)
-    → All (λ x. Excludes x e → IsEarlier x.stamp e.stamp → ⊥) (front ++ e ∷ back)
-    → All (λ g. All (IsBehind g) (front ++ e ∷ back)) (front' ++ back') → All (λ g. All (IsBehind g) (front ++ back)) (front' ++ e ∷ back')
-behind_entered symmetric total front back front' back' e apart no_earlier behind =
-    let others : All (NotOfOneNode e) (front ++ back) = All-apart NotOfOneNode NotOfOneNode-flip front back e apart in
-    let earlier : All (λ x. Excludes x e → IsEarlier x.stamp e.stamp → ⊥) (front ++ back) = All-taken (λ x. Excludes x e → IsEarlier x.stamp e.stamp → ⊥) front back e no_earlier in
-    let later : All (IsBehind e) (front ++ back) = λ k d lt ex.
-    let w = get_or (front ++ back) k d in
+behind_entered : ConflictIsSymmetric → StampsAreTotal → (prefix suffix prefix' suffix' : List Entry) (e : Entry) → Apart NotOfOneNode (prefix ++ e ∷ suffix)
+    → All (λ x. Excludes x e → IsEarlier x.stamp e.stamp → ⊥) (prefix ++ e ∷ suffix)
+    → All (λ g. All (IsBehind g) (prefix ++ e ∷ suffix)) (prefix' ++ suffix') → All (λ g. All (IsBehind g) (prefix ++ suffix)) (prefix' ++ e ∷ suffix')
+behind_entered symmetric total prefix suffix prefix' suffix' e apart no_earlier behind =
+    let others : All (NotOfOneNode e) (prefix ++ suffix) = All-apart NotOfOneNode NotOfOneNode-flip prefix suffix e apart in
+    let earlier : All (λ x. Excludes x e → IsEarlier x.stamp e.stamp → ⊥) (prefix ++ suffix) = All-taken (λ x. Excludes x e → IsEarlier x.stamp e.stamp → ⊥) prefix suffix e no_earlier in
+    let later : All (IsBehind e) (prefix ++ suffix) = λ k d lt ex.
+    let w = get_or (prefix ++ suffix) k d in
     earlier_cases total e.stamp w.stamp (earlier k d lt (Excludes-flip symmetric e w ex)) (λ node. others k d lt (ex.0, node)) in
-    All-put (λ g. All (IsBehind g) (front ++ back)) front' back' e (λ k d lt. All-taken (IsBehind (get_or (front' ++ back') k d)) front back e (behind k d lt)) later
+    All-put (λ g. All (IsBehind g) (prefix ++ suffix)) prefix' suffix' e (λ k d lt. All-taken (IsBehind (get_or (prefix' ++ suffix') k d)) prefix suffix e (behind k d lt)) later
 
 step_behind : ConflictIsSymmetric → StampsAreTotal → (old new : LockTable) (mark : Mark) → TableStep old mark new → IsOrdered old
     → All (λ g. All (IsBehind g) new.waiting) new.granted

@@ -33,30 +33,30 @@ empty_is_sound = record { apart_waiting = tt; apart_holding = tt; apart = All-ni
 apart_from_free : (e : Entry) (xs : List Entry) → IsNodeFree e xs → All (NotOfOneNode e) xs
 apart_from_free e xs free k d lt s = free k d lt (sym s.0) (sym s.1)
 
-sound_requested : (front back holding : List Entry) (e : Entry) → IsSound (front ++ back) holding
-    → IsNodeFree e (front ++ back) → IsNodeFree e holding → IsSound (front ++ e ∷ back) holding
-sound_requested front back holding e sound not_waiting not_holding = record {
-  apart_waiting = Apart-put NotOfOneNode NotOfOneNode-flip front back e sound.apart_waiting (apart_from_free e (front ++ back) not_waiting);
+sound_requested : (prefix rest holding : List Entry) (e : Entry) → IsSound (prefix ++ rest) holding
+    → IsNodeFree e (prefix ++ rest) → IsNodeFree e holding → IsSound (prefix ++ e ∷ rest) holding
+sound_requested prefix rest holding e sound not_waiting not_holding = record {
+  apart_waiting = Apart-put NotOfOneNode NotOfOneNode-flip prefix rest e sound.apart_waiting (apart_from_free e (prefix ++ rest) not_waiting);
   apart_holding = sound.apart_holding;
-  apart = All-put (λ w. All (NotOfOneNode w) holding) front back e sound.apart (apart_from_free e holding not_holding);
+  apart = All-put (λ w. All (NotOfOneNode w) holding) prefix rest e sound.apart (apart_from_free e holding not_holding);
 }
 
-sound_entered : (front back front' back' : List Entry) (e : Entry) → IsSound (front ++ e ∷ back) (front' ++ back')
-    → IsSound (front ++ back) (front' ++ e ∷ back')
-sound_entered front back front' back' e sound =
-    let others : All (NotOfOneNode e) (front ++ back) = All-apart NotOfOneNode NotOfOneNode-flip front back e sound.apart_waiting in
-    let apart : All (λ w. All (NotOfOneNode w) (front' ++ back')) (front ++ back) = All-taken (λ w. All (NotOfOneNode w) (front' ++ back')) front back e sound.apart in
+sound_entered : (prefix rest prefix' rest' : List Entry) (e : Entry) → IsSound (prefix ++ e ∷ rest) (prefix' ++ rest')
+    → IsSound (prefix ++ rest) (prefix' ++ e ∷ rest')
+sound_entered prefix rest prefix' rest' e sound =
+    let others : All (NotOfOneNode e) (prefix ++ rest) = All-apart NotOfOneNode NotOfOneNode-flip prefix rest e sound.apart_waiting in
+    let apart : All (λ w. All (NotOfOneNode w) (prefix' ++ rest')) (prefix ++ rest) = All-taken (λ w. All (NotOfOneNode w) (prefix' ++ rest')) prefix rest e sound.apart in
     record {
-      apart_waiting = Apart-taken NotOfOneNode front back e sound.apart_waiting;
-      apart_holding = Apart-put NotOfOneNode NotOfOneNode-flip front' back' e sound.apart_holding (All-there (λ w. All (NotOfOneNode w) (front' ++ back')) front back e sound.apart);
-      apart = λ k d lt. let w = get_or (front ++ back) k d in All-put (NotOfOneNode w) front' back' e (apart k d lt) (NotOfOneNode-flip e w (others k d lt));
+      apart_waiting = Apart-taken NotOfOneNode prefix rest e sound.apart_waiting;
+      apart_holding = Apart-put NotOfOneNode NotOfOneNode-flip prefix' rest' e sound.apart_holding (All-there (λ w. All (NotOfOneNode w) (prefix' ++ rest')) prefix rest e sound.apart);
+      apart = λ k d lt. let w = get_or (prefix ++ rest) k d in All-put (NotOfOneNode w) prefix' rest' e (apart k d lt) (NotOfOneNode-flip e w (others k d lt));
     }
 
-sound_left : (waiting front back : List Entry) (e : Entry) → IsSound waiting (front ++ e ∷ back) → IsSound waiting (front ++ back)
-sound_left waiting front back e sound = record {
+sound_left : (waiting prefix rest : List Entry) (e : Entry) → IsSound waiting (prefix ++ e ∷ rest) → IsSound waiting (prefix ++ rest)
+sound_left waiting prefix rest e sound = record {
   apart_waiting = sound.apart_waiting;
-  apart_holding = Apart-taken NotOfOneNode front back e sound.apart_holding;
-  apart = λ k d lt. All-taken (NotOfOneNode (get_or waiting k d)) front back e (sound.apart k d lt);
+  apart_holding = Apart-taken NotOfOneNode prefix rest e sound.apart_holding;
+  apart = λ k d lt. All-taken (NotOfOneNode (get_or waiting k d)) prefix rest e (sound.apart k d lt);
 }
 
 pub step_sound : (old new : LockTable) (mark : Mark) → TableStep old mark new → IsSoundTable old → IsSoundTable new

@@ -22,7 +22,7 @@ Excludes a b = (a.name ≡ b.name) × Conflict a.mode b.mode
 -- the new list is the old one with one more entry put in somewhere
 abbrev pub Gains : List Entry → Entry → List Entry → Type 0
 Gains old e new =
-    (front : List Entry) × (back : List Entry) × (old ≡ front ++ back) × (new ≡ front ++ e ∷ back)
+    (prefix : List Entry) × (rest : List Entry) × (old ≡ prefix ++ rest) × (new ≡ prefix ++ e ∷ rest)
 
 -- the new list is the old one with one entry taken out
 abbrev pub Loses : List Entry → Entry → List Entry → Type 0

@@ -64,10 +64,10 @@ pub fn runs_go_on_by_steps()
     ensures empty { TableRun [] empty_table }
     ensures step { (marks : List Mark) (mark : Mark) (table next : LockTable) → TableRun marks table
         → TableStep table mark next → TableRun (marks ++ mark ∷ []) next }
-    ensures joins { (front back : List Mark) (a b c : LockTable) → TableSteps a front b → TableSteps b back c
-        → TableSteps a (front ++ back) c }
-    ensures splits { (front back : List Mark) (a c : LockTable) → TableSteps a (front ++ back) c
-        → (b : LockTable) × TableSteps a front b × TableSteps b back c }
+    ensures joins { (prefix rest : List Mark) (a b c : LockTable) → TableSteps a prefix b → TableSteps b rest c
+        → TableSteps a (prefix ++ rest) c }
+    ensures splits { (prefix rest : List Mark) (a c : LockTable) → TableSteps a (prefix ++ rest) c
+        → (b : LockTable) × TableSteps a prefix b × TableSteps b rest c }
     // A run goes on with a mark exactly where the table at its end allows it.
     ensures next { (marks : List Mark) (mark : Mark) (table : LockTable) → TableRun marks table
         → AllowsMark table mark ↔ ((next : LockTable) × TableRun (marks ++ mark ∷ []) next) }

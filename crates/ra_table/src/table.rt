@@ -51,7 +51,7 @@ impl Table {
     ///
     /// # Errors
     ///
-    /// `Memory`: there is no table.
+    /// `Memory`: there is no table. It takes none yet, and no caller has to change when it does.
     pub fn new(alloc: Global) -> Result<Table, Memory>
         ensures empty { IfOk result (λ table. table ≡ empty_table) }
     {
@@ -147,7 +147,7 @@ impl Table {
 
     /// Returns whether the entry may wait, unless memory runs out: its node neither waits nor holds on its name, and its number is above that of
     /// each entry granted so far on it. It takes expected time linear in the number of entries that wait and hold on its name, and does
-    /// not allocate.
+    /// not allocate: a checker asks it of a mark that is not due, for which the table is not to grow.
     pub fn can_request(&self, entry: &Entry) -> bool
         ensures allowed { IsTrue result ↔ MayRequest self.now entry.now }
         ensures exclusive { IsConflictFree self.now.holding }

@@ -21,7 +21,7 @@ use Rattle.ra_trace.specs.declared.checker.Checker.{Checker}
 use Rattle.ra_trace.specs.declared.version.Version.{Version}
 use Rattle.ra_trace.specs.Forms.{IsReadable, BeginsReadable}
 use Rattle.ra_trace.specs.TraceText.{IsLine, line_text, trace_lines}
-use Rattle.ra_trace.specs.Verdict.{IsFront, IsFirst, IsWrong}
+use Rattle.ra_trace.specs.Verdict.{IsPrefix, IsFirst, IsWrong}
 use Rattle.ra_trace.specs.Reading.{IsWhole, AreRight, IsOpenLine, IsOpen, IsOver, HasBegun, HasRead, Judges, StopsBehind, Answers}
 use Rattle.ra_trace.specs.NextLine.{EndsSo, TakesBytes, FailsWithin, IsOverLine, HasNone, EndsText}
 use Rattle.ra_trace.specs.Checking.{due_of, StandsBehind, Takes, Refuses, Allows}
@@ -29,7 +29,7 @@ use Rattle.ra_trace.specs.Along.{IsBehind, IsAlong, IsDone, Opens, Judged, Turns
 use Rattle.ra_trace.specs.Below.{LawsBelow}
 use Rattle.ra_trace.proofs.Lines.{begins_once}
 use Rattle.ra_trace.proofs.Versions.{begins_readable}
-use Rattle.ra_trace.proofs.Fronts.{front_and_last, no_trace}
+use Rattle.ra_trace.proofs.Prefixes.{prefix_and_last, no_trace}
 use Rattle.ra_trace.proofs.Ends.{feed_is_over, some_bytes_at_feed}
 
 -- bytes that are taken after others are taken with them
@@ -43,55 +43,55 @@ consumed_both (Some xs) (Some ys) (Some zs) first second a b =
 
 -- ---- After whole lines
 
-has_read : (limit left : ℕ) (old now new : Option (List ℕ)) (front : List Line) (bytes : List ℕ) → IsBehind limit left old now front
-    → Consumes now new bytes → length bytes ≤ left → HasRead limit old new front bytes
-has_read limit left old now new front bytes behind taken most = record {
-  taken = consumed_both old now new (flat_map line_text front) bytes behind.taken taken;
-  at_most = omega (arith, length-append (flat_map line_text front) bytes, behind.room, most);
+has_read : (limit left : ℕ) (old now new : Option (List ℕ)) (prefix : List Line) (bytes : List ℕ) → IsBehind limit left old now prefix
+    → Consumes now new bytes → length bytes ≤ left → HasRead limit old new prefix bytes
+has_read limit left old now new prefix bytes behind taken most = record {
+  taken = consumed_both old now new (flat_map line_text prefix) bytes behind.taken taken;
+  at_most = omega (arith, length-append (flat_map line_text prefix) bytes, behind.room, most);
   right = behind.right;
 }
 
 -- an error of what comes next
-pub fails_behind : (limit left : ℕ) (old now new : Option (List ℕ)) (front : List Line) (bytes : List ℕ) (fault : TraceError)
-    → IsBehind limit left old now front → (IsWhole front → bytes ≡ []) → FailsWithin left now new bytes fault
+pub fails_behind : (limit left : ℕ) (old now new : Option (List ℕ)) (prefix : List Line) (bytes : List ℕ) (fault : TraceError)
+    → IsBehind limit left old now prefix → (IsWhole prefix → bytes ≡ []) → FailsWithin left now new bytes fault
     → Answers limit old new (Err fault)
-fails_behind limit left old now new front bytes Read behind last (taken, opened) =
-    (front, bytes, has_read limit left old now new front bytes behind taken.0 taken.1, (opened, last))
-fails_behind limit left old now new front bytes Limit behind last (byte, taken, full, opened) = (
-  front,
+fails_behind limit left old now new prefix bytes Read behind last (taken, opened) =
+    (prefix, bytes, has_read limit left old now new prefix bytes behind taken.0 taken.1, (opened, last))
+fails_behind limit left old now new prefix bytes Limit behind last (byte, taken, full, opened) = (
+  prefix,
   bytes,
   byte,
   record {
-    taken = consumed_both old now new (flat_map line_text front) (bytes ++ byte ∷ []) behind.taken taken;
-    at_most = omega (arith, length-append (flat_map line_text front) (bytes ++ byte ∷ []), length-append bytes (byte ∷ []), behind.room, full);
+    taken = consumed_both old now new (flat_map line_text prefix) (bytes ++ byte ∷ []) behind.taken taken;
+    at_most = omega (arith, length-append (flat_map line_text prefix) (bytes ++ byte ∷ []), length-append bytes (byte ∷ []), behind.room, full);
     right = behind.right;
   },
-  omega (arith, length-append (flat_map line_text front) bytes, behind.room, full),
+  omega (arith, length-append (flat_map line_text prefix) bytes, behind.room, full),
   (opened, last),
 )
-fails_behind limit left old now new front bytes Memory behind last none = absurd none
+fails_behind limit left old now new prefix bytes Memory behind last none = absurd none
 
-over_behind : (front : List Line) (bytes : List ℕ) → (IsWhole front → ⊥) → IsOverLine bytes → IsOver front bytes
-over_behind front bytes more (before, byte, opened, is, how) =
+over_behind : (prefix : List Line) (bytes : List ℕ) → (IsWhole prefix → ⊥) → IsOverLine bytes → IsOver prefix bytes
+over_behind prefix bytes more (before, byte, opened, is, how) =
     (before, byte, (opened, λ whole. absurd (more whole)), is, elim how [ inl feed ↦ inl feed | inr long ↦ inr (inl long) ])
 
 -- a verdict on bytes that no line begins
-none_behind : (limit left : ℕ) (old now new : Option (List ℕ)) (front : List Line) (bytes : List ℕ) (number : ℕ) (why : Cause)
-    → IsBehind limit left old now front → (IsWhole front → ⊥) → TakesBytes left now new bytes
-    → IsOverLine bytes ⊎ (IsOpenLine bytes × IsAtEnd new) → number ≡ length front + 1 → IsWrong front bytes why
+none_behind : (limit left : ℕ) (old now new : Option (List ℕ)) (prefix : List Line) (bytes : List ℕ) (number : ℕ) (why : Cause)
+    → IsBehind limit left old now prefix → (IsWhole prefix → ⊥) → TakesBytes left now new bytes
+    → IsOverLine bytes ⊎ (IsOpenLine bytes × IsAtEnd new) → number ≡ length prefix + 1 → IsWrong prefix bytes why
     → Judges limit old new (Invalid number why)
-none_behind limit left old now new front bytes number why behind more taken how is wrong = (
-  front,
+none_behind limit left old now new prefix bytes number why behind more taken how is wrong = (
+  prefix,
   bytes,
-  has_read limit left old now new front bytes behind taken.0 taken.1,
-  elim how [ inl over ↦ inl (over_behind front bytes more over) | inr (opened, ended) ↦ inr ((opened, λ whole. absurd (more whole)), ended) ],
+  has_read limit left old now new prefix bytes behind taken.0 taken.1,
+  elim how [ inl over ↦ inl (over_behind prefix bytes more over) | inr (opened, ended) ↦ inr ((opened, λ whole. absurd (more whole)), ended) ],
   (is, wrong),
 )
 
 -- memory ran out after right lines
-stops_behind : (limit left : ℕ) (old now : Option (List ℕ)) (front : List Line) → IsBehind limit left old now front → HasBegun front
+stops_behind : (limit left : ℕ) (old now : Option (List ℕ)) (prefix : List Line) → IsBehind limit left old now prefix → HasBegun prefix
     → StopsBehind limit old now
-stops_behind limit left old now front behind begun = (front, begun, behind.taken, omega (arith, behind.room))
+stops_behind limit left old now prefix behind begun = (prefix, begun, behind.taken, omega (arith, behind.room))
 
 -- ---- The first line
 
@@ -131,36 +131,36 @@ other_first limit old new bytes line taken begins ended other =
 -- ---- The lines that come next
 
 not_whole : LawsBelow → (limit left : ℕ) (old now : Option (List ℕ)) (checker : Checker) (number : ℕ)
-    → (along : IsAlong limit left old now checker number) → IsWhole along.front → ⊥
+    → (along : IsAlong limit left old now checker number) → IsWhole along.prefix → ⊥
 not_whole laws limit left old now checker number along (version, n, start, moves, trace, is) =
-    no_trace laws checker.version checker.world.count checker.world.start checker.world.moves (due_of checker) version n start moves along.front
-    along.stands.front is
+    no_trace laws checker.version checker.world.count checker.world.start checker.world.moves (due_of checker) version n start moves along.prefix
+    along.stands.prefix is
 
 -- one line more
-one_more : (front : List Line) (line : Line) (bytes : List ℕ) → bytes ≡ line_text line ++ []
-    → flat_map line_text front ++ bytes ≡ flat_map line_text (front ++ line ∷ [])
-one_more front line bytes is = ap (λ (xs : List ℕ). flat_map line_text front ++ xs) is ∙ sym (flat_map-append line_text front (line ∷ []))
+one_more : (prefix : List Line) (line : Line) (bytes : List ℕ) → bytes ≡ line_text line ++ []
+    → flat_map line_text prefix ++ bytes ≡ flat_map line_text (prefix ++ line ∷ [])
+one_more prefix line bytes is = ap (λ (xs : List ℕ). flat_map line_text prefix ++ xs) is ∙ sym (flat_map-append line_text prefix (line ∷ []))
 
-behind_one_more : (limit left : ℕ) (old now new : Option (List ℕ)) (front : List Line) (line : Line) (bytes : List ℕ)
-    → IsBehind limit left old now front → TakesBytes left now new bytes → BeginsReadable bytes line [] → AreRight (front ++ line ∷ [])
-    → IsBehind limit (left - length bytes) old new (front ++ line ∷ [])
-behind_one_more limit left old now new front line bytes behind taken begins right =
-    let is = one_more front line bytes begins.1 in
+behind_one_more : (limit left : ℕ) (old now new : Option (List ℕ)) (prefix : List Line) (line : Line) (bytes : List ℕ)
+    → IsBehind limit left old now prefix → TakesBytes left now new bytes → BeginsReadable bytes line [] → AreRight (prefix ++ line ∷ [])
+    → IsBehind limit (left - length bytes) old new (prefix ++ line ∷ [])
+behind_one_more limit left old now new prefix line bytes behind taken begins right =
+    let is = one_more prefix line bytes begins.1 in
     record {
-      taken = subst (Consumes old new) is (consumed_both old now new (flat_map line_text front) bytes behind.taken taken.0);
-      room = omega (arith, ap length (sym is), length-append (flat_map line_text front) bytes, behind.room, taken.1);
+      taken = subst (Consumes old new) is (consumed_both old now new (flat_map line_text prefix) bytes behind.taken taken.0);
+      room = omega (arith, ap length (sym is), length-append (flat_map line_text prefix) bytes, behind.room, taken.1);
       right = right;
     }
 
-stands_right : (checker : Checker) (front : List Line) → StandsBehind checker front → AreRight front
-stands_right checker front stands =
-    inr (inl (checker.version, checker.world.count, checker.world.start, checker.world.moves, due_of checker, stands.front))
+stands_right : (checker : Checker) (prefix : List Line) → StandsBehind checker prefix → AreRight prefix
+stands_right checker prefix stands =
+    inr (inl (checker.version, checker.world.count, checker.world.start, checker.world.moves, due_of checker, stands.prefix))
 
 -- after the first line
 pub along_first : (limit : ℕ) (old new : Option (List ℕ)) (bytes : List ℕ) (line : Line) (checker : Checker) → TakesBytes limit old new bytes → BeginsReadable bytes line [] → (IsReadable line → StandsBehind checker (line ∷ []))
     → IsAlong limit (limit - length bytes) old new checker 2
 along_first limit old new bytes line checker taken begins stands = record {
-  front = line ∷ [];
+  prefix = line ∷ [];
   behind =
       behind_one_more limit limit old old new [] line bytes (nothing_read limit old) taken begins
       (stands_right checker (line ∷ []) (stands begins.0));
@@ -189,13 +189,13 @@ opens_by limit old new bytes line (Err fault) taken begins ended some none err =
 
 along_by : (limit left : ℕ) (old now new : Option (List ℕ)) (checker after : Checker) (number : ℕ) (line : Line) (bytes : List ℕ)
     → (along : IsAlong limit left old now checker number) → TakesBytes left now new bytes → BeginsReadable bytes line []
-    → StandsBehind after (along.front ++ line ∷ []) → IsAlong limit (left - length bytes) old new after (number + 1)
+    → StandsBehind after (along.prefix ++ line ∷ []) → IsAlong limit (left - length bytes) old new after (number + 1)
 along_by limit left old now new checker after number line bytes along taken begins stands = record {
-  front = along.front ++ line ∷ [];
+  prefix = along.prefix ++ line ∷ [];
   behind =
-      behind_one_more limit left old now new along.front line bytes along.behind taken begins
-      (stands_right after (along.front ++ line ∷ []) stands);
-  number_is = omega (arith, along.number_is, length-append along.front (line ∷ []));
+      behind_one_more limit left old now new along.prefix line bytes along.behind taken begins
+      (stands_right after (along.prefix ++ line ∷ []) stands);
+  number_is = omega (arith, along.number_is, length-append along.prefix (line ∷ []));
   stands = stands;
 }
 
@@ -205,15 +205,15 @@ pub along_more : (limit left : ℕ) (old now new : Option (List ℕ)) (checker a
     → Takes checker line after → IsAlong limit (left - length bytes) old new after (number + 1)
 along_more limit left old now new checker after number (First version nodes start) bytes along taken begins more takes = absurd takes
 along_more limit left old now new checker after number (Stepped step) bytes along taken begins more takes =
-    along_by limit left old now new checker after number (Stepped step) bytes along taken begins (takes.on along.front begins.0 along.stands)
+    along_by limit left old now new checker after number (Stepped step) bytes along taken begins (takes.on along.prefix begins.0 along.stands)
 along_more limit left old now new checker after number (Marked mark) bytes along taken begins more takes =
-    along_by limit left old now new checker after number (Marked mark) bytes along taken begins (takes.on along.front begins.0 along.stands)
+    along_by limit left old now new checker after number (Marked mark) bytes along taken begins (takes.on along.prefix begins.0 along.stands)
 along_more limit left old now new checker after number Last bytes along taken begins more takes = absurd (more refl)
 
 pub fails_next : LawsBelow → (limit left : ℕ) (old now new : Option (List ℕ)) (checker : Checker) (number : ℕ) (bytes : List ℕ) (fault : TraceError)
     → IsAlong limit left old now checker number → FailsWithin left now new bytes fault → Answers limit old new (Err fault)
 fails_next laws limit left old now new checker number bytes fault along failed =
-    fails_behind limit left old now new along.front bytes fault along.behind
+    fails_behind limit left old now new along.prefix bytes fault along.behind
     (λ whole. absurd (not_whole laws limit left old now checker number along whole)) failed
 
 -- no line comes next, and the last one has not come
@@ -221,7 +221,7 @@ pub none_next : LawsBelow → (limit left : ℕ) (old now new : Option (List ℕ
     → IsAlong limit left old now checker number → TakesBytes left now new bytes → HasNone bytes new
     → Judges limit old new (Invalid number cause.Line)
 none_next laws limit left old now new checker number bytes along taken none =
-    none_behind limit left old now new along.front bytes number cause.Line along.behind (not_whole laws limit left old now checker number along) taken
+    none_behind limit left old now new along.prefix bytes number cause.Line along.behind (not_whole laws limit left old now checker number along) taken
     none.1 along.number_is
     (inr (inl (
       checker.version,
@@ -229,7 +229,7 @@ none_next laws limit left old now new checker number bytes along taken none =
       checker.world.start,
       checker.world.moves,
       due_of checker,
-      along.stands.front,
+      along.stands.prefix,
       λ line rest begins. absurd (none.0 line rest (begins_readable checker.version bytes line rest begins)),
     )))
 
@@ -238,36 +238,36 @@ pub wrong_next : LawsBelow → (limit left : ℕ) (old now new : Option (List �
     (why : Cause) → IsAlong limit left old now checker number → TakesBytes left now new bytes → BeginsReadable bytes line []
     → EndsSo Feed bytes new → Refuses checker line why → Judges limit old new (Invalid number why)
 wrong_next laws limit left old now new checker number line bytes why along taken begins ended refused =
-    none_behind limit left old now new along.front bytes number why along.behind (not_whole laws limit left old now checker number along) taken
-    (inl (feed_is_over bytes new ended)) along.number_is (refused.wrong along.front bytes [] along.stands begins)
+    none_behind limit left old now new along.prefix bytes number why along.behind (not_whole laws limit left old now checker number along) taken
+    (inl (feed_is_over bytes new ended)) along.number_is (refused.wrong along.prefix bytes [] along.stands begins)
 
 no_memory_next : (limit left : ℕ) (old now new : Option (List ℕ)) (checker : Checker) (number : ℕ) (line : Line) (bytes : List ℕ)
     → IsAlong limit left old now checker number → TakesBytes left now new bytes → BeginsReadable bytes line [] → Allows checker line
     → StopsBehind limit old new
 no_memory_next limit left old now new checker number line bytes along taken begins allows =
-    let begun = allows.right along.front begins.0 along.stands in
-    stops_behind limit (left - length bytes) old new (along.front ++ line ∷ [])
-    (behind_one_more limit left old now new along.front line bytes along.behind taken begins (inr (inl begun))) begun
+    let begun = allows.right along.prefix begins.0 along.stands in
+    stops_behind limit (left - length bytes) old new (along.prefix ++ line ∷ [])
+    (behind_one_more limit left old now new along.prefix line bytes along.behind taken begins (inr (inl begun))) begun
 
 -- ---- After the last line
 
-front_at_end : (checker : Checker) (front : List Line) → StandsBehind checker front → due_of checker ≡ []
-    → IsFront checker.version checker.world.count checker.world.start checker.world.moves [] front
-front_at_end checker front stands none =
-    subst (λ ms. IsFront checker.version checker.world.count checker.world.start checker.world.moves ms front) none stands.front
+prefix_at_end : (checker : Checker) (prefix : List Line) → StandsBehind checker prefix → due_of checker ≡ []
+    → IsPrefix checker.version checker.world.count checker.world.start checker.world.moves [] prefix
+prefix_at_end checker prefix stands none =
+    subst (λ ms. IsPrefix checker.version checker.world.count checker.world.start checker.world.moves ms prefix) none stands.prefix
 
 done_by : (limit left : ℕ) (old now new : Option (List ℕ)) (checker : Checker) (number : ℕ) (bytes : List ℕ)
     → IsAlong limit left old now checker number → TakesBytes left now new bytes → BeginsReadable bytes Last [] → due_of checker ≡ []
     → IsDone limit (left - length bytes) old new checker (number + 1)
 done_by limit left old now new checker number bytes along taken begins none =
     let w = checker.world in
-    let (lines, trace) = front_and_last checker.version w.count w.start w.moves along.front (front_at_end checker along.front along.stands none) in
+    let (lines, trace) = prefix_and_last checker.version w.count w.start w.moves along.prefix (prefix_at_end checker along.prefix along.stands none) in
     record {
-      front = along.front ++ Last ∷ [];
+      prefix = along.prefix ++ Last ∷ [];
       behind =
-          behind_one_more limit left old now new along.front Last bytes along.behind taken begins
+          behind_one_more limit left old now new along.prefix Last bytes along.behind taken begins
           (inr (inr (checker.version, w.count, w.start, w.moves, trace, lines)));
-      number_is = omega (arith, along.number_is, length-append along.front (Last ∷ []));
+      number_is = omega (arith, along.number_is, length-append along.prefix (Last ∷ []));
       trace = trace;
       lines = lines;
     }
@@ -302,8 +302,8 @@ some_taken_by left now new bytes (Ok Next.Last) taken ended = (some_bytes_at_fee
 some_taken_by left now new bytes (Ok (Next.Wrong why)) taken ended = tt
 some_taken_by left now new bytes (Err fault) taken ended = tt
 
-nothing_is_open : (front : List Line) → IsOpen front []
-nothing_is_open front = ((All-nil (λ byte. byte ≢ 10), omega arith), λ whole. refl)
+nothing_is_open : (prefix : List Line) → IsOpen prefix []
+nothing_is_open prefix = ((All-nil (λ byte. byte ≢ 10), omega arith), λ whole. refl)
 
 -- nothing stands after it
 valid_at_end : (limit left : ℕ) (old now new : Option (List ℕ)) (checker : Checker) (number : ℕ) → IsDone limit left old now checker number
@@ -311,10 +311,10 @@ valid_at_end : (limit left : ℕ) (old now new : Option (List ℕ)) (checker : C
     → Judges limit old new (Valid (requests_in (marks_of checker.world.moves)) (length (sent_by checker.world.moves)))
 valid_at_end limit left old now new checker number done taken ended =
     let w = checker.world in (
-      done.front,
+      done.prefix,
       [],
-      has_read limit left old now new done.front [] done.behind taken (omega arith),
-      inr (nothing_is_open done.front, ended),
+      has_read limit left old now new done.prefix [] done.behind taken (omega arith),
+      inr (nothing_is_open done.prefix, ended),
       (refl, (checker.version, w.count, w.start, w.moves, done.trace, refl, refl)),
     )
 
@@ -323,19 +323,19 @@ wrong_behind_end : (limit left : ℕ) (old now new : Option (List ℕ)) (checker
     → IsDone limit left old now checker number → 1 ≤ left → Consumes now new (byte ∷ []) → Judges limit old new (Invalid number cause.Line)
 wrong_behind_end limit left old now new checker number byte done some taken =
     let w = checker.world in
-    let whole : IsWhole done.front = (checker.version, w.count, w.start, w.moves, done.trace, done.lines) in
+    let whole : IsWhole done.prefix = (checker.version, w.count, w.start, w.moves, done.trace, done.lines) in
     let more : byte ∷ [] ≢ [] = λ e. cc in (
-      done.front,
+      done.prefix,
       byte ∷ [],
-      has_read limit left old now new done.front (byte ∷ []) done.behind taken some,
-      inl ([], byte, nothing_is_open done.front, refl, inr (inr whole)),
+      has_read limit left old now new done.prefix (byte ∷ []) done.behind taken some,
+      inl ([], byte, nothing_is_open done.prefix, refl, inr (inr whole)),
       (done.number_is, inr (inr (checker.version, w.count, w.start, w.moves, done.trace, done.lines, more))),
     )
 
 fails_at_end : (limit left : ℕ) (old now new : Option (List ℕ)) (checker : Checker) (number : ℕ) (fault : TraceError)
     → IsDone limit left old now checker number → FailsWithin left now new [] fault → Answers limit old new (Err fault)
 fails_at_end limit left old now new checker number fault done failed =
-    fails_behind limit left old now new done.front [] fault done.behind (λ whole. refl) failed
+    fails_behind limit left old now new done.prefix [] fault done.behind (λ whole. refl) failed
 
 -- what comes after the last line decides
 pub answers_at_end : (limit left : ℕ) (old now new : Option (List ℕ)) (checker : Checker) (number : ℕ) (result : Result Verdict TraceError)

@@ -122,17 +122,17 @@ before_feed bytes before is =
     ap (take (length bytes - 1)) is
     ∙ take_at before (10 ∷ []) (length bytes - 1) (omega (arith, ap length is, length-append before (10 ∷ [])))
 
-pub some_at_feed : (bytes front : List ℕ) (line : Line) (new : Option (List ℕ)) → EndsSo Feed bytes new → front ≡ take (length bytes - 1) bytes
-    → line_in front ≡ Some line → BeginsReadable bytes line []
-some_at_feed bytes front line new (before, opened, is) cuts reads =
-    let same : before ≡ front = sym (cuts ∙ before_feed bytes before is) in
+pub some_at_feed : (bytes prefix : List ℕ) (line : Line) (new : Option (List ℕ)) → EndsSo Feed bytes new → prefix ≡ take (length bytes - 1) bytes
+    → line_in prefix ≡ Some line → BeginsReadable bytes line []
+some_at_feed bytes prefix line new (before, opened, is) cuts reads =
+    let same : before ≡ prefix = sym (cuts ∙ before_feed bytes before is) in
     read_begins bytes before [] line (ap (cut 10) is ∙ cut-append 10 before [] (free before opened.0)) (ap line_in same ∙ reads)
 
 -- a line of no form
-pub none_at_feed : (bytes front : List ℕ) (new : Option (List ℕ)) → EndsSo Feed bytes new → front ≡ take (length bytes - 1) bytes
-    → line_in front ≡ None → HasNone bytes new
-none_at_feed bytes front new (before, opened, is) cuts none =
-    let same : before ≡ front = sym (cuts ∙ before_feed bytes before is) in (
+pub none_at_feed : (bytes prefix : List ℕ) (new : Option (List ℕ)) → EndsSo Feed bytes new → prefix ≡ take (length bytes - 1) bytes
+    → line_in prefix ≡ None → HasNone bytes new
+none_at_feed bytes prefix new (before, opened, is) cuts none =
+    let same : before ≡ prefix = sym (cuts ∙ before_feed bytes before is) in (
       λ line rest begins. unread bytes before [] (ap (cut 10) is ∙ cut-append 10 before [] (free before opened.0)) (ap line_in same ∙ none) line rest begins,
       inl (before, 10, opened, is, inl refl),
     )
@@ -150,10 +150,10 @@ none_at_input bytes new (opened, ended) = (
 )
 
 -- what the bytes before the line feed are read as
-pub reads_at_feed : (left : ℕ) (old new : Option (List ℕ)) (bytes front : List ℕ) (came : Option Line) → TakesBytes left old new bytes
-    → EndsSo Feed bytes new → front ≡ take (length bytes - 1) bytes → came ≡ line_in front → ReadsNext left old new bytes (Ok came)
-reads_at_feed left old new bytes front (Some line) taken ended cuts is = (taken, some_at_feed bytes front line new ended cuts (sym is), ended)
-reads_at_feed left old new bytes front None taken ended cuts is = (taken, none_at_feed bytes front new ended cuts (sym is))
+pub reads_at_feed : (left : ℕ) (old new : Option (List ℕ)) (bytes prefix : List ℕ) (came : Option Line) → TakesBytes left old new bytes
+    → EndsSo Feed bytes new → prefix ≡ take (length bytes - 1) bytes → came ≡ line_in prefix → ReadsNext left old new bytes (Ok came)
+reads_at_feed left old new bytes prefix (Some line) taken ended cuts is = (taken, some_at_feed bytes prefix line new ended cuts (sym is), ended)
+reads_at_feed left old new bytes prefix None taken ended cuts is = (taken, none_at_feed bytes prefix new ended cuts (sym is))
 
 -- a line has its line feed at least
 pub some_bytes_at_feed : (bytes : List ℕ) (new : Option (List ℕ)) → EndsSo Feed bytes new → 1 ≤ length bytes

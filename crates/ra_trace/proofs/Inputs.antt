@@ -21,7 +21,7 @@ use Rattle.ra_trace.specs.NextLine.{IsOverLine}
 use Rattle.ra_trace.specs.Below.{LawsBelow}
 use Rattle.ra_trace.proofs.Ends.{begins_before}
 use Rattle.ra_trace.proofs.Versions.{begins_readable}
-use Rattle.ra_trace.proofs.Fronts.{no_trace}
+use Rattle.ra_trace.proofs.Prefixes.{no_trace}
 
 -- ---- What is wrong stays wrong, whatever stands after what was read
 
@@ -30,8 +30,8 @@ begins_more : (version : Version) (text more : List ℕ) (line : Line) (rest : L
 begins_more version text more line rest begins =
     (begins.0, ap (λ (bytes : List ℕ). bytes ++ more) begins.1 ∙ append_assoc (line_text line) rest more)
 
-over_line : (front : List Line) (rest : List ℕ) → IsOver front rest → (IsWhole front → ⊥) → IsOverLine rest
-over_line front rest (before, byte, opened, is, how) more = (
+over_line : (prefix : List Line) (rest : List ℕ) → IsOver prefix rest → (IsWhole prefix → ⊥) → IsOverLine rest
+over_line prefix rest (before, byte, opened, is, how) more = (
   before,
   byte,
   opened.0,
@@ -49,17 +49,17 @@ some_bytes : (before : List ℕ) (byte : ℕ) (more : List ℕ) → (before ++ b
 some_bytes [] byte more e = absurd cc
 some_bytes (b ∷ before) byte more e = absurd cc
 
-no_line_goes_on : LawsBelow → (front : List Line) (rest more : List ℕ) → IsOver front rest → HasNoLine front rest → HasNoLine front (rest ++ more)
-no_line_goes_on laws front rest more over (inl (none, other)) =
-    let part : IsWhole front → ⊥ = λ whole. let clash : [] ≡ trace_lines whole.0 whole.1 whole.2 whole.3 = sym none ∙ whole.5 in cc in
+no_line_goes_on : LawsBelow → (prefix : List Line) (rest more : List ℕ) → IsOver prefix rest → HasNoLine prefix rest → HasNoLine prefix (rest ++ more)
+no_line_goes_on laws prefix rest more over (inl (none, other)) =
+    let part : IsWhole prefix → ⊥ = λ whole. let clash : [] ≡ trace_lines whole.0 whole.1 whole.2 whole.3 = sym none ∙ whole.5 in cc in
     inl (
       none,
       λ version line behind begins first.
-          let b = begins_over version rest more line behind (over_line front rest over part) begins in other version line b.0 b.1 first,
+          let b = begins_over version rest more line behind (over_line prefix rest over part) begins in other version line b.0 b.1 first,
     )
-no_line_goes_on laws front rest more over (inr (inl (version, n, start, moves, due, stands, any))) =
-    let part : IsWhole front → ⊥ = λ whole.
-    no_trace laws version n start moves due whole.0 whole.1 whole.2 whole.3 front stands whole.5 in
+no_line_goes_on laws prefix rest more over (inr (inl (version, n, start, moves, due, stands, any))) =
+    let part : IsWhole prefix → ⊥ = λ whole.
+    no_trace laws version n start moves due whole.0 whole.1 whole.2 whole.3 prefix stands whole.5 in
     inr (inl (
       version,
       n,
@@ -68,47 +68,47 @@ no_line_goes_on laws front rest more over (inr (inl (version, n, start, moves, d
       due,
       stands,
       λ line behind begins.
-          let b = begins_over version rest more line behind (over_line front rest over part) begins in any line b.0 b.1,
+          let b = begins_over version rest more line behind (over_line prefix rest over part) begins in any line b.0 b.1,
     ))
-no_line_goes_on laws front rest more (before, byte, opened, is, how) (inr (inr (version, n, start, moves, trace, whole, some))) =
+no_line_goes_on laws prefix rest more (before, byte, opened, is, how) (inr (inr (version, n, start, moves, trace, whole, some))) =
     let more_left = λ (none : rest ++ more ≡ []). some_bytes before byte more (ap (λ (bytes : List ℕ). bytes ++ more) (sym is) ∙ none) in
     inr (inr (version, n, start, moves, trace, whole, more_left))
 
-pub wrong_goes_on : LawsBelow → (front : List Line) (rest more : List ℕ) (why : Cause) → IsOver front rest → IsWrong front rest why
-    → IsWrong front (rest ++ more) why
-wrong_goes_on laws front rest more cause.Line over w = no_line_goes_on laws front rest more over w
-wrong_goes_on laws front rest more cause.Table over (version, n, start, moves, due, behind, mark, others, begins, refused) =
+pub wrong_goes_on : LawsBelow → (prefix : List Line) (rest more : List ℕ) (why : Cause) → IsOver prefix rest → IsWrong prefix rest why
+    → IsWrong prefix (rest ++ more) why
+wrong_goes_on laws prefix rest more cause.Line over w = no_line_goes_on laws prefix rest more over w
+wrong_goes_on laws prefix rest more cause.Table over (version, n, start, moves, due, behind, mark, others, begins, refused) =
     (version, n, start, moves, due, behind, mark, others ++ more, begins_more version rest more (Marked mark) others begins, refused)
-wrong_goes_on laws front rest more cause.Marks over (version, n, start, moves, due, behind, line, others, begins, undue) =
+wrong_goes_on laws prefix rest more cause.Marks over (version, n, start, moves, due, behind, line, others, begins, undue) =
     (version, n, start, moves, due, behind, line, others ++ more, begins_more version rest more line others begins, undue)
-wrong_goes_on laws front rest more cause.Refused over (version, n, start, moves, behind, step, others, begins, whose, stops) =
+wrong_goes_on laws prefix rest more cause.Refused over (version, n, start, moves, behind, step, others, begins, whose, stops) =
     (version, n, start, moves, behind, step, others ++ more, begins_more version rest more (Stepped step) others begins, whose, stops)
-wrong_goes_on laws front rest more cause.NotUnderWay over (version, n, start, moves, behind, step, others, begins, takes, stops) =
+wrong_goes_on laws prefix rest more cause.NotUnderWay over (version, n, start, moves, behind, step, others, begins, takes, stops) =
     (version, n, start, moves, behind, step, others ++ more, begins_more version rest more (Stepped step) others begins, takes, stops)
 
 -- ---- The whole input
 
-nothing_over : (front : List Line) (rest : List ℕ) → rest ≡ [] → IsOver front rest → ⊥
-nothing_over front rest none (before, byte, opened, is, how) =
+nothing_over : (prefix : List Line) (rest : List ℕ) → rest ≡ [] → IsOver prefix rest → ⊥
+nothing_over prefix rest none (before, byte, opened, is, how) =
     some_bytes before byte [] (append-nil (before ++ byte ∷ []) ∙ (sym is ∙ none))
 
 -- what was read is all of a known input, where the text is valid
-record AllRead (limit : ℕ) (input : List ℕ) (new : Option (List ℕ)) (front : List Line) : Type 0 where
-  input_is : input ≡ flat_map line_text front
+record AllRead (limit : ℕ) (input : List ℕ) (new : Option (List ℕ)) (prefix : List Line) : Type 0 where
+  input_is : input ≡ flat_map line_text prefix
   at_most : length input ≤ limit
   taken : Consumes (Some input) new input
 
 all_read : (limit : ℕ) (input : List ℕ) (new : Option (List ℕ)) (requests messages : ℕ)
     → (j : Judges limit (Some input) new (Valid requests messages)) → AllRead limit input new j.0
-all_read limit input None requests messages (front, rest, read, how, shows) = absurd read.taken
-all_read limit input (Some left) requests messages (front, rest, read, how, shows) =
+all_read limit input None requests messages (prefix, rest, read, how, shows) = absurd read.taken
+all_read limit input (Some left) requests messages (prefix, rest, read, how, shows) =
     elim how [
-      | inl over ↦ absurd (nothing_over front rest shows.0 over)
+      | inl over ↦ absurd (nothing_over prefix rest shows.0 over)
       | inr (opened, ended) ↦
-          let taken : input ≡ flat_map line_text front ++ rest = read.taken ∙ ap (λ (bytes : List ℕ). (flat_map line_text front ++ rest) ++ bytes) ended
-          ∙ append-nil (flat_map line_text front ++ rest) in
+          let taken : input ≡ flat_map line_text prefix ++ rest = read.taken ∙ ap (λ (bytes : List ℕ). (flat_map line_text prefix ++ rest) ++ bytes) ended
+          ∙ append-nil (flat_map line_text prefix ++ rest) in
           record {
-            input_is = taken ∙ ap (λ (bytes : List ℕ). flat_map line_text front ++ bytes) shows.0 ∙ append-nil (flat_map line_text front);
+            input_is = taken ∙ ap (λ (bytes : List ℕ). flat_map line_text prefix ++ bytes) shows.0 ∙ append-nil (flat_map line_text prefix);
             at_most = subst (λ (bytes : List ℕ). length bytes ≤ limit) (sym taken) read.at_most;
             taken = sym (append-nil input) ∙ ap (λ (bytes : List ℕ). input ++ bytes) (sym ended);
           }
@@ -119,15 +119,15 @@ verdict_of_bytes : LawsBelow → (limit : ℕ) (input : List ℕ) (new : Option 
 verdict_of_bytes laws limit input new (Valid requests messages) j =
     let all = all_read limit input new requests messages j in
     subst (λ (text : List ℕ). IsVerdict text (Valid requests messages)) (sym all.input_is) j.4.1
-verdict_of_bytes laws limit input None (Invalid line why) (front, rest, read, how, shows) = absurd read.taken
-verdict_of_bytes laws limit input (Some left) (Invalid line why) (front, rest, read, how, shows) = (
-  front,
+verdict_of_bytes laws limit input None (Invalid line why) (prefix, rest, read, how, shows) = absurd read.taken
+verdict_of_bytes laws limit input (Some left) (Invalid line why) (prefix, rest, read, how, shows) = (
+  prefix,
   rest ++ left,
-  read.taken ∙ append_assoc (flat_map line_text front) rest left,
+  read.taken ∙ append_assoc (flat_map line_text prefix) rest left,
   shows.0,
   elim how [
-    | inl over ↦ wrong_goes_on laws front rest left why over shows.1
-    | inr (opened, ended) ↦ subst (λ (bytes : List ℕ). IsWrong front bytes why)
+    | inl over ↦ wrong_goes_on laws prefix rest left why over shows.1
+    | inr (opened, ended) ↦ subst (λ (bytes : List ℕ). IsWrong prefix bytes why)
         (sym (ap (λ (bytes : List ℕ). rest ++ bytes) ended ∙ append-nil rest)) shows.1
   ],
 )
@@ -155,12 +155,12 @@ table_of_input laws limit (Some input) new verdict j = λ requests messages is.
 -- what was read has the verdict too
 pub alone : (limit : ℕ) (old new : Option (List ℕ)) (verdict : Verdict) → Judges limit old new verdict
     → (taken : List ℕ) × IsVerdict taken verdict × (length taken ≤ limit) × Consumes old new taken
-alone limit old new (Valid requests messages) (front, rest, read, how, shows) =
-    let whole : flat_map line_text front ≡ flat_map line_text front ++ rest =
-    sym (ap (λ (bytes : List ℕ). flat_map line_text front ++ bytes) shows.0 ∙ append-nil (flat_map line_text front)) in
-    (flat_map line_text front ++ rest, subst (λ (text : List ℕ). IsVerdict text (Valid requests messages)) whole shows.1, read.at_most, read.taken)
-alone limit old new (Invalid line why) (front, rest, read, how, shows) =
-    (flat_map line_text front ++ rest, (front, rest, refl, shows.0, shows.1), read.at_most, read.taken)
+alone limit old new (Valid requests messages) (prefix, rest, read, how, shows) =
+    let whole : flat_map line_text prefix ≡ flat_map line_text prefix ++ rest =
+    sym (ap (λ (bytes : List ℕ). flat_map line_text prefix ++ bytes) shows.0 ∙ append-nil (flat_map line_text prefix)) in
+    (flat_map line_text prefix ++ rest, subst (λ (text : List ℕ). IsVerdict text (Valid requests messages)) whole shows.1, read.at_most, read.taken)
+alone limit old new (Invalid line why) (prefix, rest, read, how, shows) =
+    (flat_map line_text prefix ++ rest, (prefix, rest, refl, shows.0, shows.1), read.at_most, read.taken)
 
 -- the text has no other verdict
 pub only_verdict : LawsBelow → ((text : List ℕ) (a b : Verdict) → IsVerdict text a → IsVerdict text b → a ≡ b)

@@ -8,7 +8,7 @@ pub mod Spelled
 pub mod Passing
 pub mod Told
 pub mod Traced
-pub mod Fronts
+pub mod Prefixes
 pub mod Verdicts
 pub mod Due
 pub mod Taking

@@ -35,7 +35,7 @@ begins_in_one version second text a b r s g h = begins_once text a b r s (begins
 pub read_begins : (text bytes rest : List ℕ) (line : Line) → cut 10 text ≡ Some (bytes, rest) → line_in bytes ≡ Some line → BeginsReadable text line rest
 read_begins text bytes rest line cuts reads =
     let (fits, whole) = line_in-only bytes line reads in
-    (fits, cut-only 10 text (bytes, rest) cuts ∙ (sym (append_assoc bytes (codes "\n") rest) ∙ ap (λ (front : List ℕ). front ++ rest) whole))
+    (fits, cut-only 10 text (bytes, rest) cuts ∙ (sym (append_assoc bytes (codes "\n") rest) ∙ ap (λ (prefix : List ℕ). prefix ++ rest) whole))
 
 -- where no line ends or none is read, none begins the text
 pub uncut : (text : List ℕ) → cut 10 text ≡ None → (line : Line) (rest : List ℕ) → BeginsReadable text line rest → ⊥

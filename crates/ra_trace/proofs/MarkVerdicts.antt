@@ -60,42 +60,42 @@ record SameEnd (a b : List Mark) (r s : List ℕ) : Type 0 where
 -- ---- Nothing more is right after what is wrong
 
 -- the table after a prefix of a run allows the mark that comes next
-allowed_in : TableLaws → (front more : List Mark) (mark : Mark) (table after : LockTable) → TableRun front table
-    → TableRun (front ++ mark ∷ more) after → AllowsMark table mark
-allowed_in laws front more mark table after run whole =
-    let parts = laws.splits (front ++ mark ∷ []) more empty_table after
-    (subst (λ (ms : List Mark). TableSteps empty_table ms after) (sym (append_assoc front (mark ∷ []) more)) whole) in
-    (laws.goes_on front mark table run).1 (parts.0, parts.1)
+allowed_in : TableLaws → (prefix more : List Mark) (mark : Mark) (table after : LockTable) → TableRun prefix table
+    → TableRun (prefix ++ mark ∷ more) after → AllowsMark table mark
+allowed_in laws prefix more mark table after run whole =
+    let parts = laws.splits (prefix ++ mark ∷ []) more empty_table after
+    (subst (λ (ms : List Mark). TableSteps empty_table ms after) (sym (append_assoc prefix (mark ∷ []) more)) whole) in
+    (laws.goes_on prefix mark table run).1 (parts.0, parts.1)
 
-All-at : (P : Mark → Type 0) (front : List Mark) (mark : Mark) (rest : List Mark) → All P (front ++ mark ∷ rest) → P mark
+All-at : (P : Mark → Type 0) (prefix : List Mark) (mark : Mark) (rest : List Mark) → All P (prefix ++ mark ∷ rest) → P mark
 All-at P [] mark rest h = All-head P mark rest h
-All-at P (x ∷ front) mark rest h = All-at P front mark rest (All-tail P x (front ++ mark ∷ rest) h)
+All-at P (x ∷ prefix) mark rest h = All-at P prefix mark rest (All-tail P x (prefix ++ mark ∷ rest) h)
 
-next_is_not_wrong : TableLaws → (front more : List Mark) (mark : Mark) (text rest : List ℕ) (why : MarkCause) → IsMarkRun (front ++ mark ∷ more)
-    → BeginsWithMark text mark rest → IsWrongMark front text why → ⊥
-next_is_not_wrong laws front more mark text rest why whole begins (inl none) = none.2 mark rest begins
-next_is_not_wrong laws front more mark text rest why whole begins (inr (table, run, other, others, there, refused)) =
+next_is_not_wrong : TableLaws → (prefix more : List Mark) (mark : Mark) (text rest : List ℕ) (why : MarkCause) → IsMarkRun (prefix ++ mark ∷ more)
+    → BeginsWithMark text mark rest → IsWrongMark prefix text why → ⊥
+next_is_not_wrong laws prefix more mark text rest why whole begins (inl none) = none.2 mark rest begins
+next_is_not_wrong laws prefix more mark text rest why whole begins (inr (table, run, other, others, there, refused)) =
     let same : other ≡ mark = (one_mark text other mark others rest there begins).0 in
     refused_is_not_allowed table mark why (subst (λ (m : Mark). TableRefuses table m why) same refused)
-    (allowed_in laws front more mark table whole.table run whole.run)
+    (allowed_in laws prefix more mark table whole.table run whole.run)
 
-no_more : TableLaws → (front marks : List Mark) (r s : List ℕ) (why : MarkCause) → IsWrongMark front r why → IsMarkRun marks
-    → Longer front marks r s → SameEnd front marks r s
-no_more laws front marks r s why wrong whole h = at h.more h.longer_is h.left_is
+no_more : TableLaws → (prefix marks : List Mark) (r s : List ℕ) (why : MarkCause) → IsWrongMark prefix r why → IsMarkRun marks
+    → Longer prefix marks r s → SameEnd prefix marks r s
+no_more laws prefix marks r s why wrong whole h = at h.more h.longer_is h.left_is
   where
-    at : (more : List Mark) → marks ≡ front ++ more → r ≡ marks_text more ++ s → SameEnd front marks r s
-    at [] is left = record { marks = sym (is ∙ append-nil front); rest = left }
+    at : (more : List Mark) → marks ≡ prefix ++ more → r ≡ marks_text more ++ s → SameEnd prefix marks r s
+    at [] is left = record { marks = sym (is ∙ append-nil prefix); rest = left }
     at (x ∷ more) is left =
-        let run : IsMarkRun (front ++ x ∷ more) = subst IsMarkRun is whole in
-        let begins = begins_so x more s (All-at (IsMarkLine Two) front x more run.lines) in
-        absurd (next_is_not_wrong laws front more x r (marks_text more ++ s) why run (begins.0, left ∙ begins.1) wrong)
+        let run : IsMarkRun (prefix ++ x ∷ more) = subst IsMarkRun is whole in
+        let begins = begins_so x more s (All-at (IsMarkLine Two) prefix x more run.lines) in
+        absurd (next_is_not_wrong laws prefix more x r (marks_text more ++ s) why run (begins.0, left ∙ begins.1) wrong)
 
 -- where nothing is left there are no more marks
-nothing_left : (front marks : List Mark) (s : List ℕ) → Longer front marks [] s → SameEnd front marks [] s
-nothing_left front marks s h = at h.more h.longer_is h.left_is
+nothing_left : (prefix marks : List Mark) (s : List ℕ) → Longer prefix marks [] s → SameEnd prefix marks [] s
+nothing_left prefix marks s h = at h.more h.longer_is h.left_is
   where
-    at : (more : List Mark) → marks ≡ front ++ more → [] ≡ marks_text more ++ s → SameEnd front marks [] s
-    at [] is left = record { marks = sym (is ∙ append-nil front); rest = left }
+    at : (more : List Mark) → marks ≡ prefix ++ more → [] ≡ marks_text more ++ s → SameEnd prefix marks [] s
+    at [] is left = record { marks = sym (is ∙ append-nil prefix); rest = left }
     at (x ∷ more) is left =
         absurd (line_has_bytes (Marked x) (marks_text more ++ s) (left ∙ append_assoc (mark_line x) (marks_text more) s))
 
@@ -131,25 +131,25 @@ both_valid text requests grants requests' grants' (p, a, is, r, g) (q, b, is', r
 
 not_valid_and_invalid : TableLaws → (text : List ℕ) (requests grants line : ℕ) (why : MarkCause) → IsMarksVerdict text (Valid requests grants)
     → IsMarksVerdict text (Invalid line why) → ⊥
-not_valid_and_invalid laws text requests grants line why (p, a, is, r, g) (front, rest, b, is', at, wrong) =
-    let texts : marks_text p ++ [] ≡ marks_text front ++ rest = append-nil (marks_text p) ∙ sym is ∙ is' in
-    elim (longer_or_not p front [] rest a.lines b.lines texts) [
-      | inl h ↦ nothing_is_not_wrong front rest why (sym (nothing_left p front rest h).rest) wrong
-      | inr h ↦ nothing_is_not_wrong front rest why (no_more laws front p rest [] why wrong a h).rest wrong
+not_valid_and_invalid laws text requests grants line why (p, a, is, r, g) (prefix, rest, b, is', at, wrong) =
+    let texts : marks_text p ++ [] ≡ marks_text prefix ++ rest = append-nil (marks_text p) ∙ sym is ∙ is' in
+    elim (longer_or_not p prefix [] rest a.lines b.lines texts) [
+      | inl h ↦ nothing_is_not_wrong prefix rest why (sym (nothing_left p prefix rest h).rest) wrong
+      | inr h ↦ nothing_is_not_wrong prefix rest why (no_more laws prefix p rest [] why wrong a h).rest wrong
     ]
 
 both_invalid : TableLaws → (text : List ℕ) (line line' : ℕ) (why why' : MarkCause) → IsMarksVerdict text (Invalid line why)
     → IsMarksVerdict text (Invalid line' why') → Invalid line why ≡ Invalid line' why'
-both_invalid laws text line line' why why' (front, rest, a, is, at, wrong) (front', rest', b, is', at', wrong') =
-    let same : SameEnd front front' rest rest' =
-    elim (longer_or_not front front' rest rest' a.lines b.lines (sym is ∙ is')) [
-      | inl h ↦ no_more laws front front' rest rest' why wrong b h
-      | inr h ↦ let end = no_more laws front' front rest' rest why' wrong' a h in record { marks = sym end.marks; rest = sym end.rest }
+both_invalid laws text line line' why why' (prefix, rest, a, is, at, wrong) (prefix', rest', b, is', at', wrong') =
+    let same : SameEnd prefix prefix' rest rest' =
+    elim (longer_or_not prefix prefix' rest rest' a.lines b.lines (sym is ∙ is')) [
+      | inl h ↦ no_more laws prefix prefix' rest rest' why wrong b h
+      | inr h ↦ let end = no_more laws prefix' prefix rest' rest why' wrong' a h in record { marks = sym end.marks; rest = sym end.rest }
     ] in
-    let there : IsWrongMark front rest why' =
+    let there : IsWrongMark prefix rest why' =
     subst (λ (ms : List Mark). IsWrongMark ms rest why') (sym same.marks)
-    (subst (λ (bs : List ℕ). IsWrongMark front' bs why') (sym same.rest) wrong') in
-    let causes_are : why ≡ why' = causes laws front rest why why' wrong there in
+    (subst (λ (bs : List ℕ). IsWrongMark prefix' bs why') (sym same.rest) wrong') in
+    let causes_are : why ≡ why' = causes laws prefix rest why why' wrong there in
     let lines : line ≡ line' = at ∙ ap (λ (ms : List Mark). length ms + 1) same.marks ∙ sym at' in
     cc
 

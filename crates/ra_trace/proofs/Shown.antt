@@ -62,8 +62,8 @@ ends_byte before byte none =
 
 pub takes_more : (left : ℕ) (old mid new : Option (List ℕ)) (before part : List ℕ) → Consumes old mid before → Consumes mid new part
     → length before + length part ≤ left → TakesBytes left old new (before ++ part)
-takes_more left old mid new before part front back short =
-    (Consumes-trans old mid new before part front back, omega (arith, short, length-append before part))
+takes_more left old mid new before part earlier later short =
+    (Consumes-trans old mid new before part earlier later, omega (arith, short, length-append before part))
 
 pub ends_part : (before part : List ℕ) (is_over : Bool) → NoFeed before → EndsPart part is_over → EndsPart (before ++ part) is_over
 ends_part before part true none (more, free, is) =
@@ -72,24 +72,24 @@ ends_part before part false none free = All-append (λ b. b ≢ 10) before part 
 
 -- nothing came, and this is why
 pub nothing_more : (old mid new : Option (List ℕ)) (before : List ℕ) → Consumes old mid before → Consumes mid new [] → Consumes old new before
-nothing_more old mid new before front back = subst (Consumes old new) (append-nil before) (Consumes-trans old mid new before [] front back)
+nothing_more old mid new before earlier later = subst (Consumes old new) (append-nil before) (Consumes-trans old mid new before [] earlier later)
 
 pub input_ends : (left : ℕ) (old mid new : Option (List ℕ)) (before : List ℕ) → Consumes old mid before → Consumes mid new [] → IsAtEnd new → IsOpenLine before
     → length before ≤ left → GoesOn left old new before (Ok (Some Input))
-input_ends left old mid new before front back ended unended within = ((nothing_more old mid new before front back, within), (unended, ended))
+input_ends left old mid new before earlier later ended unended within = ((nothing_more old mid new before earlier later, within), (unended, ended))
 
 pub reader_fails : (left : ℕ) (old mid new : Option (List ℕ)) (before : List ℕ) (fault : TraceError) → fault ≡ Read → Consumes old mid before → Consumes mid new []
     → IsOpenLine before → length before ≤ left → GoesOn left old new before (Err fault)
-reader_fails left old mid new before fault is front back unended within =
-    subst (λ f. GoesOn left old new before (Err f)) (sym is) ((nothing_more old mid new before front back, within), unended)
+reader_fails left old mid new before fault is earlier later unended within =
+    subst (λ f. GoesOn left old new before (Err f)) (sym is) ((nothing_more old mid new before earlier later, within), unended)
 
 pub passes_left : (left : ℕ) (old mid new : Option (List ℕ)) (before : List ℕ) (byte : ℕ) → Consumes old mid before → Consumes mid new (byte ∷ [])
     → IsOpenLine before → length before ≡ left → GoesOn left old new before (Err Limit)
-passes_left left old mid new before byte front back unended same = (byte, Consumes-trans old mid new before (byte ∷ []) front back, same, unended)
+passes_left left old mid new before byte earlier later unended same = (byte, Consumes-trans old mid new before (byte ∷ []) earlier later, same, unended)
 
 pub part_fails : (left most : ℕ) (old mid new : Option (List ℕ)) (before bytes : List ℕ) (fault : TraceError) → TakesPart most mid new before bytes (Err fault)
     → Consumes old mid before → IsOpenLine before → length before ≤ left → GoesOn left old new bytes (Err fault)
-part_fails left most old mid new before bytes Read took front unended within =
-    subst (λ (bs : List ℕ). GoesOn left old new bs (Err Read)) (sym took.0) (reader_fails left old mid new before Read refl front took.1 unended within)
-part_fails left most old mid new before bytes Limit took front unended within = absurd took
-part_fails left most old mid new before bytes Memory took front unended within = absurd took
+part_fails left most old mid new before bytes Read took earlier unended within =
+    subst (λ (bs : List ℕ). GoesOn left old new bs (Err Read)) (sym took.0) (reader_fails left old mid new before Read refl earlier took.1 unended within)
+part_fails left most old mid new before bytes Limit took earlier unended within = absurd took
+part_fails left most old mid new before bytes Memory took earlier unended within = absurd took

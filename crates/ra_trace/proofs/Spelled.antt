@@ -30,10 +30,10 @@ pub record ReadsField {A : Type 0} (read : List ℕ → Option A) (Is : A → Ty
 
 -- a field, and what stands after the space after it
 before_only : {A : Type 0} (f : List ℕ → Option A) (P : A → Type 0) (s : A → List ℕ) → ReadsField f P s
-    → (text : List ℕ) (front : A × List ℕ) → before f text ≡ Some front → P front.0 × (text ≡ s front.0 ++ 32 ∷ front.1)
-before_only f P s F text front e =
-    option_and_then_some (λ parts. option_map (λ field. (field, parts.1)) (f parts.0)) (cut 32 text) front e (λ parts cut-is e1.
-    let m = mapped (λ field. (field, parts.1)) (f parts.0) front e1 in
+    → (text : List ℕ) (prefix : A × List ℕ) → before f text ≡ Some prefix → P prefix.0 × (text ≡ s prefix.0 ++ 32 ∷ prefix.1)
+before_only f P s F text prefix e =
+    option_and_then_some (λ parts. option_map (λ field. (field, parts.1)) (f parts.0)) (cut 32 text) prefix e (λ parts cut-is e1.
+    let m = mapped (λ field. (field, parts.1)) (f parts.0) prefix e1 in
     let a = F.reads.only parts.0 m.0 m.1 in
     subst (λ q. P q.0 × (text ≡ s q.0 ++ 32 ∷ q.1)) m.2 (a.0, cut-only 32 text parts cut-is ∙ ap (λ (xs : List ℕ). xs ++ 32 ∷ parts.1) a.1))
 
@@ -45,11 +45,11 @@ pub reads_fields : {A B : Type 0} (f : List ℕ → Option A) (P : A → Type 0)
     → ReadsField f P s → Reads g Q t → Reads (fields f g) (λ p. P p.0 × Q p.1) (λ p. s p.0 ++ 32 ∷ t p.1)
 reads_fields f P s g Q t F G = record {
   only = λ text p e.
-      option_and_then_some (λ front. option_map (λ rest. (front.0, rest)) (g front.1)) (before f text) p e (λ front front-is e1.
-      let m = mapped (λ rest. (front.0, rest)) (g front.1) p e1 in
-      let a = before_only f P s F text front front-is in
-      let b = G.only front.1 m.0 m.1 in
-      subst (λ q. (P q.0 × Q q.1) × (text ≡ s q.0 ++ 32 ∷ t q.1)) m.2 ((a.0, b.0), (a.1 ∙ ap (λ (ys : List ℕ). s front.0 ++ 32 ∷ ys) b.1)));
+      option_and_then_some (λ prefix. option_map (λ rest. (prefix.0, rest)) (g prefix.1)) (before f text) p e (λ prefix prefix-is e1.
+      let m = mapped (λ rest. (prefix.0, rest)) (g prefix.1) p e1 in
+      let a = before_only f P s F text prefix prefix-is in
+      let b = G.only prefix.1 m.0 m.1 in
+      subst (λ q. (P q.0 × Q q.1) × (text ≡ s q.0 ++ 32 ∷ t q.1)) m.2 ((a.0, b.0), (a.1 ∙ ap (λ (ys : List ℕ). s prefix.0 ++ 32 ∷ ys) b.1)));
   each = λ p h. rw (before_each f P s F p.0 (t p.1) h.0, G.each p.1 h.1);
   no_feed = λ p h. All-append (λ b. (b == 10) ≡ false) (s p.0) (32 ∷ t p.1) (F.reads.no_feed p.0 h.0)
       (All-cons (λ b. (b == 10) ≡ false) 32 (t p.1) refl (G.no_feed p.1 h.1));

@@ -24,19 +24,19 @@ use Rattle.ra_trace.specs.declared.version.Version.{Version}
 use Rattle.ra_trace.specs.Version.{IsNodeIn}
 use Rattle.ra_trace.specs.Forms.{IsReadable, BeginsReadable, has_node, allows_step, allows_mark}
 use Rattle.ra_trace.specs.TraceText.{IsLine, BeginsWith}
-use Rattle.ra_trace.specs.Verdict.{IsFront, IsFirst, IsOfClient, IsOfMessage, marks_in_line, marks_in}
+use Rattle.ra_trace.specs.Verdict.{IsPrefix, IsFirst, IsOfClient, IsOfMessage, marks_in_line, marks_in}
 use Rattle.ra_trace.specs.Checking.{due_of, IsOpening, StandsBehind, TakesOn, Refuses, Allows}
 use Rattle.ra_trace.specs.Reading.{HasBegun}
 use Rattle.ra_trace.specs.Below.{LawsBelow}
-use Rattle.ra_trace.proofs.Fronts.{front_and_step, front_and_mark}
+use Rattle.ra_trace.proofs.Prefixes.{prefix_and_step, prefix_and_mark}
 use Rattle.ra_trace.proofs.Lines.{begins_once}
 use Rattle.ra_trace.proofs.Versions.{node_is, node_is_not, step_is, step_is_not, mark_is, mark_is_not, begins_readable}
 
 -- ---- The first line
 
-first_front : (version : Version) (nodes start : ℕ) → IsRun nodes start [] → IsReadable (First version nodes start) → has_node version nodes ≡ true
-    → IsFront version nodes start [] [] (First version nodes start ∷ [])
-first_front version nodes start run ranges has = record {
+first_prefix : (version : Version) (nodes start : ℕ) → IsRun nodes start [] → IsReadable (First version nodes start) → has_node version nodes ≡ true
+    → IsPrefix version nodes start [] [] (First version nodes start ∷ [])
+first_prefix version nodes start run ranges has = record {
   count = ranges.0;
   run = run;
   each = All-cons (IsLine version) (First version nodes start) [] (refl, node_is version nodes ranges.0 has, ranges.1) (All-nil (IsLine version));
@@ -48,11 +48,11 @@ pub opens : LawsBelow → (version : Version) (nodes start : ℕ) (checker : Che
 opens laws version nodes start checker is has ranges =
     let line = First version nodes start ∷ [] in
     let run = subst (λ (w : WorldState). IsRun w.count w.start w.moves) is.world_is is.run in
-    let front = first_front version nodes start run ranges has in
+    let prefix = first_prefix version nodes start run ranges has in
     record {
-      front = subst (λ (v : Version). IsFront v checker.world.count checker.world.start checker.world.moves (due_of checker) line) (sym is.version_is)
-          (subst (λ (due : List Mark). IsFront version checker.world.count checker.world.start checker.world.moves due line) (sym is.none)
-          (subst (λ (w : WorldState). IsFront version w.count w.start w.moves [] line) (sym is.world_is) front));
+      prefix = subst (λ (v : Version). IsPrefix v checker.world.count checker.world.start checker.world.moves (due_of checker) line) (sym is.version_is)
+          (subst (λ (due : List Mark). IsPrefix version checker.world.count checker.world.start checker.world.moves due line) (sym is.none)
+          (subst (λ (w : WorldState). IsPrefix version w.count w.start w.moves [] line) (sym is.world_is) prefix));
       table = subst (TableRun []) (sym is.table_is) laws.empty;
     }
 
@@ -73,7 +73,7 @@ not_of_version checker line not = record {
         w.start,
         w.moves,
         due_of checker,
-        stands.front,
+        stands.prefix,
         λ other behind there.
             let same = (begins_once text other line behind rest (begins_readable checker.version text other behind there) begins).0 in
             absurd (not (subst (IsLine checker.version) same there.0)),
@@ -88,10 +88,10 @@ mark_not_allowed checker mark not_so = not_of_version checker (Marked mark) (mar
 
 -- ---- Steps
 
-front_of : (checker : Checker) (lines : List Line) (due : List Mark) → due_of checker ≡ due → StandsBehind checker lines
-    → IsFront checker.version checker.world.count checker.world.start checker.world.moves due lines
-front_of checker lines due is stands =
-    subst (λ (ms : List Mark). IsFront checker.version checker.world.count checker.world.start checker.world.moves ms lines) is stands.front
+prefix_of : (checker : Checker) (lines : List Line) (due : List Mark) → due_of checker ≡ due → StandsBehind checker lines
+    → IsPrefix checker.version checker.world.count checker.world.start checker.world.moves due lines
+prefix_of checker lines due is stands =
+    subst (λ (ms : List Mark). IsPrefix checker.version checker.world.count checker.world.start checker.world.moves ms lines) is stands.prefix
 
 stands_by_step : (old : Checker) (step : Step) (sends : List Message) (marks : Listed Mark) (world : WorldState) → due_of old ≡ []
     → world ≡ with_move old.world step sends marks.items → IsRun world.count world.start world.moves
@@ -105,13 +105,13 @@ stands_by_step old step sends marks world none is run lines ranges stands =
     let goes : IsRun old.world.count old.world.start (old.world.moves ++ move ∷ []) =
     subst (λ (ms : List Move). IsRun old.world.count old.world.start ms) moves
     (subst (λ (s : ℕ). IsRun old.world.count s world.moves) start (subst (λ (n : ℕ). IsRun n world.start world.moves) count run)) in
-    let front = front_and_step old.version old.world.count old.world.start old.world.moves lines move (front_of old lines [] none stands) goes ranges in
+    let prefix = prefix_and_step old.version old.world.count old.world.start old.world.moves lines move (prefix_of old lines [] none stands) goes ranges in
     let behind = lines ++ Stepped step ∷ [] in
     record {
-      front =
-          subst (λ (ms : List Move). IsFront old.version world.count world.start ms marks.items behind) (sym moves)
-          (subst (λ (s : ℕ). IsFront old.version world.count s (old.world.moves ++ move ∷ []) marks.items behind) (sym start)
-          (subst (λ (n : ℕ). IsFront old.version n old.world.start (old.world.moves ++ move ∷ []) marks.items behind) (sym count) front));
+      prefix =
+          subst (λ (ms : List Move). IsPrefix old.version world.count world.start ms marks.items behind) (sym moves)
+          (subst (λ (s : ℕ). IsPrefix old.version world.count s (old.world.moves ++ move ∷ []) marks.items behind) (sym start)
+          (subst (λ (n : ℕ). IsPrefix old.version n old.world.start (old.world.moves ++ move ∷ []) marks.items behind) (sym count) prefix));
       table = subst (λ (ms : List Mark). TableRun ms old.table)
           (sym (flat_map-append marks_in_line lines (Stepped step ∷ []) ∙ append-nil (marks_in lines))) stands.table;
     }
@@ -138,7 +138,7 @@ step_comes_early checker step allowed some =
         checker.world.start,
         checker.world.moves,
         due_of checker,
-        stands.front,
+        stands.prefix,
         Stepped step,
         rest,
         step_begins checker step text rest allowed begins,
@@ -155,7 +155,7 @@ step_is_refused checker step allowed none of_client stops =
         checker.world.count,
         checker.world.start,
         checker.world.moves,
-        front_of checker lines [] none stands,
+        prefix_of checker lines [] none stands,
         step,
         rest,
         step_begins checker step text rest allowed begins,
@@ -173,7 +173,7 @@ step_is_not_under_way checker step allowed none of_message stops =
         checker.world.count,
         checker.world.start,
         checker.world.moves,
-        front_of checker lines [] none stands,
+        prefix_of checker lines [] none stands,
         step,
         rest,
         step_begins checker step text rest allowed begins,
@@ -214,8 +214,8 @@ stands_by_mark : LawsBelow → (old : Checker) (mark : Mark) (table : LockTable)
     → due_of old ≡ mark ∷ drop (old.come + 1) old.marks.items → (lines : List Line) → IsLine old.version (Marked mark) → StandsBehind old lines
     → StandsBehind (record { version = old.version; world = old.world; table = table; marks = old.marks; come = old.come + 1 }) (lines ++ Marked mark ∷ [])
 stands_by_mark laws old mark table step due lines ranges stands = record {
-  front = front_and_mark old.version old.world.count old.world.start old.world.moves mark (drop (old.come + 1) old.marks.items) lines
-      (front_of old lines (mark ∷ drop (old.come + 1) old.marks.items) due stands) ranges;
+  prefix = prefix_and_mark old.version old.world.count old.world.start old.world.moves mark (drop (old.come + 1) old.marks.items) lines
+      (prefix_of old lines (mark ∷ drop (old.come + 1) old.marks.items) due stands) ranges;
   table = subst (λ (ms : List Mark). TableRun ms table) (sym (flat_map-append marks_in_line lines (Marked mark ∷ [])))
       (laws.steps_on (marks_in lines) mark old.table table stands.table step);
 }
@@ -237,7 +237,7 @@ table_refuses laws checker mark allowed refused =
         checker.world.start,
         checker.world.moves,
         due_of checker,
-        stands.front,
+        stands.prefix,
         mark,
         rest,
         mark_begins checker mark text rest allowed begins,
@@ -256,7 +256,7 @@ mark_is_not_due laws checker mark table allowed step other =
         checker.world.start,
         checker.world.moves,
         due_of checker,
-        stands.front,
+        stands.prefix,
         Marked mark,
         rest,
         mark_begins checker mark text rest allowed begins,
@@ -278,7 +278,7 @@ wrong_mark laws checker mark why allowed other (inr (is, refused)) =
 pub first_may_come : LawsBelow → (version : Version) (nodes start : ℕ) → has_node version nodes ≡ true → IsReadable (First version nodes start)
     → HasBegun (First version nodes start ∷ [])
 first_may_come laws version nodes start has ranges =
-    (version, nodes, start, [], [], first_front version nodes start (laws.none nodes start) ranges has)
+    (version, nodes, start, [], [], first_prefix version nodes start (laws.none nodes start) ranges has)
 
 pub step_may_come : (checker : Checker) (step : Step) → allows_step checker.version step ≡ true → due_of checker ≡ []
     → GoesOn checker.world.count checker.world.start checker.world.moves step → Allows checker (Stepped step)
@@ -292,7 +292,7 @@ step_may_come checker step allowed none (sends, marks, run) =
         w.start,
         w.moves ++ move ∷ [],
         marks,
-        front_and_step checker.version w.count w.start w.moves lines move (front_of checker lines [] none stands) run
+        prefix_and_step checker.version w.count w.start w.moves lines move (prefix_of checker lines [] none stands) run
             (step_is checker.version step ranges allowed),
       );
     }
@@ -308,7 +308,7 @@ mark_may_come checker mark others allowed due =
         w.start,
         w.moves,
         others,
-        front_and_mark checker.version w.count w.start w.moves mark others lines (front_of checker lines (mark ∷ others) due stands)
+        prefix_and_mark checker.version w.count w.start w.moves mark others lines (prefix_of checker lines (mark ∷ others) due stands)
             (mark_is checker.version mark ranges allowed),
       );
     }
@@ -324,7 +324,7 @@ last_comes_early checker some =
         checker.world.start,
         checker.world.moves,
         due_of checker,
-        stands.front,
+        stands.prefix,
         Last,
         rest,
         begins,
@@ -344,7 +344,7 @@ first_comes_again checker version nodes start =
             w.start,
             w.moves,
             due_of checker,
-            stands.front,
+            stands.prefix,
             λ other behind there.
                 let same = (begins_once text other (First version nodes start) behind rest (begins_readable checker.version text other behind there) begins).0 in
                 subst IsFirst (sym same) tt,

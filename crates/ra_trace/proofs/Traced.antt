@@ -25,7 +25,7 @@ use Rattle.ra_trace.specs.declared.line.Line.{Line}
 use Rattle.ra_trace.specs.declared.line.Line.TheVariants.{First, Stepped, Marked, Last}
 use Rattle.ra_trace.specs.declared.version.Version.TheVariants.{Two}
 use Rattle.ra_trace.specs.Ranges.{StepFits, MarkFits}
-use Rattle.ra_trace.specs.Writing.{MoveFits, front_text, HasTraced, IsOpened, StopsIn}
+use Rattle.ra_trace.specs.Writing.{MoveFits, prefix_text, HasTraced, IsOpened, StopsIn}
 use Rattle.ra_trace.specs.TraceText.{step_line, line_text, move_lines, IsMarkLine, IsStepLine, IsLine, IsTrace}
 
 made_of : (n start : ℕ) (steps : List Step) (world : WorldState) (text : List ℕ) → HasTraced n start steps world text → HasMade n start steps world
@@ -49,8 +49,8 @@ marked [] = refl
 marked (mark ∷ marks) = ap (λ (xs : List ℕ). mark_line mark ++ xs) (marked marks)
 
 -- the lines of one more move
-front_more : (n start : ℕ) (moves : List Move) (move : Move) → front_text n start (moves ++ move ∷ []) ≡ (front_text n start moves ++ step_line move.step) ++ flat_map mark_line move.marks
-front_more n start moves move =
+prefix_more : (n start : ℕ) (moves : List Move) (move : Move) → prefix_text n start (moves ++ move ∷ []) ≡ (prefix_text n start moves ++ step_line move.step) ++ flat_map mark_line move.marks
+prefix_more n start moves move =
     let first = line_text (First Two n start) in
     let before = flat_map line_text (flat_map move_lines moves) in
     let lines : flat_map move_lines (moves ++ move ∷ []) ≡ flat_map move_lines moves ++ move_lines move =
@@ -75,15 +75,15 @@ traced_more n start place steps step world next sends marks text longer traced i
       count = traced.count;
       start_is = traced.start_is;
       made = map-append (λ (m : Move). m.step) world.moves (move ∷ [])
-          ∙ (ap (λ (front : List Step). front ++ step ∷ []) traced.made
+          ∙ (ap (λ (prefix : List Step). prefix ++ step ∷ []) traced.made
           ∙ (ap (λ (s : Step). take place steps ++ s ∷ []) is ∙ sym (take_more steps place step inside)));
       run = run'';
-      text_is = longer_is ∙ (ap (λ (front : List ℕ). (front ++ step_line step) ++ flat_map mark_line marks) traced.text_is ∙ sym (front_more n start world.moves move));
+      text_is = longer_is ∙ (ap (λ (prefix : List ℕ). (prefix ++ step_line step) ++ flat_map mark_line marks) traced.text_is ∙ sym (prefix_more n start world.moves move));
       fit = All-push MoveFits world.moves move traced.fit fits;
     })
 
 -- why the steps stop at this one
-pub stops_by : ((n start : ℕ) (front back : List Step) → WorldRun n start (front ++ back) → WorldRun n start front)
+pub stops_by : ((n start : ℕ) (prefix suffix : List Step) → WorldRun n start (prefix ++ suffix) → WorldRun n start prefix)
     → ((n start : ℕ) (moves : List Move) (step : Step) → IsNodeNumber n → IsRun n start moves
     → WorldRun n start (map (λ (move : Move). move.step) moves ++ step ∷ []) ↔ GoesOn n start moves step)
     → (n start place : ℕ) (steps : List Step) (step : Step) (world : WorldState) (text : List ℕ) (why : StepError) (fault : WriteTraceError)
@@ -91,15 +91,15 @@ pub stops_by : ((n start : ℕ) (front back : List Step) → WorldRun n start (f
     → (why ≢ cause.Memory → HasCause world.count world.start world.moves step why)
     → (GoesOn world.count world.start world.moves step → why ≡ cause.Memory)
     → (why ≡ cause.Memory → fault ≡ Memory) → (why ≢ cause.Memory → fault ≡ Run (Refused (place + 1) why)) → StopsIn n start steps fault
-stops_by fronts goes_on n start place steps step world text why fault traced inside is because on memory refused =
+stops_by prefixes goes_on n start place steps step world text why fault traced inside is because on memory refused =
     let made = made_of n start (take place steps) world text traced in
     elim (memory_or_not why) [
       | inl same ↦ subst (StopsIn n start steps) (sym (memory same)) tt
       | inr other ↦
           let stuck = λ (goes : GoesOn world.count world.start world.moves step). other (on goes) in
           subst (StopsIn n start steps) (sym (refused other)) (
-            refused_there fronts goes_on n start place steps step world made inside is stuck why (because other),
-            no_run fronts goes_on n start place steps step world made inside is stuck,
+            refused_there prefixes goes_on n start place steps step world made inside is stuck why (because other),
+            no_run prefixes goes_on n start place steps step world made inside is stuck,
           )
     ]
 
@@ -114,7 +114,7 @@ goes_there goes_on n start place steps step world text traced inside is goes =
     subst (λ (s : ℕ). GoesOn n s world.moves step) traced.start_is (subst (λ (k : ℕ). GoesOn k world.start world.moves step) traced.count goes) in
     let more : take (place + 1) steps ≡ map (λ (move : Move). move.step) world.moves ++ step ∷ [] =
     take_more steps place step inside
-    ∙ (ap (λ (s : Step). take place steps ++ s ∷ []) (sym is) ∙ ap (λ (front : List Step). front ++ step ∷ []) (sym traced.made)) in
+    ∙ (ap (λ (s : Step). take place steps ++ s ∷ []) (sym is) ∙ ap (λ (prefix : List Step). prefix ++ step ∷ []) (sym traced.made)) in
     subst (WorldRun n start) (sym more) ((goes_on n start world.moves step traced.number traced.run).1 here)
 
 -- each part of a list
@@ -155,24 +155,24 @@ lines_fit (move ∷ moves) fits numbers taken repeated =
     (lines_fit moves (All-tail MoveFits move moves fits) marks.1 takes.1 repeats.1)
 
 -- each message that a run repeats has a number, as it is under way then
-module _ (fronts : (n start : ℕ) (front back : List Move) → IsRun n start (front ++ back) → IsRun n start front)
+module _ (prefixes : (n start : ℕ) (prefix suffix : List Move) → IsRun n start (prefix ++ suffix) → IsRun n start prefix)
     (numbers : (n start : ℕ) (moves : List Move) (message : Message) → IsNodeNumber n → IsRun n start moves → IsUnderWay moves message → 1 ≤ seq_of message)
     (n start : ℕ) (count : IsNodeNumber n) where
-  repeat_is_numbered : (front : List Move) (step : Step) (sends : List Message) (marks : List Mark) → IsRun n start front → IsFit n front step sends marks
+  repeat_is_numbered : (prefix : List Move) (step : Step) (sends : List Message) (marks : List Mark) → IsRun n start prefix → IsFit n prefix step sends marks
       → All IsNumberedMessage (repeated_in step)
-  repeat_is_numbered front (Ask node client name mode) sends marks run fit = All-nil IsNumberedMessage
-  repeat_is_numbered front (Leave node client name) sends marks run fit = All-nil IsNumberedMessage
-  repeat_is_numbered front (Deliver message) sends marks run fit = All-nil IsNumberedMessage
-  repeat_is_numbered front (Lose message) sends marks run fit = All-nil IsNumberedMessage
-  repeat_is_numbered front (Repeat message) sends marks run fit =
-      All-cons IsNumberedMessage message [] (numbers n start front message count run fit.0) (All-nil IsNumberedMessage)
+  repeat_is_numbered prefix (Ask node client name mode) sends marks run fit = All-nil IsNumberedMessage
+  repeat_is_numbered prefix (Leave node client name) sends marks run fit = All-nil IsNumberedMessage
+  repeat_is_numbered prefix (Deliver message) sends marks run fit = All-nil IsNumberedMessage
+  repeat_is_numbered prefix (Lose message) sends marks run fit = All-nil IsNumberedMessage
+  repeat_is_numbered prefix (Repeat message) sends marks run fit =
+      All-cons IsNumberedMessage message [] (numbers n start prefix message count run fit.0) (All-nil IsNumberedMessage)
 
-  repeats_behind : (back front : List Move) → IsRun n start (front ++ back) → AreFit n front back → All IsNumberedMessage (repeated_by back)
-  repeats_behind [] front run fit = All-nil IsNumberedMessage
-  repeats_behind (move ∷ back) front run fit =
-      All-append IsNumberedMessage (repeated_in move.step) (repeated_by back)
-      (repeat_is_numbered front move.step move.sends move.marks (fronts n start front (move ∷ back) run) fit.0)
-      (repeats_behind back (front ++ move ∷ []) (subst (IsRun n start) (sym (append_assoc front (move ∷ []) back)) run) fit.1)
+  repeats_behind : (suffix prefix : List Move) → IsRun n start (prefix ++ suffix) → AreFit n prefix suffix → All IsNumberedMessage (repeated_by suffix)
+  repeats_behind [] prefix run fit = All-nil IsNumberedMessage
+  repeats_behind (move ∷ suffix) prefix run fit =
+      All-append IsNumberedMessage (repeated_in move.step) (repeated_by suffix)
+      (repeat_is_numbered prefix move.step move.sends move.marks (prefixes n start prefix (move ∷ suffix) run) fit.0)
+      (repeats_behind suffix (prefix ++ move ∷ []) (subst (IsRun n start) (sym (append_assoc prefix (move ∷ []) suffix)) run) fit.1)
 
   pub repeats_are_numbered : (moves : List Move) → IsRun n start moves → All IsNumberedMessage (repeated_by moves)
   repeats_are_numbered moves run = repeats_behind moves [] run run.each_fits
@@ -187,7 +187,7 @@ traced_all n start steps world text traced small numbers taken repeated =
       run = traced.run;
       lines = All-cons (IsLine Two) (First Two n start) (lines ++ Last ∷ []) (refl, traced.number, small)
           (All-append (IsLine Two) lines (Last ∷ []) (lines_fit world.moves traced.fit numbers taken repeated) (All-cons (IsLine Two) Last [] tt (All-nil (IsLine Two))));
-      text_is = ap (λ (front : List ℕ). front ++ codes "end\n") traced.text_is
+      text_is = ap (λ (prefix : List ℕ). prefix ++ codes "end\n") traced.text_is
           ∙ (append_assoc (line_text (First Two n start)) (flat_map line_text lines) (codes "end\n")
           ∙ ap (λ (xs : List ℕ). line_text (First Two n start) ++ xs) (sym (flat_map-append line_text lines (Last ∷ []))));
     }

@@ -20,51 +20,51 @@ use Rattle.ra_trace.specs.declared.verdict.Verdict.TheVariants.{Valid, Invalid}
 use Rattle.ra_trace.specs.declared.version.Version.{Version}
 use Rattle.ra_trace.specs.Forms.{IsReadable, BeginsReadable}
 use Rattle.ra_trace.specs.TraceText.{IsLine, IsTraceIn, BeginsWith, step_line, line_text, trace_lines}
-use Rattle.ra_trace.specs.Verdict.{IsFront, TableGoesOn, IsOfClient, IsOfMessage, IsFirst, HasNoLine, IsUndue, IsWrong, IsVerdict, marks_in}
+use Rattle.ra_trace.specs.Verdict.{IsPrefix, TableGoesOn, IsOfClient, IsOfMessage, IsFirst, HasNoLine, IsUndue, IsWrong, IsVerdict, marks_in}
 use Rattle.ra_trace.specs.Below.{LawsBelow}
 use Rattle.ra_trace.proofs.Lines.{begins_once, begins_in_one}
 use Rattle.ra_trace.proofs.Versions.{readable}
-use Rattle.ra_trace.proofs.Fronts.{IsNext, not_empty, one_front, in_front, next_in_trace, no_trace, one_trace}
+use Rattle.ra_trace.proofs.Prefixes.{IsNext, not_empty, one_prefix, in_prefix, next_in_trace, no_trace, one_trace}
 
 -- ---- What is wrong with a line that is there
 
 -- the line has its form and its place, but is wrong for this cause
 abbrev pub Blame : ℕ → ℕ → List Move → List Mark → List Line → Line → Cause → Type 0
-Blame n start moves due front (First named nodes from) why = ⊥
-Blame n start moves due front (Stepped step) why =
+Blame n start moves due prefix (First named nodes from) why = ⊥
+Blame n start moves due prefix (Stepped step) why =
     ((due ≢ []) × (why ≡ cause.Marks))
     ⊎ ((due ≡ []) × (GoesOn n start moves step → ⊥) × IsOfClient step × (why ≡ cause.Refused))
     ⊎ ((due ≡ []) × (GoesOn n start moves step → ⊥) × IsOfMessage step × (why ≡ cause.NotUnderWay))
-Blame n start moves due front (Marked mark) why =
-    ((TableGoesOn (marks_in front) mark → ⊥) × (why ≡ cause.Table))
-    ⊎ (TableGoesOn (marks_in front) mark × ((others : List Mark) → due ≢ mark ∷ others) × (why ≡ cause.Marks))
-Blame n start moves due front Last why = (due ≢ []) × (why ≡ cause.Marks)
+Blame n start moves due prefix (Marked mark) why =
+    ((TableGoesOn (marks_in prefix) mark → ⊥) × (why ≡ cause.Table))
+    ⊎ (TableGoesOn (marks_in prefix) mark × ((others : List Mark) → due ≢ mark ∷ others) × (why ≡ cause.Marks))
+Blame n start moves due prefix Last why = (due ≢ []) × (why ≡ cause.Marks)
 
-record Blamed (front : List Line) (text : List ℕ) (why : Cause) : Type 0 where
+record Blamed (prefix : List Line) (text : List ℕ) (why : Cause) : Type 0 where
   version : Version
   n : ℕ
   start : ℕ
   moves : List Move
   due : List Mark
-  behind : IsFront version n start moves due front
+  behind : IsPrefix version n start moves due prefix
   line : Line
   rest : List ℕ
   begins : BeginsWith version text line rest
-  blame : Blame n start moves due front line why
+  blame : Blame n start moves due prefix line why
 
-undue : (n start : ℕ) (moves : List Move) (due : List Mark) (front : List Line) (line : Line) → IsUndue (marks_in front) due line
-    → Blame n start moves due front line cause.Marks
-undue n start moves due front (First named nodes from) u = u
-undue n start moves due front (Stepped step) u = inl (u, refl)
-undue n start moves due front (Marked mark) u = inr (u.0, u.1, refl)
-undue n start moves due front Last u = (u, refl)
+undue : (n start : ℕ) (moves : List Move) (due : List Mark) (prefix : List Line) (line : Line) → IsUndue (marks_in prefix) due line
+    → Blame n start moves due prefix line cause.Marks
+undue n start moves due prefix (First named nodes from) u = u
+undue n start moves due prefix (Stepped step) u = inl (u, refl)
+undue n start moves due prefix (Marked mark) u = inr (u.0, u.1, refl)
+undue n start moves due prefix Last u = (u, refl)
 
-blamed : (front : List Line) (text : List ℕ) (why : Cause) → IsWrong front text why
-    → ((why ≡ cause.Line) × HasNoLine front text) ⊎ Blamed front text why
-blamed front text cause.Line w = inl (refl, w)
-blamed front text cause.Table (version, n, start, moves, due, behind, mark, rest, begins, refused) =
+blamed : (prefix : List Line) (text : List ℕ) (why : Cause) → IsWrong prefix text why
+    → ((why ≡ cause.Line) × HasNoLine prefix text) ⊎ Blamed prefix text why
+blamed prefix text cause.Line w = inl (refl, w)
+blamed prefix text cause.Table (version, n, start, moves, due, behind, mark, rest, begins, refused) =
     inr (record { version = version; n = n; start = start; moves = moves; due = due; behind = behind; line = Marked mark; rest = rest; begins = begins; blame = inl (refused, refl) })
-blamed front text cause.Marks (version, n, start, moves, due, behind, line, rest, begins, u) =
+blamed prefix text cause.Marks (version, n, start, moves, due, behind, line, rest, begins, u) =
     inr (record {
       version = version;
       n = n;
@@ -75,9 +75,9 @@ blamed front text cause.Marks (version, n, start, moves, due, behind, line, rest
       line = line;
       rest = rest;
       begins = begins;
-      blame = undue n start moves due front line u;
+      blame = undue n start moves due prefix line u;
     })
-blamed front text cause.Refused (version, n, start, moves, behind, step, rest, begins, of_client, stops) =
+blamed prefix text cause.Refused (version, n, start, moves, behind, step, rest, begins, of_client, stops) =
     inr (record {
       version = version;
       n = n;
@@ -90,7 +90,7 @@ blamed front text cause.Refused (version, n, start, moves, behind, step, rest, b
       begins = begins;
       blame = inr (inl (refl, stops, of_client, refl));
     })
-blamed front text cause.NotUnderWay (version, n, start, moves, behind, step, rest, begins, takes, stops) =
+blamed prefix text cause.NotUnderWay (version, n, start, moves, behind, step, rest, begins, takes, stops) =
     inr (record {
       version = version;
       n = n;
@@ -111,145 +111,145 @@ not_both (Deliver message) a b = a
 not_both (Lose message) a b = a
 not_both (Repeat message) a b = a
 
-first_is_not_blamed : (n start : ℕ) (moves : List Move) (due : List Mark) (front : List Line) (line : Line) (why : Cause) → IsFirst line
-    → Blame n start moves due front line why → ⊥
-first_is_not_blamed n start moves due front (First named nodes from) why first b = b
-first_is_not_blamed n start moves due front (Stepped step) why first b = first
-first_is_not_blamed n start moves due front (Marked mark) why first b = first
-first_is_not_blamed n start moves due front Last why first b = first
+first_is_not_blamed : (n start : ℕ) (moves : List Move) (due : List Mark) (prefix : List Line) (line : Line) (why : Cause) → IsFirst line
+    → Blame n start moves due prefix line why → ⊥
+first_is_not_blamed n start moves due prefix (First named nodes from) why first b = b
+first_is_not_blamed n start moves due prefix (Stepped step) why first b = first
+first_is_not_blamed n start moves due prefix (Marked mark) why first b = first
+first_is_not_blamed n start moves due prefix Last why first b = first
 
-step_blamed_once : (n start : ℕ) (moves : List Move) (due : List Mark) (front : List Line) (step : Step) (why other : Cause)
-    → Blame n start moves due front (Stepped step) why → Blame n start moves due front (Stepped step) other → why ≡ other
-step_blamed_once n start moves due front step why other (inl a) (inl b) = a.1 ∙ sym b.1
-step_blamed_once n start moves due front step why other (inl a) (inr (inl b)) = absurd (a.0 b.0)
-step_blamed_once n start moves due front step why other (inl a) (inr (inr b)) = absurd (a.0 b.0)
-step_blamed_once n start moves due front step why other (inr (inl a)) (inl b) = absurd (b.0 a.0)
-step_blamed_once n start moves due front step why other (inr (inl a)) (inr (inl b)) = a.3 ∙ sym b.3
-step_blamed_once n start moves due front step why other (inr (inl a)) (inr (inr b)) = absurd (not_both step a.2 b.2)
-step_blamed_once n start moves due front step why other (inr (inr a)) (inl b) = absurd (b.0 a.0)
-step_blamed_once n start moves due front step why other (inr (inr a)) (inr (inl b)) = absurd (not_both step b.2 a.2)
-step_blamed_once n start moves due front step why other (inr (inr a)) (inr (inr b)) = a.3 ∙ sym b.3
+step_blamed_once : (n start : ℕ) (moves : List Move) (due : List Mark) (prefix : List Line) (step : Step) (why other : Cause)
+    → Blame n start moves due prefix (Stepped step) why → Blame n start moves due prefix (Stepped step) other → why ≡ other
+step_blamed_once n start moves due prefix step why other (inl a) (inl b) = a.1 ∙ sym b.1
+step_blamed_once n start moves due prefix step why other (inl a) (inr (inl b)) = absurd (a.0 b.0)
+step_blamed_once n start moves due prefix step why other (inl a) (inr (inr b)) = absurd (a.0 b.0)
+step_blamed_once n start moves due prefix step why other (inr (inl a)) (inl b) = absurd (b.0 a.0)
+step_blamed_once n start moves due prefix step why other (inr (inl a)) (inr (inl b)) = a.3 ∙ sym b.3
+step_blamed_once n start moves due prefix step why other (inr (inl a)) (inr (inr b)) = absurd (not_both step a.2 b.2)
+step_blamed_once n start moves due prefix step why other (inr (inr a)) (inl b) = absurd (b.0 a.0)
+step_blamed_once n start moves due prefix step why other (inr (inr a)) (inr (inl b)) = absurd (not_both step b.2 a.2)
+step_blamed_once n start moves due prefix step why other (inr (inr a)) (inr (inr b)) = a.3 ∙ sym b.3
 
-mark_blamed_once : (n start : ℕ) (moves : List Move) (due : List Mark) (front : List Line) (mark : Mark) (why other : Cause)
-    → Blame n start moves due front (Marked mark) why → Blame n start moves due front (Marked mark) other → why ≡ other
-mark_blamed_once n start moves due front mark why other (inl a) (inl b) = a.1 ∙ sym b.1
-mark_blamed_once n start moves due front mark why other (inl a) (inr b) = absurd (a.0 b.0)
-mark_blamed_once n start moves due front mark why other (inr a) (inl b) = absurd (b.0 a.0)
-mark_blamed_once n start moves due front mark why other (inr a) (inr b) = a.2 ∙ sym b.2
+mark_blamed_once : (n start : ℕ) (moves : List Move) (due : List Mark) (prefix : List Line) (mark : Mark) (why other : Cause)
+    → Blame n start moves due prefix (Marked mark) why → Blame n start moves due prefix (Marked mark) other → why ≡ other
+mark_blamed_once n start moves due prefix mark why other (inl a) (inl b) = a.1 ∙ sym b.1
+mark_blamed_once n start moves due prefix mark why other (inl a) (inr b) = absurd (a.0 b.0)
+mark_blamed_once n start moves due prefix mark why other (inr a) (inl b) = absurd (b.0 a.0)
+mark_blamed_once n start moves due prefix mark why other (inr a) (inr b) = a.2 ∙ sym b.2
 
-blamed_once : (n start : ℕ) (moves : List Move) (due : List Mark) (front : List Line) (line : Line) (why other : Cause)
-    → Blame n start moves due front line why → Blame n start moves due front line other → why ≡ other
-blamed_once n start moves due front (First named nodes from) why other a b = absurd a
-blamed_once n start moves due front (Stepped step) why other a b = step_blamed_once n start moves due front step why other a b
-blamed_once n start moves due front (Marked mark) why other a b = mark_blamed_once n start moves due front mark why other a b
-blamed_once n start moves due front Last why other a b = a.1 ∙ sym b.1
+blamed_once : (n start : ℕ) (moves : List Move) (due : List Mark) (prefix : List Line) (line : Line) (why other : Cause)
+    → Blame n start moves due prefix line why → Blame n start moves due prefix line other → why ≡ other
+blamed_once n start moves due prefix (First named nodes from) why other a b = absurd a
+blamed_once n start moves due prefix (Stepped step) why other a b = step_blamed_once n start moves due prefix step why other a b
+blamed_once n start moves due prefix (Marked mark) why other a b = mark_blamed_once n start moves due prefix mark why other a b
+blamed_once n start moves due prefix Last why other a b = a.1 ∙ sym b.1
 
 -- ---- One cause
 
-no_line_is_not_blamed : LawsBelow → (front : List Line) (text : List ℕ) (why : Cause) → HasNoLine front text → Blamed front text why → ⊥
-no_line_is_not_blamed laws front text why (inl none) b = not_empty b.version b.n b.start b.moves b.due front b.behind none.0
-no_line_is_not_blamed laws front text why (inr (inl (version, n, start, moves, due, behind, any))) b =
-    let same = one_front laws b.version b.n b.start b.moves b.due version n start moves due front b.behind behind in
+no_line_is_not_blamed : LawsBelow → (prefix : List Line) (text : List ℕ) (why : Cause) → HasNoLine prefix text → Blamed prefix text why → ⊥
+no_line_is_not_blamed laws prefix text why (inl none) b = not_empty b.version b.n b.start b.moves b.due prefix b.behind none.0
+no_line_is_not_blamed laws prefix text why (inr (inl (version, n, start, moves, due, behind, any))) b =
+    let same = one_prefix laws b.version b.n b.start b.moves b.due version n start moves due prefix b.behind behind in
     let begins : BeginsWith version text b.line b.rest = subst (λ (v : Version). BeginsWith v text b.line b.rest) same.named b.begins in
-    first_is_not_blamed b.n b.start b.moves b.due front b.line why (any b.line b.rest begins) b.blame
-no_line_is_not_blamed laws front text why (inr (inr (version, n, start, moves, trace, whole, some))) b =
-    no_trace laws b.version b.n b.start b.moves b.due version n start moves front b.behind whole
+    first_is_not_blamed b.n b.start b.moves b.due prefix b.line why (any b.line b.rest begins) b.blame
+no_line_is_not_blamed laws prefix text why (inr (inr (version, n, start, moves, trace, whole, some))) b =
+    no_trace laws b.version b.n b.start b.moves b.due version n start moves prefix b.behind whole
 
-one_blame : LawsBelow → (front : List Line) (text : List ℕ) (why other : Cause) → Blamed front text why → Blamed front text other → why ≡ other
-one_blame laws front text why other a b =
-    let same = one_front laws b.version b.n b.start b.moves b.due a.version a.n a.start a.moves a.due front b.behind a.behind in
+one_blame : LawsBelow → (prefix : List Line) (text : List ℕ) (why other : Cause) → Blamed prefix text why → Blamed prefix text other → why ≡ other
+one_blame laws prefix text why other a b =
+    let same = one_prefix laws b.version b.n b.start b.moves b.due a.version a.n a.start a.moves a.due prefix b.behind a.behind in
     let line = (begins_in_one b.version a.version text b.line a.line b.rest a.rest b.begins a.begins).0 in
-    let there : Blame a.n a.start a.moves a.due front a.line other =
-    subst (λ (l : Line). Blame a.n a.start a.moves a.due front l other) line
-    (subst (λ (ms : List Mark). Blame a.n a.start a.moves ms front b.line other) same.left
-    (subst (λ (ms : List Move). Blame a.n a.start ms b.due front b.line other) same.run
-    (subst (λ (s : ℕ). Blame a.n s b.moves b.due front b.line other) same.from
-    (subst (λ (m : ℕ). Blame m b.start b.moves b.due front b.line other) same.count b.blame)))) in
-    blamed_once a.n a.start a.moves a.due front a.line why other a.blame there
+    let there : Blame a.n a.start a.moves a.due prefix a.line other =
+    subst (λ (l : Line). Blame a.n a.start a.moves a.due prefix l other) line
+    (subst (λ (ms : List Mark). Blame a.n a.start a.moves ms prefix b.line other) same.left
+    (subst (λ (ms : List Move). Blame a.n a.start ms b.due prefix b.line other) same.run
+    (subst (λ (s : ℕ). Blame a.n s b.moves b.due prefix b.line other) same.from
+    (subst (λ (m : ℕ). Blame m b.start b.moves b.due prefix b.line other) same.count b.blame)))) in
+    blamed_once a.n a.start a.moves a.due prefix a.line why other a.blame there
 
-one_cause : LawsBelow → (front : List Line) (text : List ℕ) (why other : Cause) → IsWrong front text why → IsWrong front text other → why ≡ other
-one_cause laws front text why other p q =
-    elim (blamed front text why p) [
-      | inl a ↦ elim (blamed front text other q) [
+one_cause : LawsBelow → (prefix : List Line) (text : List ℕ) (why other : Cause) → IsWrong prefix text why → IsWrong prefix text other → why ≡ other
+one_cause laws prefix text why other p q =
+    elim (blamed prefix text why p) [
+      | inl a ↦ elim (blamed prefix text other q) [
         | inl b ↦ a.0 ∙ sym b.0
-        | inr b ↦ absurd (no_line_is_not_blamed laws front text other a.1 b)
+        | inr b ↦ absurd (no_line_is_not_blamed laws prefix text other a.1 b)
       ]
-      | inr a ↦ elim (blamed front text other q) [
-        | inl b ↦ absurd (no_line_is_not_blamed laws front text why b.1 a)
-        | inr b ↦ one_blame laws front text why other a b
+      | inr a ↦ elim (blamed prefix text other q) [
+        | inl b ↦ absurd (no_line_is_not_blamed laws prefix text why b.1 a)
+        | inr b ↦ one_blame laws prefix text why other a b
       ]
     ]
 
 -- ---- A line that may come next is not wrong
 
 -- what is behind a line that may come next
-behind_next : (version : Version) (front : List Line) (line : Line) → IsNext version front line
-    → (IsFirst line × (front ≡ [])) ⊎ ((n start : ℕ) × (moves : List Move) × (due : List Mark) × IsFront version n start moves due front)
-behind_next version front (First named nodes from) next = inl (tt, next)
-behind_next version front (Stepped step) (n, start, moves, behind, goes) = inr (n, start, moves, [], behind)
-behind_next version front (Marked mark) (n, start, moves, others, behind, goes) = inr (n, start, moves, mark ∷ others, behind)
-behind_next version front Last (n, start, moves, behind) = inr (n, start, moves, [], behind)
+behind_next : (version : Version) (prefix : List Line) (line : Line) → IsNext version prefix line
+    → (IsFirst line × (prefix ≡ [])) ⊎ ((n start : ℕ) × (moves : List Move) × (due : List Mark) × IsPrefix version n start moves due prefix)
+behind_next version prefix (First named nodes from) next = inl (tt, next)
+behind_next version prefix (Stepped step) (n, start, moves, behind, goes) = inr (n, start, moves, [], behind)
+behind_next version prefix (Marked mark) (n, start, moves, others, behind, goes) = inr (n, start, moves, mark ∷ others, behind)
+behind_next version prefix Last (n, start, moves, behind) = inr (n, start, moves, [], behind)
 
--- a first line stands at the front only
-first_at_front : (version : Version) (front : List Line) (line : Line) → IsNext version front line → IsFirst line → front ≡ []
-first_at_front version front (First named nodes from) next first = next
-first_at_front version front (Stepped step) next first = absurd first
-first_at_front version front (Marked mark) next first = absurd first
-first_at_front version front Last next first = absurd first
+-- a first line has none before it
+first_behind_nothing : (version : Version) (prefix : List Line) (line : Line) → IsNext version prefix line → IsFirst line → prefix ≡ []
+first_behind_nothing version prefix (First named nodes from) next first = next
+first_behind_nothing version prefix (Stepped step) next first = absurd first
+first_behind_nothing version prefix (Marked mark) next first = absurd first
+first_behind_nothing version prefix Last next first = absurd first
 
 goes_on_too : (n start : ℕ) (moves : List Move) (n' start' : ℕ) (moves' : List Move) (step : Step) → n ≡ n' → start ≡ start' → moves ≡ moves'
     → GoesOn n start moves step → GoesOn n' start' moves' step
 goes_on_too n start moves n' start' moves' step p q r g =
     subst (λ (ms : List Move). GoesOn n' start' ms step) r (subst (λ (s : ℕ). GoesOn n' s moves step) q (subst (λ (m : ℕ). GoesOn m start moves step) p g))
 
-next_is_not_blamed : LawsBelow → (version second : Version) (n start : ℕ) (moves : List Move) (due : List Mark) (front : List Line) (line : Line) (why : Cause)
-    → IsFront second n start moves due front → IsNext version front line → Blame n start moves due front line why → ⊥
-next_is_not_blamed laws version second n start moves due front (First named nodes from) why behind next b = b
-next_is_not_blamed laws version second n start moves due front (Stepped step) why behind (n', start', moves', there, goes) b =
-    let same = one_front laws version n' start' moves' [] second n start moves due front there behind in
+next_is_not_blamed : LawsBelow → (version second : Version) (n start : ℕ) (moves : List Move) (due : List Mark) (prefix : List Line) (line : Line) (why : Cause)
+    → IsPrefix second n start moves due prefix → IsNext version prefix line → Blame n start moves due prefix line why → ⊥
+next_is_not_blamed laws version second n start moves due prefix (First named nodes from) why behind next b = b
+next_is_not_blamed laws version second n start moves due prefix (Stepped step) why behind (n', start', moves', there, goes) b =
+    let same = one_prefix laws version n' start' moves' [] second n start moves due prefix there behind in
     let on = goes_on_too n' start' moves' n start moves step same.count same.from same.run goes in
     elim b [
       | inl marks ↦ marks.0 (sym same.left)
       | inr other ↦ elim other [ inl refused ↦ refused.1 on | inr gone ↦ gone.1 on ]
     ]
-next_is_not_blamed laws version second n start moves due front (Marked mark) why behind (n', start', moves', others, there, goes) b =
+next_is_not_blamed laws version second n start moves due prefix (Marked mark) why behind (n', start', moves', others, there, goes) b =
     elim b [
       | inl table ↦ table.0 goes
-      | inr marks ↦ marks.1 others (sym (one_front laws version n' start' moves' (mark ∷ others) second n start moves due front there behind).left)
+      | inr marks ↦ marks.1 others (sym (one_prefix laws version n' start' moves' (mark ∷ others) second n start moves due prefix there behind).left)
     ]
-next_is_not_blamed laws version second n start moves due front Last why behind (n', start', moves', there) b =
-    b.0 (sym (one_front laws version n' start' moves' [] second n start moves due front there behind).left)
+next_is_not_blamed laws version second n start moves due prefix Last why behind (n', start', moves', there) b =
+    b.0 (sym (one_prefix laws version n' start' moves' [] second n start moves due prefix there behind).left)
 
-next_has_line : LawsBelow → (version : Version) (front : List Line) (line : Line) (text rest : List ℕ) → IsNext version front line
-    → BeginsWith version text line rest → HasNoLine front text → ⊥
-next_has_line laws version front line text rest next begins (inl (none, no_first)) =
-    elim (behind_next version front line next) [
+next_has_line : LawsBelow → (version : Version) (prefix : List Line) (line : Line) (text rest : List ℕ) → IsNext version prefix line
+    → BeginsWith version text line rest → HasNoLine prefix text → ⊥
+next_has_line laws version prefix line text rest next begins (inl (none, no_first)) =
+    elim (behind_next version prefix line next) [
       | inl first ↦ no_first version line rest begins first.0
-      | inr (n, start, moves, due, behind) ↦ not_empty version n start moves due front behind none
+      | inr (n, start, moves, due, behind) ↦ not_empty version n start moves due prefix behind none
     ]
-next_has_line laws version front line text rest next begins (inr (inl (second, n, start, moves, due, behind, any))) =
-    elim (behind_next version front line next) [
-      | inl first ↦ not_empty second n start moves due front behind first.1
+next_has_line laws version prefix line text rest next begins (inr (inl (second, n, start, moves, due, behind, any))) =
+    elim (behind_next version prefix line next) [
+      | inl first ↦ not_empty second n start moves due prefix behind first.1
       | inr (n', start', moves', due', there) ↦
-          let same = one_front laws version n' start' moves' due' second n start moves due front there behind in
+          let same = one_prefix laws version n' start' moves' due' second n start moves due prefix there behind in
           let again = subst (λ (v : Version). BeginsWith v text line rest) same.named begins in
-          not_empty second n start moves due front behind (first_at_front version front line next (any line rest again))
+          not_empty second n start moves due prefix behind (first_behind_nothing version prefix line next (any line rest again))
     ]
-next_has_line laws version front line text rest next begins (inr (inr (second, n, start, moves, trace, whole, some))) =
-    elim (behind_next version front line next) [
+next_has_line laws version prefix line text rest next begins (inr (inr (second, n, start, moves, trace, whole, some))) =
+    elim (behind_next version prefix line next) [
       | inl (first, none) ↦ let empty : [] ≡ trace_lines second n start moves = sym none ∙ whole in cc
-      | inr (n', start', moves', due, behind) ↦ no_trace laws version n' start' moves' due second n start moves front behind whole
+      | inr (n', start', moves', due, behind) ↦ no_trace laws version n' start' moves' due second n start moves prefix behind whole
     ]
 
-next_is_not_wrong : LawsBelow → (version : Version) (front : List Line) (line : Line) (text rest : List ℕ) (why : Cause) → IsNext version front line
-    → BeginsWith version text line rest → IsWrong front text why → ⊥
-next_is_not_wrong laws version front line text rest why next begins w =
-    elim (blamed front text why w) [
-      | inl none ↦ next_has_line laws version front line text rest next begins none.1
+next_is_not_wrong : LawsBelow → (version : Version) (prefix : List Line) (line : Line) (text rest : List ℕ) (why : Cause) → IsNext version prefix line
+    → BeginsWith version text line rest → IsWrong prefix text why → ⊥
+next_is_not_wrong laws version prefix line text rest why next begins w =
+    elim (blamed prefix text why w) [
+      | inl none ↦ next_has_line laws version prefix line text rest next begins none.1
       | inr b ↦
           let same = (begins_in_one b.version version text b.line line b.rest rest b.begins begins).0 in
-          next_is_not_blamed laws version b.version b.n b.start b.moves b.due front line why b.behind next
-          (subst (λ (l : Line). Blame b.n b.start b.moves b.due front l why) same b.blame)
+          next_is_not_blamed laws version b.version b.n b.start b.moves b.due prefix line why b.behind next
+          (subst (λ (l : Line). Blame b.n b.start b.moves b.due prefix l why) same b.blame)
     ]
 
 -- ---- Two prefixes of one text
@@ -258,19 +258,19 @@ next_is_not_wrong laws version front line text rest why next begins w =
 abbrev pub AreRight : List Line → Type 0
 AreRight lines =
     (lines ≡ [])
-    ⊎ ((version : Version) × (n start : ℕ) × (moves : List Move) × (due : List Mark) × IsFront version n start moves due lines)
+    ⊎ ((version : Version) × (n start : ℕ) × (moves : List Move) × (due : List Mark) × IsPrefix version n start moves due lines)
     ⊎ ((version : Version) × (n start : ℕ) × (moves : List Move) × (text : List ℕ) × IsTraceIn version n start moves text
     × (lines ≡ trace_lines version n start moves))
 
-wrong_behind_right : (front : List Line) (text : List ℕ) (why : Cause) → IsWrong front text why → AreRight front
-wrong_behind_right front text cause.Line (inl none) = inl none.0
-wrong_behind_right front text cause.Line (inr (inl (version, n, start, moves, due, behind, any))) = inr (inl (version, n, start, moves, due, behind))
-wrong_behind_right front text cause.Line (inr (inr (version, n, start, moves, trace, whole, some))) =
-    inr (inr (version, n, start, moves, flat_map line_text front, trace, whole))
-wrong_behind_right front text cause.Table w = inr (inl (w.0, w.1, w.2, w.3, w.4, w.5))
-wrong_behind_right front text cause.Marks w = inr (inl (w.0, w.1, w.2, w.3, w.4, w.5))
-wrong_behind_right front text cause.Refused w = inr (inl (w.0, w.1, w.2, w.3, [], w.4))
-wrong_behind_right front text cause.NotUnderWay w = inr (inl (w.0, w.1, w.2, w.3, [], w.4))
+wrong_behind_right : (prefix : List Line) (text : List ℕ) (why : Cause) → IsWrong prefix text why → AreRight prefix
+wrong_behind_right prefix text cause.Line (inl none) = inl none.0
+wrong_behind_right prefix text cause.Line (inr (inl (version, n, start, moves, due, behind, any))) = inr (inl (version, n, start, moves, due, behind))
+wrong_behind_right prefix text cause.Line (inr (inr (version, n, start, moves, trace, whole, some))) =
+    inr (inr (version, n, start, moves, flat_map line_text prefix, trace, whole))
+wrong_behind_right prefix text cause.Table w = inr (inl (w.0, w.1, w.2, w.3, w.4, w.5))
+wrong_behind_right prefix text cause.Marks w = inr (inl (w.0, w.1, w.2, w.3, w.4, w.5))
+wrong_behind_right prefix text cause.Refused w = inr (inl (w.0, w.1, w.2, w.3, [], w.4))
+wrong_behind_right prefix text cause.NotUnderWay w = inr (inl (w.0, w.1, w.2, w.3, [], w.4))
 
 all_readable : (version : Version) (lines : List Line) → All (IsLine version) lines → All IsReadable lines
 all_readable version lines each = All-weaker (IsLine version) IsReadable (readable version) lines each
@@ -282,30 +282,30 @@ right_lines lines (inr (inr (version, n, start, moves, text, trace, are))) =
     all_readable version lines (subst (All (IsLine version)) (sym are) trace.lines)
 
 -- a line among right ones may come next where it stands, and its version allows it
-record StandsThere (front : List Line) (line : Line) : Type 0 where
+record StandsThere (prefix : List Line) (line : Line) : Type 0 where
   version : Version
-  next : IsNext version front line
+  next : IsNext version prefix line
   ranges : IsLine version line
 
-All-at : (P : Line → Type 0) (front : List Line) (line : Line) (rest : List Line) → All P (front ++ line ∷ rest) → P line
+All-at : (P : Line → Type 0) (prefix : List Line) (line : Line) (rest : List Line) → All P (prefix ++ line ∷ rest) → P line
 All-at P [] line rest h = All-head P line rest h
-All-at P (x ∷ front) line rest h = All-at P front line rest (All-tail P x (front ++ line ∷ rest) h)
+All-at P (x ∷ prefix) line rest h = All-at P prefix line rest (All-tail P x (prefix ++ line ∷ rest) h)
 
-next_in_right : LawsBelow → (front : List Line) (line : Line) (rest : List Line) → AreRight (front ++ line ∷ rest) → StandsThere front line
-next_in_right laws front line rest (inl none) = absurd (something front none)
+next_in_right : LawsBelow → (prefix : List Line) (line : Line) (rest : List Line) → AreRight (prefix ++ line ∷ rest) → StandsThere prefix line
+next_in_right laws prefix line rest (inl none) = absurd (something prefix none)
   where
-    something : (front : List Line) → front ++ line ∷ rest ≡ [] → ⊥
+    something : (prefix : List Line) → prefix ++ line ∷ rest ≡ [] → ⊥
     something [] e = cc
-    something (x ∷ front) e = cc
-next_in_right laws front line rest (inr (inl (version, n, start, moves, due, behind))) = record {
+    something (x ∷ prefix) e = cc
+next_in_right laws prefix line rest (inr (inl (version, n, start, moves, due, behind))) = record {
   version = version;
-  next = (in_front laws version n start moves due front line rest behind).next;
-  ranges = All-at (IsLine version) front line rest behind.each;
+  next = (in_prefix laws version n start moves due prefix line rest behind).next;
+  ranges = All-at (IsLine version) prefix line rest behind.each;
 }
-next_in_right laws front line rest (inr (inr (version, n, start, moves, text, trace, are))) = record {
+next_in_right laws prefix line rest (inr (inr (version, n, start, moves, text, trace, are))) = record {
   version = version;
-  next = next_in_trace laws version n start moves text front line rest trace are;
-  ranges = All-at (IsLine version) front line rest (subst (All (IsLine version)) (sym are) trace.lines);
+  next = next_in_trace laws version n start moves text prefix line rest trace are;
+  ranges = All-at (IsLine version) prefix line rest (subst (All (IsLine version)) (sym are) trace.lines);
 }
 
 -- of two lists of lines that begin a text, one begins the other
@@ -335,15 +335,15 @@ record SameEnd (a b : List Line) (r s : List ℕ) : Type 0 where
   lines : a ≡ b
   rest : r ≡ s
 
-no_more : LawsBelow → (front lines : List Line) (r s : List ℕ) (why : Cause) → IsWrong front r why → AreRight lines → Longer front lines r s
-    → SameEnd front lines r s
-no_more laws front lines r s why w right h = at h.more h.longer_is h.left_is
+no_more : LawsBelow → (prefix lines : List Line) (r s : List ℕ) (why : Cause) → IsWrong prefix r why → AreRight lines → Longer prefix lines r s
+    → SameEnd prefix lines r s
+no_more laws prefix lines r s why w right h = at h.more h.longer_is h.left_is
   where
-    at : (more : List Line) → lines ≡ front ++ more → r ≡ flat_map line_text more ++ s → SameEnd front lines r s
-    at [] is left = record { lines = sym (is ∙ append-nil front); rest = left }
+    at : (more : List Line) → lines ≡ prefix ++ more → r ≡ flat_map line_text more ++ s → SameEnd prefix lines r s
+    at [] is left = record { lines = sym (is ∙ append-nil prefix); rest = left }
     at (x ∷ more) is left =
-        let there = next_in_right laws front x more (subst AreRight is right) in
-        absurd (next_is_not_wrong laws there.version front x r (flat_map line_text more ++ s) why there.next
+        let there = next_in_right laws prefix x more (subst AreRight is right) in
+        absurd (next_is_not_wrong laws there.version prefix x r (flat_map line_text more ++ s) why there.next
         (there.ranges, left ∙ append_assoc (line_text x) (flat_map line_text more) s) w)
 
 -- ---- A whole trace
@@ -367,11 +367,11 @@ line_has_bytes (Marked mark) rest e = mark_has_bytes mark rest e
 line_has_bytes Last rest e = cc
 
 -- where nothing is left there are no more lines
-nothing_left : (front lines : List Line) (s : List ℕ) → Longer front lines [] s → SameEnd front lines [] s
-nothing_left front lines s h = at h.more h.longer_is h.left_is
+nothing_left : (prefix lines : List Line) (s : List ℕ) → Longer prefix lines [] s → SameEnd prefix lines [] s
+nothing_left prefix lines s h = at h.more h.longer_is h.left_is
   where
-    at : (more : List Line) → lines ≡ front ++ more → [] ≡ flat_map line_text more ++ s → SameEnd front lines [] s
-    at [] is left = record { lines = sym (is ∙ append-nil front); rest = left }
+    at : (more : List Line) → lines ≡ prefix ++ more → [] ≡ flat_map line_text more ++ s → SameEnd prefix lines [] s
+    at [] is left = record { lines = sym (is ∙ append-nil prefix); rest = left }
     at (x ∷ more) is left =
         absurd (line_has_bytes x (flat_map line_text more ++ s) (left ∙ append_assoc (line_text x) (flat_map line_text more) s))
 
@@ -415,31 +415,31 @@ both_valid laws text requests messages requests' messages' (version, n, start, m
 
 not_valid_and_invalid : LawsBelow → (text : List ℕ) (requests messages line : ℕ) (why : Cause) → IsVerdict text (Valid requests messages)
     → IsVerdict text (Invalid line why) → ⊥
-not_valid_and_invalid laws text requests messages line why (version, n, start, moves, a, r, m) (front, rest, is, at, w) =
+not_valid_and_invalid laws text requests messages line why (version, n, start, moves, a, r, m) (prefix, rest, is, at, w) =
     let p = trace_lines version n start moves in
-    let texts : flat_map line_text p ++ [] ≡ flat_map line_text front ++ rest = append-nil (flat_map line_text p) ∙ sym a.text_is ∙ is in
-    let same : SameEnd p front [] rest =
-    elim (longer_or_not p front [] rest (all_readable version p a.lines) (right_lines front (wrong_behind_right front rest why w)) texts) [
-      | inl h ↦ nothing_left p front rest h
+    let texts : flat_map line_text p ++ [] ≡ flat_map line_text prefix ++ rest = append-nil (flat_map line_text p) ∙ sym a.text_is ∙ is in
+    let same : SameEnd p prefix [] rest =
+    elim (longer_or_not p prefix [] rest (all_readable version p a.lines) (right_lines prefix (wrong_behind_right prefix rest why w)) texts) [
+      | inl h ↦ nothing_left p prefix rest h
       | inr h ↦
-          let end = no_more laws front p rest [] why w (trace_is_right version n start moves text a) h in
+          let end = no_more laws prefix p rest [] why w (trace_is_right version n start moves text a) h in
           record { lines = sym end.lines; rest = sym end.rest }
     ] in
     trace_is_not_wrong laws version n start moves rest why (sym same.rest) (subst (λ (ls : List Line). IsWrong ls rest why) (sym same.lines) w)
 
 both_invalid : LawsBelow → (text : List ℕ) (line : ℕ) (why : Cause) (line' : ℕ) (why' : Cause) → IsVerdict text (Invalid line why)
     → IsVerdict text (Invalid line' why') → Invalid line why ≡ Invalid line' why'
-both_invalid laws text line why line' why' (front, rest, is, at, w) (front', rest', is', at', w') =
-    let right = wrong_behind_right front rest why w in
-    let right' = wrong_behind_right front' rest' why' w' in
-    let same : SameEnd front front' rest rest' =
-    elim (longer_or_not front front' rest rest' (right_lines front right) (right_lines front' right') (sym is ∙ is')) [
-      | inl h ↦ no_more laws front front' rest rest' why w right' h
-      | inr h ↦ let end = no_more laws front' front rest' rest why' w' right h in record { lines = sym end.lines; rest = sym end.rest }
+both_invalid laws text line why line' why' (prefix, rest, is, at, w) (prefix', rest', is', at', w') =
+    let right = wrong_behind_right prefix rest why w in
+    let right' = wrong_behind_right prefix' rest' why' w' in
+    let same : SameEnd prefix prefix' rest rest' =
+    elim (longer_or_not prefix prefix' rest rest' (right_lines prefix right) (right_lines prefix' right') (sym is ∙ is')) [
+      | inl h ↦ no_more laws prefix prefix' rest rest' why w right' h
+      | inr h ↦ let end = no_more laws prefix' prefix rest' rest why' w' right h in record { lines = sym end.lines; rest = sym end.rest }
     ] in
-    let there : IsWrong front rest why' =
-    subst (λ (ls : List Line). IsWrong ls rest why') (sym same.lines) (subst (λ (bs : List ℕ). IsWrong front' bs why') (sym same.rest) w') in
-    let causes : why ≡ why' = one_cause laws front rest why why' w there in
+    let there : IsWrong prefix rest why' =
+    subst (λ (ls : List Line). IsWrong ls rest why') (sym same.lines) (subst (λ (bs : List ℕ). IsWrong prefix' bs why') (sym same.rest) w') in
+    let causes : why ≡ why' = one_cause laws prefix rest why why' w there in
     let lines : line ≡ line' = at ∙ ap (λ (ls : List Line). length ls + 1) same.lines ∙ sym at' in
     cc
 

@@ -15,25 +15,25 @@ use Rattle.ra_trace.specs.Reading.{AreRight, Judges, Answers}
 use Rattle.ra_trace.specs.Checking.{StandsBehind, Takes, Refuses, Allows}
 
 -- these lines were taken, and the text may still have so many bytes
-pub record IsBehind (limit left : ℕ) (old now : Option (List ℕ)) (front : List Line) : Type 0 where
-  pub taken : Consumes old now (flat_map line_text front)
-  pub room : length (flat_map line_text front) + left ≡ limit
-  pub right : AreRight front
+pub record IsBehind (limit left : ℕ) (old now : Option (List ℕ)) (prefix : List Line) : Type 0 where
+  pub taken : Consumes old now (flat_map line_text prefix)
+  pub room : length (flat_map line_text prefix) + left ≡ limit
+  pub right : AreRight prefix
 
 -- the lines so far are right, the last one is not among them, and the checker stands after them
 pub record IsAlong (limit left : ℕ) (old now : Option (List ℕ)) (checker : Checker) (number : ℕ) : Type 0 where
-  pub front : List Line
-  pub behind : IsBehind limit left old now front
-  pub number_is : number ≡ length front + 1
-  pub stands : StandsBehind checker front
+  pub prefix : List Line
+  pub behind : IsBehind limit left old now prefix
+  pub number_is : number ≡ length prefix + 1
+  pub stands : StandsBehind checker prefix
 
 -- the lines are a whole trace
 pub record IsDone (limit left : ℕ) (old now : Option (List ℕ)) (checker : Checker) (number : ℕ) : Type 0 where
-  pub front : List Line
-  pub behind : IsBehind limit left old now front
-  pub number_is : number ≡ length front + 1
-  pub trace : IsTraceIn checker.version checker.world.count checker.world.start checker.world.moves (flat_map line_text front)
-  pub lines : front ≡ trace_lines checker.version checker.world.count checker.world.start checker.world.moves
+  pub prefix : List Line
+  pub behind : IsBehind limit left old now prefix
+  pub number_is : number ≡ length prefix + 1
+  pub trace : IsTraceIn checker.version checker.world.count checker.world.start checker.world.moves (flat_map line_text prefix)
+  pub lines : prefix ≡ trace_lines checker.version checker.world.count checker.world.start checker.world.moves
 
 -- what comes of the first line: the checker stands after it, or it is wrong, or a fault came
 abbrev pub Opens : ℕ → Option (List ℕ) → Option (List ℕ) → List ℕ → Result (Option Checker) TraceError → Type 0

@@ -10,15 +10,15 @@ use Rattle.ra_world.specs.Run.{IsRun, marks_of}
 pub record LawsBelow : Type 0 where
   -- of runs
   pub none : (n start : ℕ) → IsRun n start []
-  pub fronts : (n start : ℕ) (front back : List Move) → IsRun n start (front ++ back) → IsRun n start front
+  pub prefixes : (n start : ℕ) (prefix rest : List Move) → IsRun n start (prefix ++ rest) → IsRun n start prefix
   pub determined : (n start : ℕ) (a b : List Move) → IsNodeNumber n → IsRun n start a → IsRun n start b
       → map (λ move. move.step) a ≡ map (λ move. move.step) b → a ≡ b
   pub has_table : (n start : ℕ) (moves : List Move) → IsNodeNumber n → IsRun n start moves
       → (table : LockTable) × TableRun (marks_of moves) table
   -- of the lock table
   pub empty : TableRun [] empty_table
-  pub splits : (front back : List Mark) (a c : LockTable) → TableSteps a (front ++ back) c
-      → (b : LockTable) × TableSteps a front b × TableSteps b back c
+  pub splits : (prefix rest : List Mark) (a c : LockTable) → TableSteps a (prefix ++ rest) c
+      → (b : LockTable) × TableSteps a prefix b × TableSteps b rest c
   pub steps_on : (marks : List Mark) (mark : Mark) (table next : LockTable) → TableRun marks table
       → TableStep table mark next → TableRun (marks ++ mark ∷ []) next
   pub goes_on : (marks : List Mark) (mark : Mark) (table : LockTable) → TableRun marks table

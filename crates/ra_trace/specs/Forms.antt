@@ -84,7 +84,7 @@ before read text = option_and_then (λ parts. option_map (λ field. (field, part
 
 -- the field before the first space, and the others after it
 abbrev pub fields : {A B : Type 0} → (List ℕ → Option A) → (List ℕ → Option B) → List ℕ → Option (A × B)
-fields read others text = option_and_then (λ front. option_map (λ rest. (front.0, rest)) (others front.1)) (before read text)
+fields read others text = option_and_then (λ prefix. option_map (λ rest. (prefix.0, rest)) (others prefix.1)) (before read text)
 
 abbrev pub first_in : Version → List ℕ → Option Line
 first_in version text = option_map (λ f. First version f.0 f.1) (fields node_of start_of text)

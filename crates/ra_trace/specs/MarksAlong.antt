@@ -23,8 +23,8 @@ use Rattle.ra_trace.specs.MarksReading.{JudgesMarks, AnswersMarks}
 -- what the lock table says of its runs, as far as mark logs rest on it
 pub record TableLaws : Type 0 where
   pub empty : TableRun [] empty_table
-  pub splits : (front back : List Mark) (a c : LockTable) → TableSteps a (front ++ back) c
-      → (b : LockTable) × TableSteps a front b × TableSteps b back c
+  pub splits : (prefix rest : List Mark) (a c : LockTable) → TableSteps a (prefix ++ rest) c
+      → (b : LockTable) × TableSteps a prefix b × TableSteps b rest c
   pub steps_on : (marks : List Mark) (mark : Mark) (table next : LockTable) → TableRun marks table
       → TableStep table mark next → TableRun (marks ++ mark ∷ []) next
   pub goes_on : (marks : List Mark) (mark : Mark) (table : LockTable) → TableRun marks table

@@ -20,7 +20,7 @@ use Rattle.ra_trace.specs.declared.version.Version.{Version}
 use Rattle.ra_trace.specs.TraceText.{IsLine, IsTraceIn, line_text, move_lines, trace_lines, BeginsWith}
 
 -- the lines so far are those in this version of these moves, a run, except for the marks of the last one that are still due
-pub record IsFront (version : Version) (n start : ℕ) (moves : List Move) (due : List Mark) (lines : List Line) : Type 0 where
+pub record IsPrefix (version : Version) (n start : ℕ) (moves : List Move) (due : List Mark) (lines : List Line) : Type 0 where
   pub count : IsNodeNumber n
   pub run : IsRun n start moves
   pub each : All (IsLine version) lines
@@ -65,12 +65,12 @@ IsFirst Last = ⊥
 -- After these lines no line may stand that begins the text: the first line is no first one of any version, or after it none of its
 -- version begins the text but the first, which may not stand again, or something is left behind the last.
 abbrev pub HasNoLine : List Line → List ℕ → Type 0
-HasNoLine front text =
-    ((front ≡ []) × ((version : Version) (line : Line) (rest : List ℕ) → BeginsWith version text line rest → IsFirst line → ⊥))
-    ⊎ ((version : Version) × (n start : ℕ) × (moves : List Move) × (due : List Mark) × IsFront version n start moves due front
+HasNoLine prefix text =
+    ((prefix ≡ []) × ((version : Version) (line : Line) (rest : List ℕ) → BeginsWith version text line rest → IsFirst line → ⊥))
+    ⊎ ((version : Version) × (n start : ℕ) × (moves : List Move) × (due : List Mark) × IsPrefix version n start moves due prefix
     × ((line : Line) (rest : List ℕ) → BeginsWith version text line rest → IsFirst line))
-    ⊎ ((version : Version) × (n start : ℕ) × (moves : List Move) × IsTraceIn version n start moves (flat_map line_text front)
-    × (front ≡ trace_lines version n start moves) × (text ≢ []))
+    ⊎ ((version : Version) × (n start : ℕ) × (moves : List Move) × IsTraceIn version n start moves (flat_map line_text prefix)
+    × (prefix ≡ trace_lines version n start moves) × (text ≢ []))
 
 -- after these marks, of which these are still due, the line is not the mark that comes next
 abbrev pub IsUndue : List Mark → List Mark → Line → Type 0
@@ -81,24 +81,24 @@ IsUndue marks due Last = due ≢ []
 
 -- why the line that comes next in the text is wrong, after these lines, which are not
 abbrev pub IsWrong : List Line → List ℕ → Cause → Type 0
-IsWrong front text cause.Line = HasNoLine front text
+IsWrong prefix text cause.Line = HasNoLine prefix text
 -- the lock table refuses the mark
-IsWrong front text cause.Table =
-    (version : Version) × (n start : ℕ) × (moves : List Move) × (due : List Mark) × IsFront version n start moves due front
+IsWrong prefix text cause.Table =
+    (version : Version) × (n start : ℕ) × (moves : List Move) × (due : List Mark) × IsPrefix version n start moves due prefix
     × (mark : Mark) × (rest : List ℕ) × BeginsWith version text (Marked mark) rest
-    × (TableGoesOn (marks_in front) mark → ⊥)
+    × (TableGoesOn (marks_in prefix) mark → ⊥)
 -- the lock table allows the mark, but it is not the next one that is due; or one is due, and what comes is no mark
-IsWrong front text cause.Marks =
-    (version : Version) × (n start : ℕ) × (moves : List Move) × (due : List Mark) × IsFront version n start moves due front
+IsWrong prefix text cause.Marks =
+    (version : Version) × (n start : ℕ) × (moves : List Move) × (due : List Mark) × IsPrefix version n start moves due prefix
     × (line : Line) × (rest : List ℕ) × BeginsWith version text line rest
-    × IsUndue (marks_in front) due line
+    × IsUndue (marks_in prefix) due line
 -- no mark is due, and the run does not go on with the step
-IsWrong front text cause.Refused =
-    (version : Version) × (n start : ℕ) × (moves : List Move) × IsFront version n start moves [] front
+IsWrong prefix text cause.Refused =
+    (version : Version) × (n start : ℕ) × (moves : List Move) × IsPrefix version n start moves [] prefix
     × (step : Step) × (rest : List ℕ) × BeginsWith version text (Stepped step) rest
     × IsOfClient step × (GoesOn n start moves step → ⊥)
-IsWrong front text cause.NotUnderWay =
-    (version : Version) × (n start : ℕ) × (moves : List Move) × IsFront version n start moves [] front
+IsWrong prefix text cause.NotUnderWay =
+    (version : Version) × (n start : ℕ) × (moves : List Move) × IsPrefix version n start moves [] prefix
     × (step : Step) × (rest : List ℕ) × BeginsWith version text (Stepped step) rest
     × IsOfMessage step × (GoesOn n start moves step → ⊥)
 
@@ -108,8 +108,8 @@ IsVerdict text (Valid requests messages) =
     (version : Version) × (n start : ℕ) × (moves : List Move) × IsTraceIn version n start moves text
     × (requests ≡ requests_in (marks_of moves)) × (messages ≡ length (sent_by moves))
 IsVerdict text (Invalid line why) =
-    (front : List Line) × (rest : List ℕ) × (text ≡ flat_map line_text front ++ rest)
-    × (line ≡ length front + 1) × IsWrong front rest why
+    (prefix : List Line) × (rest : List ℕ) × (text ≡ flat_map line_text prefix ++ rest)
+    × (line ≡ length prefix + 1) × IsWrong prefix rest why
 
 -- the text is the trace of a run whose marks are a run of the lock table
 abbrev pub IsTraceOfTableRun : List ℕ → Type 0

@@ -18,8 +18,8 @@ abbrev pub MoveFits : Move → Type 0
 MoveFits move = StepFits move.step × All MarkFits move.marks
 
 -- all lines but the last
-abbrev pub front_text : ℕ → ℕ → List Move → List ℕ
-front_text n start moves = line_text (First Two n start) ++ flat_map line_text (flat_map move_lines moves)
+abbrev pub prefix_text : ℕ → ℕ → List Move → List ℕ
+prefix_text n start moves = line_text (First Two n start) ++ flat_map line_text (flat_map move_lines moves)
 
 -- the world of these nodes has made these steps and no others, and the text is that of its moves, except for the last line
 pub record HasTraced (n start : ℕ) (steps : List Step) (world : WorldState) (text : List ℕ) : Type 0 where
@@ -28,7 +28,7 @@ pub record HasTraced (n start : ℕ) (steps : List Step) (world : WorldState) (t
   pub start_is : world.start ≡ start
   pub made : map (λ (move : Move). move.step) world.moves ≡ steps
   pub run : IsRun n start world.moves
-  pub text_is : text ≡ front_text n start world.moves
+  pub text_is : text ≡ prefix_text n start world.moves
   pub fit : All MoveFits world.moves
 
 -- the world of these nodes has made no step

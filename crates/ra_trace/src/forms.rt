@@ -19,7 +19,7 @@ fn behind<'a>(words: &[u8], text: &'a [u8]) -> Option<&'a [u8]>
 /// Reads a node before a space, and returns what stands after it.
 fn node_before(text: &[u8]) -> Option<(NodeId, &[u8])>
     ensures { MatchOption result (spec.before spec.node_of text.now ≡ None)
-        (λ front. spec.before spec.node_of text.now ≡ Some (front.0, front.1.now)) }
+        (λ prefix. spec.before spec.node_of text.now ≡ Some (prefix.0, prefix.1.now)) }
 {
     let (field, rest) = cut(b' ', text)?;
     let node = node_of(field)?;
@@ -29,7 +29,7 @@ fn node_before(text: &[u8]) -> Option<(NodeId, &[u8])>
 /// Reads a client before a space, and returns what stands after it.
 fn client_before(text: &[u8]) -> Option<(u32, &[u8])>
     ensures { MatchOption result (spec.before spec.client_of text.now ≡ None)
-        (λ front. spec.before spec.client_of text.now ≡ Some (front.0, front.1.now)) }
+        (λ prefix. spec.before spec.client_of text.now ≡ Some (prefix.0, prefix.1.now)) }
 {
     let (field, rest) = cut(b' ', text)?;
     let client = client_of(field)?;

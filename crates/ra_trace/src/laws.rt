@@ -12,7 +12,7 @@ ghost use Rattle.ra_trace.specs.MarksAlong.{TableLaws};
 
 use ra_table::{runs_go_on_by_steps, tables_of_one_run_have_the_same_entries};
 use ra_world::{
-    fronts_of_runs_are_runs, marks_of_runs_are_table_runs, runs_are_determined,
+    marks_of_runs_are_table_runs, prefixes_of_runs_are_runs, runs_are_determined,
     runs_go_on_where_steps_are_allowed,
 };
 
@@ -20,7 +20,7 @@ use ra_world::{
 pub fn traces_rest_on_runs()
     ensures { LawsBelow }
 {
-    fronts_of_runs_are_runs();
+    prefixes_of_runs_are_runs();
     marks_of_runs_are_table_runs();
     runs_are_determined();
     runs_go_on_by_steps();

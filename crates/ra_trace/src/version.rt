@@ -11,7 +11,7 @@ use ra_world::Step;
 pub enum Version {
     /// Nodes 1 to 16, the modes `S` and `X`, and no repeats.
     One,
-    /// Nodes 1 to 64, all modes, and repeats.
+    /// Nodes 1 to 64, all modes, and repeats, which came to it later: each text that was a trace before is one still.
     Two,
 }
 

@@ -18,8 +18,8 @@ use crate::ranges::{mark_fits, step_fits};
 use crate::version::Version;
 use ra_stamp::{Marks, Memory, Message, Name, NodeId};
 use ra_world::{
-    NewError, RunError, Step, StepError, Steps, World, fronts_of_runs_are_runs,
-    marks_of_runs_are_numbered, messages_under_way_are_between_nodes, mode_word, push_field,
+    NewError, RunError, Step, StepError, Steps, World, marks_of_runs_are_numbered,
+    messages_under_way_are_between_nodes, mode_word, prefixes_of_runs_are_runs, push_field,
     push_mark_line, push_number, text_of, write_out,
 };
 use std::alloc::Global;
@@ -205,7 +205,7 @@ fn trace_step(
     ensures memory { IsErrOf result WriteTraceError.Memory
         → GoesOn world.old.count world.old.start world.old.moves step.now }
 {
-    fronts_of_runs_are_runs();
+    prefixes_of_runs_are_runs();
     match world.step(alloc, step) {
         Ok(outcome) => {
             push_move(text, step, &outcome.marks)?;
@@ -233,7 +233,7 @@ fn trace_steps(
         → IsErrOf result WriteTraceError.Memory
         → (place : ℕ) × (place < length steps.now.items) × WorldRun n start (take (place + 1) steps.now.items) }
 {
-    fronts_of_runs_are_runs();
+    prefixes_of_runs_are_runs();
     for (place, step) in steps.as_slice().iter().enumerate() {
         trace_step(alloc, text, world, place, step)?;
     }
@@ -257,7 +257,7 @@ fn trace_run(
         → Written nodes start steps.now.items (string_bytes text.new) result }
 {
     marks_of_runs_are_numbered();
-    fronts_of_runs_are_runs();
+    prefixes_of_runs_are_runs();
     messages_under_way_are_between_nodes();
     push_first_line(text, nodes, start)?;
     trace_steps(alloc, text, world, steps)?;
@@ -306,6 +306,7 @@ pub fn trace_text(
 }
 
 /// Writes the trace of a run, as [`trace_text`] gives it: the whole run is made first. No write that failed is tried again.
+/// It has no limit of its own, so that the text may be longer than `check` takes.
 ///
 /// # Errors
 ///
@@ -342,9 +343,9 @@ pub fn write_trace<W: Write>(
 
     ensures unwritten { IfErr result (λ fault. fault ≢ WriteTraceError.Write → writer.new ≡ writer.old) }
     // A fault of the writer comes only with something left to write.
-    ensures front { IsErrOf result WriteTraceError.Write → (moves : List Move) × (front back : List ℕ)
-        × (map (λ move. move.step) moves ≡ steps.now.items) × IsTrace nodes start moves (front ++ back) × (back ≢ [])
-        × Appends (W.contents writer.old) (W.contents writer.new) front }
+    ensures prefix { IsErrOf result WriteTraceError.Write → (moves : List Move) × (prefix rest : List ℕ)
+        × (map (λ move. move.step) moves ≡ steps.now.items) × IsTrace nodes start moves (prefix ++ rest) × (rest ≢ [])
+        × Appends (W.contents writer.old) (W.contents writer.new) prefix }
 {
     let text = trace_text(alloc, nodes, start, steps)?;
     write_out(writer, text.as_bytes())?;

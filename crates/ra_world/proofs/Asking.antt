@@ -16,7 +16,7 @@ use Rattle.ra_automaton.specs.State.{State}
 use Rattle.ra_automaton.specs.Steps.{others_of, Awaits, OwnGoesFirst, RequestStep, LeaveStep}
 use Rattle.ra_world.proofs.Dialogs.{belongs, between, reply_for, requests_to_one, requests_of_others, replies_to_one, replies_of_others}
 use Rattle.ra_world.proofs.Protocol.{IsNode, LetsPass, IsSilent, Dialog, IsPlaced, Protocol, Changes, changed}
-use Rattle.ra_world.proofs.Stepping.{idle_has_none, requests_are, all_asked, passes_after_request, replies_are, idle_after_leave, none_deferred, passes_after_leave}
+use Rattle.ra_world.proofs.AutomatonSteps.{idle_has_none, requests_are, all_asked, passes_after_request, replies_are, idle_after_leave, none_deferred, passes_after_leave}
 
 -- ---- Messages that are put under way
 

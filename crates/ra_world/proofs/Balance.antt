@@ -18,7 +18,7 @@ use Rattle.ra_automaton.specs.State.{State}
 use Rattle.ra_automaton.specs.Steps.{others_of, later_of, RequestStep, LeaveStep}
 use Rattle.ra_bag.specs.Bag.{TakesFirst}
 use Rattle.ra_node.specs.Resource.{Resource}
-use Rattle.ra_node.proofs.Handed.{handed_step, handed_marks}
+use Rattle.ra_node.proofs.HandOverStep.{handed_step, handed_marks}
 use Rattle.ra_node.specs.Turns.{request_marks, next_entry, EntersBy, AskTurn, LeaveTurn, ReceiveTurn}
 use Rattle.ra_world.specs.Quiet.{requests_in}
 use Rattle.ra_automaton.proofs.Apart.{cases_same}
@@ -47,9 +47,9 @@ asking_replies p name (e ∷ es) = asking_replies p name es
 
 asking_taken : (bag : List Message) (m : Message) (rest : List Message) → TakesFirst bag m rest → asking bag ≡ asking rest + asking (m ∷ [])
 asking_taken bag m rest takes =
-    let was = ap asking takes.old_is ∙ asking_both takes.front (m ∷ takes.back) in
-    let one : asking (m ∷ takes.back) ≡ asking (m ∷ []) + asking takes.back = asking_both (m ∷ []) takes.back in
-    let is = ap asking takes.new_is ∙ asking_both takes.front takes.back in
+    let was = ap asking takes.old_is ∙ asking_both takes.prefix (m ∷ takes.suffix) in
+    let one : asking (m ∷ takes.suffix) ≡ asking (m ∷ []) + asking takes.suffix = asking_both (m ∷ []) takes.suffix in
+    let is = ap asking takes.new_is ∙ asking_both takes.prefix takes.suffix in
     omega (arith, was, one, is)
 
 -- ---- The other nodes

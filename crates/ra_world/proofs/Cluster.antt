@@ -16,7 +16,7 @@ use Rattle.ra_automaton.specs.Steps.{RequestStep, ReceiveStep, LeaveStep, LeaveA
 use Rattle.ra_bag.specs.Bag.{TakesFirst}
 use Rattle.ra_node.specs.Resource.{Resource, Use, use_of}
 use Rattle.ra_node.specs.Resource.Use.{Nobody, HoldsBy}
-use Rattle.ra_node.proofs.Handed.{handed_step, handed_marks}
+use Rattle.ra_node.proofs.HandOverStep.{handed_step, handed_marks}
 use Rattle.ra_node.specs.Turns.{request_marks, next_entry, EntersBy, AskTurn, LeaveTurn, ReceiveTurn}
 use Rattle.ra_node.specs.Node.{NodeState, resource_at, IsConsistentNode}
 use Rattle.ra_node.specs.Carried.{IsSend, MarksLead}
@@ -29,7 +29,7 @@ use Rattle.ra_world.proofs.Protocol.{IsNode, IsPlaced, Changes}
 use Rattle.ra_world.proofs.Asking.{none_between}
 use Rattle.ra_world.proofs.Conduct.{Conduct, request_conduct, leave_conduct, request_taken_conduct, reply_taken_conduct, lost_conduct, copied_conduct, undisturbed_conduct}
 use Rattle.ra_world.proofs.Marking.{Tabled, Alters}
-use Rattle.ra_world.proofs.Marks.{MayBeGranted, IsOwn, same_others, use_after, run_request, run_entered, run_left, run_handed, run_nothing}
+use Rattle.ra_world.proofs.EventMarks.{MayBeGranted, IsOwn, same_others, use_after, run_request, run_entered, run_left, run_handed, run_nothing}
 use Rattle.ra_world.proofs.Uses.{IsRequestOf, use_granted, use_waits, may_be_granted}
 
 abbrev pub states : (ℕ → NodeState) → List ℕ → ℕ → State

@@ -14,7 +14,7 @@ use Rattle.ra_automaton.specs.State.{State, IsForNode}
 use Rattle.ra_automaton.specs.Steps.{RequestStep, LeaveStep, LeaveAndRequestStep, ReceiveStep}
 use Rattle.ra_bag.specs.Bag.{TakesFirst}
 use Rattle.ra_node.specs.Resource.{Resource}
-use Rattle.ra_node.proofs.Handed.{handed_step}
+use Rattle.ra_node.proofs.HandOverStep.{handed_step}
 use Rattle.ra_node.specs.Turns.{AskTurn, LeaveTurn, ReceiveTurn}
 use Rattle.ra_node.specs.Node.{NodeState, resource_at}
 use Rattle.ra_node.specs.Carried.{IsSend}

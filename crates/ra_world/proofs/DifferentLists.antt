@@ -72,41 +72,41 @@ last_is (m ∷ k ∷ ms) x y e = absurd cc
 
 -- what is taken without anything left was the only one
 pub took_all : (ms : List Message) (m : Message) (rest : List Message) → TakesFirst ms m rest → rest ≡ [] → ms ≡ m ∷ []
-took_all ms m rest takes none = go takes.front takes.back takes.old_is (sym takes.new_is ∙ none)
+took_all ms m rest takes none = go takes.prefix takes.suffix takes.old_is (sym takes.new_is ∙ none)
   where
-    go : (front back : List Message) → ms ≡ front ++ m ∷ back → front ++ back ≡ [] → ms ≡ m ∷ []
-    go [] back e nothing = e ∙ ap (λ (ys : List Message). m ∷ ys) nothing
-    go (x ∷ front) back e nothing = absurd cc
+    go : (prefix suffix : List Message) → ms ≡ prefix ++ m ∷ suffix → prefix ++ suffix ≡ [] → ms ≡ m ∷ []
+    go [] suffix e nothing = e ∙ ap (λ (ys : List Message). m ∷ ys) nothing
+    go (x ∷ prefix) suffix e nothing = absurd cc
 
 -- what is taken from one leaves nothing
 pub nothing_left : (ms : List Message) (m : Message) (rest : List Message) (x : Message) → TakesFirst ms m rest → ms ≡ x ∷ [] → rest ≡ []
-nothing_left ms m rest x takes one = go takes.front takes.back (sym takes.old_is ∙ one) takes.new_is
+nothing_left ms m rest x takes one = go takes.prefix takes.suffix (sym takes.old_is ∙ one) takes.new_is
   where
-    go : (front back : List Message) → front ++ m ∷ back ≡ x ∷ [] → rest ≡ front ++ back → rest ≡ []
-    go [] back e is = cc
-    go (y ∷ []) back e is = absurd cc
-    go (y ∷ z ∷ front) back e is = absurd cc
+    go : (prefix suffix : List Message) → prefix ++ m ∷ suffix ≡ x ∷ [] → rest ≡ prefix ++ suffix → rest ≡ []
+    go [] suffix e is = cc
+    go (y ∷ []) suffix e is = absurd cc
+    go (y ∷ z ∷ prefix) suffix e is = absurd cc
 
 -- ---- Lists of which some messages are taken
 
-all_but_one : (P : Message → Type 0) (front back : List Message) (m : Message) → All P (front ++ m ∷ back) → All P (front ++ back)
-all_but_one P [] back m all = All-tail P m back all
-all_but_one P (x ∷ front) back m all =
-    All-cons P x (front ++ back) (All-head P x (front ++ m ∷ back) all) (all_but_one P front back m (All-tail P x (front ++ m ∷ back) all))
+all_but_one : (P : Message → Type 0) (prefix suffix : List Message) (m : Message) → All P (prefix ++ m ∷ suffix) → All P (prefix ++ suffix)
+all_but_one P [] suffix m all = All-tail P m suffix all
+all_but_one P (x ∷ prefix) suffix m all =
+    All-cons P x (prefix ++ suffix) (All-head P x (prefix ++ m ∷ suffix) all) (all_but_one P prefix suffix m (All-tail P x (prefix ++ m ∷ suffix) all))
 
-different_but_one : (front back : List Message) (m : Message) → AreDifferent (front ++ m ∷ back) → AreDifferent (front ++ back)
-different_but_one [] back m different = rest_different m back different
-different_but_one (x ∷ front) back m different =
-    AllPairs-cons (λ a b. a ≢ b) x (front ++ back)
-    (all_but_one (λ y. x ≢ y) front back m (first_once x (front ++ m ∷ back) different))
-    (different_but_one front back m (rest_different x (front ++ m ∷ back) different))
+different_but_one : (prefix suffix : List Message) (m : Message) → AreDifferent (prefix ++ m ∷ suffix) → AreDifferent (prefix ++ suffix)
+different_but_one [] suffix m different = rest_different m suffix different
+different_but_one (x ∷ prefix) suffix m different =
+    AllPairs-cons (λ a b. a ≢ b) x (prefix ++ suffix)
+    (all_but_one (λ y. x ≢ y) prefix suffix m (first_once x (prefix ++ m ∷ suffix) different))
+    (different_but_one prefix suffix m (rest_different x (prefix ++ m ∷ suffix) different))
 
 -- what is left of different messages are different ones
 pub left_different : (old taken new : List Message) → TakesEach old taken new → AreDifferent old → AreDifferent new
 left_different old [] new same different = subst AreDifferent (sym same) different
 left_different old (m ∷ taken) new (next, takes, rest) different =
-    let whole : AreDifferent (takes.front ++ m ∷ takes.back) = subst AreDifferent takes.old_is different in
-    left_different next taken new rest (subst AreDifferent (sym takes.new_is) (different_but_one takes.front takes.back m whole))
+    let whole : AreDifferent (takes.prefix ++ m ∷ takes.suffix) = subst AreDifferent takes.old_is different in
+    left_different next taken new rest (subst AreDifferent (sym takes.new_is) (different_but_one takes.prefix takes.suffix m whole))
 
 -- of different messages the one at a place is the first of its kind
 pub first_at : (ms : List Message) (place : ℕ) (m : Message) → AreDifferent ms → place < length ms → get_or ms place m ≡ m

@@ -25,7 +25,7 @@ use Rattle.ra_world.proofs.Protocol.{IsNode}
 use Rattle.ra_node.proofs.Lookups.{resource_changed}
 use Rattle.ra_world.proofs.Moves.{Allows, AllowsAll, allows_moves, allows_more, sent_more, happens, happened_more, fits_split, at_node, only_at}
 use Rattle.ra_world.proofs.Reached.{Reached, under_way_sent, one_list, was_under_way}
-use Rattle.ra_world.proofs.Runs.{fronts, every_run}
+use Rattle.ra_world.proofs.Runs.{prefixes, every_run}
 use Rattle.ra_world.proofs.DifferentLists.{AreDifferent, none_different, different_by}
 use Rattle.ra_world.proofs.DifferentEvents.{EverySaid, Happens, said_by_same, said_after_loss, said_by_ask, said_by_leave, said_by_receive}
 
@@ -192,18 +192,18 @@ module _ (laws : LawsBelow) (n start : ℕ) where
     reached moves may run = every_run laws n start moves may count run
 
     -- one move after the other
-    move_by_move : (back ms : List Move) (before : AllowsAll (Unit {0}) ⊥ ms) (run : IsRun n start ms) → AllowsAll (Unit {0}) ⊥ back → Known n start ms (reached ms before run) → IsRun n start (ms ++ back) → AreDifferent (sent_by (ms ++ back))
+    move_by_move : (suffix ms : List Move) (before : AllowsAll (Unit {0}) ⊥ ms) (run : IsRun n start ms) → AllowsAll (Unit {0}) ⊥ suffix → Known n start ms (reached ms before run) → IsRun n start (ms ++ suffix) → AreDifferent (sent_by (ms ++ suffix))
     move_by_move [] ms before run may known all = subst (λ (moves : List Move). AreDifferent (sent_by moves)) (sym (append-nil ms)) (all_different n start ms (reached ms before run) known)
-    move_by_move (m ∷ back) ms before run may known all =
-        let again : ms ++ m ∷ back ≡ (ms ++ m ∷ []) ++ back = sym (append_assoc ms (m ∷ []) back) in
+    move_by_move (m ∷ suffix) ms before run may known all =
+        let again : ms ++ m ∷ suffix ≡ (ms ++ m ∷ []) ++ suffix = sym (append_assoc ms (m ∷ []) suffix) in
         let all' = subst (IsRun n start) again all in
-        let run' = fronts laws.splits n start back (ms ++ m ∷ []) all' in
+        let run' = prefixes laws.splits n start suffix (ms ++ m ∷ []) all' in
         let before' = allows_more (Unit {0}) ⊥ ms m before may.0 in
-        let fit = (fits_split n [] ms (m ∷ back) all.each_fits).1.0 in
+        let fit = (fits_split n [] ms (m ∷ suffix) all.each_fits).1.0 in
         let next = known_by ms m.sends m.marks (reached ms before run) known m.step may.0 fit (reached (ms ++ m ∷ []) before' run') in
-        subst (λ (moves : List Move). AreDifferent (sent_by moves)) (sym again) (move_by_move back (ms ++ m ∷ []) before' run' may.1 next all')
+        subst (λ (moves : List Move). AreDifferent (sent_by moves)) (sym again) (move_by_move suffix (ms ++ m ∷ []) before' run' may.1 next all')
 
     pub messages_differ : (moves : List Move) → IsRun n start moves → repeated_by moves ≡ [] → AreDifferent (sent_by moves)
     messages_differ moves run unrepeated =
-        let none = fronts laws.splits n start moves [] run in
+        let none = prefixes laws.splits n start moves [] run in
         move_by_move moves [] tt none (allows_moves moves (inr tt) (inl unrepeated)) (nothing_known n start (reached [] tt none)) run

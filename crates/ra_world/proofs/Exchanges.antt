@@ -124,11 +124,11 @@ pending_still {Lossy} r i j sj sj' ms ms' seq mode holds more was = elim was [
 
 pub taken_or_left : (ms : List Message) (m : Message) (rest : List Message) (x : Message) → TakesFirst ms m rest → Contains ms x → (m ≡ x) ⊎ Contains rest x
 taken_or_left ms m rest x takes at =
-    elim (Contains-append_cases takes.front (m ∷ takes.back) x (subst (λ (xs : List Message). Contains xs x) takes.old_is at)) [
-      | inl front ↦ inr (subst (λ (xs : List Message). Contains xs x) (sym takes.new_is) (Contains-append_left takes.front takes.back x front))
-      | inr behind ↦ elim (Contains-append_cases (m ∷ []) takes.back x behind) [
+    elim (Contains-append_cases takes.prefix (m ∷ takes.suffix) x (subst (λ (xs : List Message). Contains xs x) takes.old_is at)) [
+      | inl earlier ↦ inr (subst (λ (xs : List Message). Contains xs x) (sym takes.new_is) (Contains-append_left takes.prefix takes.suffix x earlier))
+      | inr behind ↦ elim (Contains-append_cases (m ∷ []) takes.suffix x behind) [
         | inl here ↦ inl (only m x here)
-        | inr back ↦ inr (subst (λ (xs : List Message). Contains xs x) (sym takes.new_is) (Contains-append_right takes.front takes.back x back))
+        | inr later ↦ inr (subst (λ (xs : List Message). Contains xs x) (sym takes.new_is) (Contains-append_right takes.prefix takes.suffix x later))
       ]
     ]
   where
@@ -139,11 +139,11 @@ taken_or_left ms m rest x takes at =
 pub was_there : (ms : List Message) (m : Message) (rest : List Message) (x : Message) → TakesFirst ms m rest → Contains rest x → Contains ms x
 was_there ms m rest x takes at =
     subst (λ (xs : List Message). Contains xs x) (sym takes.old_is)
-    (elim (Contains-append_cases takes.front takes.back x (subst (λ (xs : List Message). Contains xs x) takes.new_is at)) [
-      | inl front ↦ Contains-append_left takes.front (m ∷ takes.back) x front
-      | inr back ↦ Contains-append_right takes.front (m ∷ takes.back) x (Contains-append_right (m ∷ []) takes.back x back)
+    (elim (Contains-append_cases takes.prefix takes.suffix x (subst (λ (xs : List Message). Contains xs x) takes.new_is at)) [
+      | inl earlier ↦ Contains-append_left takes.prefix (m ∷ takes.suffix) x earlier
+      | inr later ↦ Contains-append_right takes.prefix (m ∷ takes.suffix) x (Contains-append_right (m ∷ []) takes.suffix x later)
     ])
 
 pub was_first : (ms : List Message) (m : Message) (rest : List Message) → TakesFirst ms m rest → Contains ms m
 was_first ms m rest takes =
-    subst (λ (xs : List Message). Contains xs m) (sym takes.old_is) (Contains-append_right takes.front (m ∷ takes.back) m (0, omega arith, refl))
+    subst (λ (xs : List Message). Contains xs m) (sym takes.old_is) (Contains-append_right takes.prefix (m ∷ takes.suffix) m (0, omega arith, refl))

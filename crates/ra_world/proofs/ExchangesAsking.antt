@@ -10,7 +10,7 @@ use Rattle.ra_automaton.specs.State.{State}
 use Rattle.ra_automaton.specs.Steps.{others_of, Awaits, RequestStep, LeaveStep}
 use Rattle.ra_world.proofs.Dialogs.{between, reply_for, requests_to_one, requests_of_others, replies_to_one, replies_of_others}
 use Rattle.ra_world.proofs.Protocol.{IsNode, HasOwn, LetsPass, IsPlaced, Changes}
-use Rattle.ra_world.proofs.Stepping.{idle_has_none, idle_goes_last, awaits_has, requests_are, all_asked, passes_after_request, own_after_request, higher_after_request, replies_are, idle_after_leave, none_deferred, passes_after_leave}
+use Rattle.ra_world.proofs.AutomatonSteps.{idle_has_none, idle_goes_last, awaits_has, requests_are, all_asked, passes_after_request, own_after_request, higher_after_request, replies_are, idle_after_leave, none_deferred, passes_after_leave}
 use Rattle.ra_world.proofs.Exchanges.{IsUsed, WasMade, Grants, Holds, Pending, Exchange, Exchanges, exchanges_changed, exchange_kept, grants_still, pending_still}
 use Rattle.ra_world.proofs.Asking.{more_between, none_between}
 

@@ -18,7 +18,7 @@ use Rattle.ra_automaton.proofs.Apart.{cases_same}
 use Rattle.ra_world.proofs.Lists.{filter_hit, filter_miss, filter_taken, filter_left}
 use Rattle.ra_world.proofs.Dialogs.{belongs, between, IsOf, belongs_at, belongs_not, between_none}
 use Rattle.ra_world.proofs.Protocol.{IsNode, HasOwn, LetsPass, IsPlaced, Changes}
-use Rattle.ra_world.proofs.Stepping.{awaits_has, phase_same, awaited_same, highest_is, deferred_other, first_same, first_back, passes_after_receive, deferred_here, still_awaited, not_awaited, own_is, own_was, waited_so, first_as, same_rest, passes_after_reply}
+use Rattle.ra_world.proofs.AutomatonSteps.{awaits_has, phase_same, awaited_same, highest_is, deferred_other, first_same, first_back, passes_after_receive, deferred_here, still_awaited, not_awaited, own_is, own_was, waited_so, first_as, same_rest, passes_after_reply}
 use Rattle.ra_world.proofs.Exchanges.{IsUsed, WasMade, Grants, Holds, Pending, Exchange, Exchanges, KeepsAsker, exchanges_changed, exchange_kept, grants_still, pending_still, taken_or_left, was_there, was_first}
 use Rattle.ra_world.proofs.Asking.{more_between, none_between}
 use Rattle.ra_world.proofs.ExchangesAsking.{same_request, not_a_reply}

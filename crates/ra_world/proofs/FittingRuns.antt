@@ -1,4 +1,4 @@
--- Steps that fit together are a run: going through them from the front, each is the next event of its node, and a message
+-- Steps that fit together are a run: going through them in order, each is the next event of its node, and a message
 -- that it takes is under way.
 use Rattle.std.proofs.Common.{◌≡◌, ◌≢◌, ℕ, zero, suc, ◌≤◌, List, [], ◌∷◌, ◌++◌, map, take, length, All, Contains, refl, sym, ap, ◌∙◌, subst, append_assoc, arith, inl, inr}
 use Rattle.std.specs.Prelude.{flat_map}
@@ -54,25 +54,25 @@ next_of (x ∷ events) event more (h ∷ hs) e =
 
 -- ---- What one more step adds
 
-events_more : (i : ℕ) (front : List Step) (step : Step) → flat_map (events_at i) (front ++ step ∷ []) ≡ flat_map (events_at i) front ++ events_at i step
-events_more i front step = sym (flat_map_more (events_at i) [] front step)
+events_more : (i : ℕ) (prefix : List Step) (step : Step) → flat_map (events_at i) (prefix ++ step ∷ []) ≡ flat_map (events_at i) prefix ++ events_at i step
+events_more i prefix step = sym (flat_map_more (events_at i) [] prefix step)
 
 -- to what the node did of which it is an event
-done_more : (happenings : List Happening) (i : ℕ) (front : List Step) (step : Step) (event : Event) → events_at i step ≡ event ∷ []
-    → (next : IsNext happenings (length (flat_map (events_at i) front)) event)
-    → happened_by happenings i (front ++ step ∷ []) ≡ happened_by happenings i front ++ next.this ∷ []
-done_more happenings i front step event here next =
-    let events = flat_map (events_at i) front in
-    let more : flat_map (events_at i) (front ++ step ∷ []) ≡ events ++ event ∷ [] = events_more i front step ∙ ap (λ (es : List Event). events ++ es) here in
-    let many : length (flat_map (events_at i) (front ++ step ∷ [])) ≡ suc (length events) = omega (arith, ap length more, length_push events event) in
+done_more : (happenings : List Happening) (i : ℕ) (prefix : List Step) (step : Step) (event : Event) → events_at i step ≡ event ∷ []
+    → (next : IsNext happenings (length (flat_map (events_at i) prefix)) event)
+    → happened_by happenings i (prefix ++ step ∷ []) ≡ happened_by happenings i prefix ++ next.this ∷ []
+done_more happenings i prefix step event here next =
+    let events = flat_map (events_at i) prefix in
+    let more : flat_map (events_at i) (prefix ++ step ∷ []) ≡ events ++ event ∷ [] = events_more i prefix step ∙ ap (λ (es : List Event). events ++ es) here in
+    let many : length (flat_map (events_at i) (prefix ++ step ∷ [])) ≡ suc (length events) = omega (arith, ap length more, length_push events event) in
     ap (λ (k : ℕ). take k happenings) many ∙ next.with_this
 
 -- and to what another one did
-done_same : (happenings : List Happening) (i : ℕ) (front : List Step) (step : Step) → events_at i step ≡ []
-    → happened_by happenings i (front ++ step ∷ []) ≡ happened_by happenings i front
-done_same happenings i front step none =
-    let events = flat_map (events_at i) front in
-    ap (λ (es : List Event). take (length es) happenings) (events_more i front step ∙ ap (λ (es : List Event). events ++ es) none ∙ append-nil events)
+done_same : (happenings : List Happening) (i : ℕ) (prefix : List Step) (step : Step) → events_at i step ≡ []
+    → happened_by happenings i (prefix ++ step ∷ []) ≡ happened_by happenings i prefix
+done_same happenings i prefix step none =
+    let events = flat_map (events_at i) prefix in
+    ap (λ (es : List Event). take (length es) happenings) (events_more i prefix step ∙ ap (λ (es : List Event). events ++ es) none ∙ append-nil events)
 
 -- a move that is no event at a node adds nothing there
 nothing_more : (i : ℕ) (moves : List Move) (move : Move) → events_at i move.step ≡ [] → happened_at i (moves ++ move ∷ []) ≡ happened_at i moves
@@ -119,24 +119,24 @@ taken_of [] = refl
 taken_of (move ∷ moves) = ap (λ (ms : List Message). taken_in move.step ++ ms) (taken_of moves)
 
 -- of different messages those before one are not that one
-others_before : (front back : List Message) (message : Message) → AreDifferent (front ++ message ∷ back) → All (λ m. m ≢ message) front
-others_before front back message different k d within is =
-    different k (length front) d within (omega (arith, length-append front (message ∷ back)))
-    (get_or_append_left front (message ∷ back) d k within ∙ is ∙ sym (get_or_at front message back d (length front) refl))
+others_before : (prefix suffix : List Message) (message : Message) → AreDifferent (prefix ++ message ∷ suffix) → All (λ m. m ≢ message) prefix
+others_before prefix suffix message different k d within is =
+    different k (length prefix) d within (omega (arith, length-append prefix (message ∷ suffix)))
+    (get_or_append_left prefix (message ∷ suffix) d k within ∙ is ∙ sym (get_or_at prefix message suffix d (length prefix) refl))
 
 -- where another message is taken, one that was there is still there
 stays_in : (old : List Message) (taken : Message) (new : List Message) (message : Message) → TakesFirst old taken new → taken ≢ message
     → Contains old message → Contains new message
 stays_in old taken new message takes apart at =
     subst (λ (ms : List Message). Contains ms message) (sym takes.new_is)
-    (elim (Contains-append_cases takes.front (taken ∷ takes.back) message (subst (λ (ms : List Message). Contains ms message) takes.old_is at)) [
-      | inl before ↦ Contains-append_left takes.front takes.back message before
-      | inr from ↦ Contains-append_right takes.front takes.back message (behind takes.back from)
+    (elim (Contains-append_cases takes.prefix (taken ∷ takes.suffix) message (subst (λ (ms : List Message). Contains ms message) takes.old_is at)) [
+      | inl before ↦ Contains-append_left takes.prefix takes.suffix message before
+      | inr from ↦ Contains-append_right takes.prefix takes.suffix message (behind takes.suffix from)
     ])
   where
-    behind : (back : List Message) → Contains (taken ∷ back) message → Contains back message
-    behind back (zero, lt, is) = absurd (apart is)
-    behind back (suc k, lt, is) = (k, omega (arith, lt), is)
+    behind : (suffix : List Message) → Contains (taken ∷ suffix) message → Contains suffix message
+    behind suffix (zero, lt, is) = absurd (apart is)
+    behind suffix (suc k, lt, is) = (k, omega (arith, lt), is)
 
 left_in : (sent taken left : List Message) (message : Message) → TakesEach sent taken left → All (λ m. m ≢ message) taken
     → Contains sent message → Contains left message
@@ -167,7 +167,7 @@ none_gone n start happened = record {
 }
 
 module _
-    (splits : (front back : List Happening) (a c : NodeState) → NodeEvents a (front ++ back) c → (b : NodeState) × NodeEvents a front b × NodeEvents b back c)
+    (splits : (prefix suffix : List Happening) (a c : NodeState) → NodeEvents a (prefix ++ suffix) c → (b : NodeState) × NodeEvents a prefix b × NodeEvents b suffix c)
     (one_end : (old a b : NodeState) (happened : List Happening) → NodeEvents old happened a → NodeEvents old happened b → a ≡ b)
     (exist : (n start : ℕ) (moves : List Move) → IsNodeNumber n → IsRun n start moves → (left : List Message) × LeavesUnderWay moves left)
     (between : (n start : ℕ) (moves : List Move) (message : Message) → IsNodeNumber n → IsRun n start moves → IsUnderWay moves message
@@ -183,34 +183,34 @@ module _
     × EndsWith n start (moves ++ record { step = Lose message; sends = []; marks = [] } ∷ []) nodes)
     (n start : ℕ) (steps : List Step) (happened : ℕ → List Happening) (count : IsNodeNumber n) (fit : FitTogether n start steps happened)
   where
-    module _ (front : List Step) (step : Step) (back : List Step) (parts : steps ≡ front ++ step ∷ back) (before : GoneBy n start happened front) where
+    module _ (prefix : List Step) (step : Step) (suffix : List Step) (parts : steps ≡ prefix ++ step ∷ suffix) (before : GoneBy n start happened prefix) where
       names : NamesNode n step
-      names = All-contains (NamesNode n) (front ++ step ∷ back) step (subst (All (NamesNode n)) parts fit.named)
-          (Contains-append_right front (step ∷ back) step (0, omega arith, refl))
+      names = All-contains (NamesNode n) (prefix ++ step ∷ suffix) step (subst (All (NamesNode n)) parts fit.named)
+          (Contains-append_right prefix (step ∷ suffix) step (0, omega arith, refl))
 
       -- a message that the step takes is under way
       other_taken : (message : Message) → taken_in step ≡ message ∷ [] → All (λ m. m ≢ message) (taken_by before.moves)
       other_taken message takes =
-          let whole : flat_map taken_in steps ≡ flat_map taken_in front ++ message ∷ flat_map taken_in back =
-          ap (flat_map taken_in) parts ∙ flat_map-append taken_in front (step ∷ back)
-          ∙ ap (λ (ms : List Message). flat_map taken_in front ++ (ms ++ flat_map taken_in back)) takes
+          let whole : flat_map taken_in steps ≡ flat_map taken_in prefix ++ message ∷ flat_map taken_in suffix =
+          ap (flat_map taken_in) parts ∙ flat_map-append taken_in prefix (step ∷ suffix)
+          ∙ ap (λ (ms : List Message). flat_map taken_in prefix ++ (ms ++ flat_map taken_in suffix)) takes
           in
-          let others = others_before (flat_map taken_in front) (flat_map taken_in back) message (subst AreDifferent whole fit.once) in
+          let others = others_before (flat_map taken_in prefix) (flat_map taken_in suffix) message (subst AreDifferent whole fit.once) in
           subst (All (λ m. m ≢ message)) (sym (taken_of before.moves ∙ ap (flat_map taken_in) before.steps_are)) others
 
       under_way : (message : Message) → taken_in step ≡ message ∷ [] → IsUnderWay before.moves message
       under_way message takes =
-          let was = All-head (WasSentBy n happened front) message [] (subst (All (WasSentBy n happened front)) takes (fit.sent front step back parts)) in
+          let was = All-head (WasSentBy n happened prefix) message [] (subst (All (WasSentBy n happened prefix)) takes (fit.sent prefix step suffix parts)) in
           let sent = sent_at was.0 before.moves message (subst (λ (hs : List Happening). Contains (sent_in hs) message) (sym (before.each was.0 was.1 was.2)) was.3) in
           let left = exist n start before.moves count before.run in
           (left.0, left.1, left_in (put_by before.moves) (taken_by before.moves) left.0 message left.1 (other_taken message takes) (sent_is_put before.moves message sent))
 
       -- the step is the next event of a node
       module _ (p : ℕ) (within : IsNode n p) (event : Event) (here : events_at p step ≡ event ∷ []) where
-        next : IsNext (happened p) (length (flat_map (events_at p) front)) event
-        next = next_of (flat_map (events_at p) front) event (flat_map (events_at p) back) (happened p)
-            (fit.events p within.0 within.1 ∙ ap (flat_map (events_at p)) parts ∙ flat_map-append (events_at p) front (step ∷ back)
-            ∙ ap (λ (es : List Event). flat_map (events_at p) front ++ (es ++ flat_map (events_at p) back)) here)
+        next : IsNext (happened p) (length (flat_map (events_at p) prefix)) event
+        next = next_of (flat_map (events_at p) prefix) event (flat_map (events_at p) suffix) (happened p)
+            (fit.events p within.0 within.1 ∙ ap (flat_map (events_at p)) parts ∙ flat_map-append (events_at p) prefix (step ∷ suffix)
+            ∙ ap (λ (es : List Event). flat_map (events_at p) prefix ++ (es ++ flat_map (events_at p) suffix)) here)
 
         abbrev move : Move
         move = record { step = step; sends = next.this.sends; marks = next.this.marks }
@@ -218,7 +218,7 @@ module _
         happening : (new : NodeState) × NodeEvent (before.nodes p) event next.this.sends next.this.marks new
         happening =
             let opening = opening_node p n start in
-            let done = happened_by (happened p) p front in
+            let done = happened_by (happened p) p prefix in
             let history = fit.nodes p within.0 within.1 in
             let cut = splits done (next.this ∷ next.later) opening history.0 (subst (λ (hs : List Happening). NodeEvents opening hs history.0) next.parts history.1) in
             let same : cut.0 ≡ before.nodes p = one_end opening cut.0 (before.nodes p) done cut.1
@@ -234,19 +234,19 @@ module _
         happens_this = happens_here p move event here
             ∙ ap (λ (e : Event). record { event = e; sends = next.this.sends; marks = next.this.marks } ∷ []) (sym next.is)
 
-        at_this : happened_at p (before.moves ++ move ∷ []) ≡ happened_by (happened p) p (front ++ step ∷ [])
+        at_this : happened_at p (before.moves ++ move ∷ []) ≡ happened_by (happened p) p (prefix ++ step ∷ [])
         at_this = happened_more p before.moves move ∙ (λ i. before.each p within.0 within.1 i ++ happens_this i)
-            ∙ sym (done_more (happened p) p front step event here next)
+            ∙ sym (done_more (happened p) p prefix step event here next)
 
-        at_each : (i : ℕ) → 1 ≤ i → i ≤ n → happened_at i (before.moves ++ move ∷ []) ≡ happened_by (happened i) i (front ++ step ∷ [])
+        at_each : (i : ℕ) → 1 ≤ i → i ≤ n → happened_at i (before.moves ++ move ∷ []) ≡ happened_by (happened i) i (prefix ++ step ∷ [])
         at_each i low high = elim (cases_same i p) [
-          | inl same ↦ subst (λ (k : ℕ). happened_at k (before.moves ++ move ∷ []) ≡ happened_by (happened k) k (front ++ step ∷ [])) (sym same) at_this
+          | inl same ↦ subst (λ (k : ℕ). happened_at k (before.moves ++ move ∷ []) ≡ happened_by (happened k) k (prefix ++ step ∷ [])) (sym same) at_this
           | inr apart ↦
               let none = only_at p i step event here apart in
-              nothing_more i before.moves move none ∙ before.each i low high ∙ sym (done_same (happened i) i front step none)
+              nothing_more i before.moves move none ∙ before.each i low high ∙ sym (done_same (happened i) i prefix step none)
         ]
 
-        on_by_event : ((sends : List Message) (marks : List Mark) → IsFit n before.moves step sends marks) → GoneBy n start happened (front ++ step ∷ [])
+        on_by_event : ((sends : List Message) (marks : List Mark) → IsFit n before.moves step sends marks) → GoneBy n start happened (prefix ++ step ∷ [])
         on_by_event fits =
             let on = by_event n start before.moves before.nodes p event move happening.0 count before.run before.ends within.0 within.1
             (fits move.sends move.marks) here happening.1
@@ -260,52 +260,52 @@ module _
               each = at_each;
             }
 
-    on_by_loss : (front : List Step) (message : Message) (back : List Step) → steps ≡ front ++ Lose message ∷ back → GoneBy n start happened front
-        → GoneBy n start happened (front ++ Lose message ∷ [])
-    on_by_loss front message back parts before =
+    on_by_loss : (prefix : List Step) (message : Message) (suffix : List Step) → steps ≡ prefix ++ Lose message ∷ suffix → GoneBy n start happened prefix
+        → GoneBy n start happened (prefix ++ Lose message ∷ [])
+    on_by_loss prefix message suffix parts before =
         let move : Move = record { step = Lose message; sends = []; marks = [] } in
-        let on = by_loss n start before.moves before.nodes message before.run before.ends (under_way front (Lose message) back parts before message refl) in
+        let on = by_loss n start before.moves before.nodes message before.run before.ends (under_way prefix (Lose message) suffix parts before message refl) in
         record {
           moves = before.moves ++ move ∷ [];
           steps_are = map_push (λ (m : Move). m.step) before.moves move ∙ ap (λ (ss : List Step). ss ++ Lose message ∷ []) before.steps_are;
           run = on.0;
           nodes = before.nodes;
           ends = on.1;
-          each = λ i low high. nothing_more i before.moves move refl ∙ before.each i low high ∙ sym (done_same (happened i) i front (Lose message) refl);
+          each = λ i low high. nothing_more i before.moves move refl ∙ before.each i low high ∙ sym (done_same (happened i) i prefix (Lose message) refl);
         }
 
     -- one more step of any kind
-    one_on : (front : List Step) (step : Step) (back : List Step) → steps ≡ front ++ step ∷ back → GoneBy n start happened front
-        → GoneBy n start happened (front ++ step ∷ [])
-    one_on front (Ask node client name mode) back parts before =
+    one_on : (prefix : List Step) (step : Step) (suffix : List Step) → steps ≡ prefix ++ step ∷ suffix → GoneBy n start happened prefix
+        → GoneBy n start happened (prefix ++ step ∷ [])
+    one_on prefix (Ask node client name mode) suffix parts before =
         let step = Ask node client name mode in
         let event = AskedFor client name mode in
-        let within = names front step back parts before in
-        on_by_event front step back parts before node within event (at_node node event) (λ _ _. within)
-    one_on front (Leave node client name) back parts before =
+        let within = names prefix step suffix parts before in
+        on_by_event prefix step suffix parts before node within event (at_node node event) (λ _ _. within)
+    one_on prefix (Leave node client name) suffix parts before =
         let step = Leave node client name in
         let event = GivenBack client name in
-        let within = names front step back parts before in
-        on_by_event front step back parts before node within event (at_node node event) (λ _ _. within)
-    one_on front (Deliver message) back parts before =
+        let within = names prefix step suffix parts before in
+        on_by_event prefix step suffix parts before node within event (at_node node event) (λ _ _. within)
+    one_on prefix (Deliver message) suffix parts before =
         let step = Deliver message in
         let event = Received message in
-        let was = under_way front step back parts before message refl in
+        let was = under_way prefix step suffix parts before message refl in
         let within = (between n start before.moves message count before.run was).0 in
-        on_by_event front step back parts before (to_of message) within event (at_node (to_of message) event) (λ _ _. was)
-    one_on front (Lose message) back parts before = on_by_loss front message back parts before
-    one_on front (Repeat message) back parts before =
-        absurd (not_none (flat_map repeated_in front) message (flat_map repeated_in back)
-        (sym (ap (flat_map repeated_in) parts ∙ flat_map-append repeated_in front (Repeat message ∷ back)) ∙ fit.unrepeated))
+        on_by_event prefix step suffix parts before (to_of message) within event (at_node (to_of message) event) (λ _ _. was)
+    one_on prefix (Lose message) suffix parts before = on_by_loss prefix message suffix parts before
+    one_on prefix (Repeat message) suffix parts before =
+        absurd (not_none (flat_map repeated_in prefix) message (flat_map repeated_in suffix)
+        (sym (ap (flat_map repeated_in) parts ∙ flat_map-append repeated_in prefix (Repeat message ∷ suffix)) ∙ fit.unrepeated))
       where
         not_none : (xs : List Message) (x : Message) (ys : List Message) → xs ++ x ∷ ys ≡ [] → ⊥
         not_none xs x ys e = omega (arith, ap length e, length-append xs (x ∷ ys))
 
-    all_on : (back front : List Step) → steps ≡ front ++ back → GoneBy n start happened front → GoneBy n start happened (front ++ back)
-    all_on [] front parts before = subst (GoneBy n start happened) (sym (append-nil front)) before
-    all_on (step ∷ back) front parts before =
-        let again : front ++ step ∷ back ≡ (front ++ step ∷ []) ++ back = sym (append_assoc front (step ∷ []) back) in
-        subst (GoneBy n start happened) (sym again) (all_on back (front ++ step ∷ []) (parts ∙ again) (one_on front step back parts before))
+    all_on : (suffix prefix : List Step) → steps ≡ prefix ++ suffix → GoneBy n start happened prefix → GoneBy n start happened (prefix ++ suffix)
+    all_on [] prefix parts before = subst (GoneBy n start happened) (sym (append-nil prefix)) before
+    all_on (step ∷ suffix) prefix parts before =
+        let again : prefix ++ step ∷ suffix ≡ (prefix ++ step ∷ []) ++ suffix = sym (append_assoc prefix (step ∷ []) suffix) in
+        subst (GoneBy n start happened) (sym again) (all_on suffix (prefix ++ step ∷ []) (parts ∙ again) (one_on prefix step suffix parts before))
 
     all_gone : GoneBy n start happened steps
     all_gone = all_on steps [] refl (none_gone n start happened)

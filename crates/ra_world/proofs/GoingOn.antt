@@ -24,7 +24,7 @@ use Rattle.ra_world.proofs.Reached.{Reached, was_under_way, event_happened}
 use Rattle.ra_world.proofs.Runs.{every_run, same_ends}
 
 -- what a node really makes of a step goes on with a run
-pub event_goes_on : ((front back : List Happening) (a b c : NodeState) → NodeEvents a front b → NodeEvents b back c → NodeEvents a (front ++ back) c)
+pub event_goes_on : ((prefix rest : List Happening) (a b c : NodeState) → NodeEvents a prefix b → NodeEvents b rest c → NodeEvents a (prefix ++ rest) c)
     → (n start : ℕ) (moves : List Move) (nodes : ℕ → NodeState) (i : ℕ) (event : Event) (move : Move) (new : NodeState) → IsRun n start moves → EndsWith n start moves nodes
     → IsFit n moves move.step move.sends move.marks → events_at i move.step ≡ event ∷ [] → NodeEvent (nodes i) event move.sends move.marks new
     → IsRun n start (moves ++ move ∷ []) × EndsWith n start (moves ++ move ∷ []) (with_node nodes i new)

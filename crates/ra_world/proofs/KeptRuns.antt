@@ -99,7 +99,7 @@ module _
     contains_first : (left next : List Message) (message : Message) → TakesFirst left message next → Contains left message
     contains_first left next message takes =
         subst (λ (ms : List Message). Contains ms message) (sym takes.old_is)
-        (length takes.front, omega (arith, length-append takes.front (message ∷ takes.back)), get_or_at takes.front message takes.back message (length takes.front) refl)
+        (length takes.prefix, omega (arith, length-append takes.prefix (message ∷ takes.suffix)), get_or_at takes.prefix message takes.suffix message (length takes.prefix) refl)
 
     pub after_loss : (start : ℕ) (nodes : List NodeState) (left next : List Message) (moves : List Move) (message : Message)
         → Keeps start nodes left moves → TakesFirst left message next

@@ -3,7 +3,7 @@ mod Lists
 mod Dialogs
 mod Members
 mod Protocol
-mod Stepping
+mod AutomatonSteps
 mod Asking
 mod Receiving
 mod Exchanges
@@ -12,13 +12,13 @@ mod ExchangesReceiving
 mod Conduct
 mod Tables
 mod Marking
-mod Marks
+mod EventMarks
 mod Uses
 mod Cluster
-mod Counting
+mod WaitingCounts
 mod Blocked
 mod Balance
-mod Counted
+mod NobodyDeferred
 pub mod Moves
 mod Nodes
 mod Reached
@@ -34,7 +34,7 @@ mod DifferentTurns
 mod DifferentEvents
 mod DifferentRuns
 mod Walks
-mod Counts
+mod LogCounts
 mod KeptRuns
 mod Bringing
 mod Queues

@@ -41,57 +41,57 @@ All-filter P p (x ∷ xs) all =
 pub filter_taken : (p : Message → Bool) (xs : List Message) (m : Message) (ys : List Message) → p m ≡ true → TakesFirst xs m ys → TakesFirst (filter p xs) m (filter p ys)
 filter_taken p xs m ys e takes =
     record {
-      front = filter p takes.front;
-      back = filter p takes.back;
-      old_is = ap (filter p) takes.old_is ∙ filter-append p takes.front (m ∷ takes.back) ∙ ap (λ (zs : List Message). filter p takes.front ++ zs) (filter_hit p m takes.back e);
-      first = All-filter (λ x. x ≢ m) p takes.front takes.first;
-      new_is = ap (filter p) takes.new_is ∙ filter-append p takes.front takes.back;
+      prefix = filter p takes.prefix;
+      suffix = filter p takes.suffix;
+      old_is = ap (filter p) takes.old_is ∙ filter-append p takes.prefix (m ∷ takes.suffix) ∙ ap (λ (zs : List Message). filter p takes.prefix ++ zs) (filter_hit p m takes.suffix e);
+      first = All-filter (λ x. x ≢ m) p takes.prefix takes.first;
+      new_is = ap (filter p) takes.new_is ∙ filter-append p takes.prefix takes.suffix;
     }
 
 pub filter_left : (p : Message → Bool) (xs : List Message) (m : Message) (ys : List Message) → p m ≡ false → TakesFirst xs m ys → filter p ys ≡ filter p xs
 filter_left p xs m ys e takes =
-    ap (filter p) takes.new_is ∙ filter-append p takes.front takes.back
-    ∙ sym (ap (filter p) takes.old_is ∙ filter-append p takes.front (m ∷ takes.back) ∙ ap (λ (zs : List Message). filter p takes.front ++ zs) (filter_miss p m takes.back e))
+    ap (filter p) takes.new_is ∙ filter-append p takes.prefix takes.suffix
+    ∙ sym (ap (filter p) takes.old_is ∙ filter-append p takes.prefix (m ∷ takes.suffix) ∙ ap (λ (zs : List Message). filter p takes.prefix ++ zs) (filter_miss p m takes.suffix e))
 
 pub takes_none : (m : Message) (ys : List Message) → TakesFirst [] m ys → ⊥
-takes_none m ys takes = go takes.front takes.back takes.old_is
+takes_none m ys takes = go takes.prefix takes.suffix takes.old_is
   where
-    go : (front back : List Message) → [] ≡ front ++ m ∷ back → ⊥
-    go [] back e = cc
-    go (x ∷ front) back e = cc
+    go : (prefix suffix : List Message) → [] ≡ prefix ++ m ∷ suffix → ⊥
+    go [] suffix e = cc
+    go (x ∷ prefix) suffix e = cc
 
 pub takes_one : (x m : Message) (ys : List Message) → TakesFirst (x ∷ []) m ys → (m ≡ x) × (ys ≡ [])
-takes_one x m ys takes = go takes.front takes.back takes.old_is takes.new_is
+takes_one x m ys takes = go takes.prefix takes.suffix takes.old_is takes.new_is
   where
-    go : (front back : List Message) → x ∷ [] ≡ front ++ m ∷ back → ys ≡ front ++ back → (m ≡ x) × (ys ≡ [])
-    go [] back e is = (cc, cc)
-    go (y ∷ []) back e is = absurd cc
-    go (y ∷ z ∷ front) back e is = absurd cc
+    go : (prefix suffix : List Message) → x ∷ [] ≡ prefix ++ m ∷ suffix → ys ≡ prefix ++ suffix → (m ≡ x) × (ys ≡ [])
+    go [] suffix e is = (cc, cc)
+    go (y ∷ []) suffix e is = absurd cc
+    go (y ∷ z ∷ prefix) suffix e is = absurd cc
 
 pub takes_more : (xs : List Message) (m : Message) (ys more : List Message) → TakesFirst xs m ys → TakesFirst (xs ++ more) m (ys ++ more)
 takes_more xs m ys more takes =
     record {
-      front = takes.front;
-      back = takes.back ++ more;
-      old_is = ap (λ (zs : List Message). zs ++ more) takes.old_is ∙ append_assoc takes.front (m ∷ takes.back) more;
+      prefix = takes.prefix;
+      suffix = takes.suffix ++ more;
+      old_is = ap (λ (zs : List Message). zs ++ more) takes.old_is ∙ append_assoc takes.prefix (m ∷ takes.suffix) more;
       first = takes.first;
-      new_is = ap (λ (zs : List Message). zs ++ more) takes.new_is ∙ append_assoc takes.front takes.back more;
+      new_is = ap (λ (zs : List Message). zs ++ more) takes.new_is ∙ append_assoc takes.prefix takes.suffix more;
     }
 
 -- a message that is there can be taken
 pub takes_out : ((a b : Message) → (a ≡ b) ⊎ (a ≢ b)) → (xs : List Message) (m : Message) → Contains xs m → (ys : List Message) × TakesFirst xs m ys
 takes_out same_or_apart [] m at = absurd (omega (arith, at.1))
-takes_out same_or_apart (x ∷ xs) m (zero, lt, is) = (xs, record { front = []; back = xs; old_is = ap (λ (y : Message). y ∷ xs) is; first = All-nil (λ y. y ≢ m); new_is = refl })
+takes_out same_or_apart (x ∷ xs) m (zero, lt, is) = (xs, record { prefix = []; suffix = xs; old_is = ap (λ (y : Message). y ∷ xs) is; first = All-nil (λ y. y ≢ m); new_is = refl })
 takes_out same_or_apart (x ∷ xs) m (suc k, lt, is) = elim (same_or_apart x m) [
-  | inl same ↦ (xs, record { front = []; back = xs; old_is = ap (λ (y : Message). y ∷ xs) same; first = All-nil (λ y. y ≢ m); new_is = refl })
+  | inl same ↦ (xs, record { prefix = []; suffix = xs; old_is = ap (λ (y : Message). y ∷ xs) same; first = All-nil (λ y. y ≢ m); new_is = refl })
   | inr apart ↦
       let rest = takes_out same_or_apart xs m (k, omega (arith, lt), is) in (
         x ∷ rest.0,
         record {
-          front = x ∷ rest.1.front;
-          back = rest.1.back;
+          prefix = x ∷ rest.1.prefix;
+          suffix = rest.1.suffix;
           old_is = ap (λ (ys : List Message). x ∷ ys) rest.1.old_is;
-          first = All-cons (λ y. y ≢ m) x rest.1.front apart rest.1.first;
+          first = All-cons (λ y. y ≢ m) x rest.1.prefix apart rest.1.first;
           new_is = ap (λ (ys : List Message). x ∷ ys) rest.1.new_is;
         },
       )
@@ -99,14 +99,14 @@ takes_out same_or_apart (x ∷ xs) m (suc k, lt, is) = elim (same_or_apart x m) 
 
 pub All-taken : (P : Message → Type 0) (xs : List Message) (m : Message) (ys : List Message) → TakesFirst xs m ys → All P xs → P m × All P ys
 All-taken P xs m ys takes all =
-    let parts = split takes.front (m ∷ takes.back) (subst (All P) takes.old_is all) in
-    (All-head P m takes.back parts.1, subst (All P) (sym takes.new_is) (All-append P takes.front takes.back parts.0 (All-tail P m takes.back parts.1)))
+    let parts = split takes.prefix (m ∷ takes.suffix) (subst (All P) takes.old_is all) in
+    (All-head P m takes.suffix parts.1, subst (All P) (sym takes.new_is) (All-append P takes.prefix takes.suffix parts.0 (All-tail P m takes.suffix parts.1)))
   where
-    split : (front back : List Message) → All P (front ++ back) → All P front × All P back
-    split [] back h = (All-nil P, h)
-    split (x ∷ front) back h =
-        let rest = split front back (All-tail P x (front ++ back) h) in
-        (All-cons P x front (All-head P x (front ++ back) h) rest.0, rest.1)
+    split : (prefix suffix : List Message) → All P (prefix ++ suffix) → All P prefix × All P suffix
+    split [] suffix h = (All-nil P, h)
+    split (x ∷ prefix) suffix h =
+        let rest = split prefix suffix (All-tail P x (prefix ++ suffix) h) in
+        (All-cons P x prefix (All-head P x (prefix ++ suffix) h) rest.0, rest.1)
 
 -- ---- What is under way
 
@@ -121,15 +121,15 @@ less_joined sent (m ∷ taken) left more next less then = (less.0, less.1, less_
 -- what is left is determined
 pub takes_alike : (xs : List Message) (m : Message) (ys zs : List Message) → TakesFirst xs m ys → TakesFirst xs m zs → ys ≡ zs
 takes_alike xs m ys zs a b =
-    let same = fronts a.front a.back b.front b.back (sym a.old_is ∙ b.old_is) a.first b.first in
+    let same = prefixes a.prefix a.suffix b.prefix b.suffix (sym a.old_is ∙ b.old_is) a.first b.first in
     a.new_is ∙ (λ i. same.0 i ++ same.1 i) ∙ sym b.new_is
   where
-    fronts : (f g f' g' : List Message) → f ++ m ∷ g ≡ f' ++ m ∷ g' → All (λ x. x ≢ m) f → All (λ x. x ≢ m) f' → (f ≡ f') × (g ≡ g')
-    fronts [] g [] g' e h h' = (refl, tail_of e)
-    fronts [] g (y ∷ f') g' e h h' = absurd (All-head (λ x. x ≢ m) y f' h' (sym (head_of e)))
-    fronts (x ∷ f) g [] g' e h h' = absurd (All-head (λ x. x ≢ m) x f h (head_of e))
-    fronts (x ∷ f) g (y ∷ f') g' e h h' =
-        let rest = fronts f g f' g' (tail_of e) (All-tail (λ x. x ≢ m) x f h) (All-tail (λ x. x ≢ m) y f' h') in
+    prefixes : (f g f' g' : List Message) → f ++ m ∷ g ≡ f' ++ m ∷ g' → All (λ x. x ≢ m) f → All (λ x. x ≢ m) f' → (f ≡ f') × (g ≡ g')
+    prefixes [] g [] g' e h h' = (refl, tail_of e)
+    prefixes [] g (y ∷ f') g' e h h' = absurd (All-head (λ x. x ≢ m) y f' h' (sym (head_of e)))
+    prefixes (x ∷ f) g [] g' e h h' = absurd (All-head (λ x. x ≢ m) x f h (head_of e))
+    prefixes (x ∷ f) g (y ∷ f') g' e h h' =
+        let rest = prefixes f g f' g' (tail_of e) (All-tail (λ x. x ≢ m) x f h) (All-tail (λ x. x ≢ m) y f' h') in
         (λ i. head_of e i ∷ rest.0 i, rest.1)
 
 pub less_alike : (sent taken left left' : List Message) → TakesEach sent taken left → TakesEach sent taken left' → left ≡ left'

@@ -61,8 +61,8 @@ still es left {e} loses x at =
     let split = subst (λ (ys : List Entry). Contains ys x) loses.2 at in
     subst (λ (ys : List Entry). Contains ys x) (sym loses.3)
     (elim (Contains-append_cases loses.0 loses.1 x split) [
-      | inl front ↦ Contains-append_left loses.0 (e ∷ loses.1) x front
-      | inr back ↦ Contains-append_right loses.0 (e ∷ loses.1) x (suc back.0, omega (arith, back.1), back.2)
+      | inl sooner ↦ Contains-append_left loses.0 (e ∷ loses.1) x sooner
+      | inr later ↦ Contains-append_right loses.0 (e ∷ loses.1) x (suc later.0, omega (arith, later.1), later.2)
     ])
 
 not_both : {e : Entry} (x : Entry) → WaitsBy e ≡ HoldsBy x → ⊥

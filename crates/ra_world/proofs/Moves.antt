@@ -56,16 +56,16 @@ happened_more i [] m = append-nil (happens i m)
 happened_more i (x ∷ ms) m = ap (λ (ys : List Happening). happens i x ++ ys) (happened_more i ms m) ∙ sym (append_assoc (happens i x) (happened_at i ms) (happens i m))
 
 -- what fits in two parts
-pub fits_split : (n : ℕ) (before front back : List Move) → AreFit n before (front ++ back) → AreFit n before front × AreFit n (before ++ front) back
-fits_split n before [] back fit = (tt, subst (λ (ms : List Move). AreFit n ms back) (sym (append-nil before)) fit)
-fits_split n before (m ∷ front) back fit =
-    let rest = fits_split n (before ++ m ∷ []) front back fit.1 in
-    ((fit.0, rest.0), subst (λ (ms : List Move). AreFit n ms back) (append_assoc before (m ∷ []) front) rest.1)
+pub fits_split : (n : ℕ) (before prefix suffix : List Move) → AreFit n before (prefix ++ suffix) → AreFit n before prefix × AreFit n (before ++ prefix) suffix
+fits_split n before [] suffix fit = (tt, subst (λ (ms : List Move). AreFit n ms suffix) (sym (append-nil before)) fit)
+fits_split n before (m ∷ prefix) suffix fit =
+    let rest = fits_split n (before ++ m ∷ []) prefix suffix fit.1 in
+    ((fit.0, rest.0), subst (λ (ms : List Move). AreFit n ms suffix) (append_assoc before (m ∷ []) prefix) rest.1)
 
-pub fits_join : (n : ℕ) (before front back : List Move) → AreFit n before front → AreFit n (before ++ front) back → AreFit n before (front ++ back)
-fits_join n before [] back fit more = subst (λ (ms : List Move). AreFit n ms back) (append-nil before) more
-fits_join n before (m ∷ front) back fit more =
-    (fit.0, fits_join n (before ++ m ∷ []) front back fit.1 (subst (λ (ms : List Move). AreFit n ms back) (sym (append_assoc before (m ∷ []) front)) more))
+pub fits_join : (n : ℕ) (before prefix suffix : List Move) → AreFit n before prefix → AreFit n (before ++ prefix) suffix → AreFit n before (prefix ++ suffix)
+fits_join n before [] suffix fit more = subst (λ (ms : List Move). AreFit n ms suffix) (append-nil before) more
+fits_join n before (m ∷ prefix) suffix fit more =
+    (fit.0, fits_join n (before ++ m ∷ []) prefix suffix fit.1 (subst (λ (ms : List Move). AreFit n ms suffix) (sym (append_assoc before (m ∷ []) prefix)) more))
 
 -- ---- The node of an event
 

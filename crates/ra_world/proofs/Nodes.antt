@@ -45,7 +45,7 @@ left_alone n start i ms m node none was =
     let nothing : happens i m ≡ [] = ap (map (λ e. record { event = e; sends = m.sends; marks = m.marks })) none in
     subst (λ (hs : List Happening). NodeEvents (opening_node i n start) hs node) (sym (happened_more i ms m ∙ ap (λ (hs : List Happening). happened_at i ms ++ hs) nothing ∙ append-nil (happened_at i ms))) was
 
-pub ends_after : ((front back : List Happening) (a b c : NodeState) → NodeEvents a front b → NodeEvents b back c → NodeEvents a (front ++ back) c)
+pub ends_after : ((prefix rest : List Happening) (a b c : NodeState) → NodeEvents a prefix b → NodeEvents b rest c → NodeEvents a (prefix ++ rest) c)
     → (n start : ℕ) (ms : List Move) (m : Move) (nodes : ℕ → NodeState) (p : ℕ) (event : Event) (new : NodeState)
     → EndsWith n start ms nodes → events_at p m.step ≡ event ∷ [] → NodeEvent (nodes p) event m.sends m.marks new → EndsWith n start (ms ++ m ∷ []) (with_node nodes p new)
 ends_after joins n start ms m nodes p event new ends here happened i low high =

@@ -21,7 +21,7 @@ use Rattle.ra_world.proofs.Moves.{allows_all, fits_split, at_node}
 use Rattle.ra_world.proofs.Nodes.{EndsAt}
 use Rattle.ra_world.proofs.Protocol.{IsNode}
 use Rattle.ra_world.proofs.Reached.{Reached, was_under_way, event_happened}
-use Rattle.ra_world.proofs.Runs.{every_run, fronts}
+use Rattle.ra_world.proofs.Runs.{every_run, prefixes}
 
 number_of : (me : ℕ) (name : List ℕ) (mark : Mark) → IsMark me name mark → IsNumberedMark mark
 number_of me name (Requested entry) is = is.numbered
@@ -69,16 +69,16 @@ module _ (laws : LawsBelow) (marks_law : MarksOfNodes) (n start : ℕ) (count : 
         (All-same IsNumberedMark marks [] fit.2 (All-nil IsNumberedMark), All-cons IsNumberedMessage message [] was.traffic.numbered (All-nil IsNumberedMessage))
     by_step (Repeat message) fit ends = (All-same IsNumberedMark marks [] fit.2 (All-nil IsNumberedMark), All-nil IsNumberedMessage)
 
-  move_by_move : (back ms : List Move) → IsRun n start (ms ++ back) → All IsNumberedMark (marks_of back) × All IsNumberedMessage (taken_by back)
+  move_by_move : (suffix ms : List Move) → IsRun n start (ms ++ suffix) → All IsNumberedMark (marks_of suffix) × All IsNumberedMessage (taken_by suffix)
   move_by_move [] ms run = (All-nil IsNumberedMark, All-nil IsNumberedMessage)
-  move_by_move (m ∷ back) ms run =
-      let longer = subst (IsRun n start) (sym (append_assoc ms (m ∷ []) back)) run in
-      let after = fronts laws.splits n start back (ms ++ m ∷ []) longer in
-      let before = every_run laws n start ms (allows_all ms) count (fronts laws.splits n start (m ∷ []) ms after) in
-      let fit = (fits_split n [] ms (m ∷ back) run.each_fits).1.0 in
+  move_by_move (m ∷ suffix) ms run =
+      let longer = subst (IsRun n start) (sym (append_assoc ms (m ∷ []) suffix)) run in
+      let after = prefixes laws.splits n start suffix (ms ++ m ∷ []) longer in
+      let before = every_run laws n start ms (allows_all ms) count (prefixes laws.splits n start (m ∷ []) ms after) in
+      let fit = (fits_split n [] ms (m ∷ suffix) run.each_fits).1.0 in
       let here = by_step ms m.sends m.marks before m.step fit (λ p at. (after.ends.0 p, after.ends.1 p at.0 at.1)) in
-      let rest = move_by_move back (ms ++ m ∷ []) longer in
-      (All-append IsNumberedMark m.marks (marks_of back) here.0 rest.0, All-append IsNumberedMessage (taken_in m.step) (taken_by back) here.1 rest.1)
+      let rest = move_by_move suffix (ms ++ m ∷ []) longer in
+      (All-append IsNumberedMark m.marks (marks_of suffix) here.0 rest.0, All-append IsNumberedMessage (taken_in m.step) (taken_by suffix) here.1 rest.1)
 
   pub numbered : (moves : List Move) → IsRun n start moves → All IsNumberedMark (marks_of moves) × All IsNumberedMessage (taken_by moves)
   numbered moves run = move_by_move moves [] run

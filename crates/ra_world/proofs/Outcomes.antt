@@ -25,11 +25,11 @@ use Rattle.ra_world.proofs.Dialogs.{belongs, between, belongs_at}
 use Rattle.ra_world.proofs.Receiving.{was_answered}
 use Rattle.ra_world.proofs.Protocol.{IsNode}
 use Rattle.ra_world.proofs.Uses.{may_be_granted}
-use Rattle.ra_world.proofs.Counting.{same_over}
+use Rattle.ra_world.proofs.WaitingCounts.{same_over}
 use Rattle.ra_world.proofs.Cluster.{IsTraffic, states}
 use Rattle.ra_world.proofs.ExchangesReceiving.{contains_filter}
 use Rattle.ra_world.proofs.Reached.{Reached, waits_nowhere, one_list, was_under_way}
-use Rattle.ra_world.proofs.Runs.{every_run, same_ends, fronts}
+use Rattle.ra_world.proofs.Runs.{every_run, same_ends, prefixes}
 
 -- a request that is granted is the use of its resource
 held_in : (u : Use) (e : Entry) → held_entry u ≡ Some e → u ≡ HoldsBy e
@@ -89,17 +89,17 @@ among_them moves left message less = (λ was. subst (λ (xs : List Message). Con
 
 -- ---- No REPLY that is delivered is a stray
 
-pub reply_awaited : LawsBelow → (n start : ℕ) (front back : List Move) (move : Move) (from to : ℕ) (name : List ℕ) (seq : ℕ) (node : NodeState) → IsNodeNumber n → IsRun n start (front ++ move ∷ back) → repeated_by front ≡ []
-    → move.step ≡ Deliver (Reply from to name seq) → NodeEvents (opening_node to n start) (happened_at to front) node → (mode : Mode) × Awaits (resource_at node name).state from seq mode
-reply_awaited laws n start front back move from to name seq node count run unrepeated is end =
+pub reply_awaited : LawsBelow → (n start : ℕ) (prefix suffix : List Move) (move : Move) (from to : ℕ) (name : List ℕ) (seq : ℕ) (node : NodeState) → IsNodeNumber n → IsRun n start (prefix ++ move ∷ suffix) → repeated_by prefix ≡ []
+    → move.step ≡ Deliver (Reply from to name seq) → NodeEvents (opening_node to n start) (happened_at to prefix) node → (mode : Mode) × Awaits (resource_at node name).state from seq mode
+reply_awaited laws n start prefix suffix move from to name seq node count run unrepeated is end =
     let message = Reply from to name seq in
-    let before : Reached (Unit {0}) ⊥ n start front = every_run laws n start front (allows_moves front (inr tt) (inl unrepeated)) count (fronts laws.splits n start (move ∷ back) front run) in
-    let fit = subst (λ (step : Step). IsFit n front step move.sends move.marks) is (fits_split n [] front (move ∷ back) run.each_fits).1.0 in
-    let was = was_under_way laws n start front before message fit in
+    let before : Reached (Unit {0}) ⊥ n start prefix = every_run laws n start prefix (allows_moves prefix (inr tt) (inl unrepeated)) count (prefixes laws.splits n start (move ∷ suffix) prefix run) in
+    let fit = subst (λ (step : Step). IsFit n prefix step move.sends move.marks) is (fits_split n [] prefix (move ∷ suffix) run.each_fits).1.0 in
+    let was = was_under_way laws n start prefix before message fit in
     let sender = was.traffic.from in
     let s = states before.nodes name in
     let here = filter_taken (belongs name to from) before.bag message was.rest (belongs_at name to from message (record { asker = refl; answerer = refl; name_is = refl })) was.takes in
     let dialog = ((before.invariant.protocol name).exact (λ x. x)).dialog to from was.traffic.to (sender.first, sender.last) (λ e. sender.other (sym e)) in
     let answered = was_answered name to from (s to) (s from) (between name to from before.bag) seq (between name to from was.rest) here dialog in
-    let same = laws.one_end (opening_node to n start) node (before.nodes to) (happened_at to front) end (before.ends to was.traffic.to.0 was.traffic.to.1) in
+    let same = laws.one_end (opening_node to n start) node (before.nodes to) (happened_at to prefix) end (before.ends to was.traffic.to.0 was.traffic.to.1) in
     (answered.mode, subst (λ (x : NodeState). Awaits (resource_at x name).state from seq answered.mode) (sym same) answered.awaits)

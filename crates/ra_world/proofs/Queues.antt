@@ -20,7 +20,7 @@ use Rattle.ra_world.specs.Run.{events_at, happened_at}
 use Rattle.ra_world.specs.Keeping.{nodes_of, Keeps}
 use Rattle.std.proofs.lemmas.Bool.{ne_eqb}
 use Rattle.ra_automaton.proofs.Apart.{cases_same}
-use Rattle.ra_world.proofs.Counting.{one_resource, none_counted}
+use Rattle.ra_world.proofs.WaitingCounts.{one_resource, none_counted}
 
 -- ---- The nodes of a list, by their numbers
 

@@ -14,7 +14,7 @@ use Rattle.ra_world.proofs.Moves.{allows_moves}
 use Rattle.ra_world.proofs.Cluster.{Invariant}
 use Rattle.ra_world.proofs.Balance.{asking}
 use Rattle.ra_world.proofs.Blocked.{blocked}
-use Rattle.ra_world.proofs.Counted.{nothing_owed}
+use Rattle.ra_world.proofs.NobodyDeferred.{nothing_owed}
 use Rattle.ra_world.proofs.Reached.{Reached, one_list}
 use Rattle.ra_world.proofs.Runs.{every_run}
 

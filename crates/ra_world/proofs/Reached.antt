@@ -28,10 +28,10 @@ use Rattle.ra_world.proofs.Lists.{All-taken, takes_out, less_more, less_joined, 
 use Rattle.ra_world.proofs.Moves.{sent_more, put_more, taken_more, marks_more, happens, happened_more, requests_both}
 use Rattle.ra_world.proofs.Members.{nobody}
 use Rattle.ra_world.proofs.Protocol.{IsNode, HasOwn}
-use Rattle.ra_world.proofs.Stepping.{awaits_has}
+use Rattle.ra_world.proofs.AutomatonSteps.{awaits_has}
 use Rattle.ra_world.proofs.Marking.{waiting_of, granted_of}
 use Rattle.ra_world.proofs.Balance.{asking, owed}
-use Rattle.ra_world.proofs.Counting.{total, over, one_resource, one_node, marks_count, use_count, none_counted}
+use Rattle.ra_world.proofs.WaitingCounts.{total, over, one_resource, one_node, marks_count, use_count, none_counted}
 use Rattle.ra_world.proofs.Cluster.{IsThere, IsTraffic, Invariant, Went, placed_at}
 use Rattle.ra_world.proofs.Nodes.{put_node, EndsAt, happens_here, ends_after}
 

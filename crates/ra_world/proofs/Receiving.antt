@@ -18,7 +18,7 @@ use Rattle.ra_bag.specs.Bag.{TakesFirst}
 use Rattle.ra_world.proofs.Lists.{filter_taken, filter_left, takes_none, takes_one}
 use Rattle.ra_world.proofs.Dialogs.{belongs, between, IsOf, belongs_at, belongs_not, between_none}
 use Rattle.ra_automaton.proofs.Apart.{cases_same, tied, untied}
-use Rattle.ra_world.proofs.Stepping.{phase_same, awaited_same, highest_is, deferred_other, first_same, first_back, passes_after_receive, deferred_here, waited, still_awaited, was_awaited, not_awaited, still_waits, own_is, own_was, first_as, same_rest, passes_after_reply}
+use Rattle.ra_world.proofs.AutomatonSteps.{phase_same, awaited_same, highest_is, deferred_other, first_same, first_back, passes_after_receive, deferred_here, waited, still_awaited, was_awaited, not_awaited, still_waits, own_is, own_was, first_as, same_rest, passes_after_reply}
 use Rattle.ra_world.proofs.Protocol.{mode_in, IsNode, HasOwn, LetsPass, Dialog, IsPlaced, Protocol, Changes, changed}
 use Rattle.ra_world.proofs.Asking.{more_between, none_between}
 

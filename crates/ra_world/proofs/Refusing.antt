@@ -26,7 +26,7 @@ to_world n start world P count start_is holds =
     subst (λ (s : ℕ). P world.count s) (sym start_is) (subst (λ (k : ℕ). P k start) (sym count) holds)
 
 module _
-    (fronts : (n start : ℕ) (front back : List Step) → WorldRun n start (front ++ back) → WorldRun n start front)
+    (prefixes : (n start : ℕ) (prefix rest : List Step) → WorldRun n start (prefix ++ rest) → WorldRun n start prefix)
     (goes_on : (n start : ℕ) (moves : List Move) (step : Step) → IsNodeNumber n → IsRun n start moves
     → WorldRun n start (map (λ (move : Move). move.step) moves ++ step ∷ []) ↔ GoesOn n start moves step)
     (n start place : ℕ) (steps : List Step) (step : Step) (world : WorldState)
@@ -35,15 +35,15 @@ module _
     (is : step ≡ get_or steps place step)
     (stuck : GoesOn world.count world.start world.moves step → ⊥)
   where
-    no_front : WorldRun n start (take (place + 1) steps) → ⊥
-    no_front run =
+    no_prefix : WorldRun n start (take (place + 1) steps) → ⊥
+    no_prefix run =
         let more = take_more steps place step inside ∙ ap (λ (s : Step). take place steps ++ s ∷ []) (sym is)
-        ∙ ap (λ (front : List Step). front ++ step ∷ []) (sym made.made) in
+        ∙ ap (λ (prefix : List Step). prefix ++ step ∷ []) (sym made.made) in
         let on = (goes_on n start world.moves step made.number made.run).0 (subst (WorldRun n start) more run) in
         stuck (to_world n start world (λ k s. GoesOn k s world.moves step) made.count made.start_is on)
 
     pub no_run : WorldRun n start steps → ⊥
-    no_run run = no_front (fronts n start (take (place + 1) steps) (drop (place + 1) steps) (subst (WorldRun n start) (sym (take-append-drop (place + 1) steps)) run))
+    no_run run = no_prefix (prefixes n start (take (place + 1) steps) (drop (place + 1) steps) (subst (WorldRun n start) (sym (take-append-drop (place + 1) steps)) run))
 
     pub refused_there : (cause : StepError) → HasCause world.count world.start world.moves step cause → IsRefusedAt n start steps (place + 1) cause
     refused_there cause why =
@@ -51,12 +51,12 @@ module _
         record {
           from_one = omega arith;
           moves = world.moves;
-          front = made.made ∙ ap (λ (k : ℕ). take k steps) (sym before);
+          prefix = made.made ∙ ap (λ (k : ℕ). take k steps) (sym before);
           run = made.run;
           step = step;
           step_is = ap (slice_get steps) before ∙ slice_get_read steps (length steps) place step refl inside is;
           because = of_world n start world (λ k s. HasCause k s world.moves step cause) made.count made.start_is why;
-          no_run = no_front;
+          no_run = no_prefix;
         }
 
 -- the next step can be made, and nothing changed when it was tried

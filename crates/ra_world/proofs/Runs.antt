@@ -33,10 +33,10 @@ same_ends one_end n start ms nodes nodes' ends ends' i at = one_end (opening_nod
 
 -- an event list splits in two
 abbrev Splits : Type 0
-Splits = (front back : List Happening) (a c : NodeState) → NodeEvents a (front ++ back) c → (b : NodeState) × NodeEvents a front b × NodeEvents b back c
+Splits = (prefix suffix : List Happening) (a c : NodeState) → NodeEvents a (prefix ++ suffix) c → (b : NodeState) × NodeEvents a prefix b × NodeEvents b suffix c
 
-front_of : Splits → (n start : ℕ) (ms : List Move) (m : Move) → IsRun n start (ms ++ m ∷ []) → IsRun n start ms
-front_of splits n start ms m run =
+prefix_of : Splits → (n start : ℕ) (ms : List Move) (m : Move) → IsRun n start (ms ++ m ∷ []) → IsRun n start ms
+prefix_of splits n start ms m run =
     record {
       each_fits = (fits_split n [] ms (m ∷ []) run.each_fits).0;
       ends =
@@ -47,15 +47,15 @@ front_of splits n start ms m run =
           (nodes.0, λ i low high. nodes.1 i (low, high));
     }
 
-pub fronts : Splits → (n start : ℕ) (back ms : List Move) → IsRun n start (ms ++ back) → IsRun n start ms
-fronts splits n start [] ms run = subst (IsRun n start) (append-nil ms) run
-fronts splits n start (m ∷ back) ms run = front_of splits n start ms m (fronts splits n start back (ms ++ m ∷ []) (subst (IsRun n start) (sym (append_assoc ms (m ∷ []) back)) run))
+pub prefixes : Splits → (n start : ℕ) (suffix ms : List Move) → IsRun n start (ms ++ suffix) → IsRun n start ms
+prefixes splits n start [] ms run = subst (IsRun n start) (append-nil ms) run
+prefixes splits n start (m ∷ suffix) ms run = prefix_of splits n start ms m (prefixes splits n start suffix (ms ++ m ∷ []) (subst (IsRun n start) (sym (append_assoc ms (m ∷ []) suffix)) run))
 
 -- the nodes right after a move of a run
-after_one : Splits → (n start : ℕ) (ms : List Move) (m : Move) (back : List Move) → IsRun n start (ms ++ m ∷ back) → (i : ℕ) → IsNode n i → EndsAt n start (ms ++ m ∷ []) i
-after_one splits n start ms m back run i at =
-    let front = fronts splits n start back (ms ++ m ∷ []) (subst (IsRun n start) (sym (append_assoc ms (m ∷ []) back)) run) in
-    (front.ends.0 i, front.ends.1 i at.0 at.1)
+after_one : Splits → (n start : ℕ) (ms : List Move) (m : Move) (suffix : List Move) → IsRun n start (ms ++ m ∷ suffix) → (i : ℕ) → IsNode n i → EndsAt n start (ms ++ m ∷ []) i
+after_one splits n start ms m suffix run i at =
+    let shorter = prefixes splits n start suffix (ms ++ m ∷ []) (subst (IsRun n start) (sym (append_assoc ms (m ∷ []) suffix)) run) in
+    (shorter.ends.0 i, shorter.ends.1 i at.0 at.1)
 
 abbrev with_step : Step → List Message → List Mark → Move
 with_step step sends marks = record { step = step; sends = sends; marks = marks }
@@ -63,12 +63,12 @@ with_step step sends marks = record { step = step; sends = sends; marks = marks 
 -- ---- One move after the other
 
 module _ (laws : LawsBelow) {Lossy Copied : Type 0} (n start : ℕ) where
-  reached_by : (back ms : List Move) → AllowsAll Lossy Copied back → Reached Lossy Copied n start ms → IsRun n start (ms ++ back) → Reached Lossy Copied n start (ms ++ back)
+  reached_by : (suffix ms : List Move) → AllowsAll Lossy Copied suffix → Reached Lossy Copied n start ms → IsRun n start (ms ++ suffix) → Reached Lossy Copied n start (ms ++ suffix)
   reached_by [] ms may before run = subst (Reached Lossy Copied n start) (sym (append-nil ms)) before
-  reached_by (m ∷ back) ms may before run =
-      let again : ms ++ m ∷ back ≡ (ms ++ m ∷ []) ++ back = sym (append_assoc ms (m ∷ []) back) in
-      let next = step_reached laws n start ms m.step m.sends m.marks before may.0 (fits_split n [] ms (m ∷ back) run.each_fits).1.0 (after_one laws.splits n start ms m back run) in
-      subst (Reached Lossy Copied n start) (sym again) (reached_by back (ms ++ m ∷ []) may.1 next (subst (IsRun n start) again run))
+  reached_by (m ∷ suffix) ms may before run =
+      let again : ms ++ m ∷ suffix ≡ (ms ++ m ∷ []) ++ suffix = sym (append_assoc ms (m ∷ []) suffix) in
+      let next = step_reached laws n start ms m.step m.sends m.marks before may.0 (fits_split n [] ms (m ∷ suffix) run.each_fits).1.0 (after_one laws.splits n start ms m suffix run) in
+      subst (Reached Lossy Copied n start) (sym again) (reached_by suffix (ms ++ m ∷ []) may.1 next (subst (IsRun n start) again run))
 
   pub every_run : (moves : List Move) → AllowsAll Lossy Copied moves → IsNodeNumber n → IsRun n start moves → Reached Lossy Copied n start moves
   every_run moves may count run = reached_by moves [] may (opening laws Lossy Copied n start count) run
@@ -124,18 +124,18 @@ one_run laws n start a b count run run' e = alike laws n start [] a b (allows_al
 -- ---- Lists of steps
 
 -- moves whose steps are in two parts are in two parts
-parts_of : (front back : List Step) (moves : List Move) → map (λ move. move.step) moves ≡ front ++ back
-    → (a : List Move) × (b : List Move) × (moves ≡ a ++ b) × (map (λ move. move.step) a ≡ front) × (map (λ move. move.step) b ≡ back)
-parts_of [] back moves e = ([], moves, refl, refl, e)
-parts_of (step ∷ front) back [] e = absurd (none_some e)
-parts_of (step ∷ front) back (m ∷ moves) e =
-    let rest = parts_of front back moves (tail_of e) in
+parts_of : (prefix suffix : List Step) (moves : List Move) → map (λ move. move.step) moves ≡ prefix ++ suffix
+    → (a : List Move) × (b : List Move) × (moves ≡ a ++ b) × (map (λ move. move.step) a ≡ prefix) × (map (λ move. move.step) b ≡ suffix)
+parts_of [] suffix moves e = ([], moves, refl, refl, e)
+parts_of (step ∷ prefix) suffix [] e = absurd (none_some e)
+parts_of (step ∷ prefix) suffix (m ∷ moves) e =
+    let rest = parts_of prefix suffix moves (tail_of e) in
     (m ∷ rest.0, rest.1, ap (λ (xs : List Move). m ∷ xs) rest.2, λ i. head_of e i ∷ rest.3 i, rest.4)
 
-pub front_of_steps : Splits → (n start : ℕ) (front back : List Step) → WorldRun n start (front ++ back) → WorldRun n start front
-front_of_steps splits n start front back world =
-    let parts = parts_of front back world.0 world.1 in
-    (parts.0, parts.3, fronts splits n start parts.1 parts.0 (subst (IsRun n start) parts.2 world.2))
+pub prefix_of_steps : Splits → (n start : ℕ) (prefix suffix : List Step) → WorldRun n start (prefix ++ suffix) → WorldRun n start prefix
+prefix_of_steps splits n start prefix suffix world =
+    let parts = parts_of prefix suffix world.0 world.1 in
+    (parts.0, parts.3, prefixes splits n start parts.1 parts.0 (subst (IsRun n start) parts.2 world.2))
 
 -- a list of steps that is a run goes on where the run does
 pub steps_go_on : LawsBelow → (n start : ℕ) (moves : List Move) (step : Step) → IsNodeNumber n → IsRun n start moves → WorldRun n start (map (λ move. move.step) moves ++ step ∷ []) ↔ GoesOn n start moves step
@@ -143,7 +143,7 @@ steps_go_on laws n start moves step count run = (
   λ world.
       let parts = parts_of (map (λ move. move.step) moves) (step ∷ []) world.0 world.1 in
       let longer = subst (IsRun n start) parts.2 world.2 in
-      let same : parts.0 ≡ moves = one_run laws n start parts.0 moves count (fronts laws.splits n start parts.1 parts.0 longer) run parts.3 in
+      let same : parts.0 ≡ moves = one_run laws n start parts.0 moves count (prefixes laws.splits n start parts.1 parts.0 longer) run parts.3 in
       let one = one_of parts.1 parts.4 in
       let now : IsRun n start (moves ++ one.0 ∷ []) = subst (λ (ms : List Move). IsRun n start (ms ++ one.0 ∷ [])) same (subst (λ (ms : List Move). IsRun n start (parts.0 ++ ms)) one.1 longer) in
       (one.0.sends, one.0.marks, subst (λ (x : Step). IsRun n start (moves ++ with_step x one.0.sends one.0.marks ∷ [])) one.2 now),

@@ -21,7 +21,7 @@ use Rattle.ra_world.proofs.Members.{nobody}
 use Rattle.ra_world.proofs.Protocol.{IsNode, HasOwn, LetsPass}
 use Rattle.ra_world.proofs.Exchanges.{Exchanges}
 use Rattle.ra_world.proofs.Marking.{entry_in_use}
-use Rattle.ra_world.proofs.Marks.{MayBeGranted}
+use Rattle.ra_world.proofs.EventMarks.{MayBeGranted}
 
 -- an entry is the request of an automaton
 pub record IsRequestOf (s : State) (x : Entry) : Type 0 where

@@ -60,10 +60,10 @@ pub record LawsBelow : Type 0 where
       → AllowsEvent old (Leave client name) ↔ ((entry : Entry) × Holds (resource_at old name) client entry)
   pub may_receive : (old : NodeState) (message : Message) → IsConsistentNode old
       → AllowsEvent old (Receive message)
-  pub splits : (front back : List Happening) (a c : NodeState) → NodeEvents a (front ++ back) c
-      → (b : NodeState) × NodeEvents a front b × NodeEvents b back c
-  pub joins : (front back : List Happening) (a b c : NodeState)
-      → NodeEvents a front b → NodeEvents b back c → NodeEvents a (front ++ back) c
+  pub splits : (prefix rest : List Happening) (a c : NodeState) → NodeEvents a (prefix ++ rest) c
+      → (b : NodeState) × NodeEvents a prefix b × NodeEvents b rest c
+  pub joins : (prefix rest : List Happening) (a b c : NodeState)
+      → NodeEvents a prefix b → NodeEvents b rest c → NodeEvents a (prefix ++ rest) c
   -- of the lock table
-  pub table_joins : (front back : List Mark) (a b c : LockTable)
-      → TableSteps a front b → TableSteps b back c → TableSteps a (front ++ back) c
+  pub table_joins : (prefix rest : List Mark) (a b c : LockTable)
+      → TableSteps a prefix b → TableSteps b rest c → TableSteps a (prefix ++ rest) c

@@ -38,7 +38,7 @@ pub record FitTogether (n start : ℕ) (steps : List Step) (happened : ℕ → L
       → (node : NodeState) × NodeEvents (opening_node i n start) (happened i) node
   pub events : (i : ℕ) → 1 ≤ i → i ≤ n → map (λ h. h.event) (happened i) ≡ flat_map (events_at i) steps
   pub named : All (NamesNode n) steps
-  pub sent : (front : List Step) (step : Step) (back : List Step) → steps ≡ front ++ step ∷ back
-      → All (WasSentBy n happened front) (taken_in step)
+  pub sent : (prefix : List Step) (step : Step) (rest : List Step) → steps ≡ prefix ++ step ∷ rest
+      → All (WasSentBy n happened prefix) (taken_in step)
   pub once : AllPairs (λ a b. a ≢ b) (flat_map taken_in steps)
   pub unrepeated : flat_map repeated_in steps ≡ []

@@ -47,9 +47,9 @@ abbrev pub report_text : Report → List ℕ
 report_text report = flat_map mark_line report.marks.items ++ total_lines report
 
 -- a prefix of the text was put after what was there, and not all of it
-pub record AddsFront (old new text : List ℕ) : Type 0 where
-  pub front : List ℕ
-  pub back : List ℕ
-  pub text_is : text ≡ front ++ back
-  pub left : back ≢ []
-  pub new_is : new ≡ old ++ front
+pub record AddsPrefix (old new text : List ℕ) : Type 0 where
+  pub prefix : List ℕ
+  pub rest : List ℕ
+  pub text_is : text ≡ prefix ++ rest
+  pub left : rest ≢ []
+  pub new_is : new ≡ old ++ prefix

@@ -25,7 +25,7 @@ refusal_of_leave leave.Memory = Memory
 pub record IsRefusedAt (n start : ℕ) (steps : List Step) (place : ℕ) (cause : StepError) : Type 0 where
   pub from_one : 1 ≤ place
   pub moves : List Move
-  pub front : map (λ move. move.step) moves ≡ take (place - 1) steps
+  pub prefix : map (λ move. move.step) moves ≡ take (place - 1) steps
   pub run : IsRun n start moves
   pub step : Step
   pub step_is : slice_get steps (place - 1) ≡ Some step

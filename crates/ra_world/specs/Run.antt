@@ -46,7 +46,8 @@ AreFit n before [] = Unit {0}
 AreFit n before (move ∷ moves) = IsFit n before move.step move.sends move.marks
     × AreFit n (before ++ move ∷ []) moves
 
--- after these moves, each the node's own events, the nodes 1 to n are these
+-- After these moves, each the node's own events, the nodes 1 to n are these: all of them at once, so that a law can speak of two nodes, and
+-- of a run that goes on.
 abbrev pub EndsWith : ℕ → ℕ → List Move → (ℕ → NodeState) → Type 0
 EndsWith n start moves nodes = (i : ℕ) → 1 ≤ i → i ≤ n
     → NodeEvents (opening_node i n start) (happened_at i moves) (nodes i)

@@ -91,7 +91,7 @@ MayNeedMemory n start moves (Deliver message) = AtNode n start moves (to_of mess
 MayNeedMemory n start moves (Lose message) = ⊥
 MayNeedMemory n start moves (Repeat message) = Unit {0}
 
--- what a world answers to a step, and what it is then
+-- What a world answers to a step, and what it is then. It stands once, so that `step_near` can promise no less than `step`.
 pub record AnswersStep (old : WorldState) (step : Step) (result : Result Outcome StepError) (new : WorldState) : Type 0 where
   pub ok : IfOk result (λ outcome. new ≡ with_move old step outcome.sends.items outcome.marks.items)
   pub run : IsRun new.count new.start new.moves

@@ -95,7 +95,7 @@ pub fn steps_elsewhere_leave_a_node()
         → GoesOn n start moves (Step.Leave node client name)
         ↔ GoesOn n start (moves ++ move ∷ []) (Step.Leave node client name) }
 {
-    fronts_of_runs_are_runs();
+    prefixes_of_runs_are_runs();
     runs_go_on_where_steps_are_allowed();
 }
 
@@ -165,11 +165,11 @@ pub fn runs_go_on_by_events()
 
 /// Each prefix of a run is a run, also of a list of steps; and a list of steps that is a run goes on with a step exactly
 /// where the run does.
-pub fn fronts_of_runs_are_runs()
-    ensures moves { (n start : ℕ) (front back : List Move) → IsRun n start (front ++ back)
-        → IsRun n start front }
-    ensures steps { (n start : ℕ) (front back : List Step) → WorldRun n start (front ++ back)
-        → WorldRun n start front }
+pub fn prefixes_of_runs_are_runs()
+    ensures moves { (n start : ℕ) (prefix rest : List Move) → IsRun n start (prefix ++ rest)
+        → IsRun n start prefix }
+    ensures steps { (n start : ℕ) (prefix rest : List Step) → WorldRun n start (prefix ++ rest)
+        → WorldRun n start prefix }
     ensures step { (n start : ℕ) (moves : List Move) (step : Step) → IsNodeNumber n → IsRun n start moves
         → WorldRun n start (map (λ move. move.step) moves ++ step ∷ []) ↔ GoesOn n start moves step }
 {
@@ -198,11 +198,11 @@ pub fn messages_of_runs_are_different()
 /// No REPLY that is delivered in a run is a stray, where nothing was repeated before: the node that it is for waits with its number
 /// and awaits it.
 pub fn no_delivered_reply_is_a_stray()
-    ensures { (n start : ℕ) (front back : List Move) (move : Move) (from to : ℕ) (name : List ℕ) (seq : ℕ)
+    ensures { (n start : ℕ) (prefix rest : List Move) (move : Move) (from to : ℕ) (name : List ℕ) (seq : ℕ)
         (node : NodeState)
-        → IsNodeNumber n → IsRun n start (front ++ move ∷ back) → repeated_by front ≡ []
+        → IsNodeNumber n → IsRun n start (prefix ++ move ∷ rest) → repeated_by prefix ≡ []
         → move.step ≡ Step.Deliver (Message.Reply from to name seq)
-        → NodeEvents (opening_node to n start) (happened_at to front) node
+        → NodeEvents (opening_node to n start) (happened_at to prefix) node
         → (mode : Mode) × Awaits (resource_at node name).state from seq mode }
 {
     laws_below();

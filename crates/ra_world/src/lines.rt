@@ -1,3 +1,5 @@
+//! The lines of a report. Those calls that write parts of a line are public, since traces have the same fields and mark lines, and nothing
+//! is to be allocated for each line.
 ghost use Rattle.std.specs.Prelude.{◌≡◌, ◌++◌, codes, string_bytes, IfOk, OnOk, OnErr};
 ghost use Rattle.ra_world.specs.Lines as spec;
 
@@ -34,7 +36,7 @@ pub fn mode_word(mode: Mode) -> &'static str
 /// `Memory`: there is none for it. A prefix of it may have been added, but not all of it.
 pub fn push_field(text: &mut String, field: &str) -> Result<(), Memory>
     ensures ok { OnOk result (string_bytes text.new ≡ string_bytes text.old ++ spec.field field.now) }
-    ensures err { OnErr result (spec.AddsFront (string_bytes text.old) (string_bytes text.new) (spec.field field.now)) }
+    ensures err { OnErr result (spec.AddsPrefix (string_bytes text.old) (string_bytes text.new) (spec.field field.now)) }
 {
     text.push_str(" ")?;
     text.push_str(field)?;
@@ -48,7 +50,7 @@ pub fn push_field(text: &mut String, field: &str) -> Result<(), Memory>
 /// `Memory`: there is none for it. A prefix of it may have been added, but not all of it.
 pub fn push_number<I: Integer>(text: &mut String, number: I) -> Result<(), Memory>
     ensures ok { OnOk result (string_bytes text.new ≡ string_bytes text.old ++ spec.field (I.text number)) }
-    ensures err { OnErr result (spec.AddsFront (string_bytes text.old) (string_bytes text.new) (spec.field (I.text number))) }
+    ensures err { OnErr result (spec.AddsPrefix (string_bytes text.old) (string_bytes text.new) (spec.field (I.text number))) }
 {
     push_field(text, Buffer::new().format(number))
 }
@@ -56,7 +58,7 @@ pub fn push_number<I: Integer>(text: &mut String, number: I) -> Result<(), Memor
 /// Adds the fields of an entry.
 fn push_entry(text: &mut String, entry: &Entry) -> Result<(), Memory>
     ensures ok { OnOk result (string_bytes text.new ≡ string_bytes text.old ++ spec.entry_fields entry.now) }
-    ensures err { OnErr result (spec.AddsFront (string_bytes text.old) (string_bytes text.new) (spec.entry_fields entry.now)) }
+    ensures err { OnErr result (spec.AddsPrefix (string_bytes text.old) (string_bytes text.new) (spec.entry_fields entry.now)) }
 {
     push_number(text, entry.stamp.node.get())?;
     push_number(text, entry.client)?;
@@ -70,7 +72,7 @@ fn push_entry(text: &mut String, entry: &Entry) -> Result<(), Memory>
 fn push_entry_line(text: &mut String, word: &str, entry: &Entry) -> Result<(), Memory>
     ensures ok { OnOk result (string_bytes text.new
         ≡ string_bytes text.old ++ (word.now ++ spec.entry_fields entry.now ++ codes "\n")) }
-    ensures err { OnErr result (spec.AddsFront (string_bytes text.old) (string_bytes text.new)
+    ensures err { OnErr result (spec.AddsPrefix (string_bytes text.old) (string_bytes text.new)
         (word.now ++ spec.entry_fields entry.now ++ codes "\n")) }
 {
     text.push_str(word)?;
@@ -86,7 +88,7 @@ fn push_entry_line(text: &mut String, word: &str, entry: &Entry) -> Result<(), M
 /// `Memory`: there is none for it. A prefix of it may have been added, but not all of it.
 pub fn push_mark_line(text: &mut String, mark: &Mark) -> Result<(), Memory>
     ensures ok { OnOk result (string_bytes text.new ≡ string_bytes text.old ++ spec.mark_line mark.now) }
-    ensures err { OnErr result (spec.AddsFront (string_bytes text.old) (string_bytes text.new) (spec.mark_line mark.now)) }
+    ensures err { OnErr result (spec.AddsPrefix (string_bytes text.old) (string_bytes text.new) (spec.mark_line mark.now)) }
 {
     match mark {
         Mark::Requested(entry) => push_entry_line(text, "request", entry),

@@ -13,9 +13,9 @@ use std::io::Write;
 /// and some are left.
 pub fn write_out<W: Write>(writer: &mut W, bytes: &[u8]) -> Result<(), WriteFault>
     ensures ok { OnOk result (Appends (W.contents writer.old) (W.contents writer.new) bytes.now) }
-    ensures err { OnErr result ((front : List ℕ) × (back : List ℕ)
-        × (bytes.now ≡ front ++ back) × (back ≢ [])
-        × Appends (W.contents writer.old) (W.contents writer.new) front) }
+    ensures err { OnErr result ((prefix : List ℕ) × (rest : List ℕ)
+        × (bytes.now ≡ prefix ++ rest) × (rest ≢ [])
+        × Appends (W.contents writer.old) (W.contents writer.new) prefix) }
 {
     let mut target = Target::new(writer);
     write_to(&mut target, bytes)
@@ -30,9 +30,9 @@ fn write_to<W: Write>(target: &mut Target<'_, W>, bytes: &[u8]) -> Result<(), Wr
     requires { target.old.failed ≡ false }
     ensures same_reference { target.new.writer.ghost_name ≡ target.old.writer.ghost_name }
     ensures ok { OnOk result (Appends (W.contents target.old.writer.now) (W.contents target.new.writer.now) bytes.now) }
-    ensures err { OnErr result ((front : List ℕ) × (back : List ℕ)
-        × (bytes.now ≡ front ++ back) × (back ≢ [])
-        × Appends (W.contents target.old.writer.now) (W.contents target.new.writer.now) front) }
+    ensures err { OnErr result ((prefix : List ℕ) × (rest : List ℕ)
+        × (bytes.now ≡ prefix ++ rest) × (rest ≢ [])
+        × Appends (W.contents target.old.writer.now) (W.contents target.new.writer.now) prefix) }
     // Who answers that it failed has seen it fail.
     ensures fault { IsErr result ↔ (target.new.failed ≡ true) }
 {

@@ -6,7 +6,7 @@ ghost use Rattle.ra_world.specs.World.{HasMade, Reports};
 ghost use Rattle.ra_world.specs.MainTheorem.{MainTheorem};
 ghost use Rattle.ra_world.specs.Refused.{IsRefusedAt, GoesThrough};
 
-use crate::{NewError, Report, RunError, Step, StepError, Steps, World, fronts_of_runs_are_runs};
+use crate::{NewError, Report, RunError, Step, StepError, Steps, World, prefixes_of_runs_are_runs};
 use std::alloc::Global;
 
 /// Makes a world of this many nodes, all of whose numbers begin at `start`, and steps it through a list of steps. The cost
@@ -29,7 +29,8 @@ pub fn run(alloc: Global, nodes: u16, start: u64, steps: &Steps) -> Result<Repor
     ensures bad_count { IsErrOf result RunError.BadCount ↔ (IsNodeNumber nodes → ⊥) }
     ensures refused { (place : ℕ) (cause : StepError) → IsErrOf result (RunError.Refused place cause)
         → IsNodeNumber nodes × IsRefusedAt nodes start steps.now.items place cause }
-    // `Memory` may come before a later step is refused.
+    // `Memory` may come before a later step is refused. No clause says after which steps: as it may come before the first one, such a
+    // clause would be met by the empty prefix. `report_after`, which sees the world, says it in full.
     ensures allowed { IsNodeNumber nodes → WorldRun nodes start steps.now.items
         → IsOkUnless result RunError.Memory }
 {
@@ -73,7 +74,7 @@ fn report_after(alloc: Global, world: &mut World, steps: &[Step]) -> Result<Repo
     // Memory ran out at a step that can be made, or for the report, after all steps. So no refusal was passed over.
     ensures memory { IsErrOf result RunError.Memory → GoesThrough world.old.count world.old.start steps.now world.new }
 {
-    fronts_of_runs_are_runs();
+    prefixes_of_runs_are_runs();
     for (place, step) in steps.iter().enumerate() {
         if let Err(cause) = world.step(alloc, step) {
             return Err(refused_at(place as u64 + 1, cause));

@@ -24,7 +24,7 @@ pub type MarklessWorld = WorldOf<0>;
 /// start value and the steps so far with what came of them, which are a run.
 ///
 /// A world keeps the marks of its steps where `KEEPS_MARKS` is 1, and of the messages that they sent those under way. Of the steps
-/// and of all messages it keeps only how many there were.
+/// and of all messages it keeps only how many there were. It is a number, since a type with an invariant can't be stated over a bool.
 #[derive(Drop)]
 pub struct WorldOf<const KEEPS_MARKS: u8> {
     start: u64,
@@ -184,7 +184,7 @@ impl<const KEEPS_MARKS: u8> WorldOf<KEEPS_MARKS> {
         self.log.len()
     }
 
-    /// Returns how many requests were made. It does not allocate.
+    /// Returns how many requests were made. It does not allocate; a report does, since it copies all marks.
     pub fn requests(&self) -> u128
         ensures value { result ≡ requests_in (marks_of self.now.moves) }
         ensures run { IsRun self.now.count self.now.start self.now.moves }

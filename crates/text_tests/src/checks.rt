@@ -377,7 +377,7 @@ fn messages_that_are_taken_are_under_way(rt: HostRuntime) {
 
 /// Returns how many lengths have prefixes of a trace that are wrong at the line that is not whole, from 0 up to the first that is not so,
 /// or to that of the trace.
-fn wrong_fronts(alloc: Global, text: &[u8]) -> usize {
+fn wrong_prefixes(alloc: Global, text: &[u8]) -> usize {
     let mut line = 1u64;
     for length in 0..text.len() {
         let cause = Cause::Line;
@@ -392,9 +392,9 @@ fn wrong_fronts(alloc: Global, text: &[u8]) -> usize {
 }
 
 #[test]
-fn no_front_of_a_trace_is_valid(rt: HostRuntime) {
+fn no_prefix_of_a_trace_is_valid(rt: HostRuntime) {
     for text in [ONE_LOCK, REPEATED_REQUEST] {
-        assert_rows(&rt, wrong_fronts(rt.alloc(), text.as_bytes()), text.len());
+        assert_rows(&rt, wrong_prefixes(rt.alloc(), text.as_bytes()), text.len());
     }
 }
 

@@ -1,7 +1,7 @@
 //! What `ra_explain` says to a person of wrong frames, and of lines of digits that are none.
 use crate::explained_runs::is_said;
 use crate::helpers::assert_rows;
-use ra_explain::{digits_note, frame_note};
+use ra_explain::{Unanswered, digits_note, frame_note, unanswered_note};
 use ra_frame::FrameError;
 use std::alloc::Global;
 
@@ -132,4 +132,51 @@ fn digits(alloc: Global) -> usize {
 #[test]
 fn which_byte_is_no_digit(rt: HostRuntime) {
     assert_rows(&rt, digits(rt.alloc()), DIGITS.len());
+}
+
+/// Frames that node 2 of 3 does not answer, and what is said of them.
+const UNANSWERED: &[(&str, Unanswered, &str)] = &[
+    (
+        "0101010300000000000000000100000000000000010172\n",
+        Unanswered::WrongNode,
+        "the receiver, byte 3 counted from 0, is 03: the frame is for node 3, and this is node 2",
+    ),
+    (
+        "02010001004000000000000000000100000000000000010172",
+        Unanswered::WrongNode,
+        "the receiver, bytes 4 to 5 counted from 0, is 0040: the frame is for node 64, and this is node 2",
+    ),
+    (
+        "0101040200000000000000000100000000000000010172",
+        Unanswered::Stranger,
+        "the sender, byte 2 counted from 0, is 04: the frame is from node 4, and the nodes are 1 to 3",
+    ),
+    (
+        "02010040000200000000000000000100000000000000010172",
+        Unanswered::Stranger,
+        "the sender, bytes 2 to 3 counted from 0, is 0040: the frame is from node 64, and the nodes are 1 to 3",
+    ),
+    (
+        "0101010200000000000000000140000000000000000172",
+        Unanswered::ClockFull,
+        "the event clock, bytes 13 to 20 counted from 0, is 4000000000000000, the last clock: there is none above it for an answer",
+    ),
+];
+
+/// Returns how many rows are said of their frames, up to the first that is not.
+fn unanswered(alloc: Global) -> usize {
+    for (place, row) in UNANSWERED.iter().enumerate() {
+        if !is_said(
+            unanswered_note(alloc, row.0.as_bytes(), "2", "3", row.1),
+            row.2,
+        ) {
+            return place;
+        }
+    }
+    UNANSWERED.len()
+}
+
+#[test]
+fn why_a_frame_is_not_answered(rt: HostRuntime) {
+    assert_rows(&rt, unanswered(rt.alloc()), UNANSWERED.len());
 }

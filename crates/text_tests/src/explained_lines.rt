@@ -35,7 +35,7 @@ const LINES: &[Line] = &[
         tail: "ask 1 1 r X\nrequest 1 1 r X\n",
         feeds: 3,
         cause: NO_LINE,
-        text: "line 3, 'request 1 1 r X': said of all",
+        text: "line 3, 'request 1 1 r X': SEQ is missing: the line is request NODE CLIENT NAME MODE SEQ",
     },
     Line {
         number: 2,

@@ -1,9 +1,9 @@
 //! Each growth refused: the call answers `Memory`, writes nothing, and does what it should when it is made again.
+use crate::acts::one_lock;
 use crate::explained_runs::{A_DEADLOCK, DEADLOCK_NOTE};
 use crate::helpers::{ONE_LOCK, ONE_LOCK_SCRIPT, failing};
 use crate::mark_logs::TWO_WRITERS;
 use crate::performing::ONE_LOCK_LINES;
-use crate::traces::one_lock;
 use ra_explain::{LineCause, choices_note, line_note, unfinished_note};
 use ra_schedule::Policy;
 use ra_script::{
@@ -237,4 +237,46 @@ fn try_line(alloc: Global) -> Result<Tried, bool> {
 #[test]
 fn growth_of_what_is_said_of_a_line(rt: HostRuntime) {
     end(&rt, again(try_line(rt.alloc()), try_line(rt.alloc())));
+}
+
+/// Says which field of a line is wrong.
+fn try_field(alloc: Global) -> Result<Tried, bool> {
+    let said = line_note(
+        alloc,
+        2,
+        b"trace 2 2 0\nask 1 1 r x\n",
+        2,
+        LineCause::Trace(Cause::Line),
+        "said of all",
+    );
+    try_note(
+        said,
+        "line 2, 'ask 1 1 r x': MODE is 'x': it is S, X, IS, IX or SIX",
+    )
+}
+
+#[test]
+fn growth_of_what_is_said_of_a_field(rt: HostRuntime) {
+    end(&rt, again(try_field(rt.alloc()), try_field(rt.alloc())));
+}
+
+/// Says why a client may not ask.
+fn try_refused(alloc: Global) -> Result<Tried, bool> {
+    let said = line_note(
+        alloc,
+        4,
+        b"trace 2 2 0\nask 1 1 r X\nrequest 1 1 r X 1\nask 1 1 r S\n",
+        4,
+        LineCause::Trace(Cause::Refused),
+        "said of all",
+    );
+    try_note(
+        said,
+        "line 4, 'ask 1 1 r S': client 1 waits for 'r' (X) at node 1 since line 3, and may not ask for it again",
+    )
+}
+
+#[test]
+fn growth_of_what_is_said_of_an_ask(rt: HostRuntime) {
+    end(&rt, again(try_refused(rt.alloc()), try_refused(rt.alloc())));
 }

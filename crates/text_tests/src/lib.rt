@@ -2,6 +2,8 @@
 #![tactic(auto)]
 
 #[cfg(test)]
+mod acts;
+#[cfg(test)]
 mod checks;
 #[cfg(test)]
 mod choice_words;
@@ -13,8 +15,6 @@ mod explained_frames;
 mod explained_lines;
 #[cfg(test)]
 mod explained_runs;
-#[cfg(test)]
-mod fronts;
 #[cfg(test)]
 mod growth;
 #[cfg(test)]
@@ -30,9 +30,13 @@ mod performing;
 #[cfg(test)]
 mod pictures;
 #[cfg(test)]
+mod prefixes;
+#[cfg(test)]
 mod readers;
 #[cfg(test)]
 mod refusals;
+#[cfg(test)]
+mod round_trips;
 #[cfg(test)]
 mod script_cases;
 #[cfg(test)]
@@ -41,3 +45,5 @@ mod script_clients;
 mod scripts;
 #[cfg(test)]
 mod traces;
+#[cfg(test)]
+mod wrong_fields;

@@ -96,87 +96,83 @@ fn are_so(alloc: Global, rows: &[Row]) -> usize {
     rows.len()
 }
 
+/// What stands in the picture of the one client that locks and unlocks.
+const ONE_LOCK_WORDS: &[(&str, u64)] = &[
+    ("<title>2 nodes, 1 request, 2 messages</title>", 1),
+    ("<title>node 1</title>", 1),
+    ("<title>node 2</title>", 1),
+    ("<title>client 1 at node 1 asks for r, exclusive</title>", 1),
+    (
+        "<title>request 1 from node 1 to node 2 for r, exclusive, sent at line 2, delivered at line 4</title>",
+        1,
+    ),
+    (
+        "<title>reply 1 from node 2 to node 1 for r, sent at line 4, delivered at line 5</title>",
+        1,
+    ),
+    (
+        "<title>client 1 at node 1 waits for r, exclusive, from line 2 to line 5</title>",
+        1,
+    ),
+    (
+        "<title>client 1 at node 1 is inside r, exclusive, from line 5 to line 7</title>",
+        1,
+    ),
+    ("<title>client 1 at node 1 leaves r</title>", 1),
+    (">request 1</text>", 1),
+    (">reply 1</text>", 1),
+];
+
+/// What stands in that of two clients: the lower node goes first, and the REPLY to the other one waits until it leaves.
+const TWO_LOCKS_WORDS: &[(&str, u64)] = &[
+    ("<title>3 nodes, 2 requests, 8 messages</title>", 1),
+    (", delivered at line ", 8),
+    ("<title>node ", 3),
+    (
+        "<title>reply 1 from node 1 to node 2 for r, sent at line 13, delivered at line 16</title>",
+        1,
+    ),
+    (
+        "<title>client 1 at node 1 is inside r, exclusive, from line 11 to line 13</title>",
+        1,
+    ),
+    (
+        "<title>client 2 at node 2 waits for r, exclusive, from line 4 to line 16</title>",
+        1,
+    ),
+    (", still under way", 0),
+    (", lost at ", 0),
+];
+
+/// What stands in that of the request that is lost and repeated.
+const LOST_AND_REPEATED_WORDS: &[(&str, u64)] = &[
+    ("<title>2 nodes, 1 request, 1 message</title>", 1),
+    (
+        "<title>request 1 from node 1 to node 2 for disk.2, shared and intent exclusive, sent at line 2, lost at line 5</title>",
+        1,
+    ),
+    (
+        "<title>request 1 from node 1 to node 2 for disk.2, shared and intent exclusive, repeated at line 4</title>",
+        1,
+    ),
+    (
+        "<title>request 1 from node 1 to node 2 for disk.2, shared and intent exclusive, repeated at line 4, still under way</title>",
+        1,
+    ),
+    (
+        "<title>client 7 at node 1 waits for disk.2, shared and intent exclusive, from line 2 on</title>",
+        1,
+    ),
+    (" is inside ", 0),
+    (", delivered at ", 0),
+];
+
 #[test]
 fn each_shape_says_what_it_is(rt: HostRuntime) {
     let rows = [
-        Row(
-            ONE_LOCK,
-            Part::WHOLE,
-            &[
-                ("<title>2 nodes, 1 request, 2 messages</title>", 1),
-                ("<title>node 1</title>", 1),
-                ("<title>node 2</title>", 1),
-                ("<title>client 1 at node 1 asks for r, exclusive</title>", 1),
-                (
-                    "<title>request 1 from node 1 to node 2 for r, exclusive, sent at line 2, delivered at line 4</title>",
-                    1,
-                ),
-                (
-                    "<title>reply 1 from node 2 to node 1 for r, sent at line 4, delivered at line 5</title>",
-                    1,
-                ),
-                (
-                    "<title>client 1 at node 1 waits for r, exclusive, from line 2 to line 5</title>",
-                    1,
-                ),
-                (
-                    "<title>client 1 at node 1 is inside r, exclusive, from line 5 to line 7</title>",
-                    1,
-                ),
-                ("<title>client 1 at node 1 leaves r</title>", 1),
-                (">request 1</text>", 1),
-                (">reply 1</text>", 1),
-            ],
-        ),
-        // The lower node goes first, and the REPLY to the other one waits until it leaves.
-        Row(
-            TWO_LOCKS,
-            Part::WHOLE,
-            &[
-                ("<title>3 nodes, 2 requests, 8 messages</title>", 1),
-                (", delivered at line ", 8),
-                ("<title>node ", 3),
-                (
-                    "<title>reply 1 from node 1 to node 2 for r, sent at line 13, delivered at line 16</title>",
-                    1,
-                ),
-                (
-                    "<title>client 1 at node 1 is inside r, exclusive, from line 11 to line 13</title>",
-                    1,
-                ),
-                (
-                    "<title>client 2 at node 2 waits for r, exclusive, from line 4 to line 16</title>",
-                    1,
-                ),
-                (", still under way", 0),
-                (", lost at ", 0),
-            ],
-        ),
-        Row(
-            LOST_AND_REPEATED,
-            Part::WHOLE,
-            &[
-                ("<title>2 nodes, 1 request, 1 message</title>", 1),
-                (
-                    "<title>request 1 from node 1 to node 2 for disk.2, shared and intent exclusive, sent at line 2, lost at line 5</title>",
-                    1,
-                ),
-                (
-                    "<title>request 1 from node 1 to node 2 for disk.2, shared and intent exclusive, repeated at line 4</title>",
-                    1,
-                ),
-                (
-                    "<title>request 1 from node 1 to node 2 for disk.2, shared and intent exclusive, repeated at line 4, still under way</title>",
-                    1,
-                ),
-                (
-                    "<title>client 7 at node 1 waits for disk.2, shared and intent exclusive, from line 2 on</title>",
-                    1,
-                ),
-                (" is inside ", 0),
-                (", delivered at ", 0),
-            ],
-        ),
+        Row(ONE_LOCK, Part::WHOLE, ONE_LOCK_WORDS),
+        Row(TWO_LOCKS, Part::WHOLE, TWO_LOCKS_WORDS),
+        Row(LOST_AND_REPEATED, Part::WHOLE, LOST_AND_REPEATED_WORDS),
     ];
     assert_rows(&rt, are_so(rt.alloc(), &rows), rows.len());
 }

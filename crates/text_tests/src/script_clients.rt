@@ -125,12 +125,12 @@ fn there_are_1_to_64_clients_each_at_a_node(rt: HostRuntime) {
 /// 1,024 operations of a client are accepted, and one more is refused before any is looked at, and before the next client is.
 #[test]
 fn a_client_has_at_most_1024_operations(rt: HostRuntime) {
-    const FRONT: Part = Text("nodes = 1\nclient = [{node = 1, ops = [\n");
+    const PREFIX: Part = Text("nodes = 1\nclient = [{node = 1, ops = [\n");
     const OPS: Part = Times(b"'X r', 'U r',\n", 512);
     const PAST: Part = Text("'?']}, {node = 1, ops = ['?']}]\n");
     const CASES: &[Case] = &[
-        Case(&[FRONT, OPS, Text("]}]\n")], Accepted),
-        Case(&[FRONT, OPS, PAST], Refused(ScriptError::Limit)),
+        Case(&[PREFIX, OPS, Text("]}]\n")], Accepted),
+        Case(&[PREFIX, OPS, PAST], Refused(ScriptError::Limit)),
     ];
     assert_cases(&rt, CASES);
 }

@@ -58,13 +58,13 @@ fn a_reader_that_failed_is_not_tried_again(rt: HostRuntime) {
 fn reads_to(alloc: Global, limit: usize) -> bool {
     let mut reader = failing_reader(limit, io::ErrorKind::BrokenPipe);
     match read_up_to(alloc, &mut reader, limit) {
-        Ok(read) => is_front(read.as_slice(), limit),
+        Ok(read) => is_prefix(read.as_slice(), limit),
         Err(_) => false,
     }
 }
 
 /// Returns whether these are so many of [`BYTES`] from the first on.
-fn is_front(bytes: &[u8], taken: usize) -> bool {
+fn is_prefix(bytes: &[u8], taken: usize) -> bool {
     match BYTES.get(..taken) {
         Some(expected) => bytes == expected,
         None => false,

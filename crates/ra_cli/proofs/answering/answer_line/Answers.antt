@@ -1,6 +1,6 @@
 use Rattle.std.proofs.Common.{Err, ap, refl}
 use Rattle.std.proofs.lemmas.Result.{err_from_is_err_and}
-use Rattle.ra_cli.proofs.Answered.{no_member, no_input, no_answer, not_written, written}
+use Rattle.ra_cli.proofs.AnswerCallLemmas.{no_member, no_input, no_answer, not_written, written}
 use Rattle.ra_cli.proofs.answering.answer_line.Goals as goal
 
 pub returns-in_err-me : goal.returns-in_err-me

@@ -1,7 +1,7 @@
 use Rattle.std.proofs.Common.{◌≡◌, ℕ, ◌+◌, sym, subst, arith, rules}
 use Rattle.std.proofs.lemmas.Result.{err_from_is_err_and}
 use Rattle.ra_cli.specs.Answer.{AreLines, clock_after}
-use Rattle.ra_cli.proofs.Answered.{unwanted, of_message}
+use Rattle.ra_cli.proofs.AnswerCallLemmas.{unwanted, of_message}
 use Rattle.ra_cli.proofs.answering.answer_to.Goals as goal
 
 pub returns-in_err-frame-clause-err : goal.returns-in_err-frame-clause-err

@@ -65,8 +65,8 @@ returns-clause-unwritten g c =
       | inr write ↦ λ no. absurd (no write.0)
     ]) c.write_report.ensures.err
 
-pub returns-clause-front : goal.returns-clause-front
-returns-clause-front g c is =
+pub returns-clause-prefix : goal.returns-clause-prefix
+returns-clause-prefix g c is =
     let old = g.R.Read.remaining c.args.reader.now in
     let new = g.R.Read.remaining c.script_from.new.reader in
     let before = g.W.Write.contents c.args.writer.now in
@@ -86,9 +86,9 @@ returns-clause-front g c is =
     elim (IfErr-at_err _ is c.write_report.ensures.err) [
       | inl memory ↦ absurd (let never : Write ≡ Memory = memory.0 in absurd cc)
       | inr write ↦
-          let (same, front, back, parts, left, appends) = write in
+          let (same, prefix, rest, parts, left, appends) = write in
           of_known old (λ input. (script_of input ≡ Ok script) × Consumes old new input)
           (λ input. (f : List ℕ) × (b : List ℕ) × IsClusterRun input (f ++ b) × (b ≢ []) × Appends before after f)
-          (λ input h. (front, back, subst (λ (xs : List ℕ). IsClusterRun input xs) parts (runs input script report h.0 brings), left, appends))
+          (λ input h. (prefix, rest, subst (λ (xs : List ℕ). IsClusterRun input xs) parts (runs input script report h.0 brings), left, appends))
           c.in_ok-script.ensures.ok
     ]

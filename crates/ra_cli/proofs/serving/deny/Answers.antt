@@ -5,7 +5,7 @@ use Rattle.ra_draw.specs.declared.error.DrawError.TheVariants.{Memory, Write}
 use Rattle.ra_cli.specs.Checks.{verdict_text}
 use Rattle.ra_cli.specs.Refusals.{IsOfWriter}
 use Rattle.ra_cli.specs.declared.refusal.Refusal.TheVariants.{Draw}
-use Rattle.ra_cli.proofs.Statuses.{of_draw, refused, broken, front_of}
+use Rattle.ra_cli.proofs.Statuses.{of_draw, refused, broken, prefix_of}
 use Rattle.ra_cli.proofs.serving.deny.Goals as goal
 
 no_writer : IsOfWriter (Draw Memory) → ⊥
@@ -16,14 +16,14 @@ returns-in-Ok-clause-denied g c three =
     elim c.written-status.ensures.value [
       | inl all ↦ subst (Appends (g.W.Write.contents c.args.writer.now) (g.W.Write.contents c.written-status.new.writer))
           (c.as_bytes.ensures.value ∙ c.in-Ok.ensures) all.1
-      | inr front ↦ absurd (omega (arith, front.0, three))
+      | inr part ↦ absurd (omega (arith, part.0, three))
     ]
 
 pub returns-in-Ok-clause-refused : goal.returns-in-Ok-clause-refused
 returns-in-Ok-clause-refused g c two =
     elim c.written-status.ensures.value [
       | inl all ↦ absurd (omega (arith, all.0, two))
-      | inr front ↦ absurd (omega (arith, front.0, two))
+      | inr part ↦ absurd (omega (arith, part.0, two))
     ]
 
 pub returns-in-Ok-clause-broken : goal.returns-in-Ok-clause-broken
@@ -31,9 +31,9 @@ returns-in-Ok-clause-broken g c words old printed one =
     elim c.written-status.ensures.value [
       | inl all ↦ absurd (omega (arith, all.0, one))
       | inr part ↦
-          let (is_one, front, back, is, left, some) = part in
-          front_of words old (g.W.Write.contents c.args.writer.now) (g.W.Write.contents c.written-status.new.writer)
-          (verdict_text (Invalid c.args.line c.args.cause)) front back printed (sym (c.as_bytes.ensures.value ∙ c.in-Ok.ensures) ∙ is) left some
+          let (is_one, prefix, rest, is, left, some) = part in
+          prefix_of words old (g.W.Write.contents c.args.writer.now) (g.W.Write.contents c.written-status.new.writer)
+          (verdict_text (Invalid c.args.line c.args.cause)) prefix rest printed (sym (c.as_bytes.ensures.value ∙ c.in-Ok.ensures) ∙ is) left some
     ]
 
 pub returns-in-Err-clause-refused : goal.returns-in-Err-clause-refused

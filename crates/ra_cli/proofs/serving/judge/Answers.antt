@@ -7,7 +7,7 @@ use Rattle.ra_trace.specs.Verdict.{IsVerdict}
 use Rattle.ra_cli.specs.Checks.{Checks, is_valid, verdict_text}
 use Rattle.ra_trace.specs.declared.error.TraceError.TheVariants.{Memory}
 use Rattle.ra_cli.specs.declared.refusal.Refusal.TheVariants.{Check}
-use Rattle.ra_cli.proofs.Statuses.{none_of_check, of_verdict, refused, broken, front_of}
+use Rattle.ra_cli.proofs.Statuses.{none_of_check, of_verdict, refused, broken, prefix_of}
 use Rattle.ra_cli.proofs.serving.judge.Goals as goal
 
 -- what is valid was read to its end
@@ -38,7 +38,7 @@ returns-in-Ok-verdict_text-clause-valid g c is =
             c.in-Ok.ensures.valid c.in-Ok.ensures.alone status.1 (subst (Appends before after) (c.as_bytes.ensures.value ∙ c.in-Ok-verdict_text.ensures) all.1)
         | inr status ↦ absurd (omega (arith, all.0, status.0, is))
       ]
-      | inr front ↦ absurd (omega (arith, front.0, is))
+      | inr part ↦ absurd (omega (arith, part.0, is))
     ]
 
 pub returns-in-Ok-verdict_text-clause-invalid : goal.returns-in-Ok-verdict_text-clause-invalid
@@ -51,7 +51,7 @@ returns-in-Ok-verdict_text-clause-invalid g c is =
         | inr status ↦ checks 16777216 (g.R.Read.remaining c.args.reader.now) (g.R.Read.remaining c.check_buffered.new.reader) before after c.in-Ok.verdict false c.in-Ok.ensures.ok
             c.in-Ok.ensures.valid c.in-Ok.ensures.alone status.1 (subst (Appends before after) (c.as_bytes.ensures.value ∙ c.in-Ok-verdict_text.ensures) all.1)
       ]
-      | inr front ↦ absurd (omega (arith, front.0, is))
+      | inr part ↦ absurd (omega (arith, part.0, is))
     ]
 
 pub returns-in-Err-clause-refused : goal.returns-in-Err-clause-refused
@@ -86,7 +86,7 @@ returns-in-Ok-verdict_text-clause-refused g c two =
         | inl status ↦ absurd (omega (arith, all.0, status.0, two))
         | inr status ↦ absurd (omega (arith, all.0, status.0, two))
       ]
-      | inr front ↦ absurd (omega (arith, front.0, two))
+      | inr part ↦ absurd (omega (arith, part.0, two))
     ]
 
 pub returns-in-Ok-verdict_text-clause-broken : goal.returns-in-Ok-verdict_text-clause-broken
@@ -98,7 +98,7 @@ returns-in-Ok-verdict_text-clause-broken g c words trace one =
         | inr status ↦ absurd (omega (arith, all.0, status.0, one))
       ]
       | inr part ↦
-          let (is_one, front, back, is, left, some) = part in
-          front_of words old (g.W.Write.contents c.args.writer.now) (g.W.Write.contents c.written-status.new.writer) (verdict_text c.in-Ok.verdict) front back
+          let (is_one, prefix, rest, is, left, some) = part in
+          prefix_of words old (g.W.Write.contents c.args.writer.now) (g.W.Write.contents c.written-status.new.writer) (verdict_text c.in-Ok.verdict) prefix rest
           (of_verdict words old c.in-Ok.verdict trace c.in-Ok.ensures.ok) (sym (c.as_bytes.ensures.value ∙ c.in-Ok-verdict_text.ensures) ∙ is) left some
     ]

@@ -30,7 +30,7 @@ returns-in-Err-clause-broken g c one =
     subst (λ (o : Option (List ℕ)). IsBroken words o (g.W.Write.contents c.args.writer.now) after) (ap g.R.Read.remaining untouched.0)
     (subst (λ (b : Option (List ℕ)). IsBroken words old b after) (ap g.W.Write.contents untouched.1)
     (broken words old before between after (Cluster c.in-Err.fault)
-    (λ is. of_cluster_run words old before between (c.in-Err.ensures.front (ap Err (of_run c.in-Err.fault is))))
+    (λ is. of_cluster_run words old before between (c.in-Err.ensures.prefix (ap Err (of_run c.in-Err.fault is))))
     (λ is. ap g.W.Write.contents (c.refuse.ensures.unwritten is).1)
     (λ other. ap g.W.Write.contents (c.in-Err.ensures.unwritten (λ e. other (inr (inr (inl (ap Cluster e)))))))
     (c.refuse.ensures.broken one)))

@@ -4,7 +4,7 @@ use Rattle.ra_trace.specs.declared.verdict.Verdict.TheVariants.{Invalid}
 use Rattle.ra_cli.specs.Checks.{verdict_text}
 use Rattle.ra_cli.specs.Statuses.{IsRefused, IsBroken}
 use Rattle.ra_cli.specs.declared.refusal.Refusal.TheVariants.{Draw}
-use Rattle.ra_cli.proofs.Drawings.{of_picture, of_denied, of_drawn}
+use Rattle.ra_cli.proofs.PictureLemmas.{of_picture, of_denied, of_drawn}
 use Rattle.ra_cli.proofs.Statuses.{of_draw, refused, broken}
 use Rattle.ra_cli.proofs.serving.paint.Goals as goal
 
@@ -60,7 +60,7 @@ returns-in-Err-clause-broken g c words one =
     let before = g.W.Write.contents c.args.writer.now in
     let between = g.W.Write.contents c.draw.new.writer in
     broken words old before between (g.W.Write.contents c.refuse.new.writer) (Draw fault)
-    (λ is. of_picture words old (g.R.Read.remaining c.draw.new.reader) before between (c.in-Err.ensures.front (ap Err (of_draw fault is))))
+    (λ is. of_picture words old (g.R.Read.remaining c.draw.new.reader) before between (c.in-Err.ensures.prefix (ap Err (of_draw fault is))))
     (λ is. ap g.W.Write.contents (c.refuse.ensures.unwritten is).1)
     (λ other. ap g.W.Write.contents (c.in-Err.ensures.unwritten (λ e. other (inr (inr (inr (ap Draw e)))))))
     (c.refuse.ensures.broken one)

@@ -1,7 +1,7 @@
 use Rattle.std.proofs.Common.{Err, map, refl, ap, inl, inr, arith, string_bytes}
 use Rattle.ra_cli.specs.declared.refusal.Refusal.TheVariants.{Command, Answer}
 use Rattle.ra_cli.proofs.Helping.{of_help}
-use Rattle.ra_cli.proofs.Statuses.{none_of_command, of_answer, of_answered, refused, broken, front_of}
+use Rattle.ra_cli.proofs.Statuses.{none_of_command, of_answer, of_answered, refused, broken, prefix_of}
 use Rattle.ra_cli.proofs.serving.serve_alone.Goals as goal
 
 pub returns-in-Ok-clause-done : goal.returns-in-Ok-clause-done
@@ -24,7 +24,7 @@ returns-in-Err-answer-clause-broken g c one =
     let before = g.W.Write.contents c.args.writer.now in
     let between = g.W.Write.contents c.answer.new.writer in
     broken words old before between (g.W.Write.contents c.refuse.new.writer) (Answer fault)
-    (λ is. of_answered words c.in-Ok-Answer.node c.in-Ok-Answer.nodes old before between gives (c.in-Err-answer.ensures.front (ap Err (of_answer fault is))))
+    (λ is. of_answered words c.in-Ok-Answer.node c.in-Ok-Answer.nodes old before between gives (c.in-Err-answer.ensures.prefix (ap Err (of_answer fault is))))
     (λ is. ap g.W.Write.contents (c.refuse.ensures.unwritten is).1)
     (λ other. ap g.W.Write.contents (c.in-Err-answer.ensures.unwritten (λ e. other (inl (ap Answer e)))))
     (c.refuse.ensures.broken one)
@@ -37,8 +37,8 @@ returns-in-Ok-Help-clause-broken g c one =
     elim c.written.ensures.value [
       | inl all ↦ absurd (omega (arith, all.0, one))
       | inr part ↦
-          let (is_one, front, back, is, left, some) = part in
-          front_of words old (g.W.Write.contents c.args.writer.now) (g.W.Write.contents c.written.new.writer) c.as_bytes.result.now front back
+          let (is_one, prefix, rest, is, left, some) = part in
+          prefix_of words old (g.W.Write.contents c.args.writer.now) (g.W.Write.contents c.written.new.writer) c.as_bytes.result.now prefix rest
           (of_help c.args.words.now old c.as_bytes.result.now help) is left some
     ]
 

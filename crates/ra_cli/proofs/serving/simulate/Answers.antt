@@ -42,7 +42,7 @@ returns-clause-broken g c words one =
     let before = g.W.Write.contents c.args.writer.now in
     let between = g.W.Write.contents c.perform_as.new.writer in
     broken words old before between (g.W.Write.contents c.refuse-in-Err-perform_as.new.writer) (Perform fault)
-    (λ is. of_performed words c.in-Ok.policy c.args.format old before between (c.in-Err-perform_as.ensures.front (ap Err (of_perform fault is))))
+    (λ is. of_performed words c.in-Ok.policy c.args.format old before between (c.in-Err-perform_as.ensures.prefix (ap Err (of_perform fault is))))
     (λ is. ap g.W.Write.contents (c.refuse-in-Err-perform_as.ensures.unwritten is).1)
     (λ other. ap g.W.Write.contents (c.in-Err-perform_as.ensures.unwritten (λ e. other (inr (inl (ap Perform e))))))
     (c.refuse-in-Err-perform_as.ensures.broken one)

@@ -22,7 +22,7 @@ returns-in-Err-clause-broken g c words one =
     let before = g.W.Write.contents c.args.writer.now in
     let between = g.W.Write.contents c.survey_script.new.writer in
     broken words old before between (g.W.Write.contents c.refuse.new.writer) (Cluster fault)
-    (λ is. of_surveyed words c.args.faults c.args.find c.args.first c.args.last old before between (c.in-Err.ensures.front (ap Err (of_run fault is))))
+    (λ is. of_surveyed words c.args.faults c.args.find c.args.first c.args.last old before between (c.in-Err.ensures.prefix (ap Err (of_run fault is))))
     (λ is. ap g.W.Write.contents (c.refuse.ensures.unwritten is).1)
     (λ other. ap g.W.Write.contents (c.in-Err.ensures.unwritten (λ e. other (inr (inr (inl (ap Cluster e)))))))
     (c.refuse.ensures.broken one)

@@ -23,14 +23,14 @@ returns-in_err-write_out-clause-refused g c =
     let new = g.R.Read.remaining c.script_from.new.reader in
     let script = c.in_ok-script.script in
     let text = string_bytes c.in_ok-told.told.text in
-    let (front, back, is, left, appends) = c.in_err-write_out.ensures.err in
-    let some : text ≢ [] = not_nil text front back (sym c.as_bytes.ensures.value ∙ is) left in
+    let (prefix, rest, is, left, appends) = c.in_err-write_out.ensures.err in
+    let some : text ≢ [] = not_nil text prefix rest (sym c.as_bytes.ensures.value ∙ is) left in
     rw (p.1, p.2) (of_known old (λ input. (script_of input ≡ Ok script) × Consumes old new input)
     (λ input. RefusesSurvey c.args.faults c.args.find c.args.first c.args.last input Write)
     (λ input h. (text, c.in_ok-told.told.finished, c.in_ok-told.ensures input h.0, some)) c.in_ok-script.ensures.ok)
 
-pub returns-in_err-write_out-clause-front : goal.returns-in_err-write_out-clause-front
-returns-in_err-write_out-clause-front g c e =
+pub returns-in_err-write_out-clause-prefix : goal.returns-in_err-write_out-clause-prefix
+returns-in_err-write_out-clause-prefix g c e =
     let old = g.R.Read.remaining c.args.reader.now in
     let new = g.R.Read.remaining c.script_from.new.reader in
     let before = g.W.Write.contents c.args.writer.now in
@@ -38,14 +38,14 @@ returns-in_err-write_out-clause-front g c e =
     let script = c.in_ok-script.script in
     let text = string_bytes c.in_ok-told.told.text in
     let finished = c.in_ok-told.told.finished in
-    let (front, back, is, left, appends) = c.in_err-write_out.ensures.err in
-    let parts : text ≡ front ++ back = sym c.as_bytes.ensures.value ∙ is in
+    let (prefix, rest, is, left, appends) = c.in_err-write_out.ensures.err in
+    let parts : text ≡ prefix ++ rest = sym c.as_bytes.ensures.value ∙ is in
     of_known old (λ input. (script_of input ≡ Ok script) × Consumes old new input)
     (λ input. (f : List ℕ) × (b : List ℕ) × (done : Bool) × IsTold c.args.faults c.args.find c.args.first c.args.last input (f ++ b) done × (b ≢ [])
     × Appends before after f)
     (λ input h. (
-      front,
-      back,
+      prefix,
+      rest,
       finished,
       subst (λ (xs : List ℕ). IsTold c.args.faults c.args.find c.args.first c.args.last input xs finished) parts (c.in_ok-told.ensures input h.0),
       left,

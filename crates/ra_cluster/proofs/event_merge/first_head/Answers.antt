@@ -2,7 +2,7 @@ use Rattle.std.proofs.Common.{◌≡◌, ℕ, ◌+◌, length, None, Some, refl,
 use Rattle.std.specs.Prelude.{slice_get}
 use Rattle.std.proofs.lemmas.Option.{slice_get_read}
 use Rattle.ra_cluster.specs.declared.event_merge.Head.{Head}
-use Rattle.ra_cluster.specs.Ordering.{IsHeadOfEarliest, lesser_of}
+use Rattle.ra_cluster.specs.EventMerge.{IsHeadOfEarliest, lesser_of}
 use Rattle.ra_cluster.proofs.Taking.{head_more, head_same, clock_is_next, no_clock_no_next}
 use Rattle.ra_cluster.proofs.event_merge.first_head.Goals as goal
 use Rattle.ra_cluster.proofs.event_merge.first_head.Goals.{in-Some, in_default}

@@ -1,4 +1,4 @@
-use Rattle.ra_cluster.specs.Ordering.{IsHeadOfEarliest}
+use Rattle.ra_cluster.specs.EventMerge.{IsHeadOfEarliest}
 use Rattle.ra_cluster.proofs.event_merge.first_head.Given as goal
 
 -- the head of the earliest of the books so far

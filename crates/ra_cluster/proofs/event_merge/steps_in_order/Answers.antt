@@ -1,5 +1,5 @@
 use Rattle.std.proofs.Common.{ℕ, List, [], None, subst, length}
-use Rattle.ra_cluster.specs.Ordering.{IsEarliest}
+use Rattle.ra_cluster.specs.EventMerge.{IsEarliest}
 use Rattle.ra_cluster.proofs.Merging.{nothing_merged, turn_taken, all_merged}
 use Rattle.ra_cluster.proofs.event_merge.steps_in_order.Goals as goal
 

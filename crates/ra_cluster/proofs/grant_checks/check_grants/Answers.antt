@@ -6,9 +6,9 @@ use Rattle.ra_cluster.specs.declared.error.SettleError.TheVariants.{Memory}
 use Rattle.ra_cluster.specs.declared.grant.Grant.{Grant}
 use Rattle.ra_cluster.specs.declared.keys.EntryKey.{EntryKey}
 use Rattle.ra_cluster.specs.Keys.{entered_in}
-use Rattle.ra_cluster.specs.Settling.{RefusesGrants}
+use Rattle.ra_cluster.specs.SettlingParts.{RefusesGrants}
 use Rattle.ra_cluster.proofs.KeyOrders.{entry_cmp}
-use Rattle.ra_cluster.proofs.Granted.{is_granted, is_not_granted, all_granted, grants_once}
+use Rattle.ra_cluster.proofs.GrantMarks.{is_granted, is_not_granted, all_granted, grants_once}
 use Rattle.ra_cluster.proofs.Causes.{refused}
 use Rattle.ra_cluster.proofs.grant_checks.check_grants.Goals as goal
 

@@ -5,9 +5,9 @@ use Rattle.std.proofs.lemmas.List.{take_all}
 use Rattle.ra_cluster.specs.declared.error.SettleError.TheVariants.{Memory}
 use Rattle.ra_cluster.specs.declared.grant.Grant.{Grant}
 use Rattle.ra_cluster.specs.declared.keys.EntryKey.{EntryKey}
-use Rattle.ra_cluster.specs.Settling.{RefusesRepeats}
+use Rattle.ra_cluster.specs.SettlingParts.{RefusesRepeats}
 use Rattle.ra_cluster.proofs.KeyOrders.{entry_cmp}
-use Rattle.ra_cluster.proofs.Granted.{next_grant, grant_again}
+use Rattle.ra_cluster.proofs.GrantMarks.{next_grant, grant_again}
 use Rattle.ra_cluster.proofs.KeySets.{when_new, when_old}
 use Rattle.ra_cluster.proofs.Causes.{refused}
 use Rattle.ra_cluster.proofs.grant_checks.check_once.Goals as goal

@@ -5,7 +5,7 @@ use Rattle.ra_stamp.specs.declared.entry.Mark.{Mark}
 use Rattle.ra_cluster.specs.declared.keys.EntryKey.{EntryKey}
 use Rattle.ra_cluster.specs.Keys.{HasKeys, entered_in, entry_key}
 use Rattle.ra_cluster.proofs.KeyOrders.{entry_cmp}
-use Rattle.ra_cluster.proofs.Granted.{key_put, key_left_out}
+use Rattle.ra_cluster.proofs.GrantMarks.{key_put, key_left_out}
 use Rattle.ra_cluster.proofs.grant_checks.entered_by.Goals as goal
 use Rattle.ra_cluster.proofs.grant_checks.entered_by.Goals.{in-Entered+in_ok-insert, in_default}
 

@@ -1,8 +1,8 @@
 use Rattle.std.proofs.Common.{rules, ℕ, ◌+◌, Option, refl, ap, ◌∙◌, arith}
 use Rattle.std.specs.Prelude.{unwrap_or}
 use Rattle.std.proofs.lemmas.Bool.{iff_false}
-use Rattle.ra_cluster.specs.Order.{IsKeptFrom}
-use Rattle.ra_cluster.proofs.Ordered.{none_more, none_here, released, holding_found}
+use Rattle.ra_cluster.specs.LockOrder.{IsKeptFrom}
+use Rattle.ra_cluster.proofs.LockOrderLemmas.{none_more, none_here, released, holding_found}
 use Rattle.ra_cluster.proofs.Truth.{yes, no}
 use Rattle.ra_cluster.proofs.lock_order.ends_holding.Goals as goal
 

@@ -1,5 +1,5 @@
-use Rattle.ra_cluster.specs.Order.{IsKeptFrom}
-use Rattle.ra_cluster.proofs.Ordered.{NoneBefore}
+use Rattle.ra_cluster.specs.LockOrder.{IsKeptFrom}
+use Rattle.ra_cluster.proofs.LockOrderLemmas.{NoneBefore}
 use Rattle.ra_cluster.proofs.lock_order.ends_holding.Given as goal
 
 -- no place so far was found

@@ -1,4 +1,4 @@
-use Rattle.ra_cluster.proofs.Ordered.{AllKept}
+use Rattle.ra_cluster.proofs.LockOrderLemmas.{AllKept}
 use Rattle.ra_cluster.proofs.lock_order.is_kept.Given as goal
 
 -- the places so far do not unlock the name

@@ -1,5 +1,5 @@
 use Rattle.std.proofs.Common.{ℕ, ◌+◌, ◌<◌}
-use Rattle.ra_cluster.specs.Order.{IsOf, LocksOutOfOrder}
+use Rattle.ra_cluster.specs.LockOrder.{IsOf, LocksOutOfOrder}
 use Rattle.ra_cluster.proofs.lock_order.is_out_of_order.Given as goal
 
 -- no client so far was found

@@ -1,5 +1,5 @@
 use Rattle.std.proofs.Common.{ℕ, ◌+◌, ◌<◌}
-use Rattle.ra_cluster.specs.Order.{IsOf, EndsHolding}
+use Rattle.ra_cluster.specs.LockOrder.{IsOf, EndsHolding}
 use Rattle.ra_cluster.proofs.lock_order.is_unreleased.Given as goal
 
 -- no client so far was found

@@ -1,4 +1,4 @@
-use Rattle.ra_cluster.proofs.Ordered.{AllPassed}
+use Rattle.ra_cluster.proofs.LockOrderLemmas.{AllPassed}
 use Rattle.ra_cluster.proofs.lock_order.locks_below.Given as goal
 
 -- the places so far neither unlock the name nor lock one that is not above it

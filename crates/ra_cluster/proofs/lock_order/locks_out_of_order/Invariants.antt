@@ -1,5 +1,5 @@
-use Rattle.ra_cluster.specs.Order.{LocksBelow}
-use Rattle.ra_cluster.proofs.Ordered.{NoneBefore}
+use Rattle.ra_cluster.specs.LockOrder.{LocksBelow}
+use Rattle.ra_cluster.proofs.LockOrderLemmas.{NoneBefore}
 use Rattle.ra_cluster.proofs.lock_order.locks_out_of_order.Given as goal
 
 -- no place so far was found

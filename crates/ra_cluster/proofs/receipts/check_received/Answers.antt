@@ -1,7 +1,7 @@
 use Rattle.ra_cluster.proofs.KeySets.{at_true, at_false}
 use Rattle.ra_cluster.proofs.WasSent.{all_sent, no_repeats}
 use Rattle.ra_cluster.specs.declared.error.SettleError.TheVariants.{Memory}
-use Rattle.ra_cluster.specs.Settling.{RefusesReceived}
+use Rattle.ra_cluster.specs.SettlingParts.{RefusesReceived}
 use Rattle.ra_cluster.proofs.Causes.{refused}
 use Rattle.ra_cluster.proofs.receipts.check_received.Goals as goal
 

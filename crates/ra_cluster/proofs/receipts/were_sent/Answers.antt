@@ -30,4 +30,4 @@ loop-book-preserved c =
 pub returns : goal.returns
 returns c =
     let books = c.args.books.now in
-    subst (λ (front : List BookState). All (λ f. WasSent books f) (all_received front)) (take_all c.loop-book.book-index books c.loop-book-test.false) c.loop-book.invariant
+    subst (λ (prefix : List BookState). All (λ f. WasSent books f) (all_received prefix)) (take_all c.loop-book.book-index books c.loop-book-test.false) c.loop-book.invariant

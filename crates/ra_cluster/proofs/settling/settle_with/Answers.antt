@@ -1,5 +1,5 @@
 use Rattle.std.proofs.Common.{sym, subst}
-use Rattle.ra_cluster.specs.Settling.{Refuses}
+use Rattle.ra_cluster.specs.SettlingParts.{Refuses}
 use Rattle.ra_cluster.proofs.Causes.{refused}
 use Rattle.ra_cluster.proofs.SettledReport.{grants_stand, grants_refused}
 use Rattle.ra_cluster.proofs.settling.settle_with.Goals as goal

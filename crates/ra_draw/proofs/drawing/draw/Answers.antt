@@ -9,13 +9,13 @@ returns-clause-too_long g c e =
     let refused = rw c.deref.ensures.value at c.draw_text.ensures.too_long in
     let (requests, messages, verdict, long) = refused e in (text, requests, messages, input, verdict, long)
 
-pub returns-clause-front : goal.returns-clause-front
-returns-clause-front g c e =
+pub returns-clause-prefix : goal.returns-clause-prefix
+returns-clause-prefix g c e =
     let text = c.in_ok-text.text.items in
     let input : IsInput (g.R.Read.remaining c.args.reader.now) (g.R.Read.remaining c.read_up_to.new.reader) text = search rules in
-    let broken = rw c.deref.ensures.value at c.draw_text.ensures.front in
-    let (requests, messages, front, back, verdict, picture, left, appends) = broken e in
-    (text, requests, messages, front, back, input, verdict, picture, left, appends)
+    let broken = rw c.deref.ensures.value at c.draw_text.ensures.prefix in
+    let (requests, messages, prefix, rest, verdict, picture, left, appends) = broken e in
+    (text, requests, messages, prefix, rest, input, verdict, picture, left, appends)
 
 pub returns-clause-failed : goal.returns-clause-failed
 returns-clause-failed g c e = (c.in_ok-text.text.items, search rules, search rules)

@@ -15,14 +15,14 @@ returns-in_err-picture-clause-too_long g c e =
       | inr memory ↦ let clash : TooLong ≡ Memory = cc (p.1, p.2, e, memory) in absurd cc
     ]
 
-pub returns-in_err-write_out-clause-front : goal.returns-in_err-write_out-clause-front
-returns-in_err-write_out-clause-front g c e =
+pub returns-in_err-write_out-clause-prefix : goal.returns-in_err-write_out-clause-prefix
+returns-in_err-write_out-clause-prefix g c e =
     let verdict : IsVerdict c.args.text.now (Valid c.in-Valid.requests c.in-Valid.messages) = rw c.in-Valid.is at c.in_ok-verdict.ensures.ok in
-    let (front, back, is, left, appends) = c.in_err-write_out.ensures.err in (
+    let (prefix, rest, is, left, appends) = c.in_err-write_out.ensures.err in (
       c.in-Valid.requests,
       c.in-Valid.messages,
-      front,
-      back,
+      prefix,
+      rest,
       verdict,
       subst IsPicture (sym c.deref.ensures.value ∙ is) c.in_ok-picture.ensures.ok.0,
       left,

@@ -3,7 +3,7 @@ use Rattle.ra_schedule.proofs.laws.schedules_rest_on_runs.Goals as goal
 pub returns : goal.returns
 returns c =
     record {
-      fronts = c.fronts_of_runs_are_runs.ensures.moves;
+      prefixes = c.prefixes_of_runs_are_runs.ensures.moves;
       determined = c.runs_are_determined.ensures;
       one_list = c.messages_under_way_are_between_nodes.ensures.are_one;
       a_list = c.messages_under_way_are_between_nodes.ensures.exist;

@@ -3,7 +3,7 @@ use Rattle.std.specs.Option.{IfSome}
 use Rattle.ra_schedule.specs.declared.choice.Choice.{Choice}
 use Rattle.ra_schedule.specs.declared.chance_state.Draws.{Draws}
 use Rattle.ra_schedule.specs.Schedule.{Picks}
-use Rattle.ra_schedule.specs.Drawing.{AreDraws, generator_at, generator_in, words_drawn, words_for}
+use Rattle.ra_schedule.specs.PolicyState.{AreDraws, generator_at, generator_in, words_drawn, words_for}
 use Rattle.ra_schedule.specs.Driving.{IsMeaning}
 use Rattle.ra_schedule.proofs.Choosing.{nothing_left, newest_message, oldest_message}
 use Rattle.ra_schedule.proofs.Seeded.{none_goes_on}

@@ -14,8 +14,8 @@ pub returns-in_err-done-clause-cause : goal.returns-in_err-done-clause-cause
 returns-in_err-done-clause-cause g c =
     let p = err_from_is_err_and c.from_residual.result c.from_residual.ensures.1 in rw (p.1, p.2) c.in_err-done.ensures.cause
 
-pub returns-in_err-done-clause-front : goal.returns-in_err-done-clause-front
-returns-in_err-done-clause-front g c e =
+pub returns-in_err-done-clause-prefix : goal.returns-in_err-done-clause-prefix
+returns-in_err-done-clause-prefix g c e =
     let p = err_from_is_err_and c.from_residual.result c.from_residual.ensures.1 in
     let is : c.in_err-done.field-0.0 ≡ Write = cc (p.1, p.2, e) in
     absurd (c.in_err-done.ensures.early is)
@@ -48,20 +48,20 @@ returns-in_err-write_out-clause-cause g c =
     let performed = c.in_ok-done.ensures.performed in
     rw (p.1, p.2) (performed.0, (output, c.in_ok-done.done.finished, performed.1, some))
 
-pub returns-in_err-write_out-clause-front : goal.returns-in_err-write_out-clause-front
-returns-in_err-write_out-clause-front g c e =
+pub returns-in_err-write_out-clause-prefix : goal.returns-in_err-write_out-clause-prefix
+returns-in_err-write_out-clause-prefix g c e =
     let policy = c.args.policy.now in
     let old = g.R.Read.remaining c.args.reader.now in
     let new = g.R.Read.remaining c.read_printed.new.reader in
     let output = string_bytes c.in_ok-done.done.text in
     let finished = c.in_ok-done.done.finished in
-    let (front, back, is, left, appends) = c.in_err-write_out.ensures.err in
+    let (prefix, rest, is, left, appends) = c.in_err-write_out.ensures.err in
     of_known old (λ input. IsPerformedAs c.args.format policy input output finished × Consumes old new input)
     (λ input. (f : List ℕ) × (b : List ℕ) × (done : Bool) × IsPerformedAs c.args.format policy input (f ++ b) done × (b ≢ [])
     × Appends (g.W.Write.contents c.args.writer.now) (g.W.Write.contents c.write_out.new.writer) f)
     (λ input h. (
-      front,
-      back,
+      prefix,
+      rest,
       finished,
       subst (λ (xs : List ℕ). IsPerformedAs c.args.format policy input xs finished) (sym c.as_bytes.ensures.value ∙ is) h.0,
       left,

@@ -4,7 +4,7 @@ pub returns : goal.returns
 returns c =
     record {
       none = c.runs_go_on_where_steps_are_allowed.ensures.empty;
-      fronts = c.fronts_of_runs_are_runs.ensures.moves;
+      prefixes = c.prefixes_of_runs_are_runs.ensures.moves;
       determined = c.runs_are_determined.ensures;
       has_table = c.marks_of_runs_are_table_runs.ensures.table;
       empty = c.runs_go_on_by_steps.ensures.empty;

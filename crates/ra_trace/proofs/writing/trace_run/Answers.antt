@@ -12,7 +12,7 @@ returns-in_err-trace_steps c empty opened =
     let start = c.args.start in
     let p = err_from_is_err_and c.from_residual-in_err-trace_steps.result c.from_residual-in_err-trace_steps.ensures.1 in
     let first : string_bytes c.push_first_line.new.text ≡ line_text (First Two n start) =
-    c.in_ok-push_first_line.ensures ∙ ap (λ (front : List ℕ). front ++ line_text (First Two n start)) empty in
+    c.in_ok-push_first_line.ensures ∙ ap (λ (prefix : List ℕ). prefix ++ line_text (First Two n start)) empty in
     rw (p.1, p.2) (c.in_err-trace_steps.ensures.traced n start (traced_none n start c.args.world.now (string_bytes c.push_first_line.new.text) opened first))
 
 pub returns : goal.returns
@@ -23,10 +23,10 @@ returns c empty opened =
     let world = c.trace_steps.new.world in
     let text = string_bytes c.trace_steps.new.text in
     let first : string_bytes c.push_first_line.new.text ≡ line_text (First Two n start) =
-    c.in_ok-push_first_line.ensures ∙ ap (λ (front : List ℕ). front ++ line_text (First Two n start)) empty in
+    c.in_ok-push_first_line.ensures ∙ ap (λ (prefix : List ℕ). prefix ++ line_text (First Two n start)) empty in
     let traced = c.in_ok-trace_steps.ensures.traced n start (traced_none n start c.args.world.now (string_bytes c.push_first_line.new.text) opened first) in
     let longer : string_bytes c.push_str.new.self ≡ text ++ codes "end\n" = search rules in
-    let repeated = repeats_are_numbered c.fronts_of_runs_are_runs.ensures.moves c.messages_under_way_are_between_nodes.ensures.numbered n start traced.number
+    let repeated = repeats_are_numbered c.prefixes_of_runs_are_runs.ensures.moves c.messages_under_way_are_between_nodes.ensures.numbered n start traced.number
     world.moves traced.run in
     let trace = traced_all n start c.args.steps.now.items world text traced (omega arith) (law.marks n start world.moves traced.number traced.run)
     (law.taken n start world.moves traced.number traced.run) repeated in

@@ -11,7 +11,7 @@ returns-in_ok-push_move-in-Ok-clause-traced c n start steps inside is traced =
 
 pub returns-in-Err-clause-traced : goal.returns-in-Err-clause-traced
 returns-in-Err-clause-traced c n start steps inside is traced =
-    let law = c.fronts_of_runs_are_runs.ensures in
+    let law = c.prefixes_of_runs_are_runs.ensures in
     stops_by law.steps law.step n start c.args.place steps c.args.step.now c.args.world.now (string_bytes c.args.text.now) c.in-Err.cause c.refused_at.result
     traced inside is (λ other. (c.in-Err.ensures.refused c.in-Err.cause other).0 refl) c.in-Err.ensures.allowed.1 c.refused_at.ensures.memory
     c.refused_at.ensures.refused

@@ -15,7 +15,7 @@ returns-in_err-trace_step-clause-memory c n start opened is =
     let place = c.loop-place.place in
     let items = c.as_slice-step-items.result.now in
     let run : WorldRun n start (take (place + 1) items) =
-    goes_there c.fronts_of_runs_are_runs.ensures.step n start place items c.step-item.result c.loop-place.world (string_bytes c.loop-place.text)
+    goes_there c.prefixes_of_runs_are_runs.ensures.step n start place items c.step-item.result c.loop-place.world (string_bytes c.loop-place.text)
     (c.loop-place.invariant n start opened) c.loop-place-test.true c.step-item.is (c.in_err-trace_step.ensures.memory (ap Err why)) in
     subst (λ (steps : List Step). (k : ℕ) × (k < length steps) × WorldRun n start (take (k + 1) steps)) c.as_slice-step-items.ensures
     (place, c.loop-place-test.true, run)

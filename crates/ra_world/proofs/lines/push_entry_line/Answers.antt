@@ -6,12 +6,12 @@ use Rattle.ra_world.proofs.lines.push_entry_line.Goals as goal
 
 pub returns-in_err-push_str-clause-err : goal.returns-in_err-push_str-clause-err
 returns-in_err-push_str-clause-err c =
-    let front = c.args.word.now ++ entry_fields c.args.entry.now in
+    let prefix = c.args.word.now ++ entry_fields c.args.entry.now in
     let old = string_bytes c.args.text.now in
     let new = string_bytes c.push_str.new.self in
     let same : new ≡ old = search rules in
     let p = err_from_is_err_and c.from_residual.result c.from_residual.ensures.1 in
-    rw (p.1) (none_added old new (front ++ codes "\n") same (some_behind front 10 []))
+    rw (p.1) (none_added old new (prefix ++ codes "\n") same (some_behind prefix 10 []))
 
 pub returns-in_err-push_entry-clause-err : goal.returns-in_err-push_entry-clause-err
 returns-in_err-push_entry-clause-err c =

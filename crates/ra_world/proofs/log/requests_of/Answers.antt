@@ -1,5 +1,5 @@
 use Rattle.std.proofs.Common.{arith, ◌+◌}
-use Rattle.ra_world.proofs.Counts.{requests_in-take, requests_in-take-le}
+use Rattle.ra_world.proofs.LogCounts.{requests_in-take, requests_in-take-le}
 use Rattle.ra_world.proofs.log.requests_of.Goals as goal
 
 pub overflow_add-requests : goal.overflow_add-requests

@@ -6,7 +6,7 @@ use Rattle.ra_world.proofs.running.report_after.Goals as goal
 
 pub returns-in-Err-clause-refused : goal.returns-in-Err-clause-refused
 returns-in-Err-clause-refused c place cause is =
-    let law = c.fronts_of_runs_are_runs.ensures in
+    let law = c.prefixes_of_runs_are_runs.ensures in
     let all = c.args.steps.now in
     let made = c.loop-place.invariant in
     let told = c.in-Err.ensures in
@@ -26,7 +26,7 @@ returns-in-Err-clause-refused c place cause is =
 
 pub returns-in-Err-clause-allowed : goal.returns-in-Err-clause-allowed
 returns-in-Err-clause-allowed c run =
-    let law = c.fronts_of_runs_are_runs.ensures in
+    let law = c.prefixes_of_runs_are_runs.ensures in
     let all = c.args.steps.now in
     elim (memory_or_not c.in-Err.cause) [
       | inl same ↦ c.refused_at.ensures.memory same

@@ -6,7 +6,7 @@ use Rattle.ra_world.specs.Run.{GoesOn}
 use Rattle.ra_world.specs.World.{WorldState}
 use Rattle.ra_schedule.specs.declared.progress.Progress.{Progress}
 use Rattle.ra_schedule.specs.Schedule.{StandsFor}
-use Rattle.ra_schedule.specs.Drawing.{AreDrawsElsewhere}
+use Rattle.ra_schedule.specs.PolicyState.{AreDrawsElsewhere}
 use Rattle.ra_schedule.specs.Progress.{Tracks, AreCountable, OfEach, IsProgressAfter, NoneEnters}
 use Rattle.ra_schedule.proofs.Turns.{tracks_on, draws_before, driven_more, countable, can_be_done, whole}
 use Rattle.ra_schedule.proofs.driver.Driver.take_step.Goals as goal

@@ -2,7 +2,7 @@ use Rattle.std.proofs.Common.{arith, ◌≡◌, ◌<◌, ◌≤◌, ◌++◌, Li
 use Rattle.ra_stamp.specs.declared.entry.Mark.{Mark}
 use Rattle.ra_world.specs.Quiet.{requests_in}
 use Rattle.ra_world.specs.Log.{LogState, moves_of}
-use Rattle.ra_world.proofs.Counts.{lost-le, repeated-le, lost_in_le, repeated_in_le, pushed}
+use Rattle.ra_world.proofs.LogCounts.{lost-le, repeated-le, lost_in_le, repeated_in_le, pushed}
 use Rattle.ra_world.proofs.log.Log.push.Goals as goal
 
 pub overflow_add-self : goal.overflow_add-self

@@ -1,0 +1,91 @@
+//! A writer that remembers how it failed, so that it can be said.
+ghost use Rattle.std.specs.Prelude.{◌≡◌};
+
+use std::io;
+use std::io::{ErrorKind, Write};
+
+/// How a writer failed.
+#[derive(Clone, Copy)]
+pub enum OutputFault {
+    /// Nobody reads on, as of a pipe whose other end is closed.
+    Unread,
+    /// No space is left where it writes to.
+    Full,
+    /// Another one, or it took nothing of some bytes.
+    Other,
+}
+
+/// Returns which fault an error is.
+fn fault_of(error: &io::Error) -> OutputFault {
+    match error.kind() {
+        ErrorKind::BrokenPipe => OutputFault::Unread,
+        ErrorKind::StorageFull => OutputFault::Full,
+        _ => OutputFault::Other,
+    }
+}
+
+/// A writer that remembers how it failed last. What it takes is what the writer in it takes.
+#[derive(Drop)]
+pub struct SeenWriter<W> {
+    inner: W,
+    fault: Option<OutputFault>,
+}
+
+impl<W> SeenWriter<W> {
+    /// Makes one of a writer. Neither it nor what is written later allocates.
+    pub fn new(inner: W) -> SeenWriter<W>
+        ensures { result.inner ≡ inner }
+    {
+        SeenWriter { inner, fault: None }
+    }
+
+    /// Returns how the writer failed last, or `None` where it did not.
+    pub fn fault(&self) -> Option<OutputFault> {
+        self.fault
+    }
+
+    /// Remembers that the writer failed.
+    fn remember(&mut self, fault: OutputFault)
+        ensures { self.new.inner ≡ self.old.inner }
+    {
+        self.fault = Some(fault);
+    }
+}
+
+impl<W: Write> Write for SeenWriter<W> {
+    ghost contents = { λ writer. W.contents writer.inner };
+
+    fn write(&mut self, buf: &[u8]) -> io::Result<usize> {
+        match self.inner.write(buf) {
+            Ok(0) if !buf.is_empty() => {
+                self.remember(OutputFault::Other);
+                Ok(0)
+            }
+            Ok(count) => Ok(count),
+            Err(error) => {
+                self.remember(fault_of(&error));
+                Err(error)
+            }
+        }
+    }
+
+    fn flush(&mut self) -> io::Result<()> {
+        match self.inner.flush() {
+            Ok(()) => Ok(()),
+            Err(error) => {
+                self.remember(fault_of(&error));
+                Err(error)
+            }
+        }
+    }
+
+    fn write_all(&mut self, buf: &[u8]) -> io::Result<()> {
+        match self.inner.write_all(buf) {
+            Ok(()) => Ok(()),
+            Err(error) => {
+                self.remember(fault_of(&error));
+                Err(error)
+            }
+        }
+    }
+}

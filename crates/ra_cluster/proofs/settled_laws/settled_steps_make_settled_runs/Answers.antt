@@ -1,0 +1,5 @@
+use Rattle.ra_cluster.proofs.Projections.{settled}
+use Rattle.ra_cluster.proofs.settled_laws.settled_steps_make_settled_runs.Goals as goal
+
+pub returns : goal.returns
+returns c = settled

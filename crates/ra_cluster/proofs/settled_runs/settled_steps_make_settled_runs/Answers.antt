@@ -1,5 +1,0 @@
-use Rattle.ra_cluster.proofs.Projections.{settled}
-use Rattle.ra_cluster.proofs.settled_runs.settled_steps_make_settled_runs.Goals as goal
-
-pub returns : goal.returns
-returns c = settled

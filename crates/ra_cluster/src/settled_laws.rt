@@ -1,0 +1,43 @@
+//! What is true of the books of a cluster and of settled runs: each function does nothing, and its contract is the law.
+ghost use Rattle.ra_cluster.specs.SettlingParts.{FramesAreFromTheirNodes, StepsMakeSettledRuns, FittingBooksSettle, GrantsAreInTheBooks};
+
+use crate::histories_are_determined;
+use ra_node::{events_keep_a_node_consistent, events_leave_other_names};
+use ra_world::{
+    messages_of_runs_are_different, messages_under_way_are_between_nodes,
+    prefixes_of_runs_are_runs, steps_that_fit_together_are_runs,
+};
+
+/// What a book sent is from its node.
+pub fn frames_of_books_are_from_their_nodes()
+    ensures { FramesAreFromTheirNodes }
+{
+    events_keep_a_node_consistent();
+    events_leave_other_names();
+}
+
+/// A run of the events in the settled order, and then the losses, is a settled run.
+pub fn settled_steps_make_settled_runs()
+    ensures { StepsMakeSettledRuns }
+{}
+
+/// Books settle, where each frame that came was sent and is not flagged lost, and no message came twice: the events in the
+/// settled order, and then the losses, are a run.
+pub fn books_that_fit_together_settle()
+    ensures { FittingBooksSettle }
+{
+    steps_that_fit_together_are_runs();
+    messages_of_runs_are_different();
+    frames_of_books_are_from_their_nodes();
+}
+
+/// What a settled run grants is what was granted at the nodes.
+pub fn grants_of_settled_runs_are_in_the_books()
+    ensures { GrantsAreInTheBooks }
+{
+    histories_are_determined();
+    events_keep_a_node_consistent();
+    events_leave_other_names();
+    prefixes_of_runs_are_runs();
+    messages_under_way_are_between_nodes();
+}

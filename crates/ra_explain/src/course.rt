@@ -1,0 +1,105 @@
+//! The run of a trace, as far as its lines go.
+use crate::note::Note;
+use ra_stamp::{Mark, Marks};
+use ra_trace::Line;
+use ra_world::{MarklessWorld, Step, StepError};
+use std::alloc::Global;
+
+/// A run, as far as the lines of its trace were followed.
+#[derive(Drop)]
+pub struct Course {
+    /// The world after the steps so far. There is none before the first line, or where memory ran out for it.
+    world: Option<MarklessWorld>,
+    /// How many nodes there are, or 0 before the first line.
+    pub nodes: u16,
+    /// The marks of the last step.
+    marks: Marks,
+    /// How many of them have come.
+    come: u64,
+}
+
+impl Course {
+    /// Opens the world of the first line. Where memory runs out the note keeps that.
+    fn open(&mut self, alloc: Global, note: &mut Note, nodes: u16, start: u64) {
+        match MarklessWorld::new(alloc, nodes, start) {
+            Ok(world) => {
+                self.nodes = nodes;
+                self.world = Some(world);
+            }
+            // A first line has a number of nodes, so memory ran out.
+            Err(_) => note.refuse_if(true),
+        }
+    }
+
+    /// Makes a step. Where memory runs out the note keeps that.
+    fn make(&mut self, alloc: Global, note: &mut Note, step: &Step) {
+        let Some(world) = &mut self.world else {
+            return;
+        };
+        match world.step(alloc, step) {
+            Ok(outcome) => {
+                self.marks = outcome.marks;
+                self.come = 0;
+            }
+            // No step before the first wrong line is refused, so memory ran out.
+            Err(_) => note.refuse_if(true),
+        }
+    }
+
+    /// Takes a line that is not wrong.
+    fn take(&mut self, alloc: Global, note: &mut Note, line: &Line) {
+        match line {
+            Line::First { nodes, start, .. } => self.open(alloc, note, nodes.get(), *start),
+            Line::Stepped(step) => self.make(alloc, note, step),
+            Line::Marked(_) => self.come = self.come.saturating_add(1),
+            Line::Last => {}
+        }
+    }
+
+    /// Takes the lines of a text before the one with the number `line`, and returns how many line feeds the text has.
+    fn follow(&mut self, alloc: Global, note: &mut Note, line: u64, text: &[u8]) -> u64 {
+        let mut lines: u64 = 0;
+        let mut start = 0;
+        for (place, byte) in text.iter().enumerate() {
+            if *byte == b'\n' {
+                lines = lines.saturating_add(1);
+                if lines < line
+                    && let Some(read) = Line::parse(text.get(start..place).unwrap_or(b""))
+                {
+                    self.take(alloc, note, &read);
+                }
+                start = place + 1;
+            }
+        }
+        lines
+    }
+    /// Returns the run before the line with the number `line` of a trace, or `None` where the text does not begin with the first line and end
+    /// with that one, or there is no memory for the world. The cost is linear in the text, and that of the steps in it.
+    pub fn before(alloc: Global, note: &mut Note, line: u64, text: &[u8]) -> Option<Course> {
+        let mut course = Course {
+            world: None,
+            nodes: 0,
+            marks: Marks::new(alloc),
+            come: 0,
+        };
+        let lines = course.follow(alloc, note, line, text);
+        if lines == line && course.world.is_some() {
+            Some(course)
+        } else {
+            None
+        }
+    }
+
+    /// Returns the next mark of the last step, if one has not come yet.
+    pub fn due(&self) -> Option<Mark> {
+        self.marks.at(self.come)
+    }
+
+    /// Returns why a step is not made, or `None` where it is.
+    pub fn refusal(&mut self, alloc: Global, step: &Step) -> Option<StepError> {
+        match &mut self.world {
+            Some(world) => world.step(alloc, step).err(),
+            None => None,
+        }
+    }
+}

@@ -1,0 +1,96 @@
+//! Which field of a line of a trace or of a mark log is wrong, and what may stand there.
+use crate::line_field::LineField;
+use crate::line_form::{LineForm, form_of};
+use crate::note::Note;
+use std::alloc::Global;
+
+/// Returns the next field, behind its space, and what stands behind it, or `None` where there is none.
+fn next_field(rest: &[u8]) -> Option<(&[u8], &[u8])> {
+    let (_, fields) = rest.split_first()?;
+    for (place, byte) in fields.iter().enumerate() {
+        if *byte == b' ' {
+            return Some((&fields[..place], &fields[place..]));
+        }
+    }
+    Some((fields, &fields[fields.len()..]))
+}
+
+/// Adds what stands in a field, and what may.
+fn push_wrong(note: &mut Note, field: LineField, text: &[u8], range: &str) {
+    note.push(field.name());
+    if text.is_empty() {
+        note.push(" is empty, and one space stands before each field: it is ");
+    } else {
+        note.push(" is ");
+        note.quoted(text);
+        note.push(": it is ");
+    }
+    note.push(range);
+}
+
+/// Adds that a field is missing.
+fn push_missing(note: &mut Note, form: &LineForm, field: LineField) {
+    note.push(field.name());
+    note.push(" is missing: the line is ");
+    form.push(note);
+}
+
+/// Adds what is wrong in a field, and returns whether something is.
+fn push_field(
+    alloc: Global,
+    note: &mut Note,
+    field: LineField,
+    text: &[u8],
+    is_version_1: bool,
+) -> bool {
+    if !field.may_be(alloc, note, text) {
+        push_wrong(note, field, text, field.range());
+        true
+    } else if is_version_1 && !field.may_be_in_version_1(text) {
+        push_wrong(note, field, text, field.range_in_version_1());
+        true
+    } else {
+        false
+    }
+}
+
+/// Adds what is wrong behind the words of a line of this form, and returns whether something is.
+fn push_behind_words(
+    alloc: Global,
+    note: &mut Note,
+    form: &LineForm,
+    behind_words: &[u8],
+    is_version_1: bool,
+) -> bool {
+    let mut rest = behind_words;
+    for field in form.fields {
+        let Some((text, behind)) = next_field(rest) else {
+            push_missing(note, form, *field);
+            return true;
+        };
+        if push_field(alloc, note, *field, text, is_version_1) {
+            return true;
+        }
+        rest = behind;
+    }
+    if !rest.is_empty() {
+        note.push("more stands in the line than ");
+        form.push(note);
+    }
+    !rest.is_empty()
+}
+
+/// Adds which field of a line is wrong, and what may stand there, and returns whether one is. The words of the line are those of one of these
+/// forms, or nothing is added.
+pub fn push_line_fault(
+    alloc: Global,
+    note: &mut Note,
+    forms: &'static [LineForm],
+    line: &[u8],
+    is_version_1: bool,
+) -> bool {
+    match form_of(forms, line) {
+        Some((form, rest)) => push_behind_words(alloc, note, form, rest, is_version_1),
+        None => false,
+    }
+}

@@ -1,0 +1,95 @@
+//! The fields of the lines of traces and of mark logs, and what may stand in them.
+use crate::note::Note;
+use ra_trace::Line;
+use std::alloc::Global;
+
+/// A field of a line.
+#[derive(Clone, Copy)]
+pub enum LineField {
+    Nodes,
+    Start,
+    Node,
+    From,
+    To,
+    Client,
+    Name,
+    Mode,
+    Seq,
+}
+
+impl LineField {
+    /// Returns what it is called.
+    pub fn name(self) -> &'static str {
+        match self {
+            LineField::Nodes => "NODES",
+            LineField::Start => "START",
+            LineField::Node => "NODE",
+            LineField::From => "FROM",
+            LineField::To => "TO",
+            LineField::Client => "CLIENT",
+            LineField::Name => "NAME",
+            LineField::Mode => "MODE",
+            LineField::Seq => "SEQ",
+        }
+    }
+
+    /// Returns what may stand in it.
+    pub fn range(self) -> &'static str {
+        match self {
+            LineField::Nodes | LineField::Node | LineField::From | LineField::To => {
+                "1 to 64, with no zeros before it"
+            }
+            LineField::Client => "0 to 4294967295, with no zeros before it",
+            LineField::Name => "1 to 32 of A to Z, a to z, 0 to 9, _, - and .",
+            LineField::Mode => "S, X, IS, IX or SIX",
+            LineField::Seq => "1 to 18446744073709551615, with no zeros before it",
+            LineField::Start => "0 to 18446744073709551615, with no zeros before it",
+        }
+    }
+
+    /// Returns what may stand in it in version 1.
+    pub fn range_in_version_1(self) -> &'static str {
+        match self {
+            LineField::Nodes | LineField::Node | LineField::From | LineField::To => {
+                "1 to 16 in version 1"
+            }
+            LineField::Mode => "S or X in version 1",
+            field => field.range(),
+        }
+    }
+
+    /// Returns between which texts it stands in a line that is right.
+    fn around(self) -> (&'static str, &'static str) {
+        match self {
+            LineField::Nodes => ("trace 2 ", " 0"),
+            LineField::Start => ("trace 2 1 ", ""),
+            LineField::Node | LineField::From | LineField::To => ("enter ", " 0 r X 1"),
+            LineField::Client => ("enter 1 ", " r X 1"),
+            LineField::Name => ("enter 1 0 ", " X 1"),
+            LineField::Mode => ("enter 1 0 r ", " 1"),
+            LineField::Seq => ("enter 1 0 r X ", ""),
+        }
+    }
+
+    /// Returns whether this may stand in it, as a line is read where all else is right. Where memory runs out the note keeps that.
+    pub fn may_be(self, alloc: Global, note: &mut Note, text: &[u8]) -> bool {
+        let (before, behind) = self.around();
+        let mut line = Vec::new(alloc);
+        let made = line.extend_from_slice(before.as_bytes()).is_ok()
+            && line.extend_from_slice(text).is_ok()
+            && line.extend_from_slice(behind.as_bytes()).is_ok();
+        note.refuse_if(!made);
+        Line::parse(&line).is_some()
+    }
+
+    /// Returns whether what may stand in it may stand there in version 1 too.
+    pub fn may_be_in_version_1(self, text: &[u8]) -> bool {
+        match self {
+            LineField::Nodes | LineField::Node | LineField::From | LineField::To => {
+                matches!(text, [_] | [b'1', b'0'..=b'6'])
+            }
+            LineField::Mode => matches!(text, b"S" | b"X"),
+            _ => true,
+        }
+    }
+}

@@ -1,0 +1,148 @@
+//! The forms of the lines of traces and of mark logs.
+use crate::line_field::LineField;
+use crate::note::Note;
+
+/// How the lines of a kind are made: by these words, and then these fields, with one space before each.
+#[derive(Clone, Copy)]
+pub struct LineForm {
+    words: &'static str,
+    pub fields: &'static [LineField],
+}
+
+/// The fields of the first line.
+const FIRST: &[LineField] = &[LineField::Nodes, LineField::Start];
+
+/// The fields of an ask.
+const ASK: &[LineField] = &[
+    LineField::Node,
+    LineField::Client,
+    LineField::Name,
+    LineField::Mode,
+];
+
+/// The fields of a release.
+const RELEASE: &[LineField] = &[LineField::Node, LineField::Client, LineField::Name];
+
+/// The fields of a REQUEST.
+const REQUEST: &[LineField] = &[
+    LineField::From,
+    LineField::To,
+    LineField::Name,
+    LineField::Mode,
+    LineField::Seq,
+];
+
+/// The fields of a REPLY.
+const REPLY: &[LineField] = &[
+    LineField::From,
+    LineField::To,
+    LineField::Name,
+    LineField::Seq,
+];
+
+/// The fields of a mark.
+const MARK: &[LineField] = &[
+    LineField::Node,
+    LineField::Client,
+    LineField::Name,
+    LineField::Mode,
+    LineField::Seq,
+];
+
+/// The forms of marks.
+pub const MARK_FORMS: &[LineForm] = &[
+    LineForm {
+        words: "request",
+        fields: MARK,
+    },
+    LineForm {
+        words: "enter",
+        fields: MARK,
+    },
+    LineForm {
+        words: "leave",
+        fields: MARK,
+    },
+];
+
+/// The other forms of lines of traces.
+pub const STEP_FORMS: &[LineForm] = &[
+    LineForm {
+        words: "trace 1",
+        fields: FIRST,
+    },
+    LineForm {
+        words: "trace 2",
+        fields: FIRST,
+    },
+    LineForm {
+        words: "ask",
+        fields: ASK,
+    },
+    LineForm {
+        words: "release",
+        fields: RELEASE,
+    },
+    LineForm {
+        words: "deliver request",
+        fields: REQUEST,
+    },
+    LineForm {
+        words: "deliver reply",
+        fields: REPLY,
+    },
+    LineForm {
+        words: "lose request",
+        fields: REQUEST,
+    },
+    LineForm {
+        words: "lose reply",
+        fields: REPLY,
+    },
+    LineForm {
+        words: "repeat request",
+        fields: REQUEST,
+    },
+    LineForm {
+        words: "repeat reply",
+        fields: REPLY,
+    },
+    LineForm {
+        words: "end",
+        fields: &[],
+    },
+];
+
+impl LineForm {
+    /// Returns what stands behind the words in a line of this form, with the space before it, or `None` where the line has other words.
+    fn behind_words<'a>(&self, line: &'a [u8]) -> Option<&'a [u8]> {
+        let rest = line.strip_prefix(self.words.as_bytes())?;
+        if matches!(rest.first(), None | Some(b' ')) {
+            Some(rest)
+        } else {
+            None
+        }
+    }
+
+    /// Adds how a line of this form is made.
+    pub fn push(&self, note: &mut Note) {
+        note.push(self.words);
+        for field in self.fields {
+            note.push(" ");
+            note.push(field.name());
+        }
+    }
+}
+
+/// Returns the form of these that the words of a line have, and what stands behind them, with the space before it.
+pub fn form_of<'a>(
+    forms: &'static [LineForm],
+    line: &'a [u8],
+) -> Option<(&'static LineForm, &'a [u8])> {
+    for form in forms {
+        if let Some(rest) = form.behind_words(line) {
+            return Some((form, rest));
+        }
+    }
+    None
+}

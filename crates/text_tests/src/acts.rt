@@ -1,0 +1,219 @@
+//! What happens in a run, as its steps and its trace.
+use crate::helpers::{all_kinds, assert_rows, failing, r};
+use Act::{Ask, AskForAllKinds, AskIn, Deliver, Leave, Lose, Repeat};
+use Wire::{Replies, RepliesNext, Requests, RequestsNext};
+use ra_stamp::{Message, Mode, Name, NodeId};
+use ra_trace::{WriteTraceError, write_trace};
+use ra_world::{Step, Steps};
+use std::alloc::Global;
+use std::process::Abort;
+use test_support::FailingWriter;
+
+/// A message of number 1 on `r`, or of the next number, of a writer where it is a REQUEST: its sender and its receiver.
+#[derive(Clone, Copy)]
+pub enum Wire {
+    Requests(u16, u16),
+    Replies(u16, u16),
+    RequestsNext(u16, u16),
+    RepliesNext(u16, u16),
+}
+
+/// What happens in a run.
+#[derive(Clone, Copy)]
+pub enum Act {
+    /// At a node, a client asks for `r` exclusively.
+    Ask(u16, u32),
+    /// At a node, a client leaves `r`.
+    Leave(u16, u32),
+    /// Client 1 of node 1 asks for `r` in this mode.
+    AskIn(Mode),
+    /// At node 64, client 0 asks for a name with each kind of byte, shared.
+    AskForAllKinds,
+    Deliver(Wire),
+    Lose(Wire),
+    Repeat(Wire),
+}
+
+/// Returns the message, or `None` where a number is that of no node.
+fn message(wire: Wire) -> Option<Message> {
+    let (from, to, seq) = match wire {
+        Requests(from, to) | Replies(from, to) => (from, to, 1),
+        RequestsNext(from, to) | RepliesNext(from, to) => (from, to, 2),
+    };
+    let name = r();
+    match (NodeId::new(from), NodeId::new(to)) {
+        (Some(from), Some(to)) => Some(match wire {
+            Requests(_, _) | RequestsNext(_, _) => Message::Request {
+                from,
+                to,
+                name,
+                mode: Mode::Exclusive,
+                seq,
+            },
+            Replies(_, _) | RepliesNext(_, _) => Message::Reply {
+                from,
+                to,
+                name,
+                seq,
+            },
+        }),
+        _ => None,
+    }
+}
+
+/// Returns the step by which a client asks, or `None` where there is no such node.
+fn ask(node: u16, client: u32, name: Name, mode: Mode) -> Option<Step> {
+    match NodeId::new(node) {
+        Some(node) => Some(Step::Ask {
+            node,
+            client,
+            name,
+            mode,
+        }),
+        None => None,
+    }
+}
+
+/// Returns the step by which a client leaves `r`, or `None` where there is no such node.
+fn leave(node: u16, client: u32) -> Option<Step> {
+    match NodeId::new(node) {
+        Some(node) => Some(Step::Leave {
+            node,
+            client,
+            name: r(),
+        }),
+        None => None,
+    }
+}
+
+/// Returns the step by which a message is delivered, or `None` where there is no such message.
+fn deliver(wire: Wire) -> Option<Step> {
+    match message(wire) {
+        Some(message) => Some(Step::Deliver(message)),
+        None => None,
+    }
+}
+
+/// Returns the step by which a message is lost, or `None` where there is no such message.
+fn lose(wire: Wire) -> Option<Step> {
+    match message(wire) {
+        Some(message) => Some(Step::Lose(message)),
+        None => None,
+    }
+}
+
+/// Returns the step by which a message is repeated, or `None` where there is no such message.
+fn repeat(wire: Wire) -> Option<Step> {
+    match message(wire) {
+        Some(message) => Some(Step::Repeat(message)),
+        None => None,
+    }
+}
+
+/// Returns the step of what happens, or `None` where a number is that of no node.
+fn step(act: Act) -> Option<Step> {
+    match act {
+        Ask(node, client) => ask(node, client, r(), Mode::Exclusive),
+        AskIn(mode) => ask(1, 1, r(), mode),
+        Leave(node, client) => leave(node, client),
+        AskForAllKinds => ask(64, 0, all_kinds(), Mode::Shared),
+        Deliver(wire) => deliver(wire),
+        Lose(wire) => lose(wire),
+        Repeat(wire) => repeat(wire),
+    }
+}
+
+/// One client locks and unlocks, at the first of two nodes.
+pub const ONE_LOCKS: &[Act] = &[
+    Ask(1, 1),
+    Deliver(Requests(1, 2)),
+    Deliver(Replies(2, 1)),
+    Leave(1, 1),
+];
+
+/// The reply to the first of two clients at one node is lost, and the second waits.
+pub const LOST_REPLY: &str = "trace 2 2 0
+ask 1 1 r X
+request 1 1 r X 1
+ask 1 2 r X
+deliver request 1 2 r X 1
+lose reply 2 1 r 1
+end
+";
+
+/// What happens in that trace.
+pub const LOSES_REPLY: &[Act] = &[
+    Ask(1, 1),
+    Ask(1, 2),
+    Deliver(Requests(1, 2)),
+    Lose(Replies(2, 1)),
+];
+
+/// Adds a step. Returns whether there is one, and room for it.
+fn adds(steps: &mut Steps, step: Option<Step>) -> bool {
+    match step {
+        Some(step) => steps.push(step).is_ok(),
+        None => false,
+    }
+}
+
+/// Adds the steps of all that happens. Returns whether there was room.
+fn adds_all(steps: &mut Steps, acts: &[Act]) -> bool {
+    for act in acts {
+        if !adds(steps, step(*act)) {
+            return false;
+        }
+    }
+    true
+}
+
+/// Returns the steps of the one client that locks and unlocks.
+pub fn one_lock(alloc: Global) -> Option<Steps> {
+    let mut steps = Steps::new(alloc);
+    if adds_all(&mut steps, ONE_LOCKS) {
+        Some(steps)
+    } else {
+        None
+    }
+}
+
+/// Writes the trace of what happens, and returns the fault, or `None` where there is none.
+pub fn fault_of(
+    alloc: Global,
+    nodes: u16,
+    acts: &[Act],
+    writer: &mut FailingWriter<'_>,
+) -> Option<WriteTraceError> {
+    let mut steps = Steps::new(alloc);
+    if adds_all(&mut steps, acts) {
+        write_trace(alloc, nodes, 0, &steps, writer).err()
+    } else {
+        Some(WriteTraceError::Memory)
+    }
+}
+
+/// What happens among so many nodes, and its trace.
+pub struct Written(pub u16, pub &'static [Act], pub &'static str);
+
+/// Returns whether what happens has its trace.
+fn is_written(alloc: Global, row: &Written) -> bool {
+    let mut writer = failing(row.2, 1000, None);
+    fault_of(alloc, row.0, row.1, &mut writer).is_none()
+        && writer.left.is_empty()
+        && !writer.differs
+}
+
+/// Returns how many of these have their traces, up to the first that has not.
+fn written_so(alloc: Global, rows: &[Written]) -> usize {
+    for place in 0..rows.len() {
+        if !is_written(alloc, &rows[place]) {
+            return place;
+        }
+    }
+    rows.len()
+}
+
+/// Asserts that each of these has its trace.
+pub fn assert_written(rt: &(impl Abort + AllocGlobal), rows: &[Written]) {
+    assert_rows(rt, written_so(rt.alloc(), rows), rows.len());
+}
