@@ -166,7 +166,8 @@ fn where_a_text_is_no_document_is_said(rt: HostRuntime) {
     let document = "ra: the script is no TOML document: TOML parse error at line 2, column 8: ";
     let trace = "ra: the script is no TOML document: TOML parse error at line 1, column 7: ";
     let looks = "; it looks like a trace, which ra check reads\n";
-    let utf8 = "ra: the script is not UTF-8 at byte 8, counted from 0\n";
+    let utf8 =
+        "ra: the script is not UTF-8 at line 1, column 9 in bytes: a script has to be UTF-8\n";
     assert!(rt; is_no_document(&rt, b"nodes = 2\nclient ]\n", document, "\n"));
     assert!(rt; is_no_document(&rt, TRACE.as_bytes(), trace, looks));
     assert!(rt; is_no_document(&rt, b"nodes = \xff\n", utf8, utf8));

@@ -333,7 +333,7 @@ Usage: ra sim [OPTIONS]
 Options:
       --policy <policy>    Who chooses what comes next [default: oldest]
       --seed <seed>        The seed of chance, 0 to 2^64 - 1 [default: 0]
-      --lose <lose>        How many of 1000 messages faulty loses [default: 0]
+      --lose <lose>        How many of 1000 faulty loses, 0 to 1000 [default: 0]
       --repeat <repeat>    How many it repeats, 0 to 400 [default: 0]
       --choices <choices>  The choices of the policy listed, as below
       --seeds <seeds>      Each of many seeds, as 1..1000: what came of them
@@ -374,9 +374,9 @@ Policies:
           and --repeat together it is repeated, and comes once more, and else
           it is delivered. The two are at most 1000 together
   listed  the words of --choices, one after the other: cK the next operation of
-          client K, mI delivers and lI loses the message at place I of those
-          under way, counted from 0 in the order of sending, as in
-          --choices \"c1 m0 m0 c1\"
+          client K, counted from 1, mI delivers and lI loses the message at
+          place I of those under way, counted from 0 in the order of sending,
+          as in --choices \"c1 m0 m0 c1\"
 
 With --trace it prints the steps of the run, each with its marks, in place of
 the marks and totals, as `ra check` reads them.

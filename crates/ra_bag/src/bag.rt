@@ -48,7 +48,7 @@ impl Bag {
     ///
     /// # Errors
     ///
-    /// `Memory`: there is no bag. It takes none yet, and no caller has to change when it does.
+    /// `Memory`: there is no bag. The call takes no memory yet, and no caller has to change when it does.
     pub fn new(alloc: Global) -> Result<Bag, Memory>
         ensures empty { IfOk result (λ bag. bag.items ≡ []) }
     {

@@ -54,9 +54,9 @@ Policies:
           and --repeat together it is repeated, and comes once more, and else
           it is delivered. The two are at most 1000 together
   listed  the words of --choices, one after the other: cK the next operation of
-          client K, mI delivers and lI loses the message at place I of those
-          under way, counted from 0 in the order of sending, as in
-          --choices \"c1 m0 m0 c1\"
+          client K, counted from 1, mI delivers and lI loses the message at
+          place I of those under way, counted from 0 in the order of sending,
+          as in --choices \"c1 m0 m0 c1\"
 
 With --trace it prints the steps of the run, each with its marks, in place of
 the marks and totals, as `ra check` reads them.

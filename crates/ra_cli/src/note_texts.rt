@@ -116,7 +116,7 @@ pub fn cluster_text(fault: ClusterError) -> &'static str {
 }
 
 /// Returns what is said of the cause for which a node was stopped. Which node it was `run_cluster` does not tell: memory and threads are
-/// those of the whole process, so that which node wanted for them first is chance, and most other causes are defects of `ra`.
+/// those of the whole process, so that which node runs out of them first is chance, and most other causes are defects of `ra`.
 fn stop_text(stop: Stop) -> &'static str {
     match stop {
         Stop::Memory => "a node was stopped, as memory ran out",
@@ -151,7 +151,7 @@ pub fn cause_text(cause: Cause) -> &'static str {
             "the marks of a step are not what comes of it: one is missing before this line, or this one does not belong there"
         }
         Cause::Table => {
-            "a lock table does not allow this mark: one that conflicts holds the name, or asked before, or the entry did not ask or does not hold"
+            "a lock table does not allow this mark: an entry that conflicts holds the name, or asked before; or its own does not wait or hold, or its node waits or holds already, or its number is not above each one that was granted"
         }
     }
 }
@@ -166,9 +166,7 @@ pub fn mark_cause_text(cause: MarkCause) -> &'static str {
         MarkCause::NotAbove => {
             "the number of this request is not above each one that was granted on the name"
         }
-        MarkCause::NotWaiting => {
-            "no such entry waits for the name: it did not ask, or was granted already"
-        }
+        MarkCause::NotWaiting => { "no such entry waits for the name" }
         MarkCause::Held => "an entry that conflicts with this one holds the name",
         MarkCause::Earlier => {
             "an entry that conflicts with this one waits for the name with a lower number, or with the same one at a lower node"

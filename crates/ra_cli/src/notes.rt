@@ -63,8 +63,8 @@ pub fn write_words_note<N: Write>(fault: CommandFault, notes: &mut N) {
     write_line(notes, text);
 }
 
-/// Writes the note on a fault of what is printed to, if there was one. Where nobody reads on, there is nobody to tell, and it is none.
-/// That the writer fails is passed over. It does not allocate.
+/// Writes the note on a fault of what is printed to, if there was one. A pipe that nobody reads on is passed over, as it is usual, behind
+/// `head` as an example; and so is that the writer fails. It does not allocate.
 pub fn write_output_note<N: Write>(fault: Option<OutputFault>, notes: &mut N) {
     match fault {
         Some(OutputFault::Full) => write_line(notes, NO_SPACE),
@@ -91,7 +91,7 @@ fn note_of(
     }
 }
 
-/// Returns the note on the cause of a remark, which is empty where the writer failed: how it did no remark knows.
+/// Returns the note on the cause of a remark, which is empty where the writer failed: a remark does not say how.
 fn cause_note(alloc: Global, words: &[String], remark: &Remark) -> Result<String, AllocError> {
     match remark {
         Remark::Refused(refusal) => refusal_note(alloc, words, *refusal),

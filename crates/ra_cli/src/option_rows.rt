@@ -86,7 +86,7 @@ const SIM_OPTIONS: &[OptionRow] = &[
     },
     OptionRow {
         name: "lose",
-        help: "How many of 1000 messages faulty loses",
+        help: "How many of 1000 faulty loses, 0 to 1000",
         defaults: &["0"],
         ..SHORT
     },
@@ -137,13 +137,13 @@ const CHECK_OPTIONS: &[OptionRow] = &[OptionRow {
 const DRAW_OPTIONS: &[OptionRow] = &[
     OptionRow {
         name: "from",
-        help: "The first line to draw",
+        help: "The first line to draw, counted from 1",
         defaults: &["1"],
         ..LONG
     },
     OptionRow {
         name: "to",
-        help: "The last line to draw [default: the last one]",
+        help: "The last line, counted from 1 [default: the last one]",
         defaults: &["18446744073709551615"],
         hides_default: true,
         ..LONG

@@ -10,11 +10,12 @@ use crate::serving::policy_of;
 use ra_cluster::ClusterError;
 use ra_explain::{
     LineCause, Unanswered, choices_note, digits_note, frame_note, line_note, order_note,
-    unanswered_note, unfinished_note,
+    unanswered_note, unfinished_note, version_of,
 };
 use ra_schedule::{Policy, chance};
 use ra_script::{PerformError, explain_script};
 use ra_stamp::Memory;
+use ra_trace::Version;
 use std::alloc::Global;
 
 /// What is said of a place, or nothing, where there is nothing to say or no memory for it: then the cause alone is named.
@@ -102,6 +103,11 @@ fn through_line(text: &[u8], line: u64) -> (&[u8], u64) {
     (text, feeds)
 }
 
+/// Returns the version that a trace names, where its first line is remembered.
+fn version_in(seen: &Seen) -> Option<Version> {
+    version_of(seen.bytes()?)
+}
+
 /// Returns what is said of a wrong line of a text of which the last line is remembered, and perhaps that the line before is `end`.
 fn last_line_place(
     alloc: Global,
@@ -116,7 +122,15 @@ fn last_line_place(
         tail.extend_from_slice(b"end\n")?;
     }
     tail.extend_from_slice(last)?;
-    line_note(alloc, line, &tail, seen.feeds(), cause, text)
+    line_note(
+        alloc,
+        version_in(seen),
+        line,
+        &tail,
+        seen.feeds(),
+        cause,
+        text,
+    )
 }
 
 /// Returns what is said of a wrong line.
@@ -129,7 +143,7 @@ fn line_place(alloc: Global, seen: &Seen, line: u64, cause: LineCause, text: &st
         let (read, feeds) = through_line(bytes, line);
         // Of a longer text only the first bytes are remembered.
         if feeds >= line || bytes.len() < Seen::MAX_BYTES {
-            return line_note(alloc, line, read, feeds, cause, text);
+            return line_note(alloc, version_of(bytes), line, read, feeds, cause, text);
         }
     }
     match seen.line() {

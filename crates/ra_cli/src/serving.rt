@@ -470,7 +470,7 @@ pub fn serve<T: Threads + Wait + Sync, R: BufRead, W: Write>(
 /// says nothing, and one where `writer` failed, but for a pipe that nobody reads on. While many seeds take long, it writes there how far
 /// it is. Each line begins with `ra: `. Nothing of it goes to `writer`, and it is left out where memory or `notes` fails, which changes
 /// nothing else. To find the place in a script it is read once more, for who waits for whom it is run once more, and for the mark that is
-/// due the steps of a trace are made once more.
+/// due, or an ask or a release that is refused, the steps of a trace are made once more.
 pub fn serve_with_notes<T: Threads + Wait + Sync, R: BufRead, W: Write, N: Write>(
     rt: &T,
     alloc: Global,

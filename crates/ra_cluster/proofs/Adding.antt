@@ -11,7 +11,7 @@ use Rattle.ra_node.specs.Node.{NodeState, IsConsistentNode}
 use Rattle.ra_node.specs.Events.{NodeEvent, IsForThisNode}
 use Rattle.ra_cluster.specs.declared.error.BookError.{BookError}
 use Rattle.ra_cluster.specs.declared.error.BookError.TheVariants.{Memory}
-use Rattle.ra_cluster.specs.declared.posted.Posted.{Posted}
+use Rattle.ra_cluster.specs.declared.event_effect.Posted.{Posted}
 use Rattle.ra_cluster.specs.declared.event.BookKind.{BookKind}
 use Rattle.ra_cluster.specs.declared.event.BookKind.TheVariants.{Asked, Gave, Got}
 use Rattle.ra_cluster.specs.declared.event.BookEvent.{BookEvent}

@@ -28,7 +28,7 @@ use Rattle.ra_cluster.specs.declared.error.MarkLostError.TheVariants.{NotSent, A
 use Rattle.ra_cluster.specs.declared.event.BookEvent.{BookEvent}
 use Rattle.ra_cluster.specs.declared.event.BookKind.{BookKind}
 use Rattle.ra_cluster.specs.declared.event.BookKind.TheVariants.{Asked, Gave, Got}
-use Rattle.ra_cluster.specs.declared.posted.Posted.{Posted}
+use Rattle.ra_cluster.specs.declared.event_effect.Posted.{Posted}
 use Rattle.ra_cluster.specs.declared.sent.Sent.{Sent}
 use Rattle.ra_cluster.specs.History.{node_event, clock_after, frames_at}
 use Rattle.ra_cluster.specs.Book.{BookState, opening_book, LeadsTo, HasHistory, HasClock, next_clock, with_event, as_sent, Runs, Hears, IsFirst, Loses}

@@ -1,10 +1,10 @@
 //! What of a run is drawn, made by a world of its own from the lines of its trace: these have no line for a message that is sent, and
 //! only the nodes know which ones a step sends.
 use crate::cut::cut;
-use crate::flights::{Fate, Flights, Moment, Start};
 use crate::part::Part;
 use crate::seat::Seat;
 use crate::stays::Stays;
+use crate::ways::{Fate, Moment, Start, Ways};
 use ra_stamp::{Mark, Memory, Message, Mode};
 use ra_trace::Line;
 use ra_world::{MarklessWorld, Step};
@@ -53,7 +53,7 @@ pub struct Course {
     now: Moment,
     /// Those of the steps of the part, in order.
     pub rows: Vec<Row>,
-    pub flights: Flights,
+    pub ways: Ways,
     pub stays: Stays,
 }
 
@@ -64,7 +64,7 @@ impl Course {
             nodes,
             now: Moment { line: 0, row: 0 },
             rows: Vec::new(alloc),
-            flights: Flights::new(alloc),
+            ways: Ways::new(alloc),
             stays: Stays::new(alloc),
         }
     }
@@ -98,14 +98,14 @@ impl Course {
                 self.stays.ask(&seat, *mode, moment)
             }
             Step::Leave { .. } => Ok(()),
-            Step::Deliver(message) => self.flights.end(message, Fate::Delivered(moment)),
-            Step::Lose(message) => self.flights.end(message, Fate::Lost(moment)),
+            Step::Deliver(message) => self.ways.end(message, Fate::Delivered(moment)),
+            Step::Lose(message) => self.ways.end(message, Fate::Lost(moment)),
             Step::Repeat(message) => {
                 let start = Start {
                     moment,
                     copied: true,
                 };
-                self.flights.begin(alloc, message, start)
+                self.ways.begin(alloc, message, start)
             }
         }
     }
@@ -117,7 +117,7 @@ impl Course {
             copied: false,
         };
         for message in sends {
-            self.flights.begin(alloc, message, start)?;
+            self.ways.begin(alloc, message, start)?;
         }
         Ok(())
     }
@@ -178,7 +178,7 @@ impl Course {
                 self.take(alloc, world, number, &line, number >= part.from)?;
             }
         }
-        self.flights.close()
+        self.ways.close()
     }
 
     /// Follows the run of a trace from its beginning to the end of the part. Each resource begins with this number.

@@ -5,7 +5,6 @@ mod course;
 mod cut;
 mod drawing;
 mod error;
-mod flights;
 mod legend;
 mod page;
 mod part;
@@ -14,6 +13,7 @@ mod picture;
 mod seat;
 mod shapes;
 mod stays;
+mod ways;
 mod words;
 
 pub use drawing::draw;

@@ -1,11 +1,11 @@
 //! The shapes of a page, and their labels.
 use crate::course::{Act, Course, Row};
-use crate::flights::{Fate, Flight, Moment};
 use crate::page::{Bar, COLUMN, Page, Point, TOP};
 use crate::pen::Pen;
 use crate::pen::Piece::{Node, Number, Prefix, Text, Whole};
 use crate::seat::Seat;
 use crate::stays::Stay;
+use crate::ways::{Fate, Moment, Way};
 use crate::words::{kind_of, mode_text, start_word};
 use ra_stamp::{Memory, Message, Mode, Name, NodeId};
 use ra_world::mode_word;
@@ -210,18 +210,15 @@ impl Sheet {
     }
 
     /// Begins the shape of a message: which one it is, and when it came under way.
-    fn begin_message(&mut self, flight: &Flight) {
-        let message = &flight.message;
+    fn begin_message(&mut self, way: &Way) {
+        let message = &way.message;
         self.name_message(message, &message.name());
         if let Message::Request { mode, .. } = message {
             self.shapes.write(", $", &[Text(mode_text(*mode))]);
         }
         self.shapes.write(
             ", $ at line $",
-            &[
-                Text(start_word(flight.start)),
-                Number(flight.start.moment.line),
-            ],
+            &[Text(start_word(way.start)), Number(way.start.moment.line)],
         );
     }
 
@@ -294,8 +291,8 @@ impl Sheet {
     }
 
     /// Draws the loop from which a copy comes.
-    fn draw_copy(&mut self, flight: &Flight, place: Point) {
-        self.begin_message(flight);
+    fn draw_copy(&mut self, way: &Way, place: Point) {
+        self.begin_message(way);
         self.shapes.write(
             "</title><path class=\"loop\" d=\"M$ $m5 -3.6a6.2 6.2 0 1 0 1 3.6l-3.4 -2.2m3.4 2.2l2.6 -3\"/></g>\n",
             &[Number(place.x), Number(place.y)],
@@ -304,30 +301,30 @@ impl Sheet {
             x: place.x,
             y: place.y.saturating_sub(11),
         };
-        self.label_message(&flight.message, above, "centered", " again");
+        self.label_message(&way.message, above, "centered", " again");
     }
 
     /// Draws what became of a message.
-    fn draw_fate(&mut self, page: &Page, flight: &Flight, from: Point) {
-        self.begin_message(flight);
-        match flight.fate {
-            Fate::Delivered(end) => self.draw_delivered(page, &flight.message, from, end),
-            Fate::Lost(end) => self.draw_lost(page, &flight.message, from, end),
-            Fate::UnderWay => self.draw_under_way(page, &flight.message, from),
+    fn draw_fate(&mut self, page: &Page, way: &Way, from: Point) {
+        self.begin_message(way);
+        match way.fate {
+            Fate::Delivered(end) => self.draw_delivered(page, &way.message, from, end),
+            Fate::Lost(end) => self.draw_lost(page, &way.message, from, end),
+            Fate::UnderWay => self.draw_under_way(page, &way.message, from),
         }
     }
 
     /// Draws a message, from where it came under way.
-    fn draw_flight(&mut self, page: &Page, flight: &Flight) {
-        let message = &flight.message;
-        let start = &flight.start;
+    fn draw_way(&mut self, page: &Page, way: &Way) {
+        let message = &way.message;
+        let start = &way.start;
         let mut from = page.at(message.from(), start.moment.row);
         if start.copied {
             from.x = middle_of(page, message);
         }
-        self.draw_fate(page, flight, from);
+        self.draw_fate(page, way, from);
         if start.copied && start.moment.row > 0 {
-            self.draw_copy(flight, from);
+            self.draw_copy(way, from);
         }
     }
 
@@ -397,8 +394,8 @@ impl Sheet {
             self.draw_waiting(page, bar);
             self.draw_inside(page, bar);
         }
-        for flight in &course.flights.drawn {
-            self.draw_flight(page, flight);
+        for way in &course.ways.drawn {
+            self.draw_way(page, way);
         }
         let mut number = 0;
         for row in &course.rows {

@@ -1,6 +1,6 @@
 //! How long clients wait and are inside.
-use crate::flights::Moment;
 use crate::seat::Seat;
+use crate::ways::Moment;
 use indexmap::IndexMap;
 use ra_stamp::{Memory, Mode};
 use std::alloc::Global;

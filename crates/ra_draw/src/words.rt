@@ -1,5 +1,5 @@
 //! What shapes say in words.
-use crate::flights::Start;
+use crate::ways::Start;
 use ra_stamp::{Message, Mode};
 
 /// Returns a mode in words.

@@ -41,6 +41,23 @@ pub fn mark_in(text: &[u8]) -> Option<Mark> {
     }
 }
 
+/// Returns the last line before the one with the number `line` that is this mark, or 0 where none is.
+pub fn last_line_with(line: u64, text: &[u8], mark: &Mark) -> u64 {
+    let mut lines: u64 = 0;
+    let mut last = 0;
+    let mut start = 0;
+    for (place, byte) in text.iter().enumerate() {
+        if *byte == b'\n' {
+            lines = lines.saturating_add(1);
+            if lines < line && mark_in(text.get(start..place).unwrap_or(b"")) == Some(*mark) {
+                last = lines;
+            }
+            start = place + 1;
+        }
+    }
+    last
+}
+
 impl Before {
     /// Takes a mark on the name.
     fn take_mark(&mut self, note: &mut Note, mark: &Mark) {
@@ -68,7 +85,7 @@ impl Before {
 
     /// Returns what stands before the line with the number `line` of a text that goes up to its line feed, or `None` where the text does not
     /// begin with its first line. The cost is the number of lines times that of the requests that wait and hold at once.
-    pub fn line(
+    pub fn at_line(
         alloc: Global,
         note: &mut Note,
         line: u64,

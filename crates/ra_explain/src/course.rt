@@ -73,9 +73,10 @@ impl Course {
         }
         lines
     }
+
     /// Returns the run before the line with the number `line` of a trace, or `None` where the text does not begin with the first line and end
     /// with that one, or there is no memory for the world. The cost is linear in the text, and that of the steps in it.
-    pub fn before(alloc: Global, note: &mut Note, line: u64, text: &[u8]) -> Option<Course> {
+    pub fn at_line(alloc: Global, note: &mut Note, line: u64, text: &[u8]) -> Option<Course> {
         let mut course = Course {
             world: None,
             nodes: 0,

@@ -21,7 +21,7 @@ fn push_mark(alloc: Global, note: &mut Note, mark: &Mark) {
 /// where the text begins with the first line and ends with that one, and memory does not run out. The cost is linear in the text, and that
 /// of the steps in it.
 pub fn push_due(alloc: Global, note: &mut Note, line: u64, text: &[u8], other: &str) {
-    let Some(course) = Course::before(alloc, note, line, text) else {
+    let Some(course) = Course::at_line(alloc, note, line, text) else {
         note.push(other);
         return;
     };

@@ -36,7 +36,11 @@ fn push_no_digit(note: &mut Note, place: usize, byte: u8) {
             "a carriage return, and the line ends with a line feed alone, or with none",
         ),
         b'\t' => note.push("a tab"),
-        _ => note.quoted(&[byte]),
+        b' '..=b'~' => note.quoted(&[byte]),
+        _ => {
+            note.push("the value ");
+            note.number(u64::from(byte));
+        }
     }
 }
 

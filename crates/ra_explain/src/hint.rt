@@ -121,15 +121,15 @@ pub const AT_MARKS: &[Hint] = &[
 /// The hints at a later line of a trace.
 pub const AT_LATER: &[Hint] = &[
     Hint {
-        prefix: "deliver",
+        prefix: "deliver ",
         text: KINDS,
     },
     Hint {
-        prefix: "lose",
+        prefix: "lose ",
         text: KINDS,
     },
     Hint {
-        prefix: "repeat",
+        prefix: "repeat ",
         text: KINDS,
     },
 ];

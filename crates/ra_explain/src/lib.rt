@@ -34,6 +34,7 @@ pub use ending::script_end_note;
 pub use frame::frame_note;
 pub use hexadecimal::digits_note;
 pub use line::{LineCause, line_note};
+pub use line_text::version_of;
 pub use order::order_note;
 pub use unanswered::{Unanswered, unanswered_note};
 pub use unfinished::unfinished_note;

@@ -7,7 +7,7 @@ use crate::obstacle::push_obstacle;
 use crate::refused_step::push_refused;
 use crate::tail::{Tail, tail_of};
 use ra_stamp::Memory;
-use ra_trace::{Cause, MarkCause};
+use ra_trace::{Cause, MarkCause, Version};
 use std::alloc::Global;
 
 /// Why a line is wrong: of a trace, or of a mark log.
@@ -32,6 +32,7 @@ fn push_line(note: &mut Note, line: u64, tail: &Tail<'_>) {
 fn push_cause(
     alloc: Global,
     note: &mut Note,
+    version: Option<Version>,
     line: u64,
     tail: &Tail<'_>,
     read: &[u8],
@@ -40,9 +41,7 @@ fn push_cause(
 ) {
     match cause {
         LineCause::Trace(Cause::Line) => {
-            // Where the first lines are not known, neither is the version.
-            let is_version_1 = read.starts_with(b"trace 1 ");
-            push_trace_text(alloc, note, line, tail, is_version_1, text);
+            push_trace_text(alloc, note, line, tail, version, text);
         }
         LineCause::Trace(Cause::Marks) => push_due(alloc, note, line, read, text),
         LineCause::Trace(Cause::Refused) => push_refused(alloc, note, line, read, tail.line, text),
@@ -57,18 +56,20 @@ fn push_cause(
 }
 
 /// Returns what is said of the first wrong line of a text, the one with the number `line`, counted from 1: which it is, the line itself,
-/// and what is wrong with it, which is `text` where nothing more precise is found. `read` are the last bytes that were read, up to the
-/// end of that line. Where they begin with the line before, what stands after `end` is known as such; and where they are all that were
-/// read, it is said who is in the way of a mark, which number a request has to exceed, which mark is due, why a node refuses a step, why a
-/// message is not under way, and what version 1 does not have. `feeds` is how many line feeds were read in all: as many as `line` where the line was read to its line
-/// feed, and fewer where it has none or the text ends before it. The cost is the number of lines times that of the requests that wait and
-/// hold the line's name at once, or for a step and the mark that is due that of the steps before it.
+/// and what is wrong with it, which is `text` where nothing more precise is found. `version` is that which the first line of a trace names,
+/// as far as it is known ([`version_of`](crate::version_of)). `read` are the last bytes that were read, up to the end of that line. Where
+/// they begin with the line before, what stands after `end` is known as such; and where they are all that were read, it is said what is in
+/// the way of a mark, which mark is due, why a node refuses a step, and why a message is not under way. `feeds` is how many line feeds were
+/// read in all: as many as `line` where the line was read to its line feed, and fewer where it has none or the text ends before it. The cost
+/// is the number of lines times that of the requests that wait and hold the line's name at once, or for a step and the mark that is due that
+/// of the steps before it.
 ///
 /// # Errors
 ///
 /// `Memory`: memory ran out.
 pub fn line_note(
     alloc: Global,
+    version: Option<Version>,
     line: u64,
     read: &[u8],
     feeds: u64,
@@ -78,6 +79,6 @@ pub fn line_note(
     let mut note = Note::new(alloc);
     let tail = tail_of(read, feeds >= line);
     push_line(&mut note, line, &tail);
-    push_cause(alloc, &mut note, line, &tail, read, cause, text);
+    push_cause(alloc, &mut note, version, line, &tail, read, cause, text);
     note.finish()
 }

@@ -2,6 +2,7 @@
 use crate::line_field::LineField;
 use crate::line_form::{LineForm, form_of};
 use crate::note::Note;
+use ra_trace::Version;
 use std::alloc::Global;
 
 /// Returns the next field, behind its space, and what stands behind it, or `None` where there is none.
@@ -16,7 +17,7 @@ fn next_field(rest: &[u8]) -> Option<(&[u8], &[u8])> {
 }
 
 /// Adds what stands in a field, and what may.
-fn push_wrong(note: &mut Note, field: LineField, text: &[u8], range: &str) {
+fn push_wrong(note: &mut Note, field: LineField, text: &[u8], version: Option<Version>) {
     note.push(field.name());
     if text.is_empty() {
         note.push(" is empty, and one space stands before each field: it is ");
@@ -25,7 +26,7 @@ fn push_wrong(note: &mut Note, field: LineField, text: &[u8], range: &str) {
         note.quoted(text);
         note.push(": it is ");
     }
-    note.push(range);
+    note.push(field.range(version));
 }
 
 /// Adds that a field is missing.
@@ -41,17 +42,14 @@ fn push_field(
     note: &mut Note,
     field: LineField,
     text: &[u8],
-    is_version_1: bool,
+    version: Option<Version>,
 ) -> bool {
-    if !field.may_be(alloc, note, text) {
-        push_wrong(note, field, text, field.range());
-        true
-    } else if is_version_1 && !field.may_be_in_version_1(text) {
-        push_wrong(note, field, text, field.range_in_version_1());
-        true
-    } else {
-        false
+    let is_right = field.may_be(alloc, note, text)
+        && (!matches!(version, Some(Version::One)) || field.may_be_in_version_1(text));
+    if !is_right {
+        push_wrong(note, field, text, version);
     }
+    !is_right
 }
 
 /// Adds what is wrong behind the words of a line of this form, and returns whether something is.
@@ -60,7 +58,7 @@ fn push_behind_words(
     note: &mut Note,
     form: &LineForm,
     behind_words: &[u8],
-    is_version_1: bool,
+    version: Option<Version>,
 ) -> bool {
     let mut rest = behind_words;
     for field in form.fields {
@@ -68,7 +66,7 @@ fn push_behind_words(
             push_missing(note, form, *field);
             return true;
         };
-        if push_field(alloc, note, *field, text, is_version_1) {
+        if push_field(alloc, note, *field, text, version) {
             return true;
         }
         rest = behind;
@@ -80,17 +78,17 @@ fn push_behind_words(
     !rest.is_empty()
 }
 
-/// Adds which field of a line is wrong, and what may stand there, and returns whether one is. The words of the line are those of one of these
-/// forms, or nothing is added.
+/// Adds which field of a line is wrong in this version, and what may stand there, and returns whether one is. The words of the line are those
+/// of one of these forms, or nothing is added. Where the version is not known, what is right in version 2 is right.
 pub fn push_line_fault(
     alloc: Global,
     note: &mut Note,
     forms: &'static [LineForm],
     line: &[u8],
-    is_version_1: bool,
+    version: Option<Version>,
 ) -> bool {
     match form_of(forms, line) {
-        Some((form, rest)) => push_behind_words(alloc, note, form, rest, is_version_1),
+        Some((form, rest)) => push_behind_words(alloc, note, form, rest, version),
         None => false,
     }
 }

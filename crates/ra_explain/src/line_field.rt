@@ -1,6 +1,6 @@
 //! The fields of the lines of traces and of mark logs, and what may stand in them.
 use crate::note::Note;
-use ra_trace::Line;
+use ra_trace::{Line, Version};
 use std::alloc::Global;
 
 /// A field of a line.
@@ -33,8 +33,17 @@ impl LineField {
         }
     }
 
-    /// Returns what may stand in it.
-    pub fn range(self) -> &'static str {
+    /// Returns what may stand in it in this version, or in either where it is not known.
+    pub fn range(self, version: Option<Version>) -> &'static str {
+        match version {
+            Some(Version::One) => self.range_in_version_1(),
+            Some(Version::Two) => self.range_in_version_2(),
+            None => self.range_in_either(),
+        }
+    }
+
+    /// Returns what may stand in it in version 2.
+    fn range_in_version_2(self) -> &'static str {
         match self {
             LineField::Nodes | LineField::Node | LineField::From | LineField::To => {
                 "1 to 64, with no zeros before it"
@@ -48,13 +57,24 @@ impl LineField {
     }
 
     /// Returns what may stand in it in version 1.
-    pub fn range_in_version_1(self) -> &'static str {
+    fn range_in_version_1(self) -> &'static str {
         match self {
             LineField::Nodes | LineField::Node | LineField::From | LineField::To => {
-                "1 to 16 in version 1"
+                "1 to 16 in version 1, with no zeros before it"
             }
             LineField::Mode => "S or X in version 1",
-            field => field.range(),
+            field => field.range_in_version_2(),
+        }
+    }
+
+    /// Returns what may stand in it in each version.
+    fn range_in_either(self) -> &'static str {
+        match self {
+            LineField::Nodes | LineField::Node | LineField::From | LineField::To => {
+                "1 to 16 in version 1, and to 64 in version 2, with no zeros before it"
+            }
+            LineField::Mode => "S or X in version 1, and IS, IX or SIX in version 2, too",
+            field => field.range_in_version_2(),
         }
     }
 
@@ -71,7 +91,7 @@ impl LineField {
         }
     }
 
-    /// Returns whether this may stand in it, as a line is read where all else is right. Where memory runs out the note keeps that.
+    /// Returns whether this may stand in it in version 2, as a line is read where all else is right. Where memory runs out the note keeps that.
     pub fn may_be(self, alloc: Global, note: &mut Note, text: &[u8]) -> bool {
         let (before, behind) = self.around();
         let mut line = Vec::new(alloc);

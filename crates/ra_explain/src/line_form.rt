@@ -65,8 +65,8 @@ pub const MARK_FORMS: &[LineForm] = &[
     },
 ];
 
-/// The other forms of lines of traces.
-pub const STEP_FORMS: &[LineForm] = &[
+/// The forms of first lines of traces.
+pub const FIRST_FORMS: &[LineForm] = &[
     LineForm {
         words: "trace 1",
         fields: FIRST,
@@ -75,6 +75,10 @@ pub const STEP_FORMS: &[LineForm] = &[
         words: "trace 2",
         fields: FIRST,
     },
+];
+
+/// The forms of steps, and of the last line.
+pub const STEP_FORMS: &[LineForm] = &[
     LineForm {
         words: "ask",
         fields: ASK,

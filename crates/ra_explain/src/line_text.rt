@@ -1,17 +1,18 @@
 //! What is said of a line that is none of a trace or of a mark log, or that stands where it may not.
 use crate::hint::{AT_FIRST, AT_LATER, AT_MARKS, hint_at};
 use crate::line_fault::push_line_fault;
-use crate::line_form::{MARK_FORMS, STEP_FORMS, form_of};
+use crate::line_form::{FIRST_FORMS, MARK_FORMS, STEP_FORMS, form_of};
 use crate::note::Note;
 use crate::tail::Tail;
+use ra_trace::Version;
 use std::alloc::Global;
 
 /// How many bytes are read of a line that has no line feed.
 const MAX_LINE: usize = 128;
 
-/// What is said of a line that begins with none of the words of a trace.
+/// What is said of a later line that begins with none of the words of a trace.
 const WORDS: &str =
-    "a line of a trace begins with ask, release, deliver, lose, repeat, request, enter or leave, and the last one is end";
+    "a line behind the first one of a trace begins with ask, release, deliver, lose, repeat, request, enter or leave, and the last one is end";
 
 /// What is said of a line that is not the first one of a trace.
 const NOT_FIRST: &str =
@@ -47,49 +48,72 @@ fn end_text(tail: &Tail<'_>) -> Option<&'static str> {
     }
 }
 
-/// Returns what is said of the first line, which is none of a trace, though its fields are what they may be if it has the words of a line.
-fn first_line_text(text: &[u8]) -> &'static str {
-    hint_at(AT_FIRST, text).unwrap_or(NOT_FIRST)
-}
-
-/// Returns what is said of a later line, or an other text.
-fn later_line_text<'a>(text: &[u8], is_version_1: bool, other: &'a str) -> &'a str {
-    if text.starts_with(b"trace ") {
-        FIRST_AGAIN
-    } else if is_version_1 && text.starts_with(b"repeat ") {
-        NO_REPEATS
-    } else if form_of(MARK_FORMS, text).is_some() || form_of(STEP_FORMS, text).is_some() {
-        other
-    } else {
-        hint_at(AT_LATER, text).unwrap_or(WORDS)
+/// Adds what is said of a first line that begins no trace.
+fn push_first_line(alloc: Global, note: &mut Note, text: &[u8]) {
+    if !push_line_fault(alloc, note, FIRST_FORMS, text, version_of(text)) {
+        note.push(hint_at(AT_FIRST, text).unwrap_or(NOT_FIRST));
     }
 }
 
-/// Adds which field of the line of a trace is wrong, and returns whether one is.
-fn push_fault(alloc: Global, note: &mut Note, text: &[u8], is_version_1: bool) -> bool {
-    push_line_fault(alloc, note, MARK_FORMS, text, is_version_1)
-        || push_line_fault(alloc, note, STEP_FORMS, text, is_version_1)
+/// Returns the version that the first line of a text names, or `None` where it names none.
+pub fn version_of(text: &[u8]) -> Option<Version> {
+    if text.starts_with(b"trace 1 ") {
+        Some(Version::One)
+    } else if text.starts_with(b"trace 2 ") {
+        Some(Version::Two)
+    } else {
+        None
+    }
 }
 
-/// Adds what is said of a line that is none of a trace, or that stands where it may not. Where nothing is found it is `other`.
+/// Returns why a line may not stand behind the first one of a trace of this version, whatever its fields, or `None`.
+fn misplaced_text(text: &[u8], version: Option<Version>) -> Option<&'static str> {
+    if form_of(FIRST_FORMS, text).is_some() {
+        Some(FIRST_AGAIN)
+    } else if matches!(version, Some(Version::One)) && text.starts_with(b"repeat ") {
+        Some(NO_REPEATS)
+    } else {
+        None
+    }
+}
+
+/// Adds what is said of a line of a trace behind the first one. Where nothing is found it is `other`.
+fn push_later_line(
+    alloc: Global,
+    note: &mut Note,
+    text: &[u8],
+    version: Option<Version>,
+    other: &str,
+) {
+    if let Some(misplaced) = misplaced_text(text, version) {
+        note.push(misplaced);
+    } else if form_of(MARK_FORMS, text).is_none() && form_of(STEP_FORMS, text).is_none() {
+        note.push(hint_at(AT_LATER, text).unwrap_or(WORDS));
+    } else if !push_line_fault(alloc, note, MARK_FORMS, text, version)
+        && !push_line_fault(alloc, note, STEP_FORMS, text, version)
+    {
+        note.push(other);
+    }
+}
+
+/// Adds what is said of a line that is none of a trace of this version, or that stands where it may not. Where nothing is found it is
+/// `other`.
 pub fn push_trace_text(
     alloc: Global,
     note: &mut Note,
     line: u64,
     tail: &Tail<'_>,
-    is_version_1: bool,
+    version: Option<Version>,
     other: &str,
 ) {
     if tail.is_after_end {
         note.push("this stands after end, which is the last line of a trace");
     } else if let Some(text) = end_text(tail) {
         note.push(text);
-    } else if !push_fault(alloc, note, tail.line, is_version_1) {
-        note.push(if line == 1 {
-            first_line_text(tail.line)
-        } else {
-            later_line_text(tail.line, is_version_1, other)
-        });
+    } else if line == 1 {
+        push_first_line(alloc, note, tail.line);
+    } else {
+        push_later_line(alloc, note, tail.line, version, other);
     }
 }
 
@@ -97,7 +121,7 @@ pub fn push_trace_text(
 pub fn push_mark_text(alloc: Global, note: &mut Note, tail: &Tail<'_>, other: &str) {
     if let Some(text) = end_text(tail) {
         note.push(text);
-    } else if !push_line_fault(alloc, note, MARK_FORMS, tail.line, false) {
+    } else if !push_line_fault(alloc, note, MARK_FORMS, tail.line, Some(Version::Two)) {
         note.push(hint_at(AT_MARKS, tail.line).unwrap_or(other));
     }
 }

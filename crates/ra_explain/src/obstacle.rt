@@ -1,27 +1,24 @@
 //! What is in the way of a mark that a lock table does not allow.
-use crate::before::{Before, entry_of, mark_in};
+use crate::before::{Before, entry_of, last_line_with, mark_in};
 use crate::claim::Claim;
 use crate::line::LineCause;
 use crate::note::Note;
-use ra_stamp::Entry;
-use ra_trace::{Cause, MarkCause};
+use ra_stamp::{Entry, Mark};
+use ra_trace::MarkCause;
 use std::alloc::Global;
 
-/// Returns whether a claim is why a lock table does not allow the mark of an entry.
-fn is_in_the_way(claim: &Claim, entry: &Entry, cause: LineCause) -> bool {
+/// Returns whether a claim is why a lock table does not allow the mark of an entry, for this cause.
+fn is_in_the_way(claim: &Claim, entry: &Entry, cause: MarkCause) -> bool {
     match cause {
-        LineCause::Marks(MarkCause::NodeBusy) => {
-            claim.entry.name == entry.name && claim.entry.stamp.node == entry.stamp.node
-        }
-        LineCause::Marks(MarkCause::Held) => claim.holds && claim.blocks(entry),
-        LineCause::Marks(MarkCause::Earlier) => !claim.holds && claim.blocks(entry),
-        LineCause::Trace(Cause::Table) => claim.entry != *entry && claim.blocks(entry),
-        LineCause::Trace(_) | LineCause::Marks(_) => false,
+        MarkCause::NodeBusy => claim.entry.stamp.node == entry.stamp.node,
+        MarkCause::Held => claim.holds && claim.blocks(entry),
+        MarkCause::Earlier => !claim.holds && claim.blocks(entry),
+        MarkCause::Line | MarkCause::NotAbove | MarkCause::NotWaiting | MarkCause::NotHeld => false,
     }
 }
 
 /// Returns the first claim that is in the way, if one is.
-fn first_in_the_way(claims: &[Claim], entry: &Entry, cause: LineCause) -> Option<Claim> {
+fn first_in_the_way(claims: &[Claim], entry: &Entry, cause: MarkCause) -> Option<Claim> {
     for claim in claims {
         if is_in_the_way(claim, entry, cause) {
             return Some(*claim);
@@ -30,11 +27,56 @@ fn first_in_the_way(claims: &[Claim], entry: &Entry, cause: LineCause) -> Option
     None
 }
 
-/// Returns what is said of a mark before who is in its way, or an other text.
-fn obstacle_text(cause: LineCause, other: &str) -> &str {
+/// Returns the claim of an entry, if it has one.
+fn claim_of(claims: &[Claim], entry: &Entry) -> Option<Claim> {
+    for claim in claims {
+        if claim.entry == *entry {
+            return Some(*claim);
+        }
+    }
+    None
+}
+
+/// Returns whether an entry waits.
+fn is_waiting(claims: &[Claim], entry: &Entry) -> bool {
+    match claim_of(claims, entry) {
+        Some(claim) => !claim.holds,
+        None => false,
+    }
+}
+
+/// Returns why a lock table does not allow a mark after those before it, which it does not. The causes are looked for in the order of a mark
+/// log's.
+fn cause_of(mark: &Mark, claims: &[Claim]) -> MarkCause {
+    match mark {
+        Mark::Requested(entry) => {
+            if first_in_the_way(claims, entry, MarkCause::NodeBusy).is_some() {
+                MarkCause::NodeBusy
+            } else {
+                MarkCause::NotAbove
+            }
+        }
+        Mark::Entered(entry) => {
+            if !is_waiting(claims, entry) {
+                MarkCause::NotWaiting
+            } else if first_in_the_way(claims, entry, MarkCause::Held).is_some() {
+                MarkCause::Held
+            } else {
+                MarkCause::Earlier
+            }
+        }
+        Mark::Left(_) => MarkCause::NotHeld,
+    }
+}
+
+/// Returns what is said of a cause in a trace. Of who is in the way it is said who it is.
+fn cause_text(cause: MarkCause) -> &'static str {
     match cause {
-        LineCause::Trace(_) => "a lock table does not allow this mark",
-        LineCause::Marks(_) => other,
+        MarkCause::NodeBusy => ": its node waits for the name or holds it already",
+        MarkCause::NotAbove => ": its number is not above each one that was granted on the name",
+        MarkCause::NotWaiting => ": no such entry waits for the name",
+        MarkCause::NotHeld => ": no such entry holds the name",
+        MarkCause::Line | MarkCause::Held | MarkCause::Earlier => "",
     }
 }
 
@@ -58,18 +100,82 @@ fn push_claim(note: &mut Note, claim: &Claim) {
     note.number(claim.since);
 }
 
-/// Adds which number a request has to exceed, where that is why it is wrong.
-fn push_granted(note: &mut Note, before: &Before, cause: LineCause) {
-    if let LineCause::Marks(MarkCause::NotAbove) = cause {
-        note.push(": ");
-        note.number(before.granted);
-        note.push(" was granted in line ");
-        note.number(before.granted_at);
+/// Adds which number a request has to exceed.
+fn push_granted(note: &mut Note, before: &Before) {
+    note.push(": ");
+    note.number(before.granted);
+    note.push(" was granted in line ");
+    note.number(before.granted_at);
+}
+
+/// Adds what became of an entry that does not wait, or does not hold, where it should: it holds or waits, was given back, or never asked.
+fn push_fate(note: &mut Note, line: u64, text: &[u8], entry: &Entry, before: &Before) {
+    if let Some(claim) = claim_of(&before.claims, entry) {
+        note.push(if claim.holds {
+            ": it was granted in line "
+        } else {
+            ": it waits since line "
+        });
+        note.number(claim.since);
+        return;
+    }
+    match last_line_with(line, text, &Mark::Left(*entry)) {
+        0 => note.push(": it was not requested"),
+        left => {
+            note.push(": it was given back in line ");
+            note.number(left);
+        }
     }
 }
 
-/// Adds why the mark that is the line with the number `line` is wrong, `other` and what is in its way, if something is. That is known where
-/// the text begins with its first line and ends with that one.
+/// Adds what is in the way of a mark, for this cause.
+fn push_details(
+    note: &mut Note,
+    line: u64,
+    text: &[u8],
+    entry: &Entry,
+    before: &Before,
+    cause: MarkCause,
+) {
+    match cause {
+        MarkCause::NodeBusy | MarkCause::Held | MarkCause::Earlier => {
+            if let Some(claim) = first_in_the_way(&before.claims, entry, cause) {
+                push_claim(note, &claim);
+            }
+        }
+        MarkCause::NotAbove => push_granted(note, before),
+        MarkCause::NotWaiting | MarkCause::NotHeld => push_fate(note, line, text, entry, before),
+        MarkCause::Line => {}
+    }
+}
+
+/// Adds why a mark is wrong, which is `other` in a mark log, and what is in its way.
+fn push_mark_fault(
+    note: &mut Note,
+    line: u64,
+    text: &[u8],
+    mark: &Mark,
+    before: &Before,
+    cause: LineCause,
+    other: &str,
+) {
+    let why = match cause {
+        LineCause::Marks(why) => {
+            note.push(other);
+            why
+        }
+        LineCause::Trace(_) => {
+            let why = cause_of(mark, &before.claims);
+            note.push("a lock table does not allow this mark");
+            note.push(cause_text(why));
+            why
+        }
+    };
+    push_details(note, line, text, entry_of(mark), before, why);
+}
+
+/// Adds why the mark that is the line with the number `line` is wrong, and what is in its way. Where that is not known it is `other`: it is
+/// known where the text begins with its first line and ends with that one.
 pub fn push_obstacle(
     alloc: Global,
     note: &mut Note,
@@ -83,19 +189,9 @@ pub fn push_obstacle(
         note.push(other);
         return;
     };
-    let entry = entry_of(&mark);
-    let Some(before) = Before::line(alloc, note, line, text, entry.name) else {
-        note.push(other);
-        return;
-    };
-    match first_in_the_way(&before.claims, entry, cause) {
-        Some(claim) => {
-            note.push(obstacle_text(cause, other));
-            push_claim(note, &claim);
-        }
-        None => {
-            note.push(other);
-            push_granted(note, &before, cause);
-        }
+    let name = entry_of(&mark).name;
+    match Before::at_line(alloc, note, line, text, name) {
+        Some(before) => push_mark_fault(note, line, text, &mark, &before, cause, other),
+        None => note.push(other),
     }
 }

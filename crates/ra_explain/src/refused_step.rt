@@ -131,7 +131,7 @@ fn refusal_of(
 ) -> Option<(Wish, StepError, u16)> {
     let step = step_in(shown)?;
     let wish = wish_of(&step)?;
-    let mut course = Course::before(alloc, note, line, text)?;
+    let mut course = Course::at_line(alloc, note, line, text)?;
     let why = course.refusal(alloc, &step)?;
     Some((wish, why, course.nodes))
 }
@@ -144,7 +144,7 @@ fn claim_before(
     text: &[u8],
     wish: &Wish,
 ) -> Option<Claim> {
-    match Before::line(alloc, note, line, text, wish.name) {
+    match Before::at_line(alloc, note, line, text, wish.name) {
         Some(before) => wish.claim_in(&before.claims),
         None => None,
     }

@@ -48,8 +48,8 @@ fn push_node(note: &mut Note, text: &str, digits: &[u8], field: &Field) {
 }
 
 /// Returns why a node does not answer the frame whose hexadecimal digits an input has: which field it is, where its bytes stand, what they
-/// are, and what the node would answer; or `None` where there is nothing more to say. `node` and `nodes` are the node and how many there
-/// are, as texts.
+/// are, and which node or clock they name, beside what would be right; or `None` where there is nothing more to say. `node` and `nodes` are
+/// the node and how many there are, as texts.
 ///
 /// # Errors
 ///

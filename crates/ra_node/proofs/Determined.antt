@@ -11,7 +11,7 @@ use Rattle.ra_automaton.specs.declared.phase.Phase.{Phase}
 use Rattle.ra_automaton.specs.declared.phase.Phase.TheVariants.{Idle, Waiting, Inside}
 use Rattle.ra_automaton.specs.State.{State}
 use Rattle.ra_automaton.specs.Steps.{greatest_number, Begins, RequestStep, TakesReply, ReceiveStep, LeaveStep}
-use Rattle.ra_node.specs.declared.queued.Queued.{Queued}
+use Rattle.ra_node.specs.declared.queued_client.Queued.{Queued}
 use Rattle.ra_node.specs.Resource.{Resource, Holds}
 use Rattle.ra_node.specs.Turns.{request_marks, next_entry, EntersBy, AsksAtOnce, AskTurn, LeavesToNext, LeaveTurn, ReceiveTurn}
 use Rattle.ra_node.specs.Node.{NodeState, resource_at, with_resource}

@@ -15,7 +15,7 @@ use Rattle.ra_automaton.specs.Steps.{greatest_number, RequestStep, LeaveStep, Re
 use Rattle.ra_node.specs.Resource.{Resource, use_in, held_entry, ClientFits, IsConsistentResource}
 use Rattle.ra_node.specs.Turns.{request_marks, next_entry, EntersBy, AskTurn, Leaves, LeavesToNext, LeaveTurn, ReceiveTurn}
 use Rattle.ra_node.specs.Carried.{IsMark}
-use Rattle.ra_node.specs.declared.queued.Queued.{Queued}
+use Rattle.ra_node.specs.declared.queued_client.Queued.{Queued}
 use Rattle.std.proofs.lemmas.Option.{none-some}
 use Rattle.ra_node.proofs.Uses.{some_is}
 use Rattle.ra_node.proofs.Distinct.{standing, Once, asks_once, queues_once, leaves_once, hands_once}

@@ -6,7 +6,7 @@ pub mod Opening
 pub mod Sends
 pub mod Distinct
 pub mod Known
-pub mod Handing
+pub mod LeaveEndings
 pub mod Kept
 pub mod Leading
 pub mod Room

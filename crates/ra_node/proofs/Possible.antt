@@ -17,7 +17,7 @@ use Rattle.ra_automaton.specs.declared.phase.Phase.{Phase}
 use Rattle.ra_automaton.specs.declared.phase.Phase.TheVariants.{Idle, Waiting, Inside}
 use Rattle.ra_automaton.specs.State.{State}
 use Rattle.ra_automaton.specs.Steps.{greatest_number, others_of, GoesFirst, OwnGoesFirst, RequestStep, Awaits, TakesReply, ReceiveStep, LeaveStep}
-use Rattle.ra_node.specs.declared.queued.Queued.{Queued}
+use Rattle.ra_node.specs.declared.queued_client.Queued.{Queued}
 use Rattle.ra_node.specs.Resource.{Resource, use_in, held_entry, holder_of, Holds, ClientFits, clients_of}
 use Rattle.ra_node.specs.Turns.{request_marks, next_entry, MayAsk, EntersBy, AsksAtOnce, AskTurn, Leaves, LeaveTurn}
 use Rattle.ra_node.specs.Node.{NodeState, resource_at, with_resource, IsConsistentNode}

@@ -2,7 +2,7 @@
 use Rattle.std.specs.Prelude.{◌≡◌, Bool, List, ◌∷◌, Some}
 use Rattle.ra_stamp.specs.declared.message.Message.{Message}
 use Rattle.ra_automaton.specs.Steps.{LeaveAndRequestStep}
-use Rattle.ra_node.specs.declared.queued.Queued.{Queued}
+use Rattle.ra_node.specs.declared.queued_client.Queued.{Queued}
 use Rattle.ra_node.specs.Resource.{Resource}
 
 -- the automaton leaves and asks for the first client of the queue, which is then the current one

@@ -1,7 +1,7 @@
 -- How a queue knows its clients without going through it.
 use Rattle.std.specs.Prelude.{◌≡◌, ◌≢◌, ℕ, nat_eq, List, [], map, AllPairs}
 use Rattle.std.specs.List.{list_any}
-use Rattle.ra_node.specs.declared.queued.Queued.{Queued}
+use Rattle.ra_node.specs.declared.queued_client.Queued.{Queued}
 
 -- no client is queued twice
 abbrev pub AreApart : List Queued → Type 0

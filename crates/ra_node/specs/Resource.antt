@@ -7,7 +7,7 @@ use Rattle.ra_automaton.specs.declared.phase.Phase.{Phase}
 use Rattle.ra_automaton.specs.declared.phase.Phase.TheVariants.{Idle, Waiting, Inside}
 use Rattle.ra_automaton.specs.State.{State, IsConsistent, opening}
 use Rattle.ra_automaton.specs.Steps.{greatest_number}
-use Rattle.ra_node.specs.declared.queued.Queued.{Queued}
+use Rattle.ra_node.specs.declared.queued_client.Queued.{Queued}
 
 -- the automaton's state, the current client, whose request waits or is granted, and the clients that queue, the first
 -- one next

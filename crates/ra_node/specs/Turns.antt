@@ -10,7 +10,7 @@ use Rattle.ra_stamp.specs.declared.mode.Mode.{Mode}
 use Rattle.ra_automaton.specs.declared.phase.Phase.TheVariants.{Idle}
 use Rattle.ra_automaton.specs.Steps as automaton
 use Rattle.ra_automaton.specs.Steps.{greatest_number}
-use Rattle.ra_node.specs.declared.queued.Queued.{Queued}
+use Rattle.ra_node.specs.declared.queued_client.Queued.{Queued}
 use Rattle.ra_node.specs.Resource.{Resource, entry_of, holder_of, Holds, IsBusy}
 
 -- the marks of a request that is made, and granted at once or not

@@ -49,7 +49,7 @@ mod marks;
 mod node;
 mod outcome;
 mod queue;
-mod queued;
+mod queued_client;
 mod slot;
 
 pub use error::{AskError, LeaveError};

@@ -1,9 +1,9 @@
 //! The clients that wait for their turns at one resource.
 ghost use Rattle.std.specs.Prelude.{◌≡◌, ◌≢◌, ◌↔◌, ◌++◌, ◌∷◌, [], List, take, length, Any, MatchOption, IsTrue, IsNone, IfSome, OnOk, OnErr};
 ghost use Rattle.ra_node.specs.Queue.{AreApart, IsKnown};
-ghost use Rattle.ra_node.specs.declared.queued.Queued.{Queued};
+ghost use Rattle.ra_node.specs.declared.queued_client.Queued.{Queued};
 
-use crate::queued::Queued;
+use crate::queued_client::Queued;
 use indexmap::IndexSet;
 use ra_stamp::Memory;
 use std::alloc::Global;
@@ -27,7 +27,7 @@ pub struct Queue {
 
 impl Model for Queue {
     ghost use Rattle.std.specs.Prelude.{List};
-    ghost use Rattle.ra_node.specs.declared.queued.Queued.{Queued};
+    ghost use Rattle.ra_node.specs.declared.queued_client.Queued.{Queued};
     ghost use Rattle.ra_node.specs.Queue.{IsKnown};
 
     ghost Value = { List Queued };

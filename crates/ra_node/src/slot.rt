@@ -4,7 +4,7 @@ ghost use Rattle.ra_node.specs.Resource.{entry_of};
 
 use crate::marks::{marks_for, marks_of_leave, push_request, push_reserved};
 use crate::queue::Queue;
-use crate::queued::Queued;
+use crate::queued_client::Queued;
 use crate::{AskError, LeaveError, Outcome};
 use ra_automaton::{Automaton, Phase, Reaction, ReceiveError};
 use ra_stamp::{Entry, Mark, Marks, Memory, Message, Messages, Mode, Name, NodeId, Stamp};
@@ -23,7 +23,7 @@ pub struct Slot {
 
 impl Model for Slot {
     ghost use Rattle.ra_automaton.specs.contracts.automaton.Automaton as automata;
-    ghost use Rattle.ra_node.specs.contracts.queued.Queued as clients;
+    ghost use Rattle.ra_node.specs.contracts.queued_client.Queued as clients;
     ghost use Rattle.ra_node.specs.Resource.{Resource, resource_code};
 
     ghost Value = { Resource };

@@ -7,7 +7,7 @@ mod Rising
 mod EnabledLists
 mod Naming
 mod Choosing
-mod Seeded
+mod PolicyGenerator
 mod Following
 mod Turns
 mod EnabledFlags
@@ -16,5 +16,5 @@ mod LookingAgain
 mod NodesOfClients
 mod Unrepeated
 mod Tallying
-mod SeedBySeed
-mod SeedsBefore
+mod SurveySeeds
+mod FirstSeed

@@ -29,7 +29,7 @@ use Rattle.ra_schedule.proofs.Waiting.{nobody_waits, goes_on}
 use Rattle.ra_schedule.proofs.Elsewhere.{flags_elsewhere}
 use Rattle.ra_schedule.proofs.Following.{follows_none, follows_more}
 use Rattle.ra_schedule.proofs.Choosing.{same_some}
-use Rattle.ra_schedule.proofs.Seeded.{none_drawn, more_drawn}
+use Rattle.ra_schedule.proofs.PolicyGenerator.{none_drawn, more_drawn}
 
 abbrev pub opening_progress : Progress
 opening_progress = record { done = 0; waiting = false }

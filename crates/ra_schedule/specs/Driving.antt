@@ -82,8 +82,8 @@ pub record IsHeldUp (script : ScriptState) (policy : Policy) (limit : ℕ) (move
   pub goes_on : MayGoOn script policy moves
 
 -- where memory may run out: before the first turn, at a turn whose choice can be made, or for the report, where no choice is left
-abbrev pub MayWantMemory : ScriptState → Policy → ℕ → List Move → Type 0
-MayWantMemory script policy limit moves = (moves ≡ []) ⊎ IsHeldUp script policy limit moves
+abbrev pub MayNeedMemory : ScriptState → Policy → ℕ → List Move → Type 0
+MayNeedMemory script policy limit moves = (moves ≡ []) ⊎ IsHeldUp script policy limit moves
     ⊎ (Follows script policy moves × Ends script policy moves × (length moves ≤ limit))
 
 -- memory that runs out stops the policy, or a cause that stands

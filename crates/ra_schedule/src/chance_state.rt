@@ -9,6 +9,7 @@ use crate::rosters::{Roster, members_at, node_at, rosters_of};
 use crate::{Policy, Script};
 use ra_stamp::{Mark, Memory};
 use ra_world::{Step, World};
+// The traits by which a generator is seeded and gives its words stand there, as in Rust.
 use rand_core::SeedableRng;
 use rand_pcg::Lcg128Xsl64;
 use std::alloc::Global;

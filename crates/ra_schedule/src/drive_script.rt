@@ -5,7 +5,7 @@ ghost use Rattle.ra_world.specs.World.{Reports};
 ghost use Rattle.ra_world.specs.MainTheorem.{MainTheorem};
 ghost use Rattle.ra_schedule.specs.Schedule.{steps_of, Follows, Ends, Stops, IsFinished};
 ghost use Rattle.ra_schedule.specs.Progress.{Tracks, AreDone};
-ghost use Rattle.ra_schedule.specs.Driving.{Answers, Records, IsStopped, MayWantMemory};
+ghost use Rattle.ra_schedule.specs.Driving.{Answers, Records, IsStopped, MayNeedMemory};
 ghost use Rattle.ra_schedule.specs.declared.error.DriveError.{DriveError};
 
 use crate::driver::Driver;
@@ -174,7 +174,7 @@ fn drive_world(
     ensures ok { IfOk result (Records script.now policy.now limit records) }
     ensures err { IfErr result (IsStopped script.now policy.now limit) }
     // So a turn's refusal is never passed over because memory ran out at that turn.
-    ensures memory { IsErrOf result DriveError.Memory → MayWantMemory script.now policy.now limit world.new.moves }
+    ensures memory { IsErrOf result DriveError.Memory → MayNeedMemory script.now policy.now limit world.new.moves }
 {
     let mut driver = Driver::open(alloc, script, policy, world, records)?;
     driver.finish(alloc, script, policy, world, limit)?;

@@ -51,6 +51,7 @@ impl Client {
         ensures err { OnErr result (self.new ≡ self.old) }
         ensures client { (nodes : ℕ) → IsScriptClient nodes self.old → IsScriptClient nodes self.new }
     {
+        // A client has at most 1,024 operations, so that these are looked through, and no table of its names is kept.
         check_op(&self.ops, &op)?;
         self.ops.push(op)?;
         Ok(())

@@ -135,17 +135,28 @@ fn say_text(alloc: Global, note: &mut Note, text: &str) {
     }
 }
 
+/// Returns the line and the column, in bytes, of what stands behind these, each counted from 1.
+fn place_behind(text: &[u8]) -> (usize, usize) {
+    let (mut line, mut column): (usize, usize) = (1, 1);
+    for byte in text {
+        if *byte == b'\n' {
+            line = line.saturating_add(1);
+            column = 1;
+        } else {
+            column = column.saturating_add(1);
+        }
+    }
+    (line, column)
+}
+
 /// Says what is wrong with bytes that are not too many, where something is.
 fn say_bytes(alloc: Global, note: &mut Note, text: &[u8]) {
     match str::from_utf8(text) {
         Ok(text) => say_text(alloc, note, text),
         Err(fault) => {
-            let place = fault.valid_up_to();
-            note.push_number(
-                "the script is not UTF-8 at byte ",
-                place,
-                ", counted from 0",
-            );
+            let (line, column) = place_behind(text.get(..fault.valid_up_to()).unwrap_or(b""));
+            note.push_number("the script is not UTF-8 at line ", line, "");
+            note.push_number(", column ", column, " in bytes: a script has to be UTF-8");
         }
     }
 }

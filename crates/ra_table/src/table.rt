@@ -51,7 +51,7 @@ impl Table {
     ///
     /// # Errors
     ///
-    /// `Memory`: there is no table. It takes none yet, and no caller has to change when it does.
+    /// `Memory`: there is no table. The call takes no memory yet, and no caller has to change when it does.
     pub fn new(alloc: Global) -> Result<Table, Memory>
         ensures empty { IfOk result (λ table. table ≡ empty_table) }
     {

@@ -7,7 +7,7 @@ use Rattle.std.proofs.lemmas.Grind.{flat_map-append}
 use Rattle.ra_world.specs.Run.{marks_of}
 use Rattle.ra_world.specs.Quiet.{requests_in}
 use Rattle.ra_world.specs.Traffic.{sent_by}
-use Rattle.ra_trace.specs.declared.checking.Next.{Next}
+use Rattle.ra_trace.specs.declared.check_text.Next.{Next}
 use Rattle.ra_trace.specs.declared.error.TraceError.{TraceError}
 use Rattle.ra_trace.specs.declared.error.TraceError.TheVariants.{Read, Limit, Memory}
 use Rattle.ra_trace.specs.declared.line.Line.{Line}
@@ -21,7 +21,7 @@ use Rattle.ra_trace.specs.declared.checker.Checker.{Checker}
 use Rattle.ra_trace.specs.declared.version.Version.{Version}
 use Rattle.ra_trace.specs.Forms.{IsReadable, BeginsReadable}
 use Rattle.ra_trace.specs.TraceText.{IsLine, line_text, trace_lines}
-use Rattle.ra_trace.specs.Verdict.{IsPrefix, IsFirst, IsWrong}
+use Rattle.ra_trace.specs.Verdict.{IsTracePrefix, IsFirst, IsWrong}
 use Rattle.ra_trace.specs.Reading.{IsWhole, AreRight, IsOpenLine, IsOpen, IsOver, HasBegun, HasRead, Judges, StopsBehind, Answers}
 use Rattle.ra_trace.specs.NextLine.{EndsSo, TakesBytes, FailsWithin, IsOverLine, HasNone, EndsText}
 use Rattle.ra_trace.specs.Checking.{due_of, StandsBehind, Takes, Refuses, Allows}
@@ -252,9 +252,9 @@ no_memory_next limit left old now new checker number line bytes along taken begi
 -- ---- After the last line
 
 prefix_at_end : (checker : Checker) (prefix : List Line) → StandsBehind checker prefix → due_of checker ≡ []
-    → IsPrefix checker.version checker.world.count checker.world.start checker.world.moves [] prefix
+    → IsTracePrefix checker.version checker.world.count checker.world.start checker.world.moves [] prefix
 prefix_at_end checker prefix stands none =
-    subst (λ ms. IsPrefix checker.version checker.world.count checker.world.start checker.world.moves ms prefix) none stands.prefix
+    subst (λ ms. IsTracePrefix checker.version checker.world.count checker.world.start checker.world.moves ms prefix) none stands.prefix
 
 done_by : (limit left : ℕ) (old now new : Option (List ℕ)) (checker : Checker) (number : ℕ) (bytes : List ℕ)
     → IsAlong limit left old now checker number → TakesBytes left now new bytes → BeginsReadable bytes Last [] → due_of checker ≡ []

@@ -14,7 +14,7 @@ use Rattle.ra_trace.specs.declared.line.Line.{Line}
 use Rattle.ra_trace.specs.declared.line.Line.TheVariants.{First, Stepped, Marked, Last}
 use Rattle.ra_trace.specs.declared.version.Version.{Version}
 use Rattle.ra_trace.specs.TraceText.{IsLine, IsTraceIn, line_text, move_lines, trace_lines}
-use Rattle.ra_trace.specs.Verdict.{IsPrefix, TableGoesOn, marks_in_line, marks_in}
+use Rattle.ra_trace.specs.Verdict.{IsTracePrefix, TableGoesOn, marks_in_line, marks_in}
 use Rattle.ra_trace.specs.Below.{LawsBelow}
 
 -- ---- The steps and the marks that stand in lines
@@ -52,13 +52,13 @@ steps_in-moves (move ∷ moves) =
     ∙ steps_in-moves moves)
 
 -- the marks in a prefix, and then those that are due, are the marks of its run
-pub marks_so_far : (version : Version) (n start : ℕ) (moves : List Move) (due : List Mark) (lines : List Line) → IsPrefix version n start moves due lines
+pub marks_so_far : (version : Version) (n start : ℕ) (moves : List Move) (due : List Mark) (lines : List Line) → IsTracePrefix version n start moves due lines
     → marks_in lines ++ due ≡ marks_of moves
 marks_so_far version n start moves due lines prefix =
     ap (λ (ms : List Mark). marks_in lines ++ ms) (sym (marks_in-marked due)) ∙ sym (flat_map-append marks_in_line lines (map Marked due))
     ∙ ap marks_in prefix.lines_are ∙ marks_in-moves moves
 
-steps_so_far : (version : Version) (n start : ℕ) (moves : List Move) (due : List Mark) (lines : List Line) → IsPrefix version n start moves due lines
+steps_so_far : (version : Version) (n start : ℕ) (moves : List Move) (due : List Mark) (lines : List Line) → IsTracePrefix version n start moves due lines
     → steps_in lines ≡ map (λ move. move.step) moves
 steps_so_far version n start moves due lines prefix =
     sym (append-nil (steps_in lines)) ∙ ap (λ (ss : List Step). steps_in lines ++ ss) (sym (steps_in-marked due))
@@ -79,7 +79,7 @@ begins version n start rest due (line ∷ lines) e =
     let same : line ≡ First version n start = cc in
     record { tail = lines; lines_are = ap (λ (l : Line). l ∷ lines) same; tail_is = cc }
 
-pub not_empty : (version : Version) (n start : ℕ) (moves : List Move) (due : List Mark) (lines : List Line) → IsPrefix version n start moves due lines → lines ≡ [] → ⊥
+pub not_empty : (version : Version) (n start : ℕ) (moves : List Move) (due : List Mark) (lines : List Line) → IsTracePrefix version n start moves due lines → lines ≡ [] → ⊥
 not_empty version n start moves due lines prefix none =
     let b = begins version n start (flat_map move_lines moves) due lines prefix.lines_are in
     let is : [] ≡ First version n start ∷ b.tail = sym none ∙ b.lines_are in cc
@@ -93,7 +93,7 @@ pub record SamePrefix (version : Version) (n start : ℕ) (moves : List Move) (d
   pub left : due ≡ due'
 
 pub one_prefix : LawsBelow → (version : Version) (n start : ℕ) (moves : List Move) (due : List Mark) (version' : Version) (n' start' : ℕ) (moves' : List Move)
-    (due' : List Mark) (lines : List Line) → IsPrefix version n start moves due lines → IsPrefix version' n' start' moves' due' lines
+    (due' : List Mark) (lines : List Line) → IsTracePrefix version n start moves due lines → IsTracePrefix version' n' start' moves' due' lines
     → SamePrefix version n start moves due version' n' start' moves' due'
 one_prefix laws version n start moves due version' n' start' moves' due' lines a b =
     let p = begins version n start (flat_map move_lines moves) due lines a.lines_are in
@@ -230,10 +230,10 @@ place_in (move ∷ moves) (x ∷ prefix) line rest e =
 -- the line may come next after these lines, which are a prefix in this version where they are not empty
 abbrev pub IsNext : Version → List Line → Line → Type 0
 IsNext version prefix (First named nodes start) = prefix ≡ []
-IsNext version prefix (Stepped step) = (n start : ℕ) × (moves : List Move) × IsPrefix version n start moves [] prefix × GoesOn n start moves step
+IsNext version prefix (Stepped step) = (n start : ℕ) × (moves : List Move) × IsTracePrefix version n start moves [] prefix × GoesOn n start moves step
 IsNext version prefix (Marked mark) =
-    (n start : ℕ) × (moves : List Move) × (others : List Mark) × IsPrefix version n start moves (mark ∷ others) prefix × TableGoesOn (marks_in prefix) mark
-IsNext version prefix Last = (n start : ℕ) × (moves : List Move) × IsPrefix version n start moves [] prefix
+    (n start : ℕ) × (moves : List Move) × (others : List Mark) × IsTracePrefix version n start moves (mark ∷ others) prefix × TableGoesOn (marks_in prefix) mark
+IsNext version prefix Last = (n start : ℕ) × (moves : List Move) × IsTracePrefix version n start moves [] prefix
 
 -- a part of the marks of a run is a run of the lock table
 pub table_of_part : LawsBelow → (n start : ℕ) (moves : List Move) (prefix suffix : List Mark) → IsNodeNumber n → IsRun n start moves
@@ -245,7 +245,7 @@ table_of_part laws n start moves prefix suffix count run is =
 
 -- the next mark that is due is one that the lock table allows
 pub due_marks_go_on : LawsBelow → (version : Version) (n start : ℕ) (moves : List Move) (mark : Mark) (others : List Mark) (lines : List Line)
-    → IsPrefix version n start moves (mark ∷ others) lines → TableGoesOn (marks_in lines) mark
+    → IsTracePrefix version n start moves (mark ∷ others) lines → TableGoesOn (marks_in lines) mark
 due_marks_go_on laws version n start moves mark others lines prefix =
     table_of_part laws n start moves (marks_in lines ++ mark ∷ []) others prefix.count prefix.run
     (append_assoc (marks_in lines) (mark ∷ []) others ∙ marks_so_far version n start moves (mark ∷ others) lines prefix)
@@ -290,7 +290,7 @@ lines_at_mark moves prefix line m =
 next_mark : LawsBelow → (version : Version) (n start : ℕ) (moves : List Move) (prefix : List Line) (line : Line) → IsNodeNumber n → IsRun n start moves
     → All (IsLine version) (First version n start ∷ prefix) → AtMark moves prefix line → IsNext version (First version n start ∷ prefix) line
 next_mark laws version n start moves prefix line count run each m =
-    let here : IsPrefix version n start (m.before ++ m.move ∷ []) (m.mark ∷ m.others) (First version n start ∷ prefix) = record {
+    let here : IsTracePrefix version n start (m.before ++ m.move ∷ []) (m.mark ∷ m.others) (First version n start ∷ prefix) = record {
       count = count;
       run = run_of_prefix laws n start moves m.before m.move m.after run m.moves_are;
       each = each;
@@ -311,7 +311,7 @@ pub record InPrefix (version : Version) (prefix : List Line) (line : Line) : Typ
   pub not_last : line ≢ Last
 
 pub in_prefix : LawsBelow → (version : Version) (n start : ℕ) (moves : List Move) (due : List Mark) (prefix : List Line) (line : Line) (rest : List Line)
-    → IsPrefix version n start moves due (prefix ++ line ∷ rest) → InPrefix version prefix line
+    → IsTracePrefix version n start moves due (prefix ++ line ∷ rest) → InPrefix version prefix line
 in_prefix laws version n start moves due [] line rest whole =
     let b = begins version n start (flat_map move_lines moves) due (line ∷ rest) whole.lines_are in
     let first : line ≡ First version n start = let is = b.lines_are in cc in
@@ -336,7 +336,7 @@ in_prefix laws version n start moves due (x ∷ prefix) line rest whole =
 -- ---- Whole traces
 
 pub prefix_of_trace : (version : Version) (n start : ℕ) (moves : List Move) (text : List ℕ) → IsTraceIn version n start moves text
-    → IsPrefix version n start moves [] (First version n start ∷ flat_map move_lines moves)
+    → IsTracePrefix version n start moves [] (First version n start ∷ flat_map move_lines moves)
 prefix_of_trace version n start moves text trace = record {
   count = trace.count;
   run = trace.run;
@@ -373,16 +373,16 @@ next_in_trace laws version n start moves text prefix line rest trace e =
     let whole = prefix_of_trace version n start moves text trace in
     elim (place_before_end prefix line rest (First version n start ∷ flat_map move_lines moves) Last e) [
       | inl h ↦ subst (λ (l : Line). IsNext version prefix l) (sym h.line_is)
-          (n, start, moves, subst (IsPrefix version n start moves []) (sym h.prefix_is) whole)
-      | inr h ↦ (in_prefix laws version n start moves [] prefix line h.rest (subst (IsPrefix version n start moves []) h.lines_are whole)).next
+          (n, start, moves, subst (IsTracePrefix version n start moves []) (sym h.prefix_is) whole)
+      | inr h ↦ (in_prefix laws version n start moves [] prefix line h.rest (subst (IsTracePrefix version n start moves []) h.lines_are whole)).next
     ]
 
 -- no prefix has the last line
 pub no_trace : LawsBelow → (version : Version) (n start : ℕ) (moves : List Move) (due : List Mark) (version' : Version) (n' start' : ℕ) (moves' : List Move)
     (lines : List Line)
-    → IsPrefix version n start moves due lines → lines ≡ trace_lines version' n' start' moves' → ⊥
+    → IsTracePrefix version n start moves due lines → lines ≡ trace_lines version' n' start' moves' → ⊥
 no_trace laws version n start moves due version' n' start' moves' lines prefix is =
-    (in_prefix laws version n start moves due (First version' n' start' ∷ flat_map move_lines moves') Last [] (subst (IsPrefix version n start moves due) is prefix)).not_last refl
+    (in_prefix laws version n start moves due (First version' n' start' ∷ flat_map move_lines moves') Last [] (subst (IsTracePrefix version n start moves due) is prefix)).not_last refl
 
 -- the lines of a trace tell its run
 pub record SameTrace (version : Version) (n start : ℕ) (moves : List Move) (version' : Version) (n' start' : ℕ) (moves' : List Move) : Type 0 where
@@ -398,15 +398,15 @@ one_trace laws version n start moves text version' n' start' moves' text' a b e 
     let lines = append_cancel_right (First version n start ∷ flat_map move_lines moves) (First version' n' start' ∷ flat_map move_lines moves') (Last ∷ []) e in
     let same = one_prefix laws version n start moves [] version' n' start' moves' [] (First version n start ∷ flat_map move_lines moves)
     (prefix_of_trace version n start moves text a)
-    (subst (IsPrefix version' n' start' moves' []) (sym lines) (prefix_of_trace version' n' start' moves' text' b)) in
+    (subst (IsTracePrefix version' n' start' moves' []) (sym lines) (prefix_of_trace version' n' start' moves' text' b)) in
     record { named = same.named; count = same.count; from = same.from; run = same.run }
 
 -- ---- A prefix goes on
 
 -- by a step, whose marks are due then
-pub prefix_and_step : (version : Version) (n start : ℕ) (moves : List Move) (lines : List Line) (move : Move) → IsPrefix version n start moves [] lines
+pub prefix_and_step : (version : Version) (n start : ℕ) (moves : List Move) (lines : List Line) (move : Move) → IsTracePrefix version n start moves [] lines
     → IsRun n start (moves ++ move ∷ []) → IsLine version (Stepped move.step)
-    → IsPrefix version n start (moves ++ move ∷ []) move.marks (lines ++ Stepped move.step ∷ [])
+    → IsTracePrefix version n start (moves ++ move ∷ []) move.marks (lines ++ Stepped move.step ∷ [])
 prefix_and_step version n start moves lines move prefix run ranges = record {
   count = prefix.count;
   run = run;
@@ -421,7 +421,7 @@ prefix_and_step version n start moves lines move prefix run ranges = record {
 
 -- by the mark that is due
 pub prefix_and_mark : (version : Version) (n start : ℕ) (moves : List Move) (mark : Mark) (others : List Mark) (lines : List Line)
-    → IsPrefix version n start moves (mark ∷ others) lines → IsLine version (Marked mark) → IsPrefix version n start moves others (lines ++ Marked mark ∷ [])
+    → IsTracePrefix version n start moves (mark ∷ others) lines → IsLine version (Marked mark) → IsTracePrefix version n start moves others (lines ++ Marked mark ∷ [])
 prefix_and_mark version n start moves mark others lines prefix ranges = record {
   count = prefix.count;
   run = prefix.run;
@@ -430,7 +430,7 @@ prefix_and_mark version n start moves mark others lines prefix ranges = record {
 }
 
 -- by the last line, with which it is a trace
-pub prefix_and_last : (version : Version) (n start : ℕ) (moves : List Move) (lines : List Line) → IsPrefix version n start moves [] lines
+pub prefix_and_last : (version : Version) (n start : ℕ) (moves : List Move) (lines : List Line) → IsTracePrefix version n start moves [] lines
     → (lines ++ Last ∷ [] ≡ trace_lines version n start moves) × IsTraceIn version n start moves (flat_map line_text (lines ++ Last ∷ []))
 prefix_and_last version n start moves lines prefix =
     let are : lines ≡ First version n start ∷ flat_map move_lines moves = sym (append-nil lines) ∙ prefix.lines_are in

@@ -24,7 +24,7 @@ use Rattle.ra_trace.specs.declared.version.Version.{Version}
 use Rattle.ra_trace.specs.Version.{IsNodeIn}
 use Rattle.ra_trace.specs.Forms.{IsReadable, BeginsReadable, has_node, allows_step, allows_mark}
 use Rattle.ra_trace.specs.TraceText.{IsLine, BeginsWith}
-use Rattle.ra_trace.specs.Verdict.{IsPrefix, IsFirst, IsOfClient, IsOfMessage, marks_in_line, marks_in}
+use Rattle.ra_trace.specs.Verdict.{IsTracePrefix, IsFirst, IsOfClient, IsOfMessage, marks_in_line, marks_in}
 use Rattle.ra_trace.specs.Checking.{due_of, IsOpening, StandsBehind, TakesOn, Refuses, Allows}
 use Rattle.ra_trace.specs.Reading.{HasBegun}
 use Rattle.ra_trace.specs.Below.{LawsBelow}
@@ -35,7 +35,7 @@ use Rattle.ra_trace.proofs.Versions.{node_is, node_is_not, step_is, step_is_not,
 -- ---- The first line
 
 first_prefix : (version : Version) (nodes start : ℕ) → IsRun nodes start [] → IsReadable (First version nodes start) → has_node version nodes ≡ true
-    → IsPrefix version nodes start [] [] (First version nodes start ∷ [])
+    → IsTracePrefix version nodes start [] [] (First version nodes start ∷ [])
 first_prefix version nodes start run ranges has = record {
   count = ranges.0;
   run = run;
@@ -50,9 +50,9 @@ opens laws version nodes start checker is has ranges =
     let run = subst (λ (w : WorldState). IsRun w.count w.start w.moves) is.world_is is.run in
     let prefix = first_prefix version nodes start run ranges has in
     record {
-      prefix = subst (λ (v : Version). IsPrefix v checker.world.count checker.world.start checker.world.moves (due_of checker) line) (sym is.version_is)
-          (subst (λ (due : List Mark). IsPrefix version checker.world.count checker.world.start checker.world.moves due line) (sym is.none)
-          (subst (λ (w : WorldState). IsPrefix version w.count w.start w.moves [] line) (sym is.world_is) prefix));
+      prefix = subst (λ (v : Version). IsTracePrefix v checker.world.count checker.world.start checker.world.moves (due_of checker) line) (sym is.version_is)
+          (subst (λ (due : List Mark). IsTracePrefix version checker.world.count checker.world.start checker.world.moves due line) (sym is.none)
+          (subst (λ (w : WorldState). IsTracePrefix version w.count w.start w.moves [] line) (sym is.world_is) prefix));
       table = subst (TableRun []) (sym is.table_is) laws.empty;
     }
 
@@ -89,9 +89,9 @@ mark_not_allowed checker mark not_so = not_of_version checker (Marked mark) (mar
 -- ---- Steps
 
 prefix_of : (checker : Checker) (lines : List Line) (due : List Mark) → due_of checker ≡ due → StandsBehind checker lines
-    → IsPrefix checker.version checker.world.count checker.world.start checker.world.moves due lines
+    → IsTracePrefix checker.version checker.world.count checker.world.start checker.world.moves due lines
 prefix_of checker lines due is stands =
-    subst (λ (ms : List Mark). IsPrefix checker.version checker.world.count checker.world.start checker.world.moves ms lines) is stands.prefix
+    subst (λ (ms : List Mark). IsTracePrefix checker.version checker.world.count checker.world.start checker.world.moves ms lines) is stands.prefix
 
 stands_by_step : (old : Checker) (step : Step) (sends : List Message) (marks : Listed Mark) (world : WorldState) → due_of old ≡ []
     → world ≡ with_move old.world step sends marks.items → IsRun world.count world.start world.moves
@@ -109,9 +109,9 @@ stands_by_step old step sends marks world none is run lines ranges stands =
     let behind = lines ++ Stepped step ∷ [] in
     record {
       prefix =
-          subst (λ (ms : List Move). IsPrefix old.version world.count world.start ms marks.items behind) (sym moves)
-          (subst (λ (s : ℕ). IsPrefix old.version world.count s (old.world.moves ++ move ∷ []) marks.items behind) (sym start)
-          (subst (λ (n : ℕ). IsPrefix old.version n old.world.start (old.world.moves ++ move ∷ []) marks.items behind) (sym count) prefix));
+          subst (λ (ms : List Move). IsTracePrefix old.version world.count world.start ms marks.items behind) (sym moves)
+          (subst (λ (s : ℕ). IsTracePrefix old.version world.count s (old.world.moves ++ move ∷ []) marks.items behind) (sym start)
+          (subst (λ (n : ℕ). IsTracePrefix old.version n old.world.start (old.world.moves ++ move ∷ []) marks.items behind) (sym count) prefix));
       table = subst (λ (ms : List Mark). TableRun ms old.table)
           (sym (flat_map-append marks_in_line lines (Stepped step ∷ []) ∙ append-nil (marks_in lines))) stands.table;
     }

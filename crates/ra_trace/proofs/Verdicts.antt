@@ -20,7 +20,7 @@ use Rattle.ra_trace.specs.declared.verdict.Verdict.TheVariants.{Valid, Invalid}
 use Rattle.ra_trace.specs.declared.version.Version.{Version}
 use Rattle.ra_trace.specs.Forms.{IsReadable, BeginsReadable}
 use Rattle.ra_trace.specs.TraceText.{IsLine, IsTraceIn, BeginsWith, step_line, line_text, trace_lines}
-use Rattle.ra_trace.specs.Verdict.{IsPrefix, TableGoesOn, IsOfClient, IsOfMessage, IsFirst, HasNoLine, IsUndue, IsWrong, IsVerdict, marks_in}
+use Rattle.ra_trace.specs.Verdict.{IsTracePrefix, TableGoesOn, IsOfClient, IsOfMessage, IsFirst, HasNoLine, IsUndue, IsWrong, IsVerdict, marks_in}
 use Rattle.ra_trace.specs.Below.{LawsBelow}
 use Rattle.ra_trace.proofs.Lines.{begins_once, begins_in_one}
 use Rattle.ra_trace.proofs.Versions.{readable}
@@ -46,7 +46,7 @@ record Blamed (prefix : List Line) (text : List ℕ) (why : Cause) : Type 0 wher
   start : ℕ
   moves : List Move
   due : List Mark
-  behind : IsPrefix version n start moves due prefix
+  behind : IsTracePrefix version n start moves due prefix
   line : Line
   rest : List ℕ
   begins : BeginsWith version text line rest
@@ -184,7 +184,7 @@ one_cause laws prefix text why other p q =
 
 -- what is behind a line that may come next
 behind_next : (version : Version) (prefix : List Line) (line : Line) → IsNext version prefix line
-    → (IsFirst line × (prefix ≡ [])) ⊎ ((n start : ℕ) × (moves : List Move) × (due : List Mark) × IsPrefix version n start moves due prefix)
+    → (IsFirst line × (prefix ≡ [])) ⊎ ((n start : ℕ) × (moves : List Move) × (due : List Mark) × IsTracePrefix version n start moves due prefix)
 behind_next version prefix (First named nodes from) next = inl (tt, next)
 behind_next version prefix (Stepped step) (n, start, moves, behind, goes) = inr (n, start, moves, [], behind)
 behind_next version prefix (Marked mark) (n, start, moves, others, behind, goes) = inr (n, start, moves, mark ∷ others, behind)
@@ -203,7 +203,7 @@ goes_on_too n start moves n' start' moves' step p q r g =
     subst (λ (ms : List Move). GoesOn n' start' ms step) r (subst (λ (s : ℕ). GoesOn n' s moves step) q (subst (λ (m : ℕ). GoesOn m start moves step) p g))
 
 next_is_not_blamed : LawsBelow → (version second : Version) (n start : ℕ) (moves : List Move) (due : List Mark) (prefix : List Line) (line : Line) (why : Cause)
-    → IsPrefix second n start moves due prefix → IsNext version prefix line → Blame n start moves due prefix line why → ⊥
+    → IsTracePrefix second n start moves due prefix → IsNext version prefix line → Blame n start moves due prefix line why → ⊥
 next_is_not_blamed laws version second n start moves due prefix (First named nodes from) why behind next b = b
 next_is_not_blamed laws version second n start moves due prefix (Stepped step) why behind (n', start', moves', there, goes) b =
     let same = one_prefix laws version n' start' moves' [] second n start moves due prefix there behind in
@@ -258,7 +258,7 @@ next_is_not_wrong laws version prefix line text rest why next begins w =
 abbrev pub AreRight : List Line → Type 0
 AreRight lines =
     (lines ≡ [])
-    ⊎ ((version : Version) × (n start : ℕ) × (moves : List Move) × (due : List Mark) × IsPrefix version n start moves due lines)
+    ⊎ ((version : Version) × (n start : ℕ) × (moves : List Move) × (due : List Mark) × IsTracePrefix version n start moves due lines)
     ⊎ ((version : Version) × (n start : ℕ) × (moves : List Move) × (text : List ℕ) × IsTraceIn version n start moves text
     × (lines ≡ trace_lines version n start moves))
 

@@ -4,8 +4,8 @@ use Rattle.std.specs.Io.KnownBytes.{Consumes}
 use Rattle.ra_trace.specs.declared.error.TraceError.{TraceError}
 use Rattle.ra_trace.specs.declared.error.TraceError.TheVariants.{Memory}
 use Rattle.ra_trace.specs.declared.checker.Checker.{Checker}
-use Rattle.ra_trace.specs.declared.checking.Next.{Next}
-use Rattle.ra_trace.specs.declared.checking.Next.TheVariants.{Right, Last, Wrong}
+use Rattle.ra_trace.specs.declared.check_text.Next.{Next}
+use Rattle.ra_trace.specs.declared.check_text.Next.TheVariants.{Right, Last, Wrong}
 use Rattle.ra_trace.specs.declared.line.Line.{Line}
 use Rattle.ra_trace.specs.declared.line.Line.TheVariants as line
 use Rattle.ra_trace.specs.declared.verdict.Cause.TheVariants as cause

@@ -11,7 +11,7 @@ use Rattle.ra_trace.specs.declared.verdict.Cause.{Cause}
 use Rattle.ra_trace.specs.declared.checker.Checker.{Checker}
 use Rattle.ra_trace.specs.declared.version.Version.{Version}
 use Rattle.ra_trace.specs.Forms.{IsReadable, BeginsReadable}
-use Rattle.ra_trace.specs.Verdict.{IsPrefix, marks_in, IsWrong}
+use Rattle.ra_trace.specs.Verdict.{IsTracePrefix, marks_in, IsWrong}
 use Rattle.ra_trace.specs.Reading.{HasBegun}
 
 -- the marks of the last step that have not come yet
@@ -20,7 +20,7 @@ due_of checker = drop checker.come checker.marks.items
 
 -- the lines are a prefix of a trace, the world has made its steps, and the lock table its marks
 pub record StandsBehind (checker : Checker) (lines : List Line) : Type 0 where
-  pub prefix : IsPrefix checker.version checker.world.count checker.world.start checker.world.moves (due_of checker) lines
+  pub prefix : IsTracePrefix checker.version checker.world.count checker.world.start checker.world.moves (due_of checker) lines
   pub table : TableRun (marks_in lines) checker.table
 
 -- nothing has happened yet in a cluster of this many nodes

@@ -10,7 +10,7 @@ use Rattle.ra_trace.specs.declared.verdict.Verdict.{Verdict}
 use Rattle.ra_trace.specs.declared.verdict.Verdict.TheVariants.{Valid, Invalid}
 use Rattle.ra_trace.specs.declared.version.Version.{Version}
 use Rattle.ra_trace.specs.TraceText.{IsTraceIn, line_text, trace_lines}
-use Rattle.ra_trace.specs.Verdict.{IsPrefix, IsWrong, IsVerdict}
+use Rattle.ra_trace.specs.Verdict.{IsTracePrefix, IsWrong, IsVerdict}
 
 -- the lines are those of a whole trace
 abbrev pub IsWhole : List Line → Type 0
@@ -20,7 +20,7 @@ IsWhole prefix =
 
 -- the lines are those of a prefix of a trace: the last one has not come
 abbrev pub HasBegun : List Line → Type 0
-HasBegun prefix = (version : Version) × (n start : ℕ) × (moves : List Move) × (due : List Mark) × IsPrefix version n start moves due prefix
+HasBegun prefix = (version : Version) × (n start : ℕ) × (moves : List Move) × (due : List Mark) × IsTracePrefix version n start moves due prefix
 
 -- no line yet, or the lines of a prefix of a trace, or of a whole one
 abbrev pub AreRight : List Line → Type 0

@@ -20,7 +20,7 @@ use Rattle.ra_trace.specs.declared.version.Version.{Version}
 use Rattle.ra_trace.specs.TraceText.{IsLine, IsTraceIn, line_text, move_lines, trace_lines, BeginsWith}
 
 -- the lines so far are those in this version of these moves, a run, except for the marks of the last one that are still due
-pub record IsPrefix (version : Version) (n start : ℕ) (moves : List Move) (due : List Mark) (lines : List Line) : Type 0 where
+pub record IsTracePrefix (version : Version) (n start : ℕ) (moves : List Move) (due : List Mark) (lines : List Line) : Type 0 where
   pub count : IsNodeNumber n
   pub run : IsRun n start moves
   pub each : All (IsLine version) lines
@@ -67,7 +67,7 @@ IsFirst Last = ⊥
 abbrev pub HasNoLine : List Line → List ℕ → Type 0
 HasNoLine prefix text =
     ((prefix ≡ []) × ((version : Version) (line : Line) (rest : List ℕ) → BeginsWith version text line rest → IsFirst line → ⊥))
-    ⊎ ((version : Version) × (n start : ℕ) × (moves : List Move) × (due : List Mark) × IsPrefix version n start moves due prefix
+    ⊎ ((version : Version) × (n start : ℕ) × (moves : List Move) × (due : List Mark) × IsTracePrefix version n start moves due prefix
     × ((line : Line) (rest : List ℕ) → BeginsWith version text line rest → IsFirst line))
     ⊎ ((version : Version) × (n start : ℕ) × (moves : List Move) × IsTraceIn version n start moves (flat_map line_text prefix)
     × (prefix ≡ trace_lines version n start moves) × (text ≢ []))
@@ -84,21 +84,21 @@ abbrev pub IsWrong : List Line → List ℕ → Cause → Type 0
 IsWrong prefix text cause.Line = HasNoLine prefix text
 -- the lock table refuses the mark
 IsWrong prefix text cause.Table =
-    (version : Version) × (n start : ℕ) × (moves : List Move) × (due : List Mark) × IsPrefix version n start moves due prefix
+    (version : Version) × (n start : ℕ) × (moves : List Move) × (due : List Mark) × IsTracePrefix version n start moves due prefix
     × (mark : Mark) × (rest : List ℕ) × BeginsWith version text (Marked mark) rest
     × (TableGoesOn (marks_in prefix) mark → ⊥)
 -- the lock table allows the mark, but it is not the next one that is due; or one is due, and what comes is no mark
 IsWrong prefix text cause.Marks =
-    (version : Version) × (n start : ℕ) × (moves : List Move) × (due : List Mark) × IsPrefix version n start moves due prefix
+    (version : Version) × (n start : ℕ) × (moves : List Move) × (due : List Mark) × IsTracePrefix version n start moves due prefix
     × (line : Line) × (rest : List ℕ) × BeginsWith version text line rest
     × IsUndue (marks_in prefix) due line
 -- no mark is due, and the run does not go on with the step
 IsWrong prefix text cause.Refused =
-    (version : Version) × (n start : ℕ) × (moves : List Move) × IsPrefix version n start moves [] prefix
+    (version : Version) × (n start : ℕ) × (moves : List Move) × IsTracePrefix version n start moves [] prefix
     × (step : Step) × (rest : List ℕ) × BeginsWith version text (Stepped step) rest
     × IsOfClient step × (GoesOn n start moves step → ⊥)
 IsWrong prefix text cause.NotUnderWay =
-    (version : Version) × (n start : ℕ) × (moves : List Move) × IsPrefix version n start moves [] prefix
+    (version : Version) × (n start : ℕ) × (moves : List Move) × IsTracePrefix version n start moves [] prefix
     × (step : Step) × (rest : List ℕ) × BeginsWith version text (Stepped step) rest
     × IsOfMessage step × (GoesOn n start moves step → ⊥)
 

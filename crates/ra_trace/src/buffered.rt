@@ -105,8 +105,8 @@ fn take_some<B: BufRead>(
 {
     let most = left.min(MAX_LINE) - bytes.len();
     match take_part(reader, bytes, most)? {
-        // Nothing may be taken, or the input is at its end: one read says which. That a reader shows nothing does not, by the contract of
-        // `BufRead`, and that a read gives nothing does.
+        // Nothing may be taken, or the input is at its end: one read says which. By the contract of `BufRead`, that nothing is shown does not
+        // mean the end; that a read gives nothing does.
         (0, _) => take_byte(reader, bytes, left),
         (_, is_over) => Ok(end_of(bytes, is_over)),
     }

@@ -3,8 +3,8 @@
 #![tactic(auto)]
 
 mod buffered;
+mod check_text;
 mod checker;
-mod checking;
 mod error;
 mod fields;
 mod forms;
@@ -21,7 +21,7 @@ mod verdict;
 mod version;
 mod writing;
 
-pub use checking::{check, check_buffered, check_within};
+pub use check_text::{check, check_buffered, check_within};
 pub use error::{TraceError, WriteTraceError};
 pub use laws::{
     each_mark_log_has_one_verdict, each_text_has_one_verdict, texts_tell_their_steps,

@@ -40,8 +40,8 @@ mod Bringing
 mod Queues
 mod Causes
 mod Reporting
-mod Trying
-mod Tried
+mod StepTries
+mod StepAnswers
 mod Worlds
 pub mod Refusing
 mod NameText

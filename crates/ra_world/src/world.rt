@@ -23,8 +23,8 @@ pub type MarklessWorld = WorldOf<0>;
 /// A cluster of nodes in one thread, with the messages under way between them. Contracts see how many nodes there are, the
 /// start value and the steps so far with what came of them, which are a run.
 ///
-/// A world keeps the marks of its steps where `KEEPS_MARKS` is 1, and of the messages that they sent those under way. Of the steps
-/// and of all messages it keeps only how many there were. It is a number, since a type with an invariant can't be stated over a bool.
+/// A world keeps the marks of its steps where `KEEPS_MARKS` is 1, which is a number since a type with an invariant can't be stated over a
+/// bool; and of the messages that they sent those under way. Of the steps and of all messages it keeps only how many there were.
 #[derive(Drop)]
 pub struct WorldOf<const KEEPS_MARKS: u8> {
     start: u64,

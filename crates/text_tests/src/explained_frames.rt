@@ -105,6 +105,14 @@ const DIGITS: &[(&str, &str)] = &[
         "byte 2 of the line, counted from 0, is no hexadecimal digit: it is 'g'",
     ),
     (
+        "01\u{1}1",
+        "byte 2 of the line, counted from 0, is no hexadecimal digit: it is the value 1",
+    ),
+    (
+        "01?1",
+        "byte 2 of the line, counted from 0, is no hexadecimal digit: it is '?'",
+    ),
+    (
         "010\n",
         "the line has 3 hexadecimal digits, an odd number: each byte of a frame has two",
     ),

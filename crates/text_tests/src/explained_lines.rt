@@ -1,7 +1,7 @@
 //! What `ra_explain` says to a person of a wrong line of a trace or of a log of marks.
 use crate::explained_runs::is_said;
 use crate::helpers::assert_rows;
-use ra_explain::{LineCause, line_note};
+use ra_explain::{LineCause, line_note, version_of};
 use ra_trace::{Cause, MarkCause};
 use std::alloc::Global;
 
@@ -187,7 +187,7 @@ const LINES: &[Line] = &[
         cause: LineCause::Trace(Cause::Marks),
         text: "line 3, 'ask 2 2 r X': said of all",
     },
-    // Nobody is named where lines before are missing, or nobody is in the way.
+    // Nobody is named where lines before are missing.
     Line {
         number: 6,
         tail: "request 1 7 r X 1\nenter 1 7 r X 1\nrequest 2 8 r S 2\nenter 2 8 r S 2\n",
@@ -200,7 +200,65 @@ const LINES: &[Line] = &[
         tail: "request 1 7 r X 1\nleave 1 7 r X 1\n",
         feeds: 2,
         cause: LineCause::Marks(MarkCause::NotHeld),
-        text: "line 2, 'leave 1 7 r X 1': said of all",
+        text: "line 2, 'leave 1 7 r X 1': said of all: it waits since line 1",
+    },
+    // What became of an entry that should wait or hold.
+    Line {
+        number: 3,
+        tail: "request 1 7 r X 1\nenter 1 7 r X 1\nenter 1 7 r X 1\n",
+        feeds: 3,
+        cause: LineCause::Marks(MarkCause::NotWaiting),
+        text: "line 3, 'enter 1 7 r X 1': said of all: it was granted in line 2",
+    },
+    Line {
+        number: 2,
+        tail: "request 1 7 r X 1\nenter 1 7 r S 1\n",
+        feeds: 2,
+        cause: LineCause::Marks(MarkCause::NotWaiting),
+        text: "line 2, 'enter 1 7 r S 1': said of all: it was not requested",
+    },
+    Line {
+        number: 4,
+        tail: "request 1 7 r X 1\nenter 1 7 r X 1\nleave 1 7 r X 1\nleave 1 7 r X 1\n",
+        feeds: 4,
+        cause: LineCause::Marks(MarkCause::NotHeld),
+        text: "line 4, 'leave 1 7 r X 1': said of all: it was given back in line 3",
+    },
+    // In a trace it is said, too, which of the causes of a mark log it is.
+    Line {
+        number: 4,
+        tail: "trace 2 2 0\nask 1 1 r S\nrequest 1 1 r S 1\nrequest 1 2 r S 2\n",
+        feeds: 4,
+        cause: LineCause::Trace(Cause::Table),
+        text: "line 4, 'request 1 2 r S 2': a lock table does not allow this mark: its node waits for the name or holds it already: client 1 at node 1 asked for it (S) in line 3",
+    },
+    Line {
+        number: 5,
+        tail: "trace 2 1 0\nask 1 1 r X\nrequest 1 1 r X 1\nenter 1 1 r X 1\nrequest 2 2 r X 1\n",
+        feeds: 5,
+        cause: LineCause::Trace(Cause::Table),
+        text: "line 5, 'request 2 2 r X 1': a lock table does not allow this mark: its number is not above each one that was granted on the name: 1 was granted in line 4",
+    },
+    Line {
+        number: 5,
+        tail: "trace 2 1 0\nask 1 1 r X\nrequest 1 1 r X 1\nenter 1 1 r X 1\nleave 2 2 r X 1\n",
+        feeds: 5,
+        cause: LineCause::Trace(Cause::Table),
+        text: "line 5, 'leave 2 2 r X 1': a lock table does not allow this mark: no such entry holds the name: it was not requested",
+    },
+    Line {
+        number: 4,
+        tail: "trace 2 2 0\nask 1 1 r X\nrequest 1 1 r X 1\nleave 1 1 r X 1\n",
+        feeds: 4,
+        cause: LineCause::Trace(Cause::Table),
+        text: "line 4, 'leave 1 1 r X 1': a lock table does not allow this mark: no such entry holds the name: it waits since line 3",
+    },
+    Line {
+        number: 4,
+        tail: "trace 2 2 0\nask 1 1 r X\nrequest 1 1 r X 1\nenter 2 2 r X 1\n",
+        feeds: 4,
+        cause: LineCause::Trace(Cause::Table),
+        text: "line 4, 'enter 2 2 r X 1': a lock table does not allow this mark: no such entry waits for the name: it was not requested",
     },
 ];
 
@@ -208,6 +266,7 @@ const LINES: &[Line] = &[
 fn is_line(alloc: Global, row: &Line) -> bool {
     let said = line_note(
         alloc,
+        version_of(row.tail.as_bytes()),
         row.number,
         row.tail.as_bytes(),
         row.feeds,

@@ -11,8 +11,8 @@ use ra_script::{
 };
 use ra_stamp::Memory;
 use ra_trace::{
-    Cause, MarksVerdict, TraceError, Verdict, WriteTraceError, check, check_marks, trace_text,
-    write_trace,
+    Cause, MarksVerdict, TraceError, Verdict, Version, WriteTraceError, check, check_marks,
+    trace_text, write_trace,
 };
 use std::alloc::Global;
 use std::process::Abort;
@@ -222,6 +222,7 @@ fn growth_of_what_is_said_of_choices(rt: HostRuntime) {
 fn try_line(alloc: Global) -> Result<Tried, bool> {
     let said = line_note(
         alloc,
+        Some(Version::Two),
         3,
         b"trace 2 2 0\nask 1 1 r X\nask 2 2 r X\n",
         3,
@@ -243,6 +244,7 @@ fn growth_of_what_is_said_of_a_line(rt: HostRuntime) {
 fn try_field(alloc: Global) -> Result<Tried, bool> {
     let said = line_note(
         alloc,
+        Some(Version::Two),
         2,
         b"trace 2 2 0\nask 1 1 r x\n",
         2,
@@ -264,6 +266,7 @@ fn growth_of_what_is_said_of_a_field(rt: HostRuntime) {
 fn try_refused(alloc: Global) -> Result<Tried, bool> {
     let said = line_note(
         alloc,
+        Some(Version::Two),
         4,
         b"trace 2 2 0\nask 1 1 r X\nrequest 1 1 r X 1\nask 1 1 r S\n",
         4,

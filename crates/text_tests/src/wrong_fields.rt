@@ -1,7 +1,7 @@
 //! What `ra_explain` says to a person of a line with a wrong field, or of one that stands where it may not.
 use crate::explained_runs::is_said;
 use crate::helpers::assert_rows;
-use ra_explain::{LineCause, line_note};
+use ra_explain::{LineCause, line_note, version_of};
 use ra_trace::{Cause, MarkCause};
 use std::alloc::Global;
 
@@ -15,7 +15,7 @@ const TRACE_LINES: &[(&str, u64, &str)] = &[
     (
         "trace 1 17 0\n",
         1,
-        "line 1, 'trace 1 17 0': NODES is '17': it is 1 to 16 in version 1",
+        "line 1, 'trace 1 17 0': NODES is '17': it is 1 to 16 in version 1, with no zeros before it",
     ),
     (
         "trace 2 2\n",
@@ -110,13 +110,13 @@ const TRACE_LINES: &[(&str, u64, &str)] = &[
     (
         "trace 2 2 0\nlock 1 1 r X\n",
         2,
-        "line 2, 'lock 1 1 r X': a line of a trace begins with ask, release, deliver, lose, repeat, request, enter or leave, and the last one is end",
+        "line 2, 'lock 1 1 r X': a line behind the first one of a trace begins with ask, release, deliver, lose, repeat, request, enter or leave, and the last one is end",
     ),
     // The ranges of version 1.
     (
         "trace 1 2 0\nask 17 1 r X\n",
         2,
-        "line 2, 'ask 17 1 r X': NODE is '17': it is 1 to 16 in version 1",
+        "line 2, 'ask 17 1 r X': NODE is '17': it is 1 to 16 in version 1, with no zeros before it",
     ),
     (
         "trace 1 2 0\nask 1 1 r IX\n",
@@ -128,7 +128,38 @@ const TRACE_LINES: &[(&str, u64, &str)] = &[
         2,
         "line 2, 'repeat reply 1 2 r 1': version 1 has no repeats",
     ),
+    (
+        "trace 1 2 0\nask 99 1 r X\n",
+        2,
+        "line 2, 'ask 99 1 r X': NODE is '99': it is 1 to 16 in version 1, with no zeros before it",
+    ),
+    // Repeats are in no line of version 1, and a first line in no later one, whatever their fields are.
+    (
+        "trace 1 2 0\nrepeat request 1 20 r X 1\n",
+        2,
+        "line 2, 'repeat request 1 20 r X 1': version 1 has no repeats",
+    ),
+    (
+        "trace 1 2 0\ntrace 2 99 0\n",
+        2,
+        "line 2, 'trace 2 99 0': only the first line of a trace begins with trace",
+    ),
+    (
+        "ask 99 1 r X\n",
+        1,
+        "line 1, 'ask 99 1 r X': the first line of a trace is trace 2 NODES START, or trace 1 NODES START in version 1",
+    ),
     // Where the first line is not known, neither is the version.
+    (
+        "ask 99 1 r X\n",
+        2,
+        "line 2, 'ask 99 1 r X': NODE is '99': it is 1 to 16 in version 1, and to 64 in version 2, with no zeros before it",
+    ),
+    (
+        "ask 1 1 r Y\n",
+        2,
+        "line 2, 'ask 1 1 r Y': MODE is 'Y': it is S or X in version 1, and IS, IX or SIX in version 2, too",
+    ),
     ("ask 17 1 r X\n", 2, "line 2, 'ask 17 1 r X': said of all"),
 ];
 
@@ -160,7 +191,16 @@ const MARK_LINES: &[(&str, u64, &str)] = &[
 /// Returns how many rows are said of their lines, up to the first that is not.
 fn said_of(alloc: Global, rows: &[(&str, u64, &str)], cause: LineCause) -> usize {
     for (place, row) in rows.iter().enumerate() {
-        let said = line_note(alloc, row.1, row.0.as_bytes(), row.1, cause, "said of all");
+        let text = row.0.as_bytes();
+        let said = line_note(
+            alloc,
+            version_of(text),
+            row.1,
+            text,
+            row.1,
+            cause,
+            "said of all",
+        );
         if !is_said(said, row.2) {
             return place;
         }

@@ -5,7 +5,7 @@ use Rattle.ra_schedule.specs.declared.choice.Policy.{Policy}
 use Rattle.ra_schedule.specs.declared.choice.Policy.TheVariants.{Oldest, Newest, Seeded, Faulty, Listed}
 use Rattle.ra_schedule.specs.Seeds.{generator_after}
 use Rattle.ra_schedule.specs.PolicyState.{generator_at}
-use Rattle.ra_schedule.proofs.Seeded.{begins}
+use Rattle.ra_schedule.proofs.PolicyGenerator.{begins}
 use Rattle.ra_schedule.proofs.chance_state.generator_of.Goals as goal
 
 -- a policy that has no seed has no generator

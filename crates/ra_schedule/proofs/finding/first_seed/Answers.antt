@@ -1,7 +1,7 @@
 use Rattle.std.proofs.Common.{◌≡◌, ℕ, Bool, false, subst, arith}
 use Rattle.ra_schedule.specs.Survey.{chance}
 use Rattle.ra_schedule.specs.Finding.{EndsSo, NoneBefore}
-use Rattle.ra_schedule.proofs.SeedsBefore.{one_more}
+use Rattle.ra_schedule.proofs.FirstSeed.{one_more}
 use Rattle.ra_schedule.proofs.finding.first_seed.Goals as goal
 
 pub loop-seed-preserved : goal.loop-seed-preserved

@@ -6,7 +6,7 @@ use Rattle.ra_schedule.specs.Schedule.{Picks}
 use Rattle.ra_schedule.specs.PolicyState.{AreDraws, generator_at, generator_in, words_drawn, words_for}
 use Rattle.ra_schedule.specs.Driving.{IsMeaning}
 use Rattle.ra_schedule.proofs.Choosing.{nothing_left, newest_message, oldest_message}
-use Rattle.ra_schedule.proofs.Seeded.{none_goes_on}
+use Rattle.ra_schedule.proofs.PolicyGenerator.{none_goes_on}
 use Rattle.ra_schedule.proofs.picking.pick.Goals as goal
 use Rattle.ra_schedule.proofs.picking.pick.Goals.{in-Newest, in_default-policy}
 

@@ -1,5 +1,5 @@
 use Rattle.std.proofs.Common.{arith}
-use Rattle.ra_schedule.proofs.SeedBySeed.{none_yet, at_last, one_more_seed, all_seeds, no_seeds}
+use Rattle.ra_schedule.proofs.SurveySeeds.{none_yet, at_last, one_more_seed, all_seeds, no_seeds}
 use Rattle.ra_schedule.proofs.surveying.survey.Goals as goal
 
 pub loop-seed-init : goal.loop-seed-init

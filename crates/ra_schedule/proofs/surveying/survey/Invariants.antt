@@ -1,4 +1,4 @@
-use Rattle.ra_schedule.proofs.SeedBySeed.{SoFar}
+use Rattle.ra_schedule.proofs.SurveySeeds.{SoFar}
 use Rattle.ra_schedule.proofs.surveying.survey.Given as goal
 
 abbrev pub invariant-loop-seed : goal.invariant-loop-seed

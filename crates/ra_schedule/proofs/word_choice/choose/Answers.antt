@@ -2,7 +2,7 @@ use Rattle.std.proofs.Common.{ℕ, refl, ap, ◌∙◌}
 use Rattle.rand_pcg.specs.Lcg.{Lcg}
 use Rattle.ra_schedule.specs.declared.choice.Choice.TheVariants.{Message}
 use Rattle.ra_schedule.specs.Schedule.{with_fault}
-use Rattle.ra_schedule.proofs.Seeded.{named_is_picked, client_is_picked, message_is_picked, nothing_is_picked}
+use Rattle.ra_schedule.proofs.PolicyGenerator.{named_is_picked, client_is_picked, message_is_picked, nothing_is_picked}
 use Rattle.ra_schedule.proofs.word_choice.choose.Goals as goal
 
 pub returns-in_err-named-clause-none : goal.returns-in_err-named-clause-none

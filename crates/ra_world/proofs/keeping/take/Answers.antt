@@ -1,7 +1,7 @@
 use Rattle.std.proofs.Common.{rules, ◌≡◌, sym, ◌∙◌, inl, inr}
 use Rattle.std.proofs.lemmas.List.{nil_from_length}
 use Rattle.ra_world.specs.Traffic.{repeated_by}
-use Rattle.ra_world.proofs.Trying.{first_is_taken}
+use Rattle.ra_world.proofs.StepTries.{first_is_taken}
 use Rattle.ra_world.proofs.keeping.take.Goals as goal
 
 pub returns-then-repeated-eq0-clause-taken : goal.returns-then-repeated-eq0-clause-taken

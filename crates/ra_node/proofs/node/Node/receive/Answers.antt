@@ -5,7 +5,7 @@ use Rattle.indexmap.specs.IndexMap.{IndexMap}
 use Rattle.ra_stamp.specs.Message.{from_of, to_of, name_of}
 use Rattle.ra_automaton.specs.declared.error.ReceiveError.TheVariants.{WrongNode, Stranger}
 use Rattle.ra_node.specs.declared.outcome.Outcome.{Outcome}
-use Rattle.ra_node.specs.declared.queued.Queued.{Queued}
+use Rattle.ra_node.specs.declared.queued_client.Queued.{Queued}
 use Rattle.ra_node.specs.Resource.{Resource, waiting_at}
 use Rattle.ra_node.specs.Node.{NodeState, IsConsistentNode}
 use Rattle.ra_automaton.proofs.Refusals.{ReceiveTells, wrong_node_tells, stranger_tells, received_tells}

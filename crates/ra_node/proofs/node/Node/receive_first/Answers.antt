@@ -1,7 +1,7 @@
 use Rattle.std.proofs.Common.{◌≡◌, ℕ, ◌/◌, ◌^◌, List, [], length, refl, ap, ◌∙◌, arith}
 use Rattle.ra_automaton.specs.declared.phase.Phase.TheVariants.{Idle}
 use Rattle.std.specs.FinMap as finmap
-use Rattle.ra_node.specs.declared.queued.Queued.{Queued}
+use Rattle.ra_node.specs.declared.queued_client.Queued.{Queued}
 use Rattle.ra_node.specs.Resource.{Resource, waiting_in, waiting_at}
 use Rattle.ra_node.proofs.After.{first_received, kept_as, same_view}
 use Rattle.ra_node.proofs.Totals.{come, idle_stays}

@@ -1,6 +1,6 @@
 use Rattle.std.proofs.Common.{rules}
 use Rattle.ra_node.proofs.Distinct.{Once, standing, leaves_once}
-use Rattle.ra_node.proofs.Handing.{parts_handed_over}
+use Rattle.ra_node.proofs.LeaveEndings.{parts_handed_over}
 use Rattle.ra_node.proofs.slot.Slot.hand_over.Goals as goal
 
 pub pop_front-requires : goal.pop_front-requires

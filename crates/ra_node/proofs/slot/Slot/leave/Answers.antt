@@ -1,4 +1,4 @@
-use Rattle.ra_node.proofs.Handing.{left_to_nobody, left_to_next}
+use Rattle.ra_node.proofs.LeaveEndings.{left_to_nobody, left_to_next}
 use Rattle.ra_node.proofs.slot.Slot.leave.Goals as goal
 
 pub returns-in-Some-next : goal.returns-in-Some-next

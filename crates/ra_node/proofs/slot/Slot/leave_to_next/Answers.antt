@@ -2,7 +2,7 @@ use Rattle.std.proofs.Common.{rules, ◌≡◌, ◌∷◌, refl}
 use Rattle.ra_stamp.specs.declared.entry.Mark.TheVariants.{Left}
 use Rattle.ra_node.specs.Resource.{Holds}
 use Rattle.ra_node.specs.Turns.{request_marks, next_entry}
-use Rattle.ra_node.proofs.Handing.{hands_over}
+use Rattle.ra_node.proofs.LeaveEndings.{hands_over}
 use Rattle.ra_node.proofs.slot.Slot.leave_to_next.Goals as goal
 
 pub returns : goal.returns

@@ -9,7 +9,7 @@ use Rattle.ra_world.specs.declared.error.StepError.{StepError}
 use Rattle.ra_world.specs.World.{HasCause}
 use Rattle.ra_world.specs.Keeping.{Tries}
 use Rattle.ra_world.specs.Refused.{refusal_of_ask}
-use Rattle.ra_world.proofs.Trying.{shown, with_cause, at_err, short, same_nodes, ask_refused, ask_on, reads_same, memory_of_ask, few_carried, room_for, kept_by, here, run_of}
+use Rattle.ra_world.proofs.StepTries.{shown, with_cause, at_err, short, same_nodes, ask_refused, ask_on, reads_same, memory_of_ask, few_carried, room_for, kept_by, here, run_of}
 use Rattle.ra_world.proofs.world.WorldOf.ask.Goals as goal
 
 pub returns-in_err-may_ask-clause-tried : goal.returns-in_err-may_ask-clause-tried

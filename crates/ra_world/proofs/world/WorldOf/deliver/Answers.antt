@@ -12,7 +12,7 @@ use Rattle.ra_node.specs.Memory.{BringsNothing}
 use Rattle.ra_world.specs.declared.step.Step.TheVariants.{Deliver}
 use Rattle.ra_world.specs.declared.error.StepError.TheVariants.{NotUnderWay, Memory}
 use Rattle.ra_world.specs.Keeping.{nodes_of}
-use Rattle.ra_world.proofs.Trying.{shown, with_cause, short, same_nodes, at_node, node_here, took_first, room_here, kept_by, here, run_of}
+use Rattle.ra_world.proofs.StepTries.{shown, with_cause, short, same_nodes, at_node, node_here, took_first, room_here, kept_by, here, run_of}
 use Rattle.ra_world.proofs.world.WorldOf.deliver.Goals as goal
 
 pub returns-in_default-clause-tried : goal.returns-in_default-clause-tried

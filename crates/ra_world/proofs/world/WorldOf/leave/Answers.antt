@@ -9,7 +9,7 @@ use Rattle.ra_node.specs.declared.error.LeaveError.TheVariants as refused
 use Rattle.ra_world.specs.declared.step.Step.TheVariants.{Leave}
 use Rattle.ra_world.specs.declared.error.StepError.TheVariants.{Node}
 use Rattle.ra_world.specs.declared.error.NodeRefusal.TheVariants.{NotHeld}
-use Rattle.ra_world.proofs.Trying.{shown, with_cause, short, same_nodes, at_node, leave_on, reads_same, memory_of_leave, few_carried, room_for, kept_by, here, run_of}
+use Rattle.ra_world.proofs.StepTries.{shown, with_cause, short, same_nodes, at_node, leave_on, reads_same, memory_of_leave, few_carried, room_for, kept_by, here, run_of}
 use Rattle.ra_world.proofs.world.WorldOf.leave.Goals as goal
 
 pub returns-then-not-is_held_by-clause-tried : goal.returns-then-not-is_held_by-clause-tried

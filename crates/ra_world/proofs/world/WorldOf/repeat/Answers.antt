@@ -5,7 +5,7 @@ use Rattle.ra_world.specs.declared.step.Step.TheVariants.{Repeat}
 use Rattle.ra_world.specs.declared.error.StepError.TheVariants.{NotUnderWay}
 use Rattle.ra_world.specs.Traffic.{Move}
 use Rattle.ra_world.specs.Keeping.{Keeps}
-use Rattle.ra_world.proofs.Trying.{shown, with_cause, short, one_more, copied_on}
+use Rattle.ra_world.proofs.StepTries.{shown, with_cause, short, one_more, copied_on}
 use Rattle.ra_world.proofs.world.WorldOf.repeat.Goals as goal
 
 pub returns-in_default-clause-tried : goal.returns-in_default-clause-tried

@@ -1,7 +1,7 @@
 use Rattle.std.proofs.Common.{sym, subst}
 use Rattle.ra_world.specs.declared.step.Step.{Step}
 use Rattle.ra_world.specs.Keeping.{Tries}
-use Rattle.ra_world.proofs.Tried.{kept_run, answers}
+use Rattle.ra_world.proofs.StepAnswers.{kept_run, answers}
 use Rattle.ra_world.proofs.world.WorldOf.step_near.Goals as goal
 
 pub returns-in-Ask : goal.returns-in-Ask

@@ -1,6 +1,6 @@
 use Rattle.ra_cluster.specs.declared.error.SettleError.TheVariants.{NotSent, Twice, GrantMissing, GrantTwice, Memory}
 use Rattle.ra_cluster.proofs.Causes as settling
-use Rattle.ra_cluster.proofs.settling.settle.Goals as goal
+use Rattle.ra_cluster.proofs.settle_books.settle.Goals as goal
 
 pub returns-in_err-check_received-clause-settled_run : goal.returns-in_err-check_received-clause-settled_run
 returns-in_err-check_received-clause-settled_run c =

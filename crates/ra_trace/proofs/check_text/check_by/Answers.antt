@@ -1,7 +1,7 @@
 use Rattle.std.proofs.lemmas.Result.{IfOk-weaker}
 use Rattle.ra_trace.specs.Reading.{Judges}
 use Rattle.ra_trace.proofs.Inputs.{judged, verdict_of_input, valid_input, table_of_input, alone, only_verdict, trace_of_input}
-use Rattle.ra_trace.proofs.checking.check_by.Goals as goal
+use Rattle.ra_trace.proofs.check_text.check_by.Goals as goal
 
 pub returns-clause-ok : goal.returns-clause-ok
 returns-clause-ok g c =

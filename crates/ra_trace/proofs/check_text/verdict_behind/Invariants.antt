@@ -1,6 +1,6 @@
 use Rattle.std.proofs.Common.{ℕ, List, Option, ◌+◌, ◌-◌, ◌≤◌, length}
 use Rattle.ra_trace.specs.Along.{IsAlong}
-use Rattle.ra_trace.proofs.checking.verdict_behind.Given as goal
+use Rattle.ra_trace.proofs.check_text.verdict_behind.Given as goal
 
 -- the lines so far are right, and there are no more of them than bytes
 abbrev pub invariant-loop-next : goal.invariant-loop-next

@@ -1,6 +1,6 @@
 use Rattle.std.proofs.lemmas.Result.{err_from_is_err_and}
 use Rattle.ra_trace.proofs.Along.{fails_next, none_next, turns_by, some_taken_by}
-use Rattle.ra_trace.proofs.checking.take_next.Goals as goal
+use Rattle.ra_trace.proofs.check_text.take_next.Goals as goal
 
 pub returns-in_err-line-clause-turned : goal.returns-in_err-line-clause-turned
 returns-in_err-line-clause-turned g c limit number old along =

@@ -2,7 +2,7 @@ use Rattle.std.proofs.Common.{sym, subst}
 use Rattle.ra_cluster.specs.SettlingParts.{Refuses}
 use Rattle.ra_cluster.proofs.Causes.{refused}
 use Rattle.ra_cluster.proofs.SettledReport.{grants_stand, grants_refused}
-use Rattle.ra_cluster.proofs.settling.settle_with.Goals as goal
+use Rattle.ra_cluster.proofs.settle_books.settle_with.Goals as goal
 
 pub settle_books-requires : goal.settle_books-requires
 settle_books-requires c = record { cluster = c.requires.cluster; fit = c.requires.fit }

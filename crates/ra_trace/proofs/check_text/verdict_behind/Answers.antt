@@ -2,7 +2,7 @@ use Rattle.std.proofs.Common.{ℕ, ◌+◌, ◌-◌, sym, subst}
 use Rattle.std.proofs.lemmas.Result.{err_from_is_err_and}
 use Rattle.ra_trace.specs.Along.{IsDone}
 use Rattle.ra_trace.proofs.Along.{answers_at_end}
-use Rattle.ra_trace.proofs.checking.verdict_behind.Goals as goal
+use Rattle.ra_trace.proofs.check_text.verdict_behind.Goals as goal
 
 pub returns-in_err-next : goal.returns-in_err-next
 returns-in_err-next g c old first =

@@ -6,7 +6,7 @@ use Rattle.ra_stamp.specs.declared.entry.Mark.TheVariants.{Left}
 use Rattle.ra_stamp.specs.declared.message.Message.{Message}
 use Rattle.ra_automaton.specs.State.{State, IsConsistent}
 use Rattle.ra_automaton.specs.Steps.{LeaveAndRequestStep}
-use Rattle.ra_node.specs.declared.queued.Queued.{Queued}
+use Rattle.ra_node.specs.declared.queued_client.Queued.{Queued}
 use Rattle.ra_node.specs.declared.error.LeaveError.{LeaveError}
 use Rattle.ra_node.specs.declared.error.LeaveError.TheVariants.{Memory}
 use Rattle.ra_node.specs.declared.outcome.Outcome.{Outcome}

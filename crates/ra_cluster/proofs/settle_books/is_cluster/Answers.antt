@@ -3,7 +3,7 @@ use Rattle.std.specs.Prelude.{slice_get}
 use Rattle.std.proofs.lemmas.Bool.{false≢true}
 use Rattle.ra_cluster.specs.Book.{BookState}
 use Rattle.ra_cluster.proofs.Clusters.{IsMember, cluster_of, member_of, members_more}
-use Rattle.ra_cluster.proofs.settling.is_cluster.Goals as goal
+use Rattle.ra_cluster.proofs.settle_books.is_cluster.Goals as goal
 
 pub returns-then-not-is_member : goal.returns-then-not-is_member
 returns-then-not-is_member c = (

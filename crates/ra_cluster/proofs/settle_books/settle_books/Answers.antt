@@ -3,7 +3,7 @@ use Rattle.ra_world.specs.declared.step.Step.{Step}
 use Rattle.ra_world.specs.declared.step.Step.TheVariants.{Lose}
 use Rattle.ra_cluster.specs.Settled.{all_lost, settled_steps}
 use Rattle.ra_cluster.proofs.SettledReport.{run_of_all, main_of_all, never_refused, settles}
-use Rattle.ra_cluster.proofs.settling.settle_books.Goals as goal
+use Rattle.ra_cluster.proofs.settle_books.settle_books.Goals as goal
 
 pub returns-in-Ok : goal.returns-in-Ok
 returns-in-Ok c =

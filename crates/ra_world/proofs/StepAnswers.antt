@@ -13,7 +13,7 @@ use Rattle.ra_world.specs.Traffic.{Move}
 use Rattle.ra_world.specs.Run.{IsRun, GoesOn}
 use Rattle.ra_world.specs.World.{WorldState, with_move, HasCause, MayNeedMemory, IsFull, AnswersStep}
 use Rattle.ra_world.specs.Keeping.{Keeps, Tries}
-use Rattle.ra_world.proofs.Trying.{shown}
+use Rattle.ra_world.proofs.StepTries.{shown}
 
 -- what is kept is a run of the world that is shown
 pub kept_run : (start : ℕ) (nodes : List NodeState) (left : List Message) (moves : List Move) (w : WorldState)

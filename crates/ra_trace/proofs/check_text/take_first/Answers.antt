@@ -1,6 +1,6 @@
 use Rattle.std.proofs.lemmas.Result.{err_from_is_err_and}
 use Rattle.ra_trace.proofs.Along.{fails_first, none_first, opens_by}
-use Rattle.ra_trace.proofs.checking.take_first.Goals as goal
+use Rattle.ra_trace.proofs.check_text.take_first.Goals as goal
 
 pub returns-in_err-line-clause-opened : goal.returns-in_err-line-clause-opened
 returns-in_err-line-clause-opened g c =

@@ -1,6 +1,6 @@
 use Rattle.std.proofs.Common.{sym, subst}
 use Rattle.ra_trace.specs.Reading.{Judges}
-use Rattle.ra_trace.proofs.checking.verdict_of.Goals as goal
+use Rattle.ra_trace.proofs.check_text.verdict_of.Goals as goal
 
 pub returns-in-None : goal.returns-in-None
 returns-in-None g c =

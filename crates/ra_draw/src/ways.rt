@@ -39,7 +39,7 @@ impl Fate {
 
 /// The way of a message.
 #[derive(Clone, Copy)]
-pub struct Flight {
+pub struct Way {
     pub message: Message,
     pub start: Start,
     pub fate: Fate,
@@ -61,17 +61,17 @@ impl Equals {
     }
 }
 
-/// The messages under way, and the flights that are drawn so far.
+/// The messages under way, and the ways of messages that are drawn so far.
 #[derive(Drop)]
-pub struct Flights {
+pub struct Ways {
     under_way: IndexMap<Message, Equals>,
-    pub drawn: Vec<Flight>,
+    pub drawn: Vec<Way>,
 }
 
-impl Flights {
+impl Ways {
     /// Makes those of a run in which nothing has happened yet.
-    pub fn new(alloc: Global) -> Flights {
-        Flights {
+    pub fn new(alloc: Global) -> Ways {
+        Ways {
             under_way: IndexMap::new(alloc),
             drawn: Vec::new(alloc),
         }
@@ -108,7 +108,7 @@ impl Flights {
             return Ok(());
         };
         if fate.is_drawn() {
-            self.drawn.push(Flight {
+            self.drawn.push(Way {
                 message: *message,
                 start,
                 fate,
@@ -127,15 +127,11 @@ impl Flights {
 }
 
 /// Adds equal messages that are still under way.
-fn push_under_way(
-    drawn: &mut Vec<Flight>,
-    message: &Message,
-    equals: &Equals,
-) -> Result<(), Memory> {
+fn push_under_way(drawn: &mut Vec<Way>, message: &Message, equals: &Equals) -> Result<(), Memory> {
     for place in equals.taken..equals.starts.len() {
         let start = equals.starts[place];
         if start.moment.row > 0 {
-            drawn.push(Flight {
+            drawn.push(Way {
                 message: *message,
                 start,
                 fate: Fate::UnderWay,
