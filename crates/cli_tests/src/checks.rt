@@ -363,7 +363,7 @@ version 2 one with `repeat` that it will come once more.
 
 It prints `valid`, and how many requests and messages there were; or `invalid`,
 the first line that is wrong, and why:
-  Line         it is none, or stands where it may not
+  Line         it is not a line of a trace, or may not stand there
   Refused      the client may not ask or leave
   NotUnderWay  nobody sent the message, or it was taken already
   Marks        the marks are not what came of the step

@@ -1,6 +1,6 @@
 //! Words that are no command, and the help that lists the commands.
 use crate::frames::REQUEST;
-use crate::helpers::{Refused, assert_answers, assert_refuses, run};
+use crate::helpers::{Refused, assert_answers, assert_prints, assert_refuses, run};
 use ra_cli::{CommandFault, refuse_words};
 use std::alloc::Global;
 
@@ -97,7 +97,7 @@ Example: ra sim < script.toml
 
 Status 0: done. Status 1: the input or the output failed. Status 2: refused, by
 one line with the word that says why. Status 3: a run that ended with something
-left to do, or a trace or a log that is none.
+left to do, or a trace or a log that is not valid.
 ";
 
 #[test]
@@ -156,8 +156,15 @@ fn is_fault(alloc: Global, fault: CommandFault, printed: &str) -> bool {
     status == 2 && output.as_slice() == printed.as_bytes()
 }
 
+/// Why there are no words, and the word of it.
+const FAULTS: &[(CommandFault, &str)] = &[
+    (CommandFault::Usage, "Usage"),
+    (CommandFault::Memory, "Memory"),
+];
+
 #[test]
 fn words_that_are_not_there_are_refused(rt: HostRuntime) {
+    assert_prints(&rt, FAULTS);
     let alloc = rt.alloc();
     assert!(rt; is_fault(alloc, CommandFault::Usage, "refused Usage\n"));
     assert!(rt; is_fault(alloc, CommandFault::Memory, "refused Memory\n"));

@@ -78,6 +78,21 @@ const USAGES: &[Noted] = &[
         output: "refused Usage\n",
         note: "ra: --as-choices is without --trace, and with --policy faulty only where --repeat is 0; see ra sim --help\n",
     },
+    // Where two words can't be, the cause is that which is looked for first.
+    Noted {
+        words: "ra sim --policy faulty --seeds 1..9 --repeat 401",
+        input: ONE_CLIENT,
+        status: 2,
+        output: "refused Usage\n",
+        note: "ra: --lose and --repeat are at most 1000 together, and --repeat is at most 400; see ra sim --help\n",
+    },
+    Noted {
+        words: "ra sim --policy seeded --seeds 1..9 --trace --as-choices",
+        input: ONE_CLIENT,
+        status: 2,
+        output: "refused Usage\n",
+        note: "ra: --as-choices is without --trace, and with --policy faulty only where --repeat is 0; see ra sim --help\n",
+    },
 ];
 
 #[test]

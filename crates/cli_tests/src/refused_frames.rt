@@ -1,6 +1,8 @@
 //! What `answer` refuses: lines that are no frame, frames for others and from strangers, and numbers of no node.
 use crate::frames::{ANSWER, ANSWER_64, FED_TWICE, FOLLOWED, REQUEST};
-use crate::helpers::{Refused, assert_refuses, refuses_input, repeated};
+use crate::helpers::{Refused, assert_prints, assert_refuses, refuses_input, repeated};
+use ra_cli::AnswerError;
+use ra_frame::FrameError;
 use std::process::Abort;
 use std::sync::Wait;
 use std::thread::Threads;
@@ -293,4 +295,24 @@ fn a_line_has_at_most_256_bytes_and_nothing_behind_it(rt: HostRuntime) {
     assert_refuses_digits(&rt, "0", "Line");
     assert!(rt; refuses_two_lines(&rt));
     assert_refuses(&rt, FOLLOWED_LINES);
+}
+
+/// Why a frame is not answered, and the word of it.
+const ANSWER_ERRORS: &[(AnswerError, &str)] = &[
+    (AnswerError::BadCount, "BadCount"),
+    (AnswerError::BadNode, "BadNode"),
+    (AnswerError::Read, "Read"),
+    (AnswerError::Line, "Line"),
+    (AnswerError::Hex, "Hex"),
+    (AnswerError::Frame(FrameError::Short), "Short"),
+    (AnswerError::WrongNode, "WrongNode"),
+    (AnswerError::Stranger, "Stranger"),
+    (AnswerError::ClockFull, "ClockFull"),
+    (AnswerError::Memory, "Memory"),
+    (AnswerError::Write, "Write"),
+];
+
+#[test]
+fn refusals_of_frames_print_as_their_words(rt: HostRuntime) {
+    assert_prints(&rt, ANSWER_ERRORS);
 }

@@ -334,10 +334,10 @@ Options:
       --policy <policy>    Who chooses what comes next [default: oldest]
       --seed <seed>        The seed of chance, 0 to 2^64 - 1 [default: 0]
       --lose <lose>        How many of 1000 faulty loses, 0 to 1000 [default: 0]
-      --repeat <repeat>    How many it repeats, 0 to 400 [default: 0]
+      --repeat <repeat>    How many of 1000 it repeats, 0 to 400 [default: 0]
       --choices <choices>  The choices of the policy listed, as below
       --seeds <seeds>      Each of many seeds, as 1..1000: what came of them
-      --find <find>        The first trace of them that ends so, as stuck
+      --find <find>        The first trace by --seeds that ends so, as stuck
       --trace              Print the trace of the run
       --as-choices         Print the choices of the run
   -h, --help               Print help
@@ -401,10 +401,10 @@ B whose run ended so, and stops there. Where none did it prints `none`.
 
 Example: ra sim --policy seeded --seeds 1..1000 --find stuck < script.toml
 
-Status 0: each operation is done, and nothing waits, is queued or under way; or
-no run was stuck that --find looked for. Status 3: the run ended before that; or
-none was finished. Status 2: the words or the script are refused. Status 1: the
-input or the output failed.
+Status 0: each operation is done, and nothing waits, is queued or under way: by
+each seed of --seeds, and in the trace of --find; or --find found no run that is
+stuck. Status 3: that is not so. Status 2: the words or the script are refused.
+Status 1: the input or the output failed.
 ";
 
 #[test]

@@ -356,6 +356,25 @@ fn each_of_two_equal_messages_among_many_is_taken(rt: HostRuntime) {
     follow(&rt, STEPS);
 }
 
+/// Where one is put after one was looked for among many, it is known from then on where each stands, too.
+#[test]
+fn where_many_messages_stand_is_learned_with_the_next_one(rt: HostRuntime) {
+    const STEPS: &[Step] = &[
+        PutsNumbers(1, 200),
+        TakesNear(Asks(100), 0),
+        Finds(150, 148),
+        PutsNumbers(201, 1),
+        TakesNear(Asks(120), 0),
+        // The slot of the one that was taken stays, and so do those after it.
+        Finds(150, 148),
+        Finds(201, 199),
+        HasNumbers(99, 101, 1, 19),
+        HasNumbers(118, 121, 1, 81),
+        HasCount(199),
+    ];
+    follow(&rt, STEPS);
+}
+
 /// Of two equal messages among many the earlier one is found, while others are taken and put, and once it is taken the later one.
 #[test]
 fn among_many_the_first_slot_of_each_message_is_known(rt: HostRuntime) {
@@ -363,6 +382,8 @@ fn among_many_the_first_slot_of_each_message_is_known(rt: HostRuntime) {
         PutsNumbers(1, 200),
         PutsNumbers(50, 1),
         Finds(50, 49),
+        // It was looked for among many, so now it is learned where each stands.
+        MakesRoom(0),
         TakesNear(Asks(1), 0),
         Finds(50, 48),
         TakesNear(Asks(100), 0),

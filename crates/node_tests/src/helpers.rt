@@ -69,13 +69,6 @@ pub fn writer(node: u16, client: u32, seq: u64) -> Entry
     entry(node, client, r(), Mode::Exclusive, seq)
 }
 
-/// Returns a reader's request on the name `r`.
-pub fn reader(node: u16, client: u32, seq: u64) -> Entry
-    requires { IsNodeNumber node }
-{
-    entry(node, client, r(), Mode::Shared, seq)
-}
-
 /// Returns whether a value prints as this text.
 pub fn prints(alloc: Global, value: impl Display + Drop, text: &str) -> bool {
     match value.to_string(alloc) {

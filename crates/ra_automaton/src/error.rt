@@ -1,11 +1,11 @@
 ghost use Rattle.std.specs.Prelude.{◌≡◌};
 
 use ra_stamp::Memory;
-use std::fmt;
 use thiserror::Error;
 
 /// Why no automaton was made, and no node that keeps some.
 #[derive(Clone, Copy, Debug, PartialEq, Eq, Error)]
+#[error("{:?}", self)]
 pub enum NewError {
     /// The number of nodes is not 1 to 64.
     BadCount,
@@ -13,12 +13,6 @@ pub enum NewError {
     BadNode,
     /// Memory ran out.
     Memory,
-}
-
-impl fmt::Display for NewError {
-    fn fmt<W: fmt::Write>(&self, f: &mut fmt::Formatter<W>) -> fmt::Result {
-        fmt::Debug::fmt(self, f)
-    }
 }
 
 impl From<Memory> for NewError {
@@ -33,6 +27,7 @@ impl From<Memory> for NewError {
 
 /// Why no request was made.
 #[derive(Clone, Copy, Debug, PartialEq, Eq, Error)]
+#[error("{:?}", self)]
 pub enum RequestError {
     /// The node waits or is inside already.
     NotIdle,
@@ -40,12 +35,6 @@ pub enum RequestError {
     Exhausted,
     /// Memory ran out.
     Memory,
-}
-
-impl fmt::Display for RequestError {
-    fn fmt<W: fmt::Write>(&self, f: &mut fmt::Formatter<W>) -> fmt::Result {
-        fmt::Debug::fmt(self, f)
-    }
 }
 
 impl From<Memory> for RequestError {
@@ -60,6 +49,7 @@ impl From<Memory> for RequestError {
 
 /// Why a message was not taken.
 #[derive(Clone, Copy, Debug, PartialEq, Eq, Error)]
+#[error("{:?}", self)]
 pub enum ReceiveError {
     /// It is for another node.
     WrongNode,
@@ -67,12 +57,6 @@ pub enum ReceiveError {
     Stranger,
     /// Memory ran out.
     Memory,
-}
-
-impl fmt::Display for ReceiveError {
-    fn fmt<W: fmt::Write>(&self, f: &mut fmt::Formatter<W>) -> fmt::Result {
-        fmt::Debug::fmt(self, f)
-    }
 }
 
 impl From<Memory> for ReceiveError {
@@ -87,17 +71,12 @@ impl From<Memory> for ReceiveError {
 
 /// Why the node did not leave.
 #[derive(Clone, Copy, Debug, PartialEq, Eq, Error)]
+#[error("{:?}", self)]
 pub enum LeaveError {
     /// It is not inside.
     NotHeld,
     /// Memory ran out.
     Memory,
-}
-
-impl fmt::Display for LeaveError {
-    fn fmt<W: fmt::Write>(&self, f: &mut fmt::Formatter<W>) -> fmt::Result {
-        fmt::Debug::fmt(self, f)
-    }
 }
 
 impl From<Memory> for LeaveError {

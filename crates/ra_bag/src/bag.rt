@@ -67,7 +67,7 @@ impl Bag {
     }
 
     /// Returns the message at this place, counted from 0, or `None` past the end. It does not allocate. The cost is constant where
-    /// no slot is empty, and else linear in the number of messages. Slots are emptied only once `find` had to look among many.
+    /// no slot is empty, and else linear in the number of messages. Slots are emptied only once a message was looked for among many.
     pub fn at(&self, place: u64) -> Option<Message>
         ensures { result ≡ slice_get self.now.items place }
     {
@@ -78,8 +78,7 @@ impl Bag {
     }
 
     /// Returns whether a message that is equal to this one is under way. It does not allocate. The cost is constant on average where
-    /// one is and `find` had to look among many since the slots were closed up last; else it is linear in the number of messages, as
-    /// a bag that may not change learns no places.
+    /// one is and the bag knows where each stands, as `take` says; else it is linear in the number of messages.
     pub fn contains(&self, message: &Message) -> bool
         ensures { IsTrue result ↔ Contains self.now.items message.now }
     {
@@ -96,7 +95,8 @@ impl Bag {
         }
     }
 
-    /// Returns in which slot a message stands that is equal to this one, for `take_from`, or `None` where there is none.
+    /// Returns in which slot a message stands that is equal to this one, for `take_from`, or `None` where there is none. It does not
+    /// allocate.
     ///
     /// Where no slot is empty the one at the place `near` is looked at first, at constant cost. Else it is the first one, and the cost
     /// is that of `take`. Which number a slot has no clause says, so that `take_from` looks whether the message is there.
@@ -122,7 +122,7 @@ impl Bag {
 
     /// Makes room for this many more messages, in time linear in the number of messages. The messages stay, and
     /// the spare is no smaller, whatever comes. A refusal may leave it larger, so that a bag may come to keep
-    /// more than one list.
+    /// more than one list. Where a message was looked for among many, it learns where each stands, if there is memory for that.
     ///
     /// # Errors
     ///
@@ -132,12 +132,14 @@ impl Bag {
         ensures ok { OnOk result (more ≤ self.new.spare) }
         ensures grows { self.old.spare ≤ self.new.spare }
     {
+        self.places.learn_if_wanted(&self.slots);
         self.slots.reserve(more as usize)?;
         Ok(())
     }
 
     /// Puts messages under way, in order, after all others, in amortized time linear in the number of these
-    /// messages. Where there is room for them it cannot fail.
+    /// messages. Where there is room for them it cannot fail. Where a message was looked for among many, it learns where each stands,
+    /// if there is memory for that, in time linear in the number of messages.
     ///
     /// # Errors
     ///
@@ -185,16 +187,17 @@ impl Bag {
             → self.new.spare + length messages.now ≡ self.old.spare }
     {
         make_room(&mut self.slots, messages.len())?;
+        self.places.learn_if_wanted(&self.slots);
         self.places.follow(self.slots.len(), messages);
         append(&mut self.slots, messages);
         Ok(())
     }
 
-    /// Takes the first message that is equal to this one, or returns `None` where there is none and leaves the bag.
+    /// Takes the first message that is equal to this one, or returns `None` where there is none and leaves the bag. It does not allocate.
     ///
-    /// The cost is constant where it is the oldest of all. Else it is amortized constant on average: many messages are looked through
-    /// once, and then it is known where each stands, equal ones too. Where there is none such, or no memory to know that, it is linear
-    /// in the number of messages. That memory ran out is not answered.
+    /// The cost is constant where it is the oldest of all. Else it is amortized constant on average where the bag knows where each
+    /// message stands, equal ones too; and where it does not, or there is none such, linear in the number of messages. Once it was
+    /// looked through for one among more than 64, the next `reserve`, `put_all` or `again` learns where each stands.
     pub fn take(&mut self, message: &Message) -> Option<Message>
         ensures taken { IfSome result (λ taken. (taken ≡ message.now)
             × TakesFirst self.old.items message.now self.new.items) }
@@ -216,9 +219,8 @@ impl Bag {
     /// Takes a message that is equal to this one, at whichever place: the one in the slot that `find` told, where it still stands
     /// there, else the first one. It does not allocate.
     ///
-    /// In the first case the cost is amortized constant where it stands at an end, or where `find` had to look among many since the
-    /// slots were closed up last; else it is linear in the distance from the nearer end. In the second it is linear in the number
-    /// of messages.
+    /// In the first case the cost is amortized constant where it stands at an end, or where the bag knows where each message stands;
+    /// else it is linear in the distance from the nearer end. In the second it is that of `take`.
     #[inline(always)]
     pub fn take_from(&mut self, slot: u64, message: &Message)
         requires { Contains self.old.items message.now }

@@ -15,8 +15,8 @@ use std::collections::VecDeque;
 const FEW: usize = 64;
 
 /// The slots of the messages in a bag, by which the first that has a message is found without looking at all of them. They are
-/// learned where a message is looked for among many. A bag that does not know them, or for which there was no memory to, does the
-/// same in more time.
+/// learned after a message was looked for among many, by the next call that may take memory: who looks for one takes none. A bag that
+/// does not know them, or for which there was no memory to, does the same in more time.
 #[derive(Drop)]
 pub struct Places {
     /// Each message with the number of the first slot that has it.
@@ -25,6 +25,8 @@ pub struct Places {
     later: IndexMap<Message, VecDeque<u64>>,
     /// The number of the first slot.
     first: u64,
+    /// Whether a message was looked for among many while none was known.
+    wanted: bool,
 }
 
 impl Places {
@@ -36,6 +38,7 @@ impl Places {
             numbers: IndexMap::new(alloc),
             later: IndexMap::new(alloc),
             first: 0,
+            wanted: false,
         }
     }
 
@@ -47,14 +50,15 @@ impl Places {
         !self.numbers.is_empty()
     }
 
-    /// Returns the first slot of a message, as far as that is known. Where there are many slots they are learned first.
+    /// Returns the first slot of a message, as far as that is known. Where there are many slots and none is known, they are to be learned.
+    /// It does not allocate.
     pub fn look_up(&mut self, slots: &VecDeque<Option<Message>>, message: &Message) -> Option<usize>
         requires { IsTold ⟦<Message as PartialEq>⟧.eq self.old slots.now.items }
         ensures told { IsTold ⟦<Message as PartialEq>⟧.eq self.new slots.now.items }
         ensures first { IfSome result (IsFirstSlot slots.now.items message.now) }
     {
         if slots.len() > FEW && !self.are_known() {
-            self.learn(slots);
+            self.wanted = true;
         }
         self.tell(message)
     }
@@ -73,10 +77,22 @@ impl Places {
         Some(slot as usize)
     }
 
+    /// Learns the slots of each message where they are to be learned, unless memory runs out. The cost is linear in the slots then.
+    #[inline(always)]
+    pub fn learn_if_wanted(&mut self, slots: &VecDeque<Option<Message>>)
+        requires { IsTold ⟦<Message as PartialEq>⟧.eq self.old slots.now.items }
+        ensures { IsTold ⟦<Message as PartialEq>⟧.eq self.new slots.now.items }
+    {
+        if self.wanted {
+            self.learn(slots);
+        }
+    }
+
     /// Learns the slots of each message.
     fn learn(&mut self, slots: &VecDeque<Option<Message>>)
         ensures { IsTold ⟦<Message as PartialEq>⟧.eq self.new slots.now.items }
     {
+        self.wanted = false;
         self.forget();
         if self.learn_all(slots).is_err() {
             self.forget();

@@ -1,8 +1,6 @@
 -- What the words of a command line ask for.
 use Rattle.std.specs.Prelude.{◌≡◌, ℕ, ◌+◌, ◌≤◌, ◌⊎◌, ⊤, List, ◌∷◌, ◌++◌, Any, Some, slice_get, codes}
 use Rattle.std.specs.Str.Parse.{IsNumeral, digits_value, without_leading_plus}
-use Rattle.ra_cli.specs.declared.command_line.CommandFault.{CommandFault}
-use Rattle.ra_cli.specs.declared.command_line.CommandFault.TheVariants.{Usage, Memory}
 use Rattle.ra_cli.specs.declared.command_line.Task.{Task}
 use Rattle.ra_cli.specs.declared.command_line.Task.TheVariants.{Answer, Sim, Survey, Check, CheckMarks, Draw, Cluster, Help}
 
@@ -60,8 +58,3 @@ ChecksBy words CheckMarks = HasMarksWord words
 ChecksBy words (Draw part) = ⊤
 ChecksBy words Cluster = ⊤
 ChecksBy words (Help text) = ⊤
-
--- what is printed where the words are refused
-abbrev pub refusal_line : CommandFault → List ℕ
-refusal_line Usage = codes "refused Usage\n"
-refusal_line Memory = codes "refused Memory\n"

@@ -9,7 +9,6 @@ use ra_draw::Part;
 use ra_schedule::{Ending, Faults};
 use ra_script::Format;
 use std::alloc::Global;
-use std::fmt;
 use thiserror::Error;
 
 /// Which policy the words name.
@@ -60,20 +59,12 @@ pub enum Task<'a> {
 
 /// Why the words of a command line ask for nothing.
 #[derive(Clone, Copy, Debug, PartialEq, Eq, Error)]
+#[error("{:?}", self)]
 pub enum CommandFault {
     /// They are no command line of `ra`.
     Usage,
     /// Memory ran out.
     Memory,
-}
-
-impl fmt::Display for CommandFault {
-    fn fmt<W: fmt::Write>(&self, f: &mut fmt::Formatter<W>) -> fmt::Result {
-        f.write_str(match self {
-            CommandFault::Usage => "Usage",
-            CommandFault::Memory => "Memory",
-        })
-    }
 }
 
 /// Returns the text after an option and `=` in a word, or `None` where it is no such word. No option has an `=` in it. It does not
@@ -139,7 +130,7 @@ fn policy_called(word: &str, seed: u64, faults: Faults) -> PolicyName {
 }
 
 /// Returns the policy that the words of the command `sim` name, or `None` where there are no such faults, whatever the policy.
-fn policy_name(sim: &ArgMatches) -> Option<PolicyName> {
+pub fn policy_name(sim: &ArgMatches) -> Option<PolicyName> {
     let seed = sim.get_one("seed")?;
     let faults = faults_of(sim)?;
     let word = sim.get_str("policy")?;
@@ -161,7 +152,7 @@ fn seeds_of(text: &str) -> Option<(u64, u64)> {
 
 /// Returns what is to be printed of a run, or `None` where the words ask for two things, or for the choices where some may be repeats,
 /// for which there is no word. It does not allocate.
-fn format_of(policy: &PolicyName, sim: &ArgMatches) -> Option<Format> {
+pub fn format_of(policy: &PolicyName, sim: &ArgMatches) -> Option<Format> {
     let repeat: u16 = sim.get_one("repeat")?;
     let has_words = repeat == 0 || !matches!(policy, PolicyName::Faulty { .. });
     match (sim.get_flag("trace"), sim.get_flag("as-choices")) {

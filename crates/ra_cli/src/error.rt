@@ -9,11 +9,11 @@ use ra_frame::FrameError;
 use ra_script::ScriptError;
 use ra_stamp::Memory;
 use ra_world::{ReadFault, WriteFault};
-use std::fmt;
 use thiserror::Error;
 
 /// Why `answer` gave no answer, in the order in which the causes are looked for.
 #[derive(Clone, Copy, Debug, PartialEq, Eq, Error)]
+#[error("{:?}", self)]
 pub enum AnswerError {
     /// The number of nodes is not 1 to 64.
     BadCount,
@@ -26,6 +26,7 @@ pub enum AnswerError {
     /// The line is no even number of hexadecimal digits.
     Hex,
     /// The bytes are no frame.
+    #[error(transparent)]
     Frame(FrameError),
     /// The message is for another node.
     WrongNode,
@@ -37,25 +38,6 @@ pub enum AnswerError {
     Memory,
     /// The writer failed.
     Write,
-}
-
-impl fmt::Display for AnswerError {
-    fn fmt<W: fmt::Write>(&self, f: &mut fmt::Formatter<W>) -> fmt::Result {
-        let word = match self {
-            AnswerError::BadCount => "BadCount",
-            AnswerError::BadNode => "BadNode",
-            AnswerError::Read => "Read",
-            AnswerError::Line => "Line",
-            AnswerError::Hex => "Hex",
-            AnswerError::Frame(why) => return fmt::Display::fmt(why, f),
-            AnswerError::WrongNode => "WrongNode",
-            AnswerError::Stranger => "Stranger",
-            AnswerError::ClockFull => "ClockFull",
-            AnswerError::Memory => "Memory",
-            AnswerError::Write => "Write",
-        };
-        f.write_str(word)
-    }
 }
 
 /// Why a script was not run by threads to its end, in the order in which the causes are looked for.

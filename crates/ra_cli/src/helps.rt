@@ -81,10 +81,10 @@ B whose run ended so, and stops there. Where none did it prints `none`.
 
 Example: ra sim --policy seeded --seeds 1..1000 --find stuck < script.toml
 
-Status 0: each operation is done, and nothing waits, is queued or under way; or
-no run was stuck that --find looked for. Status 3: the run ended before that; or
-none was finished. Status 2: the words or the script are refused. Status 1: the
-input or the output failed.";
+Status 0: each operation is done, and nothing waits, is queued or under way: by
+each seed of --seeds, and in the trace of --find; or --find found no run that is
+stuck. Status 3: that is not so. Status 2: the words or the script are refused.
+Status 1: the input or the output failed.";
 
 /// What is said of the command `check` below its options.
 const CHECK_HELP: &str = "\
@@ -112,7 +112,7 @@ version 2 one with `repeat` that it will come once more.
 
 It prints `valid`, and how many requests and messages there were; or `invalid`,
 the first line that is wrong, and why:
-  Line         it is none, or stands where it may not
+  Line         it is not a line of a trace, or may not stand there
   Refused      the client may not ask or leave
   NotUnderWay  nobody sent the message, or it was taken already
   Marks        the marks are not what came of the step
@@ -210,7 +210,7 @@ Example: ra sim < script.toml
 
 Status 0: done. Status 1: the input or the output failed. Status 2: refused, by
 one line with the word that says why. Status 3: a run that ended with something
-left to do, or a trace or a log that is none.";
+left to do, or a trace or a log that is not valid.";
 
 /// Returns what is said of the command `answer`. Each of these texts has a function of its own, since what a function takes to prove
 /// grows with the square of the bytes of the texts that it names.

@@ -40,15 +40,15 @@ pub fn frame_text(fault: FrameError) -> &'static str {
         }
         FrameError::SameNode => "the sender of the frame is its receiver",
         FrameError::Mode => {
-            "the mode of the frame is none: a REQUEST has 00 or 01 in version 1, or 00 to 04 in version 2, and a REPLY 00"
+            "the mode of the frame is not a mode: a REQUEST has 00 or 01 in version 1, or 00 to 04 in version 2, and a REPLY 00"
         }
         FrameError::Seq => "the sequence number of the frame is 0: the first one is 1",
         FrameError::Clock => "the clock of the frame is not 1 to 2^62",
         FrameError::NameLength => "the length of the name of the frame is not 1 to 32",
         FrameError::NameByte => {
-            "a byte of the name of the frame is none that names have: these are A to Z, a to z, 0 to 9, _, - and ."
+            "a byte of the name of the frame is not one that names may have: these are A to Z, a to z, 0 to 9, _, - and ."
         }
-        FrameError::Trailing => "there are bytes behind the name of the frame",
+        FrameError::Trailing => "there are bytes after the name of the frame",
     }
 }
 
@@ -64,7 +64,7 @@ pub fn script_text(fault: ScriptError) -> &'static str {
             "the script has not 1 to 64 clients, or the node of one is not 1 to the number of nodes"
         }
         ScriptError::Op => {
-            "an operation of the script is none: each is S, X, IS, IX or SIX to lock, or U to unlock, one space, and a name of 1 to 32 of A to Z, a to z, 0 to 9, _, - and ."
+            "an operation of the script is not one: each is S, X, IS, IX or SIX to lock, or U to unlock, one space, and a name of 1 to 32 of A to Z, a to z, 0 to 9, _, - and ."
         }
         ScriptError::NotHeld => "a client of the script unlocks a name that it does not hold then",
         ScriptError::AlreadyHeld => "a client of the script locks a name that it holds already",

@@ -166,7 +166,7 @@ fn answer_text(why: AnswerError) -> &'static str {
     match why {
         AnswerError::Read => NO_INPUT,
         AnswerError::Line => {
-            "standard input is not one line: there are more than 256 bytes before a line feed, or bytes behind it"
+            "standard input is not one line: there are more than 256 bytes before a line feed, or bytes after it"
         }
         AnswerError::Hex => {
             "the line is no frame: it has an odd number of hexadecimal digits, or a byte that is none of them"

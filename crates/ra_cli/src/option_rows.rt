@@ -92,7 +92,7 @@ const SIM_OPTIONS: &[OptionRow] = &[
     },
     OptionRow {
         name: "repeat",
-        help: "How many it repeats, 0 to 400",
+        help: "How many of 1000 it repeats, 0 to 400",
         defaults: &["0"],
         ..SHORT
     },
@@ -110,7 +110,7 @@ const SIM_OPTIONS: &[OptionRow] = &[
     },
     OptionRow {
         name: "find",
-        help: "The first trace of them that ends so, as stuck",
+        help: "The first trace by --seeds that ends so, as stuck",
         parser: ValueParser::Names(ENDINGS),
         ..TEXT
     },

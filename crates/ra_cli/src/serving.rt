@@ -1,7 +1,6 @@
 ghost use Rattle.std.specs.Prelude.{true, false, [], ◌++◌, None, ◌≢◌, ◌↔◌, Bool, IsErr, IsErrOf, IsTrue, IfOk, IfErr, IfNone, Option, ◌≡◌, ◌≤◌, ◌⊎◌, List, ℕ, Any, map, IfSome, string_bytes};
 ghost use Rattle.std.specs.Io.KnownBytes.{Consumes, Appends};
 ghost use Rattle.ra_cli.specs.Words.{HasMarksWord, IsHelpWord};
-ghost use Rattle.ra_cli.specs.Words as spec;
 ghost use Rattle.ra_cli.specs.Performs.{IsNamed, PerformsBy};
 ghost use Rattle.ra_cli.specs.Checks.{Checks, ChecksMarks, is_run, is_valid};
 ghost use Rattle.ra_cli.specs.Checks.{verdict_text as spec_text};
@@ -13,7 +12,7 @@ ghost use Rattle.ra_cli.specs.Surveyed.{SurveysBy};
 ghost use Rattle.ra_script.specs.ChoicesText.{choices_of};
 ghost use Rattle.ra_schedule.specs.declared.choice.Policy.{Policy};
 ghost use Rattle.ra_cli.specs.declared.refusal.Refusal.{Refusal};
-ghost use Rattle.ra_cli.specs.Refusals.{IsOfReader, IsOfWriter, refused_line, word_of};
+ghost use Rattle.ra_cli.specs.Refusals.{IsOfReader, IsOfWriter, command_word, refused_line, word_of};
 
 use crate::command_line::{PolicyName, Task, parse};
 use crate::error::RunScriptError;
@@ -113,11 +112,12 @@ fn refuse<W: Write>(writer: &mut W, refusal: Refusal) -> Outcome
 /// Prints why there are no words of a command line, and returns the status, 2, or 1 where the writer fails. It does not
 /// allocate.
 pub fn refuse_words<W: Write>(writer: &mut W, fault: CommandFault) -> u8
-    ensures { ((result ≡ 2) × Appends (W.contents writer.old) (W.contents writer.new) (spec.refusal_line fault))
-        ⊎ ((result ≡ 1) × (prefix : List ℕ) × (rest : List ℕ) × (spec.refusal_line fault ≡ prefix ++ rest) × (rest ≢ [])
+    ensures { ((result ≡ 2) × Appends (W.contents writer.old) (W.contents writer.new) (refused_line (command_word fault)))
+        ⊎ ((result ≡ 1) × (prefix : List ℕ) × (rest : List ℕ) × (refused_line (command_word fault) ≡ prefix ++ rest) × (rest ≢ [])
         × Appends (W.contents writer.old) (W.contents writer.new) prefix) }
 {
-    match write_out(writer, refusal_line(fault)) {
+    let line = line_of(Refusal::Command(fault)).as_bytes();
+    match write_out(writer, line) {
         Ok(()) => REFUSED,
         Err(_) => BROKEN,
     }
@@ -130,24 +130,14 @@ pub fn refuse_words_with_note<W: Write, N: Write>(
     fault: CommandFault,
     notes: &mut N,
 ) -> u8
-    ensures { ((result ≡ 2) × Appends (W.contents writer.old.inner) (W.contents writer.new.inner) (spec.refusal_line fault))
-        ⊎ ((result ≡ 1) × (prefix : List ℕ) × (rest : List ℕ) × (spec.refusal_line fault ≡ prefix ++ rest) × (rest ≢ [])
+    ensures { ((result ≡ 2) × Appends (W.contents writer.old.inner) (W.contents writer.new.inner) (refused_line (command_word fault)))
+        ⊎ ((result ≡ 1) × (prefix : List ℕ) × (rest : List ℕ) × (refused_line (command_word fault) ≡ prefix ++ rest) × (rest ≢ [])
         × Appends (W.contents writer.old.inner) (W.contents writer.new.inner) prefix) }
 {
     let status = refuse_words(writer, fault);
     write_words_note(fault, notes);
     write_output_note(writer.fault(), notes);
     status
-}
-
-/// Returns the line that says why there are no words.
-fn refusal_line(fault: CommandFault) -> &'static [u8]
-    ensures { result.now ≡ spec.refusal_line fault }
-{
-    match fault {
-        CommandFault::Usage => b"refused Usage\n".as_slice(),
-        CommandFault::Memory => b"refused Memory\n".as_slice(),
-    }
 }
 
 /// Returns the policy of a name. The choices are read whatever the name, so that who wrote a wrong word is told.
@@ -444,9 +434,10 @@ pub fn serve<T: Threads + Wait + Sync, R: BufRead, W: Write>(
     writer: &mut W,
 ) -> u8
     ensures range { result ≤ 3 }
-    // Status 0 comes only where the input was answered, or performed or run by threads to its end, or is the trace of a run, or with the
-    // word `--marks` the log of one of the lock table, or where a word asks for a text of help or for the version and nothing was read;
-    // and status 3 only where the input was performed and something is left to do, or is the trace or the log of no run.
+    // Status 0 comes only where the input was answered, or performed to its end, under one seed or each of many, or run by threads to its
+    // end, or is the trace of a run, or was drawn, or with the word `--marks` is the log of one of the lock table, or where a word asks for
+    // a text of help or for the version and nothing was read; and status 3 only where the input was performed and something is left to do,
+    // under one seed or some of many, or is the trace or the log of no run.
     ensures done { result ≡ 0
         → ((reader.new ≡ reader.old) × Any (λ word. IsHelpWord (string_bytes word)) words.now)
         ⊎ IsDone (map string_bytes words.now) (R.remaining reader.old) (R.remaining reader.new)
@@ -467,7 +458,8 @@ pub fn serve<T: Threads + Wait + Sync, R: BufRead, W: Write>(
 
 /// Does as [`serve`], and then writes a line for a person to `notes`, where something was refused, a text is no trace or a log is none,
 /// or a run ended with something left to do: what is wrong, where in what was read, and what would be right; and one for each option that
-/// says nothing, and one where `writer` failed, but for a pipe that nobody reads on. While many seeds take long, it writes there how far
+/// says nothing, where the policy `listed` has no choices, and where a finished run leaves names locked; and one where `writer` failed, but
+/// for a pipe that nobody reads on. While many seeds take long, it writes there how far
 /// it is. Each line begins with `ra: `. Nothing of it goes to `writer`, and it is left out where memory or `notes` fails, which changes
 /// nothing else. To find the place in a script it is read once more, for who waits for whom it is run once more, and for the mark that is
 /// due, or an ask or a release that is refused, the steps of a trace are made once more.

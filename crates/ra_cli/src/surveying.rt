@@ -26,7 +26,7 @@ fn all_finished(survey: &Survey) -> bool
 ///
 /// # Errors
 ///
-/// `Memory`.
+/// `Memory`: memory ran out.
 fn counted_of<O: Observer>(
     alloc: Global,
     script: &Script,
@@ -51,7 +51,7 @@ fn counted_of<O: Observer>(
 ///
 /// # Errors
 ///
-/// `Memory`.
+/// `Memory`: memory ran out.
 fn found_of<O: Observer>(
     alloc: Global,
     script: &Script,
@@ -85,7 +85,7 @@ fn none_is_good(ending: Ending) -> bool
 ///
 /// # Errors
 ///
-/// `Memory`.
+/// `Memory`: memory ran out.
 fn told_of<O: Observer>(
     alloc: Global,
     script: &Script,

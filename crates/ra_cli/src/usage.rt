@@ -1,9 +1,9 @@
 //! What the parser says of words that are no command line, on one line.
-use crate::command_line::has_word;
+use crate::command_line::{format_of, policy_name};
 use crate::command_rows::command;
 use crate::hints::is_given;
 use clap::error::ErrorKind;
-use clap::{Command, Error as ParseError};
+use clap::{ArgMatches, Command, Error as ParseError};
 use std::alloc::{AllocError, Global};
 
 /// What is said of faults that can't be.
@@ -115,16 +115,18 @@ fn error_text(alloc: Global, words: &[String], error: &ParseError) -> Result<Str
     said_text(alloc, words, said.as_str())
 }
 
-/// Returns what is said of words with which the parser finds nothing wrong.
-fn unseen_text(words: &[String]) -> &'static str {
-    if is_given(words, "--seeds") {
-        SEEDS_TEXT
-    } else if is_given(words, "--find") {
-        FIND_TEXT
-    } else if has_word(words, "--as-choices") {
+/// Returns what is said of words of the command `sim` with which the parser finds nothing wrong. The causes are looked for in the order in
+/// which a task is made of them.
+fn unseen_text(words: &[String], sim: &ArgMatches) -> &'static str {
+    let Some(policy) = policy_name(sim) else {
+        return FAULTS_TEXT;
+    };
+    if format_of(&policy, sim).is_none() {
         AS_CHOICES_TEXT
+    } else if is_given(words, "--seeds") {
+        SEEDS_TEXT
     } else {
-        FAULTS_TEXT
+        FIND_TEXT
     }
 }
 
@@ -134,7 +136,10 @@ pub fn usage_text<'a>(alloc: Global, words: &'a [String]) -> Result<String, Allo
     let command: Command<'a> = command(alloc)?;
     match command.try_get_matches_from(words) {
         // The parser finds nothing wrong with them, so it is what it does not look at.
-        Ok(_matches) => String::from_str(alloc, unseen_text(words)),
+        Ok(matches) => match matches.subcommand() {
+            Some((_, given)) => String::from_str(alloc, unseen_text(words, given)),
+            None => help_text(alloc, words),
+        },
         Err(error) => error_text(alloc, words, &error),
     }
 }

@@ -15,19 +15,20 @@ use crate::{Book, Gate, Grant, Post, Settled, Site, Stop};
 use ra_schedule::Script;
 use ra_stamp::Memory;
 use std::alloc::{AllocError, AllocFailed, Global};
-use std::fmt;
 use std::sync::{Mutex, Wait};
 use std::thread::Threads;
 use thiserror::Error;
 
 /// Why threads did not bring a script to its end. It prints as its name.
 #[derive(Clone, Copy, Debug, PartialEq, Eq, Error)]
+#[error("{:?}", self)]
 pub enum ClusterError {
     /// A client locks a name that is not above each name that it holds then.
     OutOfOrder,
     /// A client holds a name at its end.
     Unreleased,
     /// A node was stopped, for this cause.
+    #[error("Fault")]
     Fault(Stop),
     /// What the nodes wrote down is no run of the cluster, or not one in which each grant was given, and once.
     Settle,
@@ -39,15 +40,6 @@ pub enum ClusterError {
     UnderWay,
     /// Memory ran out.
     Memory,
-}
-
-impl fmt::Display for ClusterError {
-    fn fmt<W: fmt::Write>(&self, f: &mut fmt::Formatter<W>) -> fmt::Result {
-        match self {
-            ClusterError::Fault(_) => f.write_str("Fault"),
-            word => fmt::Debug::fmt(word, f),
-        }
-    }
 }
 
 impl From<Memory> for ClusterError {
@@ -82,7 +74,7 @@ impl From<Memory> for ClusterError {
 /// 5. `PlanUnmet`: the marks of a client are not those of its operations in order, or a client is queued.
 /// 6. `Lost`: a message was lost.
 /// 7. `UnderWay`: a message is under way.
-/// 8. `Memory`.
+/// 8. `Memory`: memory ran out.
 pub fn run_cluster<R: Threads + Wait + Sync, G: Gate>(
     rt: &R,
     alloc: Global,

@@ -4,15 +4,16 @@ use ra_frame::FrameError;
 use ra_node::AskError;
 use ra_stamp::Memory;
 use std::alloc::{AllocError, AllocFailed};
-use std::fmt;
 use thiserror::Error;
 
 /// Why an event was refused, in the order in which the causes are looked for.
 #[derive(Clone, Copy, Debug, PartialEq, Eq, Error)]
+#[error("{:?}", self)]
 pub enum BookError {
     /// The book has a fault.
     Failed,
     /// The bytes are no frame.
+    #[error(transparent)]
     Frame(FrameError),
     /// The client that asks waits, is queued or holds on that name here.
     Busy,
@@ -28,15 +29,6 @@ pub enum BookError {
     ClockFull,
     /// Memory ran out.
     Memory,
-}
-
-impl fmt::Display for BookError {
-    fn fmt<W: fmt::Write>(&self, f: &mut fmt::Formatter<W>) -> fmt::Result {
-        match self {
-            BookError::Frame(cause) => fmt::Display::fmt(cause, f),
-            word => fmt::Debug::fmt(word, f),
-        }
-    }
 }
 
 impl From<Memory> for BookError {
@@ -65,6 +57,7 @@ impl From<AskError> for BookError {
 
 /// Why a frame was not flagged as lost.
 #[derive(Clone, Copy, Debug, PartialEq, Eq, Error)]
+#[error("{:?}", self)]
 pub enum MarkLostError {
     /// It is not among the sent frames.
     NotSent,
@@ -72,14 +65,9 @@ pub enum MarkLostError {
     AlreadyLost,
 }
 
-impl fmt::Display for MarkLostError {
-    fn fmt<W: fmt::Write>(&self, f: &mut fmt::Formatter<W>) -> fmt::Result {
-        fmt::Debug::fmt(self, f)
-    }
-}
-
 /// Why books did not settle, in the order in which the causes are looked for.
 #[derive(Clone, Copy, Debug, PartialEq, Eq, Error)]
+#[error("{:?}", self)]
 pub enum SettleError {
     /// A frame came that is not among the frames that its sender sent and that were not lost.
     NotSent,
@@ -91,12 +79,6 @@ pub enum SettleError {
     GrantTwice,
     /// Memory ran out.
     Memory,
-}
-
-impl fmt::Display for SettleError {
-    fn fmt<W: fmt::Write>(&self, f: &mut fmt::Formatter<W>) -> fmt::Result {
-        fmt::Debug::fmt(self, f)
-    }
 }
 
 impl From<Memory> for SettleError {

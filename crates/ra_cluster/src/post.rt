@@ -7,23 +7,17 @@ use crossbeam_channel::{Receiver, unbounded};
 use ra_frame::{Frame, encode};
 use ra_stamp::{Memory, NodeId};
 use std::alloc::{AllocError, AllocFailed, Global};
-use std::fmt;
 use std::sync::{RwLock, Wait};
 use thiserror::Error;
 
 /// Why there is no post.
 #[derive(Clone, Copy, Debug, PartialEq, Eq, Error)]
+#[error("{:?}", self)]
 pub enum NewPostError {
     /// The number of nodes is not 1 to 64.
     BadCount,
     /// Memory ran out.
     Memory,
-}
-
-impl fmt::Display for NewPostError {
-    fn fmt<W: fmt::Write>(&self, f: &mut fmt::Formatter<W>) -> fmt::Result {
-        fmt::Debug::fmt(self, f)
-    }
 }
 
 impl From<AllocError> for NewPostError {
@@ -48,17 +42,12 @@ impl<T: Drop> From<AllocFailed<T>> for NewPostError {
 
 /// Why a frame was not sent.
 #[derive(Clone, Copy, Debug, PartialEq, Eq, Error)]
+#[error("{:?}", self)]
 pub enum SendError {
     /// The post is closed.
     Closed,
     /// There is no memory for it, or no inbox of its node, or the inbox is gone.
     Refused,
-}
-
-impl fmt::Display for SendError {
-    fn fmt<W: fmt::Write>(&self, f: &mut fmt::Formatter<W>) -> fmt::Result {
-        fmt::Debug::fmt(self, f)
-    }
 }
 
 /// Where the frames for one node come, each as its bytes.
@@ -76,14 +65,14 @@ pub struct Post {
 }
 
 impl Post {
-    /// Makes the post of this many nodes, and their inboxes in the order of the nodes.
+    /// Makes the post of this many nodes, and their inboxes in the order of the nodes, in time linear in these.
     ///
     /// # Errors
     ///
     /// The first that holds:
     ///
     /// 1. `BadCount`: the number of nodes is not 1 to 64.
-    /// 2. `Memory`.
+    /// 2. `Memory`: memory ran out.
     pub fn new(alloc: Global, nodes: u16) -> Result<(Post, Vec<Inbox>), NewPostError>
         ensures inboxes { IfOk result (λ made. vec_len made.1 ≡ nodes) }
         ensures bad_count { IsErrOf result NewPostError.BadCount ↔ (IsNodeNumber nodes → ⊥) }

@@ -120,7 +120,7 @@ fn settle_with(alloc: Global, books: &[Book], grants: &[Grant]) -> Result<Settle
 ///
 /// # Errors
 ///
-/// `Memory`.
+/// `Memory`: memory ran out.
 fn settle_books(alloc: Global, books: &[Book]) -> Result<Settled, SettleError>
     requires cluster { IsCluster books.now }
     requires fit { BooksFit books.now }

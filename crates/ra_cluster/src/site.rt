@@ -9,7 +9,6 @@ use crate::{Book, BookError, Gate, Grant, Inbox, NewError, Post, Posted, Stop};
 use ra_frame::Frame;
 use ra_stamp::{Entry, Mark, Memory, Mode, Name, NodeId};
 use std::alloc::Global;
-use std::fmt;
 use std::marker::Model;
 use std::sync::{Condvar, Mutex, Wait};
 use thiserror::Error;
@@ -21,18 +20,11 @@ use thiserror::Error;
 pub enum SiteError {
     /// The book of the node refused it, and is as before. Where the cause is `Failed` the node was stopped before; after any other one
     /// it goes on.
+    #[error(transparent)]
     Refused(BookError),
     /// The node is stopped, for this cause, and takes no call any more.
+    #[error(transparent)]
     Stopped(Stop),
-}
-
-impl fmt::Display for SiteError {
-    fn fmt<W: fmt::Write>(&self, f: &mut fmt::Formatter<W>) -> fmt::Result {
-        match self {
-            SiteError::Refused(cause) => fmt::Display::fmt(cause, f),
-            SiteError::Stopped(cause) => fmt::Display::fmt(cause, f),
-        }
-    }
 }
 
 /// A node that threads share: its number, and its book under a lock. Contracts see the number.

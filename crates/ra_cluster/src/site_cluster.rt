@@ -10,27 +10,19 @@ use crate::sites::make_sites;
 use crate::{Book, Gate, Grant, Inbox, NewPostError, Post, Site, SiteError, Stop};
 use ra_stamp::{Mode, Name, NodeId};
 use std::alloc::Global;
-use std::fmt;
 use std::marker::Model;
 use std::sync::Wait;
 use thiserror::Error;
 
 /// Why a call of a cluster did not do what it is for.
 #[derive(Clone, Copy, Debug, PartialEq, Eq, Error)]
+#[error("{:?}", self)]
 pub enum CallError {
     /// The cluster has no node with this number.
     NoNode,
     /// The call of the node's site did not.
+    #[error(transparent)]
     Site(SiteError),
-}
-
-impl fmt::Display for CallError {
-    fn fmt<W: fmt::Write>(&self, f: &mut fmt::Formatter<W>) -> fmt::Result {
-        match self {
-            CallError::Site(cause) => fmt::Display::fmt(cause, f),
-            word => fmt::Debug::fmt(word, f),
-        }
-    }
 }
 
 /// What a client did while it held a name, and how it gave the name back.
@@ -76,14 +68,14 @@ impl<G> Model for Cluster<G> {
 
 impl<G: Gate + Drop> Cluster<G> {
     /// Makes a cluster of this many nodes, in which nothing has happened yet. The highest number of each resource begins at
-    /// `start`, 0 to 2^64-1.
+    /// `start`, 0 to 2^64-1. The cost is linear in the number of nodes.
     ///
     /// # Errors
     ///
     /// The first that holds:
     ///
     /// 1. `BadCount`: the number of nodes is not 1 to 64.
-    /// 2. `Memory`.
+    /// 2. `Memory`: memory ran out.
     pub fn new(alloc: Global, nodes: u16, start: u64, gate: G) -> Result<Cluster<G>, NewPostError>
         ensures nodes { IfOk result (λ cluster. cluster.nodes ≡ nodes) }
         ensures start { IfOk result (λ cluster. cluster.start ≡ start) }
@@ -242,7 +234,7 @@ impl<G: Gate + Drop> Cluster<G> {
         }
     }
 
-    /// Stops each node for this cause, in turn from node 1 up, as [`Site::stop`] does.
+    /// Stops each node for this cause, in turn from node 1 up, as [`Site::stop`] does. The cost is linear in the number of nodes.
     pub fn stop<R: Wait>(&self, rt: &R, stop: Stop) {
         stop_all(rt, self.sites.as_slice(), stop);
     }
@@ -253,7 +245,7 @@ impl<G: Gate + Drop> Cluster<G> {
     }
 
     /// Gives up the cluster, and returns the books of its nodes in their order. They are a cluster, as [`settle`](crate::settle)
-    /// requires. It does not allocate.
+    /// requires. It does not allocate. The cost is linear in the number of nodes.
     pub fn close(self, alloc: Global) -> Vec<Book>
         ensures cluster { IsCluster result.items }
         ensures count { vec_len result ≡ self.nodes }

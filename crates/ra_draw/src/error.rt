@@ -4,11 +4,11 @@ ghost use Rattle.ra_draw.specs.declared.error.DrawError.TheVariants as draw;
 
 use ra_stamp::Memory;
 use ra_world::{ReadFault, WriteFault};
-use std::fmt;
 use thiserror::Error;
 
 /// Why no picture was drawn, in the order in which the causes are looked for.
 #[derive(Clone, Copy, Debug, PartialEq, Eq, Error)]
+#[error("{:?}", self)]
 pub enum DrawError {
     /// The reader failed.
     Read,
@@ -20,18 +20,6 @@ pub enum DrawError {
     Memory,
     /// The writer failed.
     Write,
-}
-
-impl fmt::Display for DrawError {
-    fn fmt<W: fmt::Write>(&self, f: &mut fmt::Formatter<W>) -> fmt::Result {
-        f.write_str(match self {
-            DrawError::Read => "Read",
-            DrawError::Limit => "Limit",
-            DrawError::TooLong => "TooLong",
-            DrawError::Memory => "Memory",
-            DrawError::Write => "Write",
-        })
-    }
 }
 
 impl From<ReadFault> for DrawError {

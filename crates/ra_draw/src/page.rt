@@ -1,6 +1,7 @@
 //! Where everything stands on the page. Lengths are in pixels, and none comes near its greatest: so they are added without a refusal.
 use crate::course::Course;
 use crate::stays::Stay;
+use indexmap::IndexMap;
 use ra_stamp::{Memory, NodeId};
 use std::alloc::Global;
 
@@ -47,30 +48,45 @@ struct Lane {
     x: u64,
     /// The columns of bars beside it, the nearest to it first.
     columns: Vec<Column>,
+    /// Which of them each client has, in order.
+    places: IndexMap<u32, Vec<u32>>,
 }
 
 impl Lane {
-    /// Returns the place of the first column that is free for a bar of this client from this row on, or of a new one.
-    fn place_for(&self, client: u32, first: u32) -> usize {
-        let mut place = 0;
-        for column in &self.columns {
-            if column.client == client && column.end <= first {
-                return place;
+    /// Returns the first column of a client that is free for a bar from this row on, or `None` where none is.
+    fn free_place(&self, client: u32, first: u32) -> Option<u32> {
+        for place in self.places.get(&client)? {
+            let column = self.columns.get(*place as usize)?;
+            if column.end <= first {
+                return Some(*place);
             }
-            place = usize::saturating_add(place, 1);
         }
-        place
+        None
     }
 
-    /// Takes a column for a bar of this client over these rows, and returns its place.
-    fn take(&mut self, client: u32, first: u32, last: u32) -> Result<u16, Memory> {
-        let place = self.place_for(client, first);
-        let taken = Column { client, end: last };
-        match self.columns.get_mut(place) {
-            Some(column) => *column = taken,
-            None => self.columns.push(taken)?,
+    /// Notes that a client has one column more.
+    fn note_place(&mut self, alloc: Global, client: u32, place: u32) -> Result<(), Memory> {
+        if !self.places.contains_key(&client) {
+            self.places.insert(client, Vec::new(alloc))?;
         }
-        Ok(short(place))
+        if let Some(places) = self.places.get_mut(&client) {
+            places.push(place)?;
+        }
+        Ok(())
+    }
+
+    /// Takes a column for a bar of this client over these rows, and returns which.
+    fn take(&mut self, alloc: Global, client: u32, first: u32, last: u32) -> Result<u32, Memory> {
+        if let Some(place) = self.free_place(client, first) {
+            if let Some(column) = self.columns.get_mut(place as usize) {
+                column.end = last;
+            }
+            return Ok(place);
+        }
+        let place = short(self.columns.len());
+        self.columns.push(Column { client, end: last })?;
+        self.note_place(alloc, client, place)?;
+        Ok(place)
     }
 
     /// Returns how wide its bars are, with what stands between them and it.
@@ -84,7 +100,7 @@ impl Lane {
 pub struct Bar {
     pub stay: Stay,
     /// The place of its column.
-    pub column: u16,
+    pub column: u32,
     /// The last row that it has, which is that after the part where it is not over.
     pub end: u32,
 }
@@ -105,7 +121,7 @@ impl Page {
     pub fn new(alloc: Global, course: &Course) -> Page {
         Page {
             nodes: course.nodes,
-            end: u32::from(short(course.rows.len())) + 1,
+            end: short(course.rows.len()).saturating_add(1),
             lanes: Vec::new(alloc),
             bars: Vec::new(alloc),
         }
@@ -115,7 +131,7 @@ impl Page {
     pub fn fill(&mut self, alloc: Global, stays: &[Stay]) -> Result<(), Memory> {
         self.open_lanes(alloc)?;
         for stay in stays {
-            self.add_bar(stay)?;
+            self.add_bar(alloc, stay)?;
         }
         self.place_lanes();
         Ok(())
@@ -127,13 +143,14 @@ impl Page {
             self.lanes.push(Lane {
                 x: 0,
                 columns: Vec::new(alloc),
+                places: IndexMap::new(alloc),
             })?;
         }
         Ok(())
     }
 
     /// Gives a stay a column beside its node, where it reaches into the part.
-    fn add_bar(&mut self, stay: &Stay) -> Result<(), Memory> {
+    fn add_bar(&mut self, alloc: Global, stay: &Stay) -> Result<(), Memory> {
         let end = match stay.left {
             Some(left) => left.row,
             None => self.end,
@@ -144,7 +161,7 @@ impl Page {
         let Some(lane) = self.lanes.get_mut(place_of(stay.seat.node)) else {
             return Ok(());
         };
-        let column = lane.take(stay.seat.client, stay.asked.row, end)?;
+        let column = lane.take(alloc, stay.seat.client, stay.asked.row, end)?;
         self.bars.push(Bar {
             stay: *stay,
             column,
@@ -224,7 +241,7 @@ impl Page {
     }
 
     /// Returns the left end of a column of a node.
-    pub fn column_x(&self, node: NodeId, column: u16) -> u64 {
+    pub fn column_x(&self, node: NodeId, column: u32) -> u64 {
         self.x(node)
             .saturating_sub(BESIDE + (u64::from(column) + 1) * COLUMN)
     }
@@ -244,9 +261,9 @@ impl Page {
     }
 }
 
-/// Returns a place as a short number: the part that is drawn has no more lines.
-fn short(place: usize) -> u16 {
-    u16::try_from(place).unwrap_or(u16::MAX)
+/// Returns a place as a short number: a trace has no more bytes.
+fn short(place: usize) -> u32 {
+    u32::try_from(place).unwrap_or(u32::MAX)
 }
 
 /// Returns the place of a node among the lanes.

@@ -77,7 +77,7 @@ impl Sheet {
         for column in page.columns(node) {
             let x = page.column_x(node, place).saturating_add(COLUMN / 2);
             self.name_client(x, column.client);
-            place = u16::saturating_add(place, 1);
+            place = u32::saturating_add(place, 1);
         }
     }
 

@@ -1,5 +1,6 @@
 //! What the marks before a line of a text say of one name.
-use crate::claim::{Claim, notes};
+use crate::claim::{Claim, note_mark};
+use crate::lines::{is_one_line, next_line};
 use crate::note::Note;
 use ra_stamp::{Entry, Mark, Name};
 use ra_trace::Line;
@@ -14,8 +15,6 @@ pub struct Before {
     /// The greatest number that was granted, and its line. Both are 0 where none was.
     pub granted: u64,
     pub granted_at: u64,
-    /// How many lines there are up to that line, with it.
-    lines: u64,
 }
 
 /// Returns the entry of a mark.
@@ -43,42 +42,38 @@ pub fn mark_in(text: &[u8]) -> Option<Mark> {
 
 /// Returns the last line before the one with the number `line` that is this mark, or 0 where none is.
 pub fn last_line_with(line: u64, text: &[u8], mark: &Mark) -> u64 {
-    let mut lines: u64 = 0;
     let mut last = 0;
-    let mut start = 0;
-    for (place, byte) in text.iter().enumerate() {
-        if *byte == b'\n' {
-            lines = lines.saturating_add(1);
-            if lines < line && mark_in(text.get(start..place).unwrap_or(b"")) == Some(*mark) {
-                last = lines;
-            }
-            start = place + 1;
+    let mut rest = text;
+    for number in 1..line {
+        let Some((shown, behind)) = next_line(rest) else {
+            break;
+        };
+        rest = behind;
+        if mark_in(shown) == Some(*mark) {
+            last = number;
         }
     }
     last
 }
 
 impl Before {
-    /// Takes a mark on the name.
-    fn take_mark(&mut self, note: &mut Note, mark: &Mark) {
-        let noted = notes(&mut self.claims, mark, self.lines);
+    /// Takes a mark on the name, which stands in the line with the number `line`.
+    fn take_mark(&mut self, note: &mut Note, line: u64, mark: &Mark) {
+        let noted = note_mark(&mut self.claims, mark, line);
         note.refuse_if(!noted);
         if let Mark::Entered(entry) = mark {
             if entry.stamp.seq > self.granted {
                 self.granted = entry.stamp.seq;
-                self.granted_at = self.lines;
+                self.granted_at = line;
             }
         }
     }
 
-    /// Takes the next line, which stands before the one with the number `line`.
-    fn take(&mut self, note: &mut Note, line: u64, text: &[u8]) {
-        self.lines = self.lines.saturating_add(1);
-        if self.lines < line {
-            if let Some(mark) = mark_in(text) {
-                if entry_of(&mark).name == self.name {
-                    self.take_mark(note, &mark);
-                }
+    /// Takes the line with the number `line`.
+    fn take(&mut self, note: &mut Note, line: u64, shown: &[u8]) {
+        if let Some(mark) = mark_in(shown) {
+            if entry_of(&mark).name == self.name {
+                self.take_mark(note, line, &mark);
             }
         }
     }
@@ -97,16 +92,14 @@ impl Before {
             claims: Vec::new(alloc),
             granted: 0,
             granted_at: 0,
-            lines: 0,
         };
-        let mut start = 0;
-        for (place, byte) in text.iter().enumerate() {
-            if *byte == b'\n' {
-                before.take(note, line, text.get(start..place).unwrap_or(b""));
-                start = place + 1;
-            }
+        let mut rest = text;
+        for number in 1..line {
+            let (shown, behind) = next_line(rest)?;
+            rest = behind;
+            before.take(note, number, shown);
         }
-        if before.lines == line {
+        if is_one_line(rest) {
             Some(before)
         } else {
             None

@@ -1,7 +1,7 @@
 //! Which choice of a list can't be made in a script.
 use crate::note::Note;
 use crate::script::{run_of, script_in};
-use crate::standing::Ending;
+use crate::standing::RunEnd;
 use ra_schedule::{Choice, Choices, Policy, Script};
 use ra_script::{ChoicesError, read_choices};
 use ra_stamp::Memory;
@@ -50,7 +50,7 @@ fn push_choice(note: &mut Note, choice: Choice) {
 }
 
 /// Adds why the choice of a client can't be made.
-fn push_client(note: &mut Note, ending: &Ending<'_>, client: u32) {
+fn push_client(note: &mut Note, ending: &RunEnd<'_>, client: u32) {
     let clients = ending.script.clients();
     if client >= 1 && client <= clients {
         note.client(client);
@@ -79,7 +79,7 @@ fn push_messages(note: &mut Note, count: u64) {
 }
 
 /// Adds why a choice can't be made where a run ends so.
-fn push_cause(note: &mut Note, ending: &Ending<'_>, choice: Choice) {
+fn push_cause(note: &mut Note, ending: &RunEnd<'_>, choice: Choice) {
     match choice {
         Choice::Client(client) => push_client(note, ending, client),
         _ => push_messages(
@@ -101,7 +101,7 @@ fn push_choice_at(alloc: Global, note: &mut Note, script: &Script, choices: &Cho
     note.push(", can't be made: ");
     let policy = first_of(alloc, note, choices, place);
     if let Some(summary) = run_of(alloc, note, script, &policy) {
-        let ending = Ending::new(alloc, note, script, &policy, &summary.report);
+        let ending = RunEnd::new(alloc, note, script, &policy, &summary.report);
         push_cause(note, &ending, choice);
     }
 }

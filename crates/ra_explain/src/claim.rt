@@ -33,7 +33,7 @@ fn place_of(claims: &[Claim], entry: &Entry) -> usize {
 }
 
 /// Notes the mark with this place, and returns whether there was memory for it.
-pub fn notes(claims: &mut Vec<Claim>, mark: &Mark, since: u64) -> bool {
+pub fn note_mark(claims: &mut Vec<Claim>, mark: &Mark, since: u64) -> bool {
     match mark {
         Mark::Requested(entry) => claims
             .push(Claim {
@@ -65,7 +65,7 @@ pub fn notes(claims: &mut Vec<Claim>, mark: &Mark, since: u64) -> bool {
 pub fn claims_after(alloc: Global, note: &mut Note, marks: &[Mark]) -> Vec<Claim> {
     let mut claims = Vec::new(alloc);
     for (before, mark) in marks.iter().enumerate() {
-        let noted = notes(&mut claims, mark, (before as u64).saturating_add(1));
+        let noted = note_mark(&mut claims, mark, (before as u64).saturating_add(1));
         note.refuse_if(!noted);
     }
     claims

@@ -1,4 +1,5 @@
 //! The run of a trace, as far as its lines go.
+use crate::lines::{is_one_line, next_line};
 use crate::note::Note;
 use ra_stamp::{Mark, Marks};
 use ra_trace::Line;
@@ -56,22 +57,19 @@ impl Course {
         }
     }
 
-    /// Takes the lines of a text before the one with the number `line`, and returns how many line feeds the text has.
-    fn follow(&mut self, alloc: Global, note: &mut Note, line: u64, text: &[u8]) -> u64 {
-        let mut lines: u64 = 0;
-        let mut start = 0;
-        for (place, byte) in text.iter().enumerate() {
-            if *byte == b'\n' {
-                lines = lines.saturating_add(1);
-                if lines < line
-                    && let Some(read) = Line::parse(text.get(start..place).unwrap_or(b""))
-                {
-                    self.take(alloc, note, &read);
-                }
-                start = place + 1;
+    /// Takes the lines of a text before the one with the number `line`, and returns whether one line feed stands behind them, at the end.
+    fn follow(&mut self, alloc: Global, note: &mut Note, line: u64, text: &[u8]) -> bool {
+        let mut rest = text;
+        for _ in 1..line {
+            let Some((shown, behind)) = next_line(rest) else {
+                return false;
+            };
+            rest = behind;
+            if let Some(read) = Line::parse(shown) {
+                self.take(alloc, note, &read);
             }
         }
-        lines
+        is_one_line(rest)
     }
 
     /// Returns the run before the line with the number `line` of a trace, or `None` where the text does not begin with the first line and end
@@ -83,8 +81,8 @@ impl Course {
             marks: Marks::new(alloc),
             come: 0,
         };
-        let lines = course.follow(alloc, note, line, text);
-        if lines == line && course.world.is_some() {
+        let goes_there = course.follow(alloc, note, line, text);
+        if goes_there && course.world.is_some() {
             Some(course)
         } else {
             None

@@ -1,6 +1,6 @@
 //! Which names a script leaves locked.
+use crate::held::{Lock, held_at_end};
 use crate::note::Note;
-use crate::order::{Lock, kept_at};
 use crate::script::script_in;
 use ra_schedule::Script;
 use ra_stamp::Memory;
@@ -10,15 +10,14 @@ use std::alloc::Global;
 const MOST: u64 = 4;
 
 /// Adds the names that a client holds at its end, after so many other clients, and returns of how many there is something to say then.
-fn push_kept(note: &mut Note, script: &Script, client: u32, clients: u64) -> u64 {
+fn push_kept(alloc: Global, note: &mut Note, script: &Script, client: u32, clients: u64) -> u64 {
+    let held = held_at_end(alloc, note, script, client);
     let mut names = 0;
-    for place in 0..script.ops_of(client).unwrap_or(0) {
-        if let Some(lock) = kept_at(script, client, place) {
-            if clients < MOST && names < MOST {
-                push_lock(note, client, &lock, clients, names);
-            }
-            names = u64::saturating_add(names, 1);
+    for lock in &held.locks {
+        if clients < MOST && names < MOST {
+            push_lock(note, client, lock, clients, names);
         }
+        names = u64::saturating_add(names, 1);
     }
     if clients < MOST {
         note.push_more(" and ", names, MOST);
@@ -44,16 +43,16 @@ fn push_lock(note: &mut Note, client: u32, lock: &Lock, clients: u64, names: u64
 }
 
 /// Adds which clients hold names at their ends.
-fn push_holders(note: &mut Note, script: &Script) {
+fn push_holders(alloc: Global, note: &mut Note, script: &Script) {
     let mut clients = 0;
     for place in 0..script.clients() {
-        clients = push_kept(note, script, place + 1, clients);
+        clients = push_kept(alloc, note, script, place + 1, clients);
     }
     note.push_more("; and ", clients, MOST);
 }
 
 /// Returns which names the clients of the script of a text hold at their ends; or `None` where they hold none. It is meant for a run that
-/// is finished.
+/// is finished. The cost is linear in the text, and the number of a client's operations times that of the names that it holds at once.
 ///
 /// # Errors
 ///
@@ -61,7 +60,7 @@ fn push_holders(note: &mut Note, script: &Script) {
 pub fn script_end_note(alloc: Global, script: &[u8]) -> Result<Option<String>, Memory> {
     let mut note = Note::new(alloc);
     if let Some(script) = script_in(alloc, &mut note, script) {
-        push_holders(&mut note, &script);
+        push_holders(alloc, &mut note, &script);
     }
     note.finish()
 }

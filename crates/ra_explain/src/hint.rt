@@ -36,7 +36,7 @@ const FIRST: &str =
     "a trace begins with trace, its version, 1 or 2, the number of its nodes, at most 16 in version 1 and 64 in version 2, and the number that each name begins with";
 
 /// What is said of a message without its kind.
-const KINDS: &str = "behind deliver, lose and repeat stands request or reply";
+const KINDS: &str = "after deliver, lose and repeat stands request or reply";
 
 /// The hints at the first line of a trace.
 pub const AT_FIRST: &[Hint] = &[

@@ -44,8 +44,7 @@ fn push_field(
     text: &[u8],
     version: Option<Version>,
 ) -> bool {
-    let is_right = field.may_be(alloc, note, text)
-        && (!matches!(version, Some(Version::One)) || field.may_be_in_version_1(text));
+    let is_right = field.may_be(alloc, note, text, version);
     if !is_right {
         push_wrong(note, field, text, version);
     }

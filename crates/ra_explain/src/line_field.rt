@@ -91,25 +91,34 @@ impl LineField {
         }
     }
 
-    /// Returns whether this may stand in it in version 2, as a line is read where all else is right. Where memory runs out the note keeps that.
-    pub fn may_be(self, alloc: Global, note: &mut Note, text: &[u8]) -> bool {
+    /// Returns whether this may stand in it in this version, or in version 2 where it is not known, as a line is read where all else is right.
+    /// Where memory runs out the note keeps that.
+    pub fn may_be(
+        self,
+        alloc: Global,
+        note: &mut Note,
+        text: &[u8],
+        version: Option<Version>,
+    ) -> bool {
         let (before, behind) = self.around();
         let mut line = Vec::new(alloc);
         let made = line.extend_from_slice(before.as_bytes()).is_ok()
             && line.extend_from_slice(text).is_ok()
             && line.extend_from_slice(behind.as_bytes()).is_ok();
         note.refuse_if(!made);
-        Line::parse(&line).is_some()
-    }
-
-    /// Returns whether what may stand in it may stand there in version 1 too.
-    pub fn may_be_in_version_1(self, text: &[u8]) -> bool {
-        match self {
-            LineField::Nodes | LineField::Node | LineField::From | LineField::To => {
-                matches!(text, [_] | [b'1', b'0'..=b'6'])
-            }
-            LineField::Mode => matches!(text, b"S" | b"X"),
-            _ => true,
+        match &Line::parse(&line) {
+            Some(read) => allows(version.unwrap_or(Version::Two), read),
+            None => false,
         }
+    }
+}
+
+/// Returns whether what stands in a line is in the ranges of a version.
+fn allows(version: Version, line: &Line) -> bool {
+    match line {
+        Line::First { nodes, .. } => version.has_node(*nodes),
+        Line::Marked(mark) => version.allows_mark(mark),
+        Line::Stepped(step) => version.allows_step(step),
+        Line::Last => true,
     }
 }

@@ -12,7 +12,7 @@ const MAX_LINE: usize = 128;
 
 /// What is said of a later line that begins with none of the words of a trace.
 const WORDS: &str =
-    "a line behind the first one of a trace begins with ask, release, deliver, lose, repeat, request, enter or leave, and the last one is end";
+    "a line after the first one of a trace begins with ask, release, deliver, lose, repeat, request, enter or leave, and the last one is end";
 
 /// What is said of a line that is not the first one of a trace.
 const NOT_FIRST: &str =

@@ -1,4 +1,5 @@
 //! Why a message is not under way at a line of a trace.
+use crate::lines::{is_one_line, next_line};
 use crate::note::Note;
 
 /// Returns the message of a line by which one is taken, or `None` for another line.
@@ -20,19 +21,16 @@ fn message_in(line: &[u8]) -> Option<&[u8]> {
 /// Returns the last line before the one with the number `line` in which a message is taken, or 0 where it is in none; or `None` where the text
 /// does not begin with the first line and end with that one.
 fn last_taken(line: u64, text: &[u8], message: &[u8]) -> Option<u64> {
-    let mut lines: u64 = 0;
     let mut taken = 0;
-    let mut start = 0;
-    for (place, byte) in text.iter().enumerate() {
-        if *byte == b'\n' {
-            lines = lines.saturating_add(1);
-            if lines < line && taken_in(text.get(start..place).unwrap_or(b"")) == Some(message) {
-                taken = lines;
-            }
-            start = place + 1;
+    let mut rest = text;
+    for number in 1..line {
+        let (shown, behind) = next_line(rest)?;
+        rest = behind;
+        if taken_in(shown) == Some(message) {
+            taken = number;
         }
     }
-    if lines == line { Some(taken) } else { None }
+    if is_one_line(rest) { Some(taken) } else { None }
 }
 
 /// Adds why the message that is to be taken or repeated in the line with the number `line` of a trace is not under way. Where that is not

@@ -151,8 +151,8 @@ fn claim_before(
 }
 
 /// Adds why the step that is the line with the number `line` of a trace is refused. Where that is not known it is `other`: it is known where
-/// the text begins with the first line and ends with that one, and memory does not run out. The cost is that of the steps before it, and
-/// the number of lines times that of the requests that wait and hold at once.
+/// the text begins with the first line and ends with that one. Where memory runs out the note keeps that. The cost is that of the steps
+/// before it, and the number of lines times that of the requests that wait and hold at once.
 pub fn push_refused(
     alloc: Global,
     note: &mut Note,
@@ -171,6 +171,9 @@ pub fn push_refused(
             let claim = claim_before(alloc, note, line, text, &wish);
             wish.push_refusal(note, why, &claim);
         }
-        StepError::NotUnderWay | StepError::Memory => note.push(other),
+        // No step of a client takes a message.
+        StepError::NotUnderWay => note.push(other),
+        // A step that is refused needs no memory, so this one is made where there is some.
+        StepError::Memory => note.refuse_if(true),
     }
 }

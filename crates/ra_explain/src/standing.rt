@@ -8,7 +8,7 @@ use std::alloc::Global;
 
 /// The end of a run.
 #[derive(Drop)]
-pub struct Ending<'a> {
+pub struct RunEnd<'a> {
     pub script: &'a Script,
     pub policy: &'a Policy,
     pub report: &'a Report,
@@ -86,7 +86,7 @@ fn waiting_of(claims: &[Claim], client: u32) -> Option<Entry> {
     None
 }
 
-impl<'a> Ending<'a> {
+impl<'a> RunEnd<'a> {
     /// Returns the end of a run of a script by a policy, of which this is the report. Where memory ran out the note keeps that.
     pub fn new(
         alloc: Global,
@@ -94,8 +94,8 @@ impl<'a> Ending<'a> {
         script: &'a Script,
         policy: &'a Policy,
         report: &'a Report,
-    ) -> Ending<'a> {
-        Ending {
+    ) -> RunEnd<'a> {
+        RunEnd {
             script,
             policy,
             report,

@@ -74,6 +74,7 @@ pub fn unanswered_note(
                 note.push(", and this is node ");
                 note.push(node);
             }
+            // It is not from this node: a frame from the node that it is for has a fault, and one for another node is not answered.
             Unanswered::Stranger => {
                 push_node(&mut note, ": the frame is from node ", digits, field);
                 note.push(", and the nodes are 1 to ");

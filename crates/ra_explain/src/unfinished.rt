@@ -2,7 +2,7 @@
 use crate::claim::Claim;
 use crate::note::Note;
 use crate::script::{run_of, script_in};
-use crate::standing::{Ending, Standing};
+use crate::standing::{RunEnd, Standing};
 use ra_schedule::{Policy, Script};
 use ra_stamp::{Entry, Memory, Name, NodeId};
 use ra_world::Report;
@@ -26,7 +26,7 @@ fn want_text(report: &Report) -> &'static str {
 }
 
 /// Adds that a claim is in the way.
-fn push_blocker(note: &mut Note, ending: &Ending<'_>, claim: &Claim) {
+fn push_blocker(note: &mut Note, ending: &RunEnd<'_>, claim: &Claim) {
     note.client(claim.entry.client);
     if claim.holds {
         if let Standing::Done = ending.standing(claim.entry.client) {
@@ -40,7 +40,7 @@ fn push_blocker(note: &mut Note, ending: &Ending<'_>, claim: &Claim) {
 }
 
 /// Adds what keeps a request out.
-fn push_blockers(note: &mut Note, ending: &Ending<'_>, entry: &Entry) {
+fn push_blockers(note: &mut Note, ending: &RunEnd<'_>, entry: &Entry) {
     let mut count = 0;
     for claim in &ending.claims {
         if claim.blocks(entry) {
@@ -85,7 +85,7 @@ fn push_first(note: &mut Note, claims: &[Claim], node: NodeId, name: &Name) {
 }
 
 /// Adds where a client stands that has something left to do.
-fn push_standing(note: &mut Note, ending: &Ending<'_>, client: u32, standing: &Standing) {
+fn push_standing(note: &mut Note, ending: &RunEnd<'_>, client: u32, standing: &Standing) {
     let Some(node) = ending.script.node_of(client) else {
         return;
     };
@@ -101,7 +101,7 @@ fn push_standing(note: &mut Note, ending: &Ending<'_>, client: u32, standing: &S
 }
 
 /// Adds what is left to do at the end of a run.
-fn push_ending(note: &mut Note, ending: &Ending<'_>) {
+fn push_ending(note: &mut Note, ending: &RunEnd<'_>) {
     note.push("the run ended with something left to do: ");
     let mut count = 0;
     for place in 0..ending.script.clients() {
@@ -128,7 +128,7 @@ fn push_run(alloc: Global, note: &mut Note, script: &Script, policy: &Policy) {
         return;
     };
     if !summary.finished {
-        let ending = Ending::new(alloc, note, script, policy, &summary.report);
+        let ending = RunEnd::new(alloc, note, script, policy, &summary.report);
         push_ending(note, &ending);
     }
 }

@@ -1,8 +1,8 @@
-use std::fmt;
 use thiserror::Error;
 
 /// Why bytes are not a frame: the first field, in their order, that is not all there or not in its range.
 #[derive(Clone, Copy, Debug, PartialEq, Eq, Error)]
+#[error("{:?}", self)]
 pub enum FrameError {
     /// A byte of the field is missing.
     Short,
@@ -28,10 +28,4 @@ pub enum FrameError {
     NameByte,
     /// Bytes follow the name.
     Trailing,
-}
-
-impl fmt::Display for FrameError {
-    fn fmt<W: fmt::Write>(&self, f: &mut fmt::Formatter<W>) -> fmt::Result {
-        fmt::Debug::fmt(self, f)
-    }
 }

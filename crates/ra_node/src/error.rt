@@ -3,11 +3,11 @@ ghost use Rattle.std.specs.Prelude.{◌≡◌};
 use ra_automaton::{LeaveError as LeaveRefusal, RequestError};
 use ra_stamp::Memory;
 use std::alloc::AllocFailed;
-use std::fmt;
 use thiserror::Error;
 
 /// Why a client may not ask.
 #[derive(Clone, Copy, Debug, PartialEq, Eq, Error)]
+#[error("{:?}", self)]
 pub enum AskError {
     /// The client waits, is queued or holds on that name at this node.
     Busy,
@@ -15,12 +15,6 @@ pub enum AskError {
     Exhausted,
     /// Memory ran out.
     Memory,
-}
-
-impl fmt::Display for AskError {
-    fn fmt<W: fmt::Write>(&self, f: &mut fmt::Formatter<W>) -> fmt::Result {
-        fmt::Debug::fmt(self, f)
-    }
 }
 
 impl From<Memory> for AskError {
@@ -60,17 +54,12 @@ impl From<RequestError> for AskError {
 
 /// Why a client did not leave.
 #[derive(Clone, Copy, Debug, PartialEq, Eq, Error)]
+#[error("{:?}", self)]
 pub enum LeaveError {
     /// The client does not hold the name at this node.
     NotHeld,
     /// Memory ran out.
     Memory,
-}
-
-impl fmt::Display for LeaveError {
-    fn fmt<W: fmt::Write>(&self, f: &mut fmt::Formatter<W>) -> fmt::Result {
-        fmt::Debug::fmt(self, f)
-    }
 }
 
 impl From<Memory> for LeaveError {

@@ -29,7 +29,7 @@ pub fn push_request(marks: &mut Marks, entry: &Entry, entered: bool)
 ///
 /// # Errors
 ///
-/// `Memory`.
+/// `Memory`: memory ran out.
 pub fn marks_for(alloc: Global, room: u64) -> Result<Marks, Memory>
     ensures { IfOk result (λ marks. (marks.items ≡ []) × (room ≤ marks.spare)) }
 {
@@ -42,7 +42,7 @@ pub fn marks_for(alloc: Global, room: u64) -> Result<Marks, Memory>
 ///
 /// # Errors
 ///
-/// `Memory`.
+/// `Memory`: memory ran out.
 pub fn marks_of_leave(alloc: Global, held: Entry) -> Result<Marks, Memory>
     ensures { IfOk result (λ marks. (marks.items ≡ Mark.Left held ∷ []) × (2 ≤ marks.spare)) }
 {

@@ -48,7 +48,7 @@ impl Slot {
     ///
     /// # Errors
     ///
-    /// `Memory`.
+    /// `Memory`: memory ran out.
     pub fn new(
         alloc: Global,
         me: NodeId,
@@ -212,7 +212,7 @@ impl Slot {
     /// The first that holds, after which the resource is as before:
     ///
     /// 1. `NotHeld`: the client does not hold.
-    /// 2. `Memory`.
+    /// 2. `Memory`: memory ran out.
     pub fn leave(&mut self, alloc: Global, client: u32) -> Result<Outcome, LeaveError>
         requires { AllPairs (λ a b. a ≢ b) (clients_of self.old) }
         ensures { MatchResult result

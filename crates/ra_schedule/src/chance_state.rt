@@ -30,7 +30,7 @@ impl Draws {
     ///
     /// # Errors
     ///
-    /// `Memory`.
+    /// `Memory`: memory ran out.
     pub fn of(
         alloc: Global,
         policy: &Policy,

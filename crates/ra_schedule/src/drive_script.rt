@@ -58,7 +58,7 @@ struct Driven {
 /// 1. `TurnLimit`: a choice is left after `limit` turns, also one that can't be made.
 /// 2. `BadPlace`: the choice names a client or a message that there is not.
 /// 3. `NotEnabled`: it names a client that has nothing left to do, waits, or would be refused.
-/// 4. `Memory`.
+/// 4. `Memory`: memory ran out.
 pub fn drive(
     alloc: Global,
     script: &Script,
@@ -186,7 +186,7 @@ fn drive_world(
 ///
 /// # Errors
 ///
-/// `Memory`.
+/// `Memory`: memory ran out.
 fn driven_of(
     alloc: Global,
     script: &Script,

@@ -40,7 +40,7 @@ impl Driver {
     ///
     /// # Errors
     ///
-    /// `Memory`.
+    /// `Memory`: memory ran out.
     pub fn open(
         alloc: Global,
         script: &Script,
@@ -201,7 +201,7 @@ impl Driver {
 ///
 /// # Errors
 ///
-/// `Memory`.
+/// `Memory`: memory ran out.
 fn keep_step(steps: &mut Steps, records: bool, step: &Step) -> Result<(), Memory>
     ensures { (moves : List Move) (move : Move) → move.step ≡ step.now → steps.old.items ≡ recorded records moves
         → OnOk result (steps.new.items ≡ recorded records (moves ++ move ∷ [])) }
@@ -228,7 +228,7 @@ pub fn place_in(choice: Choice) -> u64
 ///
 /// # Errors
 ///
-/// `Memory`.
+/// `Memory`: memory ran out.
 fn make(
     alloc: Global,
     world: &mut World,

@@ -25,7 +25,7 @@ impl Enabled {
     ///
     /// # Errors
     ///
-    /// `Memory`.
+    /// `Memory`: memory ran out.
     pub fn of(
         alloc: Global,
         script: &Script,

@@ -5,11 +5,11 @@ ghost use Rattle.ra_schedule.specs.declared.error.DriveError.TheVariants as driv
 
 use ra_stamp::Memory;
 use std::alloc::AllocFailed;
-use std::fmt;
 use thiserror::Error;
 
 /// Why there is no script.
 #[derive(Clone, Copy, Debug, PartialEq, Eq, Error)]
+#[error("{:?}", self)]
 pub enum NewScriptError {
     /// The number of nodes is not 1 to 64.
     Nodes,
@@ -17,14 +17,9 @@ pub enum NewScriptError {
     Memory,
 }
 
-impl fmt::Display for NewScriptError {
-    fn fmt<W: fmt::Write>(&self, f: &mut fmt::Formatter<W>) -> fmt::Result {
-        fmt::Debug::fmt(self, f)
-    }
-}
-
 /// Why a client was not added, in the order in which the causes are looked for.
 #[derive(Clone, Copy, Debug, PartialEq, Eq, Error)]
+#[error("{:?}", self)]
 pub enum AddClientError {
     /// There are 64 clients already, or the node is not 1 to the number of nodes.
     Clients,
@@ -32,14 +27,9 @@ pub enum AddClientError {
     Memory,
 }
 
-impl fmt::Display for AddClientError {
-    fn fmt<W: fmt::Write>(&self, f: &mut fmt::Formatter<W>) -> fmt::Result {
-        fmt::Debug::fmt(self, f)
-    }
-}
-
 /// Why an operation was not added, in the order in which the causes are looked for.
 #[derive(Clone, Copy, Debug, PartialEq, Eq, Error)]
+#[error("{:?}", self)]
 pub enum AddOpError {
     /// There is no client.
     Clients,
@@ -53,14 +43,9 @@ pub enum AddOpError {
     Memory,
 }
 
-impl fmt::Display for AddOpError {
-    fn fmt<W: fmt::Write>(&self, f: &mut fmt::Formatter<W>) -> fmt::Result {
-        fmt::Debug::fmt(self, f)
-    }
-}
-
 /// Why a script was not driven to an end, in the order in which the causes are looked for at each turn.
 #[derive(Clone, Copy, Debug, PartialEq, Eq, Error)]
+#[error("{:?}", self)]
 pub enum DriveError {
     /// A choice is left after as many turns as there may be.
     TurnLimit,
@@ -70,12 +55,6 @@ pub enum DriveError {
     NotEnabled,
     /// Memory ran out.
     Memory,
-}
-
-impl fmt::Display for DriveError {
-    fn fmt<W: fmt::Write>(&self, f: &mut fmt::Formatter<W>) -> fmt::Result {
-        fmt::Debug::fmt(self, f)
-    }
 }
 
 impl From<Memory> for DriveError {

@@ -34,7 +34,7 @@ fn is_end(ending: Ending, outcome: Outcome) -> bool
 ///
 /// # Errors
 ///
-/// `Memory`.
+/// `Memory`: memory ran out.
 fn ends_so<O: Observer>(
     alloc: Global,
     script: &Script,

@@ -34,7 +34,7 @@ fn choice_for(world: &MarklessWorld, step: &Step) -> Option<Choice> {
 ///
 /// # Errors
 ///
-/// `Memory`.
+/// `Memory`: memory ran out.
 fn push_choice(
     alloc: Global,
     world: &mut MarklessWorld,
@@ -57,7 +57,7 @@ fn push_choice(
 ///
 /// # Errors
 ///
-/// `Memory`.
+/// `Memory`: memory ran out.
 fn choices_for(alloc: Global, nodes: u16, steps: &Steps) -> Result<Choices, Memory> {
     let Ok(mut world) = MarklessWorld::new(alloc, nodes, 0) else {
         return Err(Memory);
@@ -97,7 +97,7 @@ fn are_same(one: &[Step], other: &[Step]) -> bool
 ///
 /// # Errors
 ///
-/// `Memory`.
+/// `Memory`: memory ran out.
 fn makes(alloc: Global, script: &Script, policy: &Policy, steps: &Steps) -> Result<bool, Memory>
     ensures { IfOk result (λ made. IsTrue made → (moves : List Move) × (steps_of moves ≡ steps.now.items)
         × Follows script.now policy.now moves × Ends script.now policy.now moves) }

@@ -1,7 +1,7 @@
 //! Who is told how it goes on with many seeds.
 use crate::Outcome;
 
-/// What watches the runs of a script under many seeds, as they take long.
+/// Is told of the run by each of many seeds, since all together may take long.
 pub trait Observer {
     /// Is called after the run of each seed, in their order, with what came of it.
     fn ended(&mut self, seed: u64, outcome: Outcome);

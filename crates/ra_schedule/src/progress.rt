@@ -21,7 +21,7 @@ pub struct Progress {
 ///
 /// # Errors
 ///
-/// `Memory`.
+/// `Memory`: memory ran out.
 pub fn opening_progress(alloc: Global, clients: u32) -> Result<Vec<Progress>, Memory>
     ensures { IfOk result (λ list. list.items ≡ replicate clients (record { done = 0; waiting = false })) }
 {

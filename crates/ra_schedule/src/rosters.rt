@@ -26,7 +26,7 @@ impl Model for Roster {
 ///
 /// # Errors
 ///
-/// `Memory`.
+/// `Memory`: memory ran out.
 fn roster_of(alloc: Global, script: &Script, node: u16) -> Result<Roster, Memory>
     ensures { IfOk result (λ roster. (client : ℕ) → node_of script.now client ≡ Some node → Contains roster client) }
 {
@@ -54,7 +54,7 @@ fn is_at(script: &Script, client: u32, node: u16) -> bool
 ///
 /// # Errors
 ///
-/// `Memory`.
+/// `Memory`: memory ran out.
 pub fn rosters_of(alloc: Global, script: &Script) -> Result<Vec<Roster>, Memory>
     ensures { IfOk result (λ rosters. AreRosters script.now rosters.items) }
 {

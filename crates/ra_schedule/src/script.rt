@@ -93,7 +93,7 @@ impl Script {
     /// The first that holds:
     ///
     /// 1. `Nodes`: the number of nodes is not 1 to 64.
-    /// 2. `Memory`.
+    /// 2. `Memory`: memory ran out.
     pub fn new(alloc: Global, nodes: u16) -> Result<Script, NewScriptError>
         ensures ok { IfOk result (λ script. script ≡ record { nodes = nodes; clients = [] }) }
         ensures nodes { IsErrOf result NewScriptError.Nodes ↔ (IsNodeNumber nodes → ⊥) }
@@ -117,7 +117,7 @@ impl Script {
     /// The first that holds, and the script is as before:
     ///
     /// 1. `Clients`: there are 64 clients, or the node is not 1 to the number of nodes.
-    /// 2. `Memory`.
+    /// 2. `Memory`: memory ran out.
     pub fn add_client(&mut self, alloc: Global, node: u16) -> Result<(), AddClientError>
         ensures ok { OnOk result (self.new ≡ with_client self.old node) }
         ensures clients { IsErrOf result AddClientError.Clients
@@ -148,7 +148,7 @@ impl Script {
     /// 2. `Limit`: the last client has 1,024 operations.
     /// 3. `NotHeld`: it unlocks a name that the client does not have then.
     /// 4. `AlreadyHeld`: it locks a name that the client has.
-    /// 5. `Memory`.
+    /// 5. `Memory`: memory ran out.
     pub fn add_op(&mut self, op: Op) -> Result<(), AddOpError>
         ensures ok { OnOk result (AddsOp self.old op self.new) }
         ensures clients { IsErrOf result AddOpError.Clients ↔ (self.old.clients ≡ []) }

@@ -23,7 +23,7 @@ pub fn chance(faults: Option<Faults>, seed: u64) -> Policy
 ///
 /// # Errors
 ///
-/// `Memory`.
+/// `Memory`: memory ran out.
 pub fn outcome_of(
     alloc: Global,
     script: &Script,

@@ -9,11 +9,11 @@ use ra_schedule::{AddClientError, AddOpError, DriveError, NewScriptError};
 use ra_stamp::Memory;
 use ra_world::{ReadFault, WriteFault};
 use std::alloc::AllocFailed;
-use std::fmt;
 use thiserror::Error;
 
 /// Why a text is not a script.
 #[derive(Clone, Copy, Debug, PartialEq, Eq, Error)]
+#[error("{:?}", self)]
 pub enum ScriptError {
     /// It is not UTF-8, or no TOML document.
     Toml,
@@ -35,14 +35,9 @@ pub enum ScriptError {
     Memory,
 }
 
-impl fmt::Display for ScriptError {
-    fn fmt<W: fmt::Write>(&self, f: &mut fmt::Formatter<W>) -> fmt::Result {
-        fmt::Debug::fmt(self, f)
-    }
-}
-
 /// Why a text is not a list of choices.
 #[derive(Clone, Copy, Debug, PartialEq, Eq, Error)]
+#[error("{:?}", self)]
 pub enum ChoicesError {
     /// A word is no choice, or there is not one space between two.
     Choice,
@@ -50,20 +45,17 @@ pub enum ChoicesError {
     Memory,
 }
 
-impl fmt::Display for ChoicesError {
-    fn fmt<W: fmt::Write>(&self, f: &mut fmt::Formatter<W>) -> fmt::Result {
-        fmt::Debug::fmt(self, f)
-    }
-}
-
 /// Why a script was not performed, in the order in which the causes are looked for.
 #[derive(Clone, Copy, Debug, PartialEq, Eq, Error)]
+#[error("{:?}", self)]
 pub enum PerformError {
     /// The reader failed.
     Read,
     /// What was read is not a script. It is never that memory ran out.
+    #[error(transparent)]
     Script(ScriptError),
     /// The policy could not go on. It is never that memory ran out.
+    #[error(transparent)]
     Drive(DriveError),
     /// The choices of the run are to be written, and no word stands for one of them.
     Choice,
@@ -71,16 +63,6 @@ pub enum PerformError {
     Memory,
     /// The writer failed.
     Write,
-}
-
-impl fmt::Display for PerformError {
-    fn fmt<W: fmt::Write>(&self, f: &mut fmt::Formatter<W>) -> fmt::Result {
-        match self {
-            PerformError::Script(cause) => fmt::Display::fmt(cause, f),
-            PerformError::Drive(cause) => fmt::Display::fmt(cause, f),
-            word => fmt::Debug::fmt(word, f),
-        }
-    }
 }
 
 impl From<NewScriptError> for ScriptError {

@@ -66,7 +66,11 @@ impl Note {
     /// Adds a text of the script in quotes, cut off where it is long.
     pub fn push_shown(&mut self, text: &str) {
         self.push("'");
-        for letter in text.chars().take(MAX_SHOWN) {
+        for (place, letter) in text.chars().enumerate() {
+            if place == MAX_SHOWN {
+                self.push("..");
+                break;
+            }
             self.push_letter(letter);
         }
         self.push("'");

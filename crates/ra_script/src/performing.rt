@@ -35,7 +35,7 @@ pub struct Printed {
 /// The first that holds, except that `Memory` may come before the other:
 ///
 /// 1. `Drive`: the policy can't go on.
-/// 2. `Memory`.
+/// 2. `Memory`: memory ran out.
 fn lines_of(alloc: Global, policy: &Policy, script: &Script) -> Result<Printed, PerformError>
     ensures ok { (input : List ℕ) → script_of input ≡ Ok script.now
         → IfOk result (λ printed. IsPerformedAs Format.Lines policy.now input (string_bytes printed.text) printed.finished) }
@@ -58,7 +58,7 @@ fn lines_of(alloc: Global, policy: &Policy, script: &Script) -> Result<Printed, 
 /// The first that holds, except that `Memory` may come before the other:
 ///
 /// 1. `Drive`: the policy can't go on.
-/// 2. `Memory`.
+/// 2. `Memory`: memory ran out.
 pub fn trace_of(alloc: Global, policy: &Policy, script: &Script) -> Result<Printed, PerformError>
     ensures ok { (input : List ℕ) → script_of input ≡ Ok script.now
         → IfOk result (λ printed. IsPerformedAs Format.Trace policy.now input (string_bytes printed.text) printed.finished) }
@@ -94,7 +94,7 @@ fn end_line(text: &mut String) -> Result<(), Memory>
 ///
 /// 1. `Drive`: the policy can't go on.
 /// 2. `Choice`: no word stands for one of the choices.
-/// 3. `Memory`.
+/// 3. `Memory`: memory ran out.
 fn choices_of(alloc: Global, policy: &Policy, script: &Script) -> Result<Printed, PerformError>
     ensures ok { (input : List ℕ) → script_of input ≡ Ok script.now
         → IfOk result (λ printed. IsPerformedAs Format.Choices policy.now input (string_bytes printed.text) printed.finished) }
@@ -128,7 +128,7 @@ fn choices_of(alloc: Global, policy: &Policy, script: &Script) -> Result<Printed
 /// 1. `Script`: the input is no script.
 /// 2. `Drive`: the policy can't go on.
 /// 3. `Choice`: the choices are to be written, and no word stands for one of them.
-/// 4. `Memory`.
+/// 4. `Memory`: memory ran out.
 fn make_printed(
     alloc: Global,
     format: Format,

@@ -59,7 +59,7 @@ fn tree_of(alloc: Global, text: &[u8]) -> Result<Table, ScriptError>
 /// 1. `Op`: the string is no operation.
 /// 2. `NotHeld`: it unlocks a name that the client does not have then.
 /// 3. `AlreadyHeld`: it locks a name that the client has.
-/// 4. `Memory`.
+/// 4. `Memory`: memory ran out.
 pub fn add_op(script: &mut Script, string: &str) -> Result<(), ScriptError>
     ensures ok { OnOk result ((base : ScriptState) (node : ℕ) (done : List Op)
         → script.old ≡ spec.with_last base (record { node = node; ops = done }) → length done < 1024
@@ -85,7 +85,7 @@ pub fn add_op(script: &mut Script, string: &str) -> Result<(), ScriptError>
 ///
 /// 1. `Limit`: there are more than 1,024 operations.
 /// 2. For the first operation that is refused, `Op`, `NotHeld` or `AlreadyHeld`, as at `add_op`.
-/// 3. `Memory`.
+/// 3. `Memory`: memory ran out.
 fn add_client(
     alloc: Global,
     script: &mut Script,
@@ -141,7 +141,7 @@ fn are_at_nodes(nodes: u16, clients: &[ClientRef<'_>]) -> bool
 /// 1. `Nodes`: the number of nodes is not 1 to 64.
 /// 2. `Clients`: there are not 1 to 64 clients, or one is at none of the nodes.
 /// 3. For the first client that is refused, `Limit`, `Op`, `NotHeld` or `AlreadyHeld`, as at `add_client`.
-/// 4. `Memory`.
+/// 4. `Memory`: memory ran out.
 fn script_in(alloc: Global, document: &DocumentRef<'_>) -> Result<Script, ScriptError>
     ensures ok { IfOk result (λ script. spec.script_in (shown document.now) ≡ Ok script) }
     ensures err { IfErr result (IsRefusal (spec.script_in (shown document.now))) }

@@ -1,10 +1,10 @@
 use ra_stamp::Memory;
 use std::alloc::AllocError;
-use std::fmt;
 use thiserror::Error;
 
 /// Why a request was refused.
 #[derive(Clone, Copy, Debug, PartialEq, Eq, Error)]
+#[error("{:?}", self)]
 pub enum RequestError {
     /// The entry's node waits or holds on its name.
     NodeBusy,
@@ -12,12 +12,6 @@ pub enum RequestError {
     NotAbove,
     /// Memory ran out.
     Memory,
-}
-
-impl fmt::Display for RequestError {
-    fn fmt<W: fmt::Write>(&self, f: &mut fmt::Formatter<W>) -> fmt::Result {
-        fmt::Debug::fmt(self, f)
-    }
 }
 
 impl From<Memory> for RequestError {
@@ -33,6 +27,7 @@ impl From<Memory> for RequestError {
 
 /// Why an entry was not granted.
 #[derive(Clone, Copy, Debug, PartialEq, Eq, Error)]
+#[error("{:?}", self)]
 pub enum EnterError {
     /// The entry does not wait.
     NotWaiting,
@@ -42,12 +37,6 @@ pub enum EnterError {
     Earlier,
     /// Memory ran out.
     Memory,
-}
-
-impl fmt::Display for EnterError {
-    fn fmt<W: fmt::Write>(&self, f: &mut fmt::Formatter<W>) -> fmt::Result {
-        fmt::Debug::fmt(self, f)
-    }
 }
 
 impl From<AllocError> for EnterError {
@@ -74,13 +63,8 @@ impl From<Memory> for EnterError {
 
 /// Why an entry was not given back.
 #[derive(Clone, Copy, Debug, PartialEq, Eq, Error)]
+#[error("{:?}", self)]
 pub enum LeaveError {
     /// The entry does not hold.
     NotHeld,
-}
-
-impl fmt::Display for LeaveError {
-    fn fmt<W: fmt::Write>(&self, f: &mut fmt::Formatter<W>) -> fmt::Result {
-        fmt::Debug::fmt(self, f)
-    }
 }

@@ -71,7 +71,7 @@ impl Table {
     ///
     /// 1. `NodeBusy`: its node waits or holds on its name.
     /// 2. `NotAbove`: its number is not above the number of each entry granted so far on its name.
-    /// 3. `Memory`.
+    /// 3. `Memory`: memory ran out.
     ///
     /// In each case the table is as before.
     pub fn request(&mut self, entry: Entry) -> Result<(), RequestError>
@@ -99,7 +99,7 @@ impl Table {
     /// 1. `NotWaiting`: it does not wait.
     /// 2. `Held`: a conflicting entry on its name holds.
     /// 3. `Earlier`: a conflicting entry on its name with an earlier stamp waits.
-    /// 4. `Memory`.
+    /// 4. `Memory`: memory ran out.
     ///
     /// In each case the table is as before.
     pub fn enter(&mut self, entry: &Entry) -> Result<(), EnterError>

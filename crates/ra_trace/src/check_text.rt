@@ -88,7 +88,7 @@ fn take_first<R: Read, S: LineSource<R>>(
 ///
 /// # Errors
 ///
-/// `Memory`.
+/// `Memory`: memory ran out.
 fn judge(alloc: Global, checker: &mut Checker, line: &Line) -> Result<Next, TraceError>
     ensures { Judged checker.old line.now checker.new result }
 {

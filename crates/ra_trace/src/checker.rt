@@ -41,7 +41,7 @@ impl Checker {
     ///
     /// # Errors
     ///
-    /// `Memory`.
+    /// `Memory`: memory ran out.
     pub fn behind_first(alloc: Global, line: &Line) -> Result<Option<Checker>, TraceError>
         ensures some { IfOk result (λ opened.
             IfSome opened (λ checker. IsReadable line.now → StandsBehind checker (line.now ∷ []))) }
@@ -72,7 +72,7 @@ impl Checker {
     ///
     /// # Errors
     ///
-    /// `Memory`.
+    /// `Memory`: memory ran out.
     fn opening(
         alloc: Global,
         version: Version,
@@ -108,7 +108,7 @@ impl Checker {
     ///
     /// # Errors
     ///
-    /// `Memory`.
+    /// `Memory`: memory ran out.
     pub fn take(&mut self, alloc: Global, line: &Line) -> Result<Option<Cause>, TraceError>
         ensures { Tried self.old line.now self.new result }
     {
@@ -158,7 +158,7 @@ impl Checker {
     ///
     /// # Errors
     ///
-    /// `Memory`.
+    /// `Memory`: memory ran out.
     fn take_step(&mut self, alloc: Global, step: &Step) -> Result<Option<Cause>, TraceError>
         ensures { Tried self.old (Line.Stepped step.now) self.new result }
     {
@@ -185,7 +185,7 @@ impl Checker {
     ///
     /// # Errors
     ///
-    /// `Memory`.
+    /// `Memory`: memory ran out.
     fn take_mark(&mut self, mark: &Mark) -> Result<Option<Cause>, TraceError>
         ensures { Tried self.old (Line.Marked mark.now) self.new result }
     {

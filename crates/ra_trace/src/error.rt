@@ -5,11 +5,11 @@ ghost use Rattle.ra_trace.specs.declared.error.WriteTraceError.TheVariants as wr
 use ra_stamp::Memory;
 use ra_world::{RunError, WriteFault};
 use std::alloc::AllocError;
-use std::fmt;
 use thiserror::Error;
 
 /// Why a text was not checked.
 #[derive(Clone, Copy, Debug, PartialEq, Eq, Error)]
+#[error("{:?}", self)]
 pub enum TraceError {
     /// The reader failed.
     Read,
@@ -19,30 +19,17 @@ pub enum TraceError {
     Memory,
 }
 
-impl fmt::Display for TraceError {
-    fn fmt<W: fmt::Write>(&self, f: &mut fmt::Formatter<W>) -> fmt::Result {
-        fmt::Debug::fmt(self, f)
-    }
-}
-
 /// Why a trace was not written.
 #[derive(Clone, Copy, Debug, PartialEq, Eq, Error)]
+#[error("{:?}", self)]
 pub enum WriteTraceError {
     /// The steps are not a run: the number of nodes is not 1 to 64, or a step is refused. Never that memory ran out.
+    #[error(transparent)]
     Run(RunError),
     /// Memory ran out.
     Memory,
     /// The writer failed or took nothing, with bytes left to write.
     Write,
-}
-
-impl fmt::Display for WriteTraceError {
-    fn fmt<W: fmt::Write>(&self, f: &mut fmt::Formatter<W>) -> fmt::Result {
-        match self {
-            WriteTraceError::Run(cause) => fmt::Display::fmt(cause, f),
-            word => fmt::Debug::fmt(word, f),
-        }
-    }
 }
 
 impl From<Memory> for TraceError {

@@ -46,7 +46,7 @@ impl Log {
     ///
     /// # Errors
     ///
-    /// `Memory`.
+    /// `Memory`: memory ran out.
     fn new(alloc: Global) -> Result<Log, TraceError>
         ensures ok { IfOk result IsNewLog }
         ensures err { IfErr result (λ fault. fault ≡ TraceError.Memory) }
@@ -77,7 +77,7 @@ impl Log {
     ///
     /// # Errors
     ///
-    /// `Memory`.
+    /// `Memory`: memory ran out.
     fn take(&mut self, mark: &Mark) -> Result<NextMark, TraceError>
         requires requests { self.old.requests < 16777217 }
         requires grants { self.old.grants < 16777217 }
@@ -96,7 +96,7 @@ impl Log {
     ///
     /// # Errors
     ///
-    /// `Memory`.
+    /// `Memory`: memory ran out.
     fn take_line(&mut self, line: &Line) -> Result<NextMark, TraceError>
         requires requests { self.old.requests < 16777217 }
         requires grants { self.old.grants < 16777217 }

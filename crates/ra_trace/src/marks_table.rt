@@ -11,7 +11,7 @@ use ra_table::{EnterError, LeaveError, RequestError, Table, steps_exist_where_th
 ///
 /// # Errors
 ///
-/// `Memory`.
+/// `Memory`: memory ran out.
 fn request(table: &mut Table, entry: &Entry) -> Result<Option<MarkCause>, TraceError>
     ensures { TriesMark table.old (Mark.Requested entry.now) table.new result }
 {
@@ -28,7 +28,7 @@ fn request(table: &mut Table, entry: &Entry) -> Result<Option<MarkCause>, TraceE
 ///
 /// # Errors
 ///
-/// `Memory`.
+/// `Memory`: memory ran out.
 fn enter(table: &mut Table, entry: &Entry) -> Result<Option<MarkCause>, TraceError>
     ensures { TriesMark table.old (Mark.Entered entry.now) table.new result }
 {
@@ -56,7 +56,7 @@ fn leave(table: &mut Table, entry: &Entry) -> Option<MarkCause>
 ///
 /// # Errors
 ///
-/// `Memory`.
+/// `Memory`: memory ran out.
 pub fn try_mark(table: &mut Table, mark: &Mark) -> Result<Option<MarkCause>, TraceError>
     ensures { TriesMark table.old mark.now table.new result }
 {

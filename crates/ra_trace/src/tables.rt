@@ -23,7 +23,7 @@ pub fn allows(table: &Table, mark: &Mark) -> bool
 ///
 /// # Errors
 ///
-/// `Memory`.
+/// `Memory`: memory ran out.
 pub fn step_table(table: &mut Table, mark: &Mark) -> Result<bool, TraceError>
     ensures made { IfOk result (λ allowed. IsTrue allowed → TableStep table.old mark.now table.new) }
     ensures refused { IfOk result (λ allowed. allowed ≡ false → AllowsMark table.old mark.now → ⊥) }

@@ -1,8 +1,8 @@
-use std::fmt;
 use thiserror::Error;
 
 /// Why a line of a trace is wrong.
 #[derive(Clone, Copy, Debug, PartialEq, Eq, Error)]
+#[error("{:?}", self)]
 pub enum Cause {
     /// It has none of the forms of a line of the trace's version, each field in its range, or no line feed, or stands where it
     /// may not: the first line is another one or stands again, or something is left behind the last one.
@@ -15,12 +15,6 @@ pub enum Cause {
     Marks,
     /// The lock table refuses the mark.
     Table,
-}
-
-impl fmt::Display for Cause {
-    fn fmt<W: fmt::Write>(&self, f: &mut fmt::Formatter<W>) -> fmt::Result {
-        fmt::Debug::fmt(self, f)
-    }
 }
 
 /// What a checker says of a text.

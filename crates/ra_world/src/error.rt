@@ -7,11 +7,11 @@ ghost use Rattle.ra_world.specs.declared.error.ReadFault.TheVariants as read;
 use ra_node::{AskError, LeaveError};
 use ra_stamp::Memory;
 use std::alloc::{AllocError, AllocFailed};
-use std::fmt;
 use thiserror::Error;
 
 /// Why there is no world.
 #[derive(Clone, Copy, Debug, PartialEq, Eq, Error)]
+#[error("{:?}", self)]
 pub enum NewError {
     /// The number of nodes is not 1 to 64.
     BadCount,
@@ -19,14 +19,9 @@ pub enum NewError {
     Memory,
 }
 
-impl fmt::Display for NewError {
-    fn fmt<W: fmt::Write>(&self, f: &mut fmt::Formatter<W>) -> fmt::Result {
-        fmt::Debug::fmt(self, f)
-    }
-}
-
 /// Why a node refuses what its client wants.
 #[derive(Clone, Copy, Debug, PartialEq, Eq, Error)]
+#[error("{:?}", self)]
 pub enum NodeRefusal {
     /// The client that asks waits, is queued or holds on that name at this node.
     Busy,
@@ -36,40 +31,29 @@ pub enum NodeRefusal {
     NotHeld,
 }
 
-impl fmt::Display for NodeRefusal {
-    fn fmt<W: fmt::Write>(&self, f: &mut fmt::Formatter<W>) -> fmt::Result {
-        fmt::Debug::fmt(self, f)
-    }
-}
-
 /// Why a step was not made, in the order in which the causes are looked for.
 #[derive(Clone, Copy, Debug, PartialEq, Eq, Error)]
+#[error("{:?}", self)]
 pub enum StepError {
     /// An ask or a leave is at a node above the number of nodes.
     NoNode,
     /// A message that is to be delivered, lost or repeated is not under way.
     NotUnderWay,
     /// The node refuses it.
+    #[error(transparent)]
     Node(NodeRefusal),
     /// Memory ran out.
     Memory,
 }
 
-impl fmt::Display for StepError {
-    fn fmt<W: fmt::Write>(&self, f: &mut fmt::Formatter<W>) -> fmt::Result {
-        match self {
-            StepError::Node(cause) => fmt::Display::fmt(cause, f),
-            word => fmt::Debug::fmt(word, f),
-        }
-    }
-}
-
 /// Why a list of steps gave no report.
 #[derive(Clone, Copy, Debug, PartialEq, Eq, Error)]
+#[error("{:?}", self)]
 pub enum RunError {
     /// The number of nodes is not 1 to 64.
     BadCount,
     /// A step was refused, the first one that is: its place in the list, counted from 1, and the cause.
+    #[error("{cause}")]
     Refused {
         /// The place, 1 or more.
         place: u64,
@@ -80,17 +64,9 @@ pub enum RunError {
     Memory,
 }
 
-impl fmt::Display for RunError {
-    fn fmt<W: fmt::Write>(&self, f: &mut fmt::Formatter<W>) -> fmt::Result {
-        match self {
-            RunError::Refused { cause, .. } => fmt::Display::fmt(cause, f),
-            word => fmt::Debug::fmt(word, f),
-        }
-    }
-}
-
 /// Why an input was not read.
 #[derive(Clone, Copy, Debug, PartialEq, Eq, Error)]
+#[error("{:?}", self)]
 pub enum ReadFault {
     /// The reader failed.
     Read,
@@ -98,21 +74,10 @@ pub enum ReadFault {
     Memory,
 }
 
-impl fmt::Display for ReadFault {
-    fn fmt<W: fmt::Write>(&self, f: &mut fmt::Formatter<W>) -> fmt::Result {
-        fmt::Debug::fmt(self, f)
-    }
-}
-
 /// The writer failed, or took nothing.
 #[derive(Clone, Copy, Debug, PartialEq, Eq, Error)]
+#[error("Write")]
 pub struct WriteFault;
-
-impl fmt::Display for WriteFault {
-    fn fmt<W: fmt::Write>(&self, f: &mut fmt::Formatter<W>) -> fmt::Result {
-        f.write_str("Write")
-    }
-}
 
 impl From<AllocError> for ReadFault {
     ghost from_gives = { λ _ e. e ≡ read.Memory };

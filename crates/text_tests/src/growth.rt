@@ -283,3 +283,22 @@ fn try_refused(alloc: Global) -> Result<Tried, bool> {
 fn growth_of_what_is_said_of_an_ask(rt: HostRuntime) {
     end(&rt, again(try_refused(rt.alloc()), try_refused(rt.alloc())));
 }
+
+/// Says of a step that is made that it is not refused.
+fn try_made(alloc: Global) -> Result<Tried, bool> {
+    let said = line_note(
+        alloc,
+        Some(Version::Two),
+        2,
+        b"trace 2 2 0\nask 1 1 r X\n",
+        2,
+        LineCause::Trace(Cause::Refused),
+        "said of all",
+    );
+    try_note(said, "line 2, 'ask 1 1 r X': said of all")
+}
+
+#[test]
+fn growth_of_what_is_said_of_a_step_that_is_made(rt: HostRuntime) {
+    end(&rt, again(try_made(rt.alloc()), try_made(rt.alloc())));
+}

@@ -1,6 +1,6 @@
 //! Pictures of traces: what stands in them, in words, and when there is none.
 use crate::helpers::Part::{Text, Times};
-use crate::helpers::{ONE_LOCK, TWO_LOCKS, assert_rows, failing, text_of};
+use crate::helpers::{ONE_LOCK, TWO_LOCKS, assert_rows, failing, printed, text_of};
 use ra_draw::{DrawError, Part, draw};
 use ra_trace::{Cause, Verdict};
 use std::alloc::Global;
@@ -298,4 +298,18 @@ fn a_writer_that_fails_is_a_fault(rt: HostRuntime) {
     assert!(rt; result == Err(DrawError::Write));
     assert!(rt; writer.left == b"lns=".as_slice());
     assert!(rt; !writer.differs);
+}
+
+/// Why no picture is drawn, and the word of it.
+const FAULTS: &[(DrawError, &str)] = &[
+    (DrawError::Read, "Read"),
+    (DrawError::Limit, "Limit"),
+    (DrawError::TooLong, "TooLong"),
+    (DrawError::Memory, "Memory"),
+    (DrawError::Write, "Write"),
+];
+
+#[test]
+fn refusals_of_pictures_print_as_their_words(rt: HostRuntime) {
+    assert_rows(&rt, printed(rt.alloc(), FAULTS), FAULTS.len());
 }

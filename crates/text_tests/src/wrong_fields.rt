@@ -105,12 +105,12 @@ const TRACE_LINES: &[(&str, u64, &str)] = &[
     (
         "trace 2 2 0\ndeliver 1 2 r X 1\n",
         2,
-        "line 2, 'deliver 1 2 r X 1': behind deliver, lose and repeat stands request or reply",
+        "line 2, 'deliver 1 2 r X 1': after deliver, lose and repeat stands request or reply",
     ),
     (
         "trace 2 2 0\nlock 1 1 r X\n",
         2,
-        "line 2, 'lock 1 1 r X': a line behind the first one of a trace begins with ask, release, deliver, lose, repeat, request, enter or leave, and the last one is end",
+        "line 2, 'lock 1 1 r X': a line after the first one of a trace begins with ask, release, deliver, lose, repeat, request, enter or leave, and the last one is end",
     ),
     // The ranges of version 1.
     (

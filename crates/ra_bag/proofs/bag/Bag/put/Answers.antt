@@ -13,10 +13,12 @@ invariant_of-self-2 c =
     let ms = c.args.messages.now in
     let slots : c.append.new.slots.items ≡ w.slots.items ++ map Some ms = search rules in
     let len : length w.slots.items ≡ c.len.result = search rules in
+    let kept : c.make_room.new.slots.items ≡ w.slots.items = search rules in
+    let told = subst (λ (l : List (Option Message)). IsTold eq-value.it c.learn_if_wanted.new.self l) kept c.learn_if_wanted.ensures in
     subst (λ (l : List (Option Message)). HasEmpty l w.empty × FewEmpty l w.empty × IsTold eq-value.it c.follow.new.self l) (sym slots) (
       count_behind w.slots.items ms w.empty c.self.invariant.0,
       few_behind w.slots.items ms w.empty c.self.invariant.1,
-      c.follow.ensures w.slots.items len c.self.invariant.2,
+      c.follow.ensures w.slots.items len told,
     )
 
 pub returns-clause-ok : goal.returns-clause-ok
