@@ -20,7 +20,7 @@ client = [{ node = 1, ops = ["X r"] }, { node = 1, ops = ["S r", "U r"] }]
 "#;
 
 /// A reader that keeps a name, a writer, and a reader that asks after it.
-const A_KEEPER: &str = r#"nodes = 3
+pub const A_KEEPER: &str = r#"nodes = 3
 client = [
     { node = 1, ops = ["S r"] },
     { node = 2, ops = ["X r", "U r"] },

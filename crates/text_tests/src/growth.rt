@@ -1,10 +1,12 @@
 //! Each growth refused: the call answers `Memory`, writes nothing, and does what it should when it is made again.
 use crate::acts::one_lock;
-use crate::explained_runs::{A_DEADLOCK, DEADLOCK_NOTE};
+use crate::explained_runs::{A_DEADLOCK, A_KEEPER, DEADLOCK_NOTE};
 use crate::helpers::{ONE_LOCK, ONE_LOCK_SCRIPT, failing};
 use crate::mark_logs::TWO_WRITERS;
 use crate::performing::ONE_LOCK_LINES;
-use ra_explain::{LineCause, choices_note, line_note, unfinished_note};
+use ra_explain::{
+    LineCause, choices_note, line_note, order_note, script_end_note, unfinished_note,
+};
 use ra_schedule::Policy;
 use ra_script::{
     ChoicesError, PerformError, ScriptError, perform, perform_trace, read_choices, read_script,
@@ -301,4 +303,32 @@ fn try_made(alloc: Global) -> Result<Tried, bool> {
 #[test]
 fn growth_of_what_is_said_of_a_step_that_is_made(rt: HostRuntime) {
     end(&rt, again(try_made(rt.alloc()), try_made(rt.alloc())));
+}
+
+/// Says where a client locks names out of order.
+fn try_order(alloc: Global) -> Result<Tried, bool> {
+    let said = order_note(alloc, A_DEADLOCK.as_bytes());
+    try_note(
+        said,
+        "client 2, operation 2: it locks 'a' while it holds 'b', which is not below it, byte by byte, so that clients could wait for each other for ever: let all lock names in ascending order, or see by ra sim what comes of it",
+    )
+}
+
+#[test]
+fn growth_of_what_is_said_of_an_order(rt: HostRuntime) {
+    end(&rt, again(try_order(rt.alloc()), try_order(rt.alloc())));
+}
+
+/// Says which names a script leaves locked.
+fn try_kept(alloc: Global) -> Result<Tried, bool> {
+    let said = script_end_note(alloc, A_KEEPER.as_bytes());
+    try_note(
+        said,
+        "the run is finished, with names still locked: client 1 holds 'r' (S)",
+    )
+}
+
+#[test]
+fn growth_of_what_is_said_of_names_that_stay_locked(rt: HostRuntime) {
+    end(&rt, again(try_kept(rt.alloc()), try_kept(rt.alloc())));
 }
