@@ -1,12 +1,12 @@
 //! The messages under way, as a bag keeps them: what it does or shows, one step after the other.
 use crate::helpers::{assert_all, reply, request};
 use Step::{
-    Contains, Copies, CopiesAmong, CopiesNone, CopiesNumbers, Finds, Has, HasCount, HasNumbers,
-    Lacks, MakesRoom, Misses, Puts, PutsNumbers, RefusesRoom, Takes, TakesEqual, TakesEveryOther,
-    TakesNear, TakesNone, TakesTwice,
+    Contains, Copies, CopiesAmong, CopiesNone, CopiesNumbers, Finds, FindsAt, Has, HasCount,
+    HasNumbers, Lacks, MakesRoom, Misses, Puts, PutsNumbers, RefusesRoom, Takes, TakesEqual,
+    TakesEveryOther, TakesNear, TakesNone, TakesTwice,
 };
 use Wire::{Asks, Replies};
-use ra_bag::Bag;
+use ra_bag::{Bag, Found};
 use ra_stamp::{Memory, Message, Messages};
 use std::alloc::Global;
 use std::process::Abort;
@@ -29,43 +29,46 @@ const REPLIED: Wire = Replies(1);
 enum Step {
     /// These messages are put into it.
     Puts(&'static [Wire]),
-    /// So many requests are put into it, with the numbers from the first one given up.
+    /// As many requests as the second value are put into it, numbered from the first value up.
     PutsNumbers(u64, u64),
     /// A copy of the message is put after all others.
     Copies(Wire),
-    /// There is none to be copied.
+    /// There is no such message to copy.
     CopiesNone(Wire),
-    /// So many requests are copied, with the numbers from the first one given up.
+    /// As many requests as the second value are copied, numbered from the first value up.
     CopiesNumbers(u64, u64),
-    /// The request with the first number given is copied so many times, after nine others each time, whose numbers go on from the
-    /// second one.
+    /// The request with the first value as its number is copied as many times as the third value. Nine others are put
+    /// before each copy, numbered on from the second value.
     CopiesAmong(u64, u64, u64),
     /// The first message that is equal to this one is taken.
     Takes(Wire),
-    /// So many messages that are equal to this one are taken, one after the other.
+    /// This many messages that are equal to this one are taken, one after the other.
     TakesEqual(Wire, u64),
-    /// So many requests are taken, each twice, with the numbers from the first one given up.
+    /// As many requests as the second value are taken, each twice, numbered from the first value up.
     TakesTwice(u64, u64),
-    /// There is none to be taken.
+    /// There is no such message to take.
     TakesNone(Wire),
     /// The message is found near this place, and taken.
     TakesNear(Wire, u64),
-    /// So many requests are found, none near the place 0, and taken, with every other number from the first one given up.
+    /// As many requests as the second value are found, none near the place 0, and taken. They have every other number
+    /// from the first value up.
     TakesEveryOther(u64, u64),
-    /// The request with the first number is found in this slot, when another one stands at the place that is looked at first.
+    /// The request with this number is found in this slot, when another one is at the place that is looked at first.
     Finds(u64, u64),
+    /// The message is found at this place, which is looked at first.
+    FindsAt(Wire, u64),
     /// The message is not found near this place.
     Misses(Wire, u64),
-    /// Room is made for so many more.
+    /// Room is made for this many more.
     MakesRoom(u64),
-    /// There is no memory for so many more.
+    /// There is no memory for this many more.
     RefusesRoom(u64),
     /// These messages, and no others, are in it in this order.
     Has(&'static [Wire]),
-    /// So many messages are in it.
+    /// This many messages are in it.
     HasCount(u64),
-    /// From the first place given on, the requests are in it with the numbers from this one up, each so far from the one before,
-    /// and so many of them.
+    /// Requests are in it from this place on. The other values are the number of the first one, the distance from each
+    /// number to the next, and how many requests there are.
     HasNumbers(u64, u64, u64, u64),
     /// The message is in it.
     Contains(Wire),
@@ -97,7 +100,7 @@ fn puts(alloc: Global, bag: &mut Bag, items: &[Wire]) -> bool {
     adds(&mut list, items) && bag.put_all(&list).is_ok()
 }
 
-/// Returns whether so many requests were put into the bag, one by one.
+/// Returns whether this many requests were put into the bag, one by one.
 fn puts_numbers(alloc: Global, bag: &mut Bag, first: u64, count: u64) -> bool {
     let mut seq = first;
     for _ in 0..count {
@@ -114,7 +117,7 @@ fn copies(bag: &mut Bag, wire: Wire) -> bool {
     bag.again(&message(wire)) == Ok(true)
 }
 
-/// Returns whether so many requests were copied.
+/// Returns whether this many requests were copied.
 fn copies_numbers(bag: &mut Bag, first: u64, count: u64) -> bool {
     let mut seq = first;
     for _ in 0..count {
@@ -126,7 +129,7 @@ fn copies_numbers(bag: &mut Bag, first: u64, count: u64) -> bool {
     true
 }
 
-/// Returns whether a request was copied so many times, after nine others each time.
+/// Returns whether a request was copied this many times, after nine others each time.
 fn copies_among(alloc: Global, bag: &mut Bag, copied: u64, first: u64, count: u64) -> bool {
     let mut seq = first;
     for _ in 0..count {
@@ -143,7 +146,7 @@ fn takes(bag: &mut Bag, wire: Wire) -> bool {
     bag.take(&message(wire)) == Some(message(wire))
 }
 
-/// Returns whether so many messages that are equal to this one were taken.
+/// Returns whether this many messages that are equal to this one were taken.
 fn takes_equal(bag: &mut Bag, wire: Wire, count: u64) -> bool {
     for _ in 0..count {
         if !takes(bag, wire) {
@@ -153,7 +156,7 @@ fn takes_equal(bag: &mut Bag, wire: Wire, count: u64) -> bool {
     true
 }
 
-/// Returns whether so many requests were taken, each twice.
+/// Returns whether this many requests were taken, each twice.
 fn takes_twice(bag: &mut Bag, first: u64, count: u64) -> bool {
     let mut seq = first;
     for _ in 0..count {
@@ -167,14 +170,14 @@ fn takes_twice(bag: &mut Bag, first: u64, count: u64) -> bool {
 
 /// Returns whether a message was found, near this place, and taken.
 fn takes_near(bag: &mut Bag, message: &Message, near: u64) -> bool {
-    let Some(slot) = bag.find(message, near) else {
+    let Some(found) = bag.find(message, near) else {
         return false;
     };
-    bag.take_from(slot, message);
+    bag.take_from(found, message);
     true
 }
 
-/// Returns whether so many requests were found, none near the place 0, and taken.
+/// Returns whether this many requests were found, none near the place 0, and taken.
 fn takes_every_other(bag: &mut Bag, first: u64, count: u64) -> bool {
     let mut seq = first;
     for _ in 0..count {
@@ -191,7 +194,7 @@ fn is_at(bag: &Bag, place: u64, wire: Wire) -> bool {
     bag.at(place) == Some(message(wire))
 }
 
-/// Returns whether so many messages are in the bag.
+/// Returns whether this many messages are in the bag.
 fn has_count(bag: &Bag, count: u64) -> bool {
     bag.len() == count && bag.at(count).is_none()
 }
@@ -206,7 +209,8 @@ fn has(bag: &Bag, expected: &[Wire]) -> bool {
     has_count(bag, expected.len() as u64)
 }
 
-/// Returns whether so many requests are in the bag, from this place on, each so far from the one before.
+/// Returns whether this many requests are in the bag from this place on, each with a number `apart` above the one
+/// before.
 fn has_numbers(bag: &Bag, from: u64, first: u64, apart: u64, count: u64) -> bool {
     let (mut place, mut seq) = (from, first);
     for _ in 0..count {
@@ -219,10 +223,11 @@ fn has_numbers(bag: &Bag, from: u64, first: u64, apart: u64, count: u64) -> bool
     true
 }
 
-/// Returns whether a bag shows this, where it is something to be shown.
+/// Returns whether a bag shows this, if the step is something to be shown.
 fn shows(bag: &mut Bag, step: Step) -> bool {
     match step {
-        Finds(seq, slot) => bag.find(&request(1, 2, seq), 9) == Some(slot),
+        Finds(seq, slot) => bag.find(&request(1, 2, seq), 9) == Some(Found::In(slot)),
+        FindsAt(wire, place) => bag.find(&message(wire), place) == Some(Found::At(place)),
         Misses(wire, near) => bag.find(&message(wire), near).is_none(),
         Has(expected) => has(bag, expected),
         HasCount(count) => has_count(bag, count),
@@ -233,7 +238,7 @@ fn shows(bag: &mut Bag, step: Step) -> bool {
     }
 }
 
-/// Returns whether a bag does this, where it is about copies.
+/// Returns whether a bag does this, if the step is about copies, or shows it.
 fn repeats(alloc: Global, bag: &mut Bag, step: Step) -> bool {
     match step {
         Copies(wire) => copies(bag, wire),
@@ -261,7 +266,7 @@ fn does(alloc: Global, bag: &mut Bag, step: Step) -> bool {
     }
 }
 
-/// Returns how many steps of a bag are so, up to the first that is not.
+/// Returns how many of these steps a bag does or shows, up to the first that it does not.
 fn done(alloc: Global, bag: &mut Bag, steps: &[Step]) -> usize {
     for place in 0..steps.len() {
         if !does(alloc, bag, steps[place]) {
@@ -271,7 +276,7 @@ fn done(alloc: Global, bag: &mut Bag, steps: &[Step]) -> usize {
     steps.len()
 }
 
-/// Makes a bag, and returns how many of its steps are so, up to the first that is not.
+/// Makes a bag, and returns how many of these steps it does or shows, up to the first that it does not.
 fn done_by_new(alloc: Global, steps: &[Step]) -> Option<usize> {
     match Bag::new(alloc) {
         Ok(mut bag) => Some(done(alloc, &mut bag, steps)),
@@ -313,15 +318,76 @@ fn a_message_is_taken_where_it_is_found(rt: HostRuntime) {
         TakesNear(REPLIED, 1),
         Has(&[ASKED, ASKED]),
         Misses(REPLIED, 1),
-        // It does not stand at the place 9, and so another one is taken.
+        // It is not at the place 9, so another one is taken.
         TakesNear(ASKED, 9),
         Has(&[ASKED]),
     ];
     follow(&rt, STEPS);
 }
 
-/// Of 200 requests those with even numbers are taken, and then those with odd ones but the first, with 100 more after them meanwhile.
-/// The others always stand in their order.
+/// Of two equal messages, the one that was found is taken. If another message is at that place, the first of the two is
+/// taken.
+#[test]
+fn of_equal_messages_the_one_that_was_found_is_taken(rt: HostRuntime) {
+    const STEPS: &[Step] = &[
+        Puts(&[ASKED, REPLIED]),
+        Puts(&[ASKED]),
+        FindsAt(ASKED, 2),
+        TakesNear(ASKED, 2),
+        Has(&[ASKED, REPLIED]),
+        Puts(&[ASKED]),
+        TakesNear(ASKED, 1),
+        Has(&[REPLIED, ASKED]),
+    ];
+    follow(&rt, STEPS);
+}
+
+/// The request with the number 50 is in the bag twice, 150 places apart. The later one is found and taken at its place although slots
+/// before it are empty, and the earlier one stays.
+#[test]
+fn a_message_is_found_at_its_place_where_slots_are_empty(rt: HostRuntime) {
+    const STEPS: &[Step] = &[
+        PutsNumbers(1, 200),
+        PutsNumbers(50, 1),
+        TakesNear(Asks(100), 0),
+        MakesRoom(0),
+        TakesNear(Asks(120), 0),
+        FindsAt(Asks(50), 49),
+        FindsAt(Asks(50), 198),
+        TakesNear(Asks(50), 198),
+        FindsAt(Asks(50), 49),
+        FindsAt(Asks(121), 118),
+        TakesNear(Asks(121), 118),
+        HasNumbers(0, 1, 1, 99),
+        HasNumbers(99, 101, 1, 19),
+        HasNumbers(118, 122, 1, 79),
+        HasCount(197),
+    ];
+    follow(&rt, STEPS);
+}
+
+/// When the oldest message is taken, the empty slots after it are dropped with its slot.
+#[test]
+fn no_slot_before_the_oldest_message_is_empty(rt: HostRuntime) {
+    const STEPS: &[Step] = &[
+        PutsNumbers(1, 200),
+        TakesNear(Asks(100), 0),
+        MakesRoom(0),
+        TakesEveryOther(2, 2),
+        TakesNear(Asks(3), 0),
+        Finds(150, 148),
+        TakesNear(Asks(1), 0),
+        Finds(150, 144),
+        FindsAt(Asks(5), 0),
+        HasNumbers(0, 5, 1, 95),
+        HasNumbers(95, 101, 1, 100),
+        HasCount(195),
+    ];
+    follow(&rt, STEPS);
+}
+
+/// Of 200 requests, those with even numbers are taken, then 100 more are put after the others, and then those with odd
+/// numbers are taken, except the first. The others always stay in their order.
 #[test]
 fn many_messages_stay_in_order_while_others_are_taken(rt: HostRuntime) {
     const STEPS: &[Step] = &[
@@ -340,7 +406,8 @@ fn many_messages_stay_in_order_while_others_are_taken(rt: HostRuntime) {
     follow(&rt, STEPS);
 }
 
-/// Of 200 requests the seventh is put twice, and taken twice with 70 others between. The second of the two stays until it is taken, too.
+/// Of 200 requests, the seventh is put twice, and taken twice with 70 others in between. The second of the two stays
+/// until it is taken, too.
 #[test]
 fn each_of_two_equal_messages_among_many_is_taken(rt: HostRuntime) {
     const STEPS: &[Step] = &[
@@ -356,7 +423,7 @@ fn each_of_two_equal_messages_among_many_is_taken(rt: HostRuntime) {
     follow(&rt, STEPS);
 }
 
-/// Where one is put after one was looked for among many, it is known from then on where each stands, too.
+/// If a message is put after one was looked for among many, the bag knows from then on in which slot each is.
 #[test]
 fn where_many_messages_stand_is_learned_with_the_next_one(rt: HostRuntime) {
     const STEPS: &[Step] = &[
@@ -375,14 +442,15 @@ fn where_many_messages_stand_is_learned_with_the_next_one(rt: HostRuntime) {
     follow(&rt, STEPS);
 }
 
-/// Of two equal messages among many the earlier one is found, while others are taken and put, and once it is taken the later one.
+/// Of two equal messages among many, the earlier one is found while others are taken and put. Once it is taken, the
+/// later one is found.
 #[test]
 fn among_many_the_first_slot_of_each_message_is_known(rt: HostRuntime) {
     const STEPS: &[Step] = &[
         PutsNumbers(1, 200),
         PutsNumbers(50, 1),
         Finds(50, 49),
-        // It was looked for among many, so now it is learned where each stands.
+        // It was looked for among many, so the bag now learns in which slot each is.
         MakesRoom(0),
         TakesNear(Asks(1), 0),
         Finds(50, 48),
@@ -410,7 +478,7 @@ fn a_copy_of_a_message_stands_behind_all_others(rt: HostRuntime) {
     follow(&rt, STEPS);
 }
 
-/// A message that was taken is not there to be copied, while a copy of it is.
+/// A message that was taken cannot be copied, but a copy of it can.
 #[test]
 fn of_a_message_and_its_copies_the_first_goes(rt: HostRuntime) {
     const STEPS: &[Step] = &[
@@ -428,8 +496,8 @@ fn of_a_message_and_its_copies_the_first_goes(rt: HostRuntime) {
     follow(&rt, STEPS);
 }
 
-/// A request is copied a thousand times among nine thousand others, and all equal ones are taken; the others stay in their order. They
-/// are looked for so often that each has to be found without looking at all before it.
+/// A request is copied a thousand times among nine thousand others, and all equal ones are taken; the others stay in
+/// their order. They are looked for so often that each has to be found without looking at all messages before it.
 #[test]
 fn a_thousand_copies_among_ten_thousand_messages_are_taken(rt: HostRuntime) {
     const STEPS: &[Step] = &[
@@ -450,7 +518,7 @@ fn a_thousand_copies_among_ten_thousand_messages_are_taken(rt: HostRuntime) {
     follow(&rt, STEPS);
 }
 
-/// Each of five thousand requests is copied once, so that each copy stands far behind.
+/// Each of five thousand requests is copied once, so that each copy is far from the original.
 #[test]
 fn each_of_many_messages_and_its_copy_is_taken(rt: HostRuntime) {
     const STEPS: &[Step] = &[
@@ -477,8 +545,8 @@ fn an_absent_message_is_not_taken(rt: HostRuntime) {
     follow(&rt, STEPS);
 }
 
-/// The request, its reply, the request again and a later one come under way, and room is made for one more. The bag closes up where the
-/// request is taken, twice, and has it at the end where it comes once more.
+/// The request, its reply, the request again and a later one are put, and room is made for one more. The bag closes up
+/// each of the two times that the request is taken, and has it at the end when it is put once more.
 #[test]
 fn a_bag_closes_up_where_a_message_is_taken(rt: HostRuntime) {
     const STEPS: &[Step] = &[

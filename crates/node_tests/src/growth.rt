@@ -1,4 +1,4 @@
-//! Each growth refused: the call answers `Memory` and leaves all as it was, and is taken when it is made again.
+//! If a growth is refused, the call returns `Memory` and changes nothing, and it succeeds when it is made again.
 use crate::helpers::{id, r, reply, request, writer};
 use Call::{Ask, Leave, Reply, Request};
 use ra_bag::Bag;
@@ -21,20 +21,20 @@ fn end(rt: &(impl Abort), tried: Tried) {
     );
 }
 
-/// A call of node 1 of 2 about `r`.
+/// A call to node 1 of 2 about `r`.
 #[derive(Clone, Copy)]
 enum Call {
     /// This client asks for it.
     Ask(u32),
-    /// The REPLY of node 2 to this number comes.
+    /// The REPLY of node 2 to this number arrives.
     Reply(u64),
-    /// The REQUEST of node 2 with this number comes.
+    /// The REQUEST of node 2 with this number arrives.
     Request(u64),
     /// This client leaves it.
     Leave(u32),
 }
 
-/// Each is taken where it stands: the second client queues, and its request is made when the first one leaves.
+/// Each call succeeds at its place: the second client queues, and its request is made when the first one leaves.
 const CALLS: [Call; 8] = [
     Request(3),
     Ask(1),
@@ -66,7 +66,7 @@ fn looks_so(node: &Node, look: Look) -> bool {
         && node.holder(&r()) == holder
 }
 
-/// Has a node take a message. Where it does not, returns whether memory ran out.
+/// Has a node take a message. If it does not, returns whether memory ran out.
 fn take(alloc: Global, node: &mut Node, message: &Message) -> Result<(), bool> {
     match node.receive(alloc, message) {
         Ok(_) => Ok(()),
@@ -74,7 +74,7 @@ fn take(alloc: Global, node: &mut Node, message: &Message) -> Result<(), bool> {
     }
 }
 
-/// Makes a call. Where it is refused, returns whether memory ran out.
+/// Makes a call. If it is refused, returns whether memory ran out.
 fn make(alloc: Global, node: &mut Node, call: Call) -> Result<(), bool> {
     match call {
         Ask(client) => match node.ask(alloc, client, r(), Mode::Exclusive) {
@@ -90,7 +90,7 @@ fn make(alloc: Global, node: &mut Node, call: Call) -> Result<(), bool> {
     }
 }
 
-/// Makes a call, and again where memory ran out.
+/// Makes a call, and makes it again if memory ran out.
 fn try_call(alloc: Global, node: &mut Node, call: Call) -> Tried {
     let before = look(node);
     match make(alloc, node, call) {
@@ -110,7 +110,7 @@ fn try_calls(alloc: Global, node: &mut Node) -> Tried {
     tried
 }
 
-/// Makes a node, which takes no memory, and all calls of it.
+/// Makes a node, which takes no memory, and makes all calls to it.
 fn try_node(alloc: Global) -> Tried {
     match Node::new(alloc, id(1), 2, 0) {
         Ok(mut node) => try_calls(alloc, &mut node),
@@ -123,7 +123,7 @@ fn growth_of_a_node(rt: HostRuntime) {
     end(&rt, try_node(rt.alloc()));
 }
 
-/// Puts the request with this number into a list, and again where memory ran out.
+/// Puts the request with this number into a list, and tries again if memory ran out.
 fn try_push(list: &mut Messages, seq: u64) -> Tried {
     let before = list.len();
     if list.push(request(1, 2, seq)).is_ok() {
@@ -135,70 +135,117 @@ fn try_push(list: &mut Messages, seq: u64) -> Tried {
     }
 }
 
-/// Puts a list of messages into a bag, and again where memory ran out.
+/// Returns whether a bag has this many messages, the requests with the numbers from 1 to `numbers` over and over.
+fn has_in_turn(bag: &Bag, count: u64, numbers: u64) -> bool {
+    let mut seq = 0u64;
+    for place in 0..count {
+        seq = if seq == numbers {
+            1
+        } else {
+            seq.wrapping_add(1)
+        };
+        if bag.at(place) != Some(request(1, 2, seq)) {
+            return false;
+        }
+    }
+    bag.len() == count && bag.at(count).is_none()
+}
+
+/// Returns the number of the request at a place of a bag into which the numbers from 1 to 100 were put twice, after the
+/// first 70 was taken: all numbers after it are one place further to the front, and copies of the second 70 follow.
+fn number_at(place: u64) -> u64 {
+    if place < 69 {
+        return (place % 100).wrapping_add(1);
+    }
+    if place < 199 {
+        return (place.wrapping_add(1) % 100).wrapping_add(1);
+    }
+    70
+}
+
+/// Returns whether a bag from which the first 70 was taken has this many messages, and the right one at each place.
+fn has_copies(bag: &Bag, count: u64) -> bool {
+    for place in 0..count {
+        if bag.at(place) != Some(request(1, 2, number_at(place))) {
+            return false;
+        }
+    }
+    bag.len() == count && bag.at(count).is_none()
+}
+
+/// Puts a list of requests into a bag of such lists, and tries again if memory ran out and the bag still has the same
+/// messages.
 fn try_put(bag: &mut Bag, list: &Messages) -> Tried {
-    let (before, last) = (bag.len(), bag.at(0));
+    let before = bag.len();
     if bag.put_all(list).is_ok() {
         Tried::AtOnce
-    } else if bag.len() == before && bag.at(0) == last && bag.put_all(list).is_ok() {
+    } else if has_in_turn(bag, before, list.len()) && bag.put_all(list).is_ok() {
         Tried::Again
     } else {
         Tried::Wrong
     }
 }
 
-/// Makes room in a bag, and again where memory ran out.
-fn try_reserve(bag: &mut Bag, more: u64) -> Tried {
+/// Makes room in a bag of such lists, and tries again if memory ran out and the bag still has the same messages.
+fn try_reserve(bag: &mut Bag, more: u64, numbers: u64) -> Tried {
     let before = bag.len();
     if bag.reserve(more).is_ok() {
         Tried::AtOnce
-    } else if bag.len() == before && bag.reserve(more).is_ok() {
+    } else if has_in_turn(bag, before, numbers) && bag.reserve(more).is_ok() {
         Tried::Again
     } else {
         Tried::Wrong
     }
 }
 
-/// Puts a copy of a message that is in a bag after the others, and again where memory ran out.
+/// Puts a copy of a message that is in a bag after the others, and tries again if memory ran out and the bag still has
+/// the same messages.
 fn try_copy(bag: &mut Bag, message: &Message) -> Tried {
     let before = bag.len();
     if bag.again(message) == Ok(true) {
         Tried::AtOnce
-    } else if bag.len() == before && bag.again(message) == Ok(true) {
+    } else if has_copies(bag, before) && bag.again(message) == Ok(true) {
         Tried::Again
     } else {
         Tried::Wrong
     }
 }
 
-/// Puts 100 requests into a list, with the numbers from 1 up.
-fn try_pushes(list: &mut Messages) -> Tried {
+/// Puts this many requests into a list, with numbers from 1 up.
+fn try_pushes(list: &mut Messages, count: u64) -> Tried {
     let mut tried = Tried::AtOnce;
     let mut seq = 0u64;
-    for _ in 0..100 {
+    for _ in 0..count {
         seq = seq.wrapping_add(1);
         tried = both(tried, try_push(list, seq));
     }
     tried
 }
 
-/// Copies a message until there is no room left for one more, and once more.
+/// Copies a message until no room is left, and then goes on.
 fn try_copies(bag: &mut Bag, message: &Message) -> Tried {
     let mut tried = Tried::AtOnce;
     for _ in 0..1_100 {
         tried = both(tried, try_copy(bag, message));
     }
-    tried
+    if has_copies(bag, 1_299) {
+        tried
+    } else {
+        Tried::Wrong
+    }
 }
 
-/// Puts 100 messages into a bag twice, makes room for 1,000 more, and looks for one. To know where each stands is a hint, for which
-/// memory may be refused: it is found all the same.
+/// Puts 100 messages into a bag twice, makes room for 1,000 more, and looks for one. The bag learns where each message
+/// is only as a hint: the one is found even if memory for that is refused.
 fn try_bag_calls(alloc: Global, bag: &mut Bag) -> Tried {
     let mut list = Messages::new(alloc);
-    let pushed = try_pushes(&mut list);
+    let pushed = try_pushes(&mut list, 100);
     let put = both(try_put(bag, &list), try_put(bag, &list));
-    let all = both(both(pushed, put), try_reserve(bag, 1_000));
+    let all = both(both(pushed, put), try_reserve(bag, 1_000, 100));
     let sought = request(1, 2, 70);
+    if !has_in_turn(bag, 200, 100) {
+        return Tried::Wrong;
+    }
     if bag.find(&sought, 0).is_some() && bag.take(&sought) == Some(sought) && bag.len() == 199 {
         both(all, try_copies(bag, &sought))
     } else {
@@ -206,7 +253,7 @@ fn try_bag_calls(alloc: Global, bag: &mut Bag) -> Tried {
     }
 }
 
-/// Makes a bag and all calls of it. Where there is none, memory ran out.
+/// Makes a bag and all calls to it. If there is no bag, memory ran out.
 fn try_bag(alloc: Global) -> Result<Tried, bool> {
     match Bag::new(alloc) {
         Ok(mut bag) => Ok(try_bag_calls(alloc, &mut bag)),
@@ -219,6 +266,58 @@ fn growth_of_a_bag(rt: HostRuntime) {
     end(&rt, again(try_bag(rt.alloc()), try_bag(rt.alloc())));
 }
 
+/// Takes a message, and returns whether the bag knows in which slot each one is: only then does a later one keep its
+/// slot.
+fn knows_slots(bag: &mut Bag, taken: &Message, later: &Message) -> bool {
+    let before = bag.find(later, 0);
+    bag.take(taken).is_some() && bag.find(later, 0) == before
+}
+
+/// Takes a message with each of the numbers from 1 to `count`, and returns whether all of them were there.
+fn takes_one_of_each(bag: &mut Bag, count: u64) -> bool {
+    let mut all = true;
+    let mut seq = 0u64;
+    for _ in 0..count {
+        seq = seq.wrapping_add(1);
+        let sought = request(1, 2, seq);
+        all = all && bag.take(&sought) == Some(sought);
+    }
+    all
+}
+
+/// Puts 268 messages into a bag three times, has it learn in which slot each one is, and takes one of each of the first
+/// 238. Taking needs no memory: if the bag knew the slots before, it knows them after. A map of 268 entries is so full
+/// that repeatedly removing an entry and putting it back would make it grow.
+fn try_equal_messages(alloc: Global, bag: &mut Bag) -> Tried {
+    let mut list = Messages::new(alloc);
+    let pushed = try_pushes(&mut list, 268);
+    let put = both(try_put(bag, &list), try_put(bag, &list));
+    let put_all = both(pushed, both(put, try_put(bag, &list)));
+    let found = bag.find(&request(1, 2, 70), 0).is_some();
+    let room = try_reserve(bag, 0, 268);
+    let knew = knows_slots(bag, &request(1, 2, 248), &request(1, 2, 258));
+    let taken = takes_one_of_each(bag, 238);
+    let knows = knows_slots(bag, &request(1, 2, 249), &request(1, 2, 258));
+    if found && taken && knows == knew && bag.len() == 564 {
+        both(put_all, room)
+    } else {
+        Tried::Wrong
+    }
+}
+
+/// Makes a bag, puts equal messages into it and takes them. If there is no bag, memory ran out.
+fn try_equal(alloc: Global) -> Result<Tried, bool> {
+    match Bag::new(alloc) {
+        Ok(mut bag) => Ok(try_equal_messages(alloc, &mut bag)),
+        Err(_) => Err(true),
+    }
+}
+
+#[test]
+fn growth_of_a_bag_with_equal_messages(rt: HostRuntime) {
+    end(&rt, again(try_equal(rt.alloc()), try_equal(rt.alloc())));
+}
+
 /// Returns whether a request may wait, whether it may enter, and whether it holds.
 fn stands(table: &Table, entry: &Entry) -> (bool, bool, bool) {
     (
@@ -228,7 +327,7 @@ fn stands(table: &Table, entry: &Entry) -> (bool, bool, bool) {
     )
 }
 
-/// Makes a request, and again where memory ran out.
+/// Makes a request, and makes it again if memory ran out.
 fn try_request(table: &mut Table, entry: &Entry) -> Tried {
     let before = stands(table, entry);
     match table.request(*entry) {
@@ -239,7 +338,7 @@ fn try_request(table: &mut Table, entry: &Entry) -> Tried {
     }
 }
 
-/// Grants a request, and again where memory ran out.
+/// Grants a request, and tries again if memory ran out.
 fn try_enter(table: &mut Table, entry: &Entry) -> Tried {
     let before = stands(table, entry);
     match table.enter(entry) {
@@ -265,7 +364,7 @@ fn try_table_calls(table: &mut Table) -> Tried {
     }
 }
 
-/// Makes a table and all calls of it. Where there is none, memory ran out.
+/// Makes a table and all calls to it. If there is no table, memory ran out.
 fn try_table(alloc: Global) -> Result<Tried, bool> {
     match Table::new(alloc) {
         Ok(mut table) => Ok(try_table_calls(&mut table)),
@@ -276,4 +375,71 @@ fn try_table(alloc: Global) -> Result<Tried, bool> {
 #[test]
 fn growth_of_a_table(rt: HostRuntime) {
     end(&rt, again(try_table(rt.alloc()), try_table(rt.alloc())));
+}
+
+/// Pushes 10,000 messages into a list.
+fn try_many_pushes(alloc: Global) -> Tried {
+    let (mut list, mut tried) = (Messages::new(alloc), Tried::AtOnce);
+    for seq in 1..=10_000u64 {
+        tried = both(tried, try_push(&mut list, seq));
+    }
+    tried
+}
+
+/// Makes room for one more message in a bag and puts it there. Tries again if memory ran out and the bag has as many
+/// messages as before.
+fn try_one_more(bag: &mut Bag, one: &Messages) -> Tried {
+    let before = bag.len();
+    if bag.reserve(1).is_ok() && bag.put_all(one).is_ok() {
+        Tried::AtOnce
+    } else if bag.len() == before && bag.reserve(1).is_ok() && bag.put_all(one).is_ok() {
+        Tried::Again
+    } else {
+        Tried::Wrong
+    }
+}
+
+/// Puts a message into a bag 10,000 times. If there is no bag, memory ran out.
+fn try_many_puts(alloc: Global) -> Result<Tried, bool> {
+    let mut one = Messages::new(alloc);
+    let mut tried = try_push(&mut one, 1);
+    let Ok(mut bag) = Bag::new(alloc) else {
+        return Err(true);
+    };
+    for _ in 0..10_000 {
+        tried = both(tried, try_one_more(&mut bag, &one));
+    }
+    Ok(if bag.len() == 10_000 {
+        tried
+    } else {
+        Tried::Wrong
+    })
+}
+
+/// Has 10,000 clients of a single node ask for `r`. All but the first are queued.
+fn try_many_asks(alloc: Global) -> Tried {
+    let Ok(mut node) = Node::new(alloc, id(1), 1, 0) else {
+        return Tried::Wrong;
+    };
+    let mut tried = Tried::AtOnce;
+    for client in 1..=10_000u32 {
+        tried = both(tried, try_call(alloc, &mut node, Ask(client)));
+    }
+    if node.queued() == 9_999 {
+        tried
+    } else {
+        Tried::Wrong
+    }
+}
+
+/// `tools/refuse-growth` checks that these calls ask for memory only a few times: what they fill doubles in size and
+/// does not grow one by one. The name of the test says so.
+#[test]
+fn large_few_growths_of_ten_thousand_calls(rt: HostRuntime) {
+    let alloc = rt.alloc();
+    let put = again(try_many_puts(alloc), try_many_puts(alloc));
+    end(
+        &rt,
+        both(both(try_many_pushes(alloc), put), try_many_asks(alloc)),
+    );
 }

@@ -1,12 +1,12 @@
--- Lists of slots, of which some are empty.
-use Rattle.std.proofs.Common.{◌≡◌, ◌≢◌, ◌<◌, ◌+◌, ◌-◌, ◌≤◌, ℕ, zero, suc, List, ◌∷◌, [], ◌++◌, length, get_or, set, take, drop, map, Contains, ◌↔◌, Option, Some, None, inl, inr, refl, sym, ap, ◌∙◌, subst, arith}
+-- Lists of slots, some of which are empty.
+use Rattle.std.proofs.Common.{◌≡◌, ◌≢◌, ◌<◌, ◌+◌, ◌-◌, ◌≤◌, ℕ, zero, suc, true, false, List, ◌∷◌, [], ◌++◌, length, get_or, set, take, drop, map, Contains, ◌↔◌, Option, Some, None, inl, inr, refl, sym, ap, ◌∙◌, subst, arith}
 use Rattle.std.specs.Prelude.{slice_get, IsNone, IsSome, IfSome}
 use Rattle.std.specs.Option.{is_some}
 use Rattle.std.specs.List.{filter, remove}
 use Rattle.ra_stamp.proofs.Places.{split_at}
 use Rattle.ra_stamp.specs.declared.message.Message.{Message}
-use Rattle.ra_bag.specs.Bag.{TakesFirst, TakesOne, messages_in, HasEmpty, FewEmpty}
-use Rattle.std.proofs.lemmas.List.{length-append, set_split, length-take-le, length-drop, get_or_append_left, get_or-append-add, get_or-take, get_or_default, take_more, append-nil, drop_all, length-map}
+use Rattle.ra_bag.specs.Bag.{TakesFirst, TakesOne, TakesAt, IsAt, messages_in, HasEmpty, FewEmpty}
+use Rattle.std.proofs.lemmas.List.{length-append, set_split, length-take-le, length-drop, get_or_append_left, get_or-append-add, get_or-take, get_or_default, append-nil, drop_all, length-map, get_or_past}
 use Rattle.std.proofs.lemmas.List.Elements.{filter_map-append}
 use Rattle.std.proofs.lemmas.Bool.Decides.{leb_tells}
 use Rattle.std.proofs.Math.Seq.{take-append_seam, get_or-append_right}
@@ -18,11 +18,11 @@ in_both xs ys = filter_map-append (λ slot. slot) xs ys
 abbrev pub before : List (Option Message) → ℕ → List Message
 before slots i = messages_in (take i slots)
 
--- and after it
+-- the messages after a slot
 abbrev pub behind : List (Option Message) → ℕ → List Message
 behind slots i = messages_in (drop (suc i) slots)
 
--- what stands in a slot stands between what is before it and what is behind it
+-- the message in a slot is between the messages before it and the messages after it
 pub split : (slots : List (Option Message)) (i : ℕ) (m : Message) → i < length slots → get_or slots i (Some m) ≡ Some m
     → messages_in slots ≡ before slots i ++ m ∷ behind slots i
 split slots i m lt is = ap messages_in (split_at slots i (Some m) lt is) ∙ in_both (take i slots) (Some m ∷ drop (suc i) slots)
@@ -41,7 +41,7 @@ pub in_filled : (ms : List Message) → messages_in (map Some ms) ≡ ms
 in_filled [] = refl
 in_filled (m ∷ ms) = ap (λ l. m ∷ l) (in_filled ms)
 
--- ---- Which messages there are
+-- ---- Which messages are in the slots
 
 pub there_in : (slots : List (Option Message)) (m : Message) → Contains (messages_in slots) m → Contains slots (Some m)
 there_in [] m (k, lt, is) = absurd (omega (arith, lt))
@@ -83,14 +83,19 @@ drop_seam : (prefix suffix : List Message) (m : Message) → drop (suc (length p
 drop_seam [] suffix m = refl
 drop_seam (x ∷ prefix) suffix m = drop_seam prefix suffix m
 
+without : (prefix suffix : List Message) (m : Message) → prefix ++ suffix ≡ remove (prefix ++ m ∷ suffix) (length prefix)
+without prefix suffix m =
+    sym (ap (λ (ms : List Message). ms ++ drop (suc (length prefix)) (prefix ++ m ∷ suffix)) (take-append_seam prefix (m ∷ suffix))
+    ∙ ap (λ (ms : List Message). prefix ++ ms) (drop_seam prefix suffix m))
+
 one_of : (prefix suffix : List Message) (m : Message) → TakesOne (prefix ++ m ∷ suffix) m (prefix ++ suffix)
-one_of prefix suffix m = (
-  length prefix,
-  omega (arith, length-append prefix (m ∷ suffix)),
-  at_seam prefix suffix m m,
-  sym (ap (λ (ms : List Message). ms ++ drop (suc (length prefix)) (prefix ++ m ∷ suffix)) (take-append_seam prefix (m ∷ suffix))
-      ∙ ap (λ (ms : List Message). prefix ++ ms) (drop_seam prefix suffix m)),
-)
+one_of prefix suffix m = (length prefix, omega (arith, length-append prefix (m ∷ suffix)), at_seam prefix suffix m m, without prefix suffix m)
+
+pub takes_at : (slots : List (Option Message)) (i : ℕ) (m : Message) (new : List Message) (place : ℕ) → i < length slots → get_or slots i (Some m) ≡ Some m
+    → new ≡ before slots i ++ behind slots i → length (before slots i) ≡ place → TakesAt (messages_in slots) place new
+takes_at slots i m new place lt is new_is len =
+    new_is ∙ without (before slots i) (behind slots i) m
+    ∙ ap (λ (ms : List Message). remove ms (length (before slots i))) (sym (split slots i m lt is)) ∙ ap (remove (messages_in slots)) len
 
 pub takes_one : (slots : List (Option Message)) (i : ℕ) (m : Message) (new : List Message) → i < length slots → get_or slots i (Some m) ≡ Some m
     → new ≡ before slots i ++ behind slots i → TakesOne (messages_in slots) m new
@@ -147,41 +152,64 @@ at_most [] = omega arith
 at_most (None ∷ slots) = omega (arith, at_most slots)
 at_most (Some m ∷ slots) = omega (arith, at_most slots)
 
-pub at_full : (slots : List (Option Message)) (place : ℕ) (d : Option Message) → length (messages_in slots) ≡ length slots → place < length slots
-    → get_or slots place d ≡ slice_get (messages_in slots) place
-at_full [] place d full lt = absurd (omega (arith, lt))
-at_full (None ∷ slots) place d full lt = absurd (omega (arith, full, at_most slots))
-at_full (Some m ∷ slots) zero d full lt = refl
-at_full (Some m ∷ slots) (suc place) d full lt = at_full slots place d (omega (arith, full)) (omega (arith, lt))
+-- if no slot is empty, each has the message at its place
+pub at_full : (slots : List (Option Message)) (place : ℕ) → length (messages_in slots) ≡ length slots → IsAt slots place place
+at_full [] place full = (refl, λ lt. absurd (omega (arith, lt)))
+at_full (None ∷ slots) place full = absurd (omega (arith, full, at_most slots))
+at_full (Some m ∷ slots) zero full = (refl, λ _. refl)
+at_full (Some m ∷ slots) (suc place) full =
+    let rest = at_full slots place (omega (arith, full)) in
+    (rest.0, λ lt. ap suc (rest.1 (omega (arith, lt))))
 
 pub past_all : (ms : List Message) (place : ℕ) → length ms ≤ place → None ≡ slice_get ms place
 past_all [] place le = refl
 past_all (m ∷ ms) zero le = absurd (omega (arith, le))
 past_all (m ∷ ms) (suc place) le = past_all ms place (omega (arith, le))
 
--- the message in a slot stands at the place that so many stand before
-pub at_slot : (slots : List (Option Message)) (i place : ℕ) (m : Message) → i < length slots → get_or slots i (Some m) ≡ Some m → length (before slots i) ≡ place
-    → Some m ≡ slice_get (messages_in slots) place
-at_slot [] i place m lt is len = absurd (omega (arith, lt))
-at_slot (None ∷ slots) zero place m lt is len = absurd cc
-at_slot (None ∷ slots) (suc i) place m lt is len = at_slot slots i place m (omega (arith, lt)) is len
-at_slot (Some x ∷ slots) zero zero m lt is len = sym is
-at_slot (Some x ∷ slots) zero (suc place) m lt is len = absurd (omega (arith, len))
-at_slot (Some x ∷ slots) (suc i) zero m lt is len = absurd (omega (arith, len))
-at_slot (Some x ∷ slots) (suc i) (suc place) m lt is len = at_slot slots i place m (omega (arith, lt)) is (omega (arith, len))
+-- past the end there is neither a message nor a slot
+pub at_end : (slots : List (Option Message)) (place i : ℕ) → length slots ≤ i → length (messages_in slots) ≤ place → IsAt slots place i
+at_end slots place i end past = (get_or_past slots i None end ∙ past_all (messages_in slots) place past, λ lt. absurd (omega (arith, lt, end)))
 
--- how many stand before the next slot
-pub one_more_before : (slots : List (Option Message)) (i : ℕ) (m : Message) → i < length slots → get_or slots i (Some m) ≡ Some m
+-- the place of the message in a slot is the number of messages before it
+pub at_slot : (slots : List (Option Message)) (i place : ℕ) → i < length slots → is_some (get_or slots i None) ≡ true → length (before slots i) ≡ place → IsAt slots place i
+at_slot slots i place lt some len = (by slots i place lt some len, λ _. len)
+  where
+    by : (slots : List (Option Message)) (i place : ℕ) → i < length slots → is_some (get_or slots i None) ≡ true → length (before slots i) ≡ place
+        → get_or slots i None ≡ slice_get (messages_in slots) place
+    by [] i place lt some len = absurd (omega (arith, lt))
+    by (None ∷ slots) zero place lt some len = absurd cc
+    by (None ∷ slots) (suc i) place lt some len = by slots i place (omega (arith, lt)) some len
+    by (Some x ∷ slots) zero zero lt some len = refl
+    by (Some x ∷ slots) zero (suc place) lt some len = absurd (omega (arith, len))
+    by (Some x ∷ slots) (suc i) zero lt some len = absurd (omega (arith, len))
+    by (Some x ∷ slots) (suc i) (suc place) lt some len = by slots i place (omega (arith, lt)) some (omega (arith, len))
+
+-- before the next slot there is one message more
+pub one_more_before : (slots : List (Option Message)) (i : ℕ) → i < length slots → is_some (get_or slots i None) ≡ true
     → length (before slots (i + 1)) ≡ length (before slots i) + 1
-one_more_before slots i m lt is =
-    ap (λ (l : List (Option Message)). length (messages_in l)) (take_more slots i (Some m) lt ∙ ap (λ (o : Option Message). take i slots ++ o ∷ []) is)
-    ∙ ap length (in_both (take i slots) (Some m ∷ [])) ∙ length-append (before slots i) (m ∷ [])
+one_more_before slots i lt some =
+    let next : i + 1 ≡ suc i = omega arith in
+    ap (λ n. length (before slots n)) next ∙ omega (arith, by slots i lt some)
+  where
+    by : (slots : List (Option Message)) (i : ℕ) → i < length slots → is_some (get_or slots i None) ≡ true → length (before slots (suc i)) ≡ suc (length (before slots i))
+    by [] i lt some = absurd (omega (arith, lt))
+    by (None ∷ slots) zero lt some = absurd cc
+    by (None ∷ slots) (suc i) lt some = by slots i (omega (arith, lt)) some
+    by (Some x ∷ slots) zero lt some = refl
+    by (Some x ∷ slots) (suc i) lt some = ap suc (by slots i (omega (arith, lt)) some)
 
-pub none_more_before : (slots : List (Option Message)) (i : ℕ) (d : Option Message) → i < length slots → get_or slots i d ≡ None
+pub none_more_before : (slots : List (Option Message)) (i : ℕ) → i < length slots → is_some (get_or slots i None) ≡ false
     → length (before slots (i + 1)) ≡ length (before slots i)
-none_more_before slots i d lt is =
-    ap (λ (l : List (Option Message)). length (messages_in l)) (take_more slots i d lt ∙ ap (λ (o : Option Message). take i slots ++ o ∷ []) is)
-    ∙ ap length (in_both (take i slots) (None ∷ [])) ∙ ap length (append-nil (before slots i))
+none_more_before slots i lt none =
+    let next : i + 1 ≡ suc i = omega arith in
+    ap (λ n. length (before slots n)) next ∙ by slots i lt none
+  where
+    by : (slots : List (Option Message)) (i : ℕ) → i < length slots → is_some (get_or slots i None) ≡ false → length (before slots (suc i)) ≡ length (before slots i)
+    by [] i lt none = absurd (omega (arith, lt))
+    by (None ∷ slots) zero lt none = refl
+    by (None ∷ slots) (suc i) lt none = by slots i (omega (arith, lt)) none
+    by (Some x ∷ slots) zero lt none = absurd cc
+    by (Some x ∷ slots) (suc i) lt none = ap suc (by slots i (omega (arith, lt)) none)
 
 -- ---- In a list of two parts
 
@@ -202,7 +230,7 @@ in_neither front back m no_front no_back there =
       | inr near ↦ no_front (k, near.1, sym (get_or_append_left front back (Some m) k near.1) ∙ is)
     ]
 
--- ---- What is put after
+-- ---- What is appended
 
 pub put_behind : (slots : List (Option Message)) (ms : List Message) → messages_in (slots ++ map Some ms) ≡ messages_in slots ++ ms
 put_behind slots ms = in_both slots (map Some ms) ∙ ap (λ (l : List Message). messages_in slots ++ l) (in_filled ms)

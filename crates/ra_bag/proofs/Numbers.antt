@@ -1,10 +1,11 @@
--- The numbers of the slots that have a message, as messages are put behind, taken, and slots go.
-use Rattle.std.proofs.Common.{◌≡◌, ◌<◌, ◌+◌, ◌⊎◌, ℕ, zero, suc, Bool, true, false, cond, List, ◌∷◌, [], ◌++◌, length, get_or, set, Option, Some, None, refl, sym, ap, ◌∙◌, arith, inl, inr}
+-- The numbers of the slots that have a message, as messages are appended and taken and slots are dropped.
+use Rattle.std.proofs.Common.{◌≡◌, ◌<◌, ◌+◌, ◌⊎◌, ℕ, zero, suc, Bool, true, false, cond, List, ◌∷◌, [], ◌++◌, length, get_or, set, Contains, Option, Some, None, refl, sym, ap, ◌∙◌, arith, inl, inr, true≢false}
 use Rattle.std.proofs.lemmas.List.{append-nil}
 use Rattle.ra_stamp.specs.declared.message.Message.{Message}
+use Rattle.ra_bag.specs.Bag.{messages_in}
 use Rattle.ra_bag.specs.Places.{numbers_of}
 
--- ---- Of any test
+-- ---- For any test
 
 pub both_cases : (b : Bool) → (b ≡ true) ⊎ (b ≡ false)
 both_cases true = inl refl
@@ -45,7 +46,7 @@ module _ (test : Message → Bool) where
   pub last_gone : (first : ℕ) (xs : List (Option Message)) → numbers_of test first (xs ++ None ∷ []) ≡ numbers_of test first xs
   last_gone first xs = put_behind first xs (None ∷ []) ∙ append-nil (numbers_of test first xs)
 
-  -- the first of the slots is emptied
+  -- the first slot that passes is emptied
   pub first_taken : (first i : ℕ) (slots : List (Option Message)) (m : Message) (rest : List ℕ) → test m ≡ true → i < length slots → get_or slots i (Some m) ≡ Some m
       → numbers_of test first slots ≡ (first + i) ∷ rest → numbers_of test first (set slots i None) ≡ rest
   first_taken first i [] m rest passes lt is numbers = absurd (omega (arith, lt))
@@ -80,6 +81,20 @@ module _ (test : Message → Bool) where
       sym (ap (λ b. cond b (first ∷ numbers_of test (first + 1) slots) (numbers_of test (first + 1) slots)) (ap test (some_is x m is) ∙ fails))
   other_taken first (suc i) (Some x ∷ slots) m fails lt is =
       ap (λ l. cond (test x) (first ∷ l) l) (other_taken (first + 1) i slots m fails (omega (arith, lt)) is)
+
+  -- if there is no number, no message passes
+  pub none_there : (first : ℕ) (slots : List (Option Message)) (m : Message) → test m ≡ true → numbers_of test first slots ≡ [] → Contains (messages_in slots) m → ⊥
+  none_there first [] m passes e (k, lt, is) = omega (arith, lt)
+  none_there first (None ∷ slots) m passes e there = none_there (first + 1) slots m passes e there
+  none_there first (Some x ∷ slots) m passes e (k, lt, is) = by (test x) refl (λ none j less same. none_there (first + 1) slots m passes none (j, less, same)) k lt is
+    where
+      by : (b : Bool) → test x ≡ b → (numbers_of test (first + 1) slots ≡ [] → (j : ℕ) → j < length (messages_in slots) → get_or (messages_in slots) j m ≡ m → ⊥)
+          → (k : ℕ) → k < suc (length (messages_in slots)) → get_or (x ∷ messages_in slots) k m ≡ m → ⊥
+      by true passes_too again k lt is =
+          let none = sym (ap (λ b. cond b (first ∷ numbers_of test (first + 1) slots) (numbers_of test (first + 1) slots)) passes_too) ∙ e in cc
+      by false fails again zero lt is = true≢false (sym passes ∙ ap test (sym is) ∙ fails)
+      by false fails again (suc k) lt is =
+          again (sym (ap (λ b. cond b (first ∷ numbers_of test (first + 1) slots) (numbers_of test (first + 1) slots)) fails) ∙ e) k (omega (arith, lt)) is
 
   -- the first number is that of a slot that passes, and none before it does
   pub first_number : (first : ℕ) (slots : List (Option Message)) (number : ℕ) (rest : List ℕ) (d : Message) → numbers_of test first slots ≡ number ∷ rest

@@ -1,13 +1,13 @@
--- Places tell the slots of each message as messages are put behind, taken, and slots go.
-use Rattle.std.proofs.Common.{◌≡◌, ◌<◌, ◌+◌, ◌↔◌, ℕ, suc, Bool, false, List, ◌∷◌, [], ◌++◌, length, get_or, set, take, drop, map, Option, Some, None, refl, sym, ap, ◌∙◌, subst, arith, inl, inr, append_assoc, true≢false}
+-- Places keep telling the slots of each message as messages are appended and taken and slots are dropped.
+use Rattle.std.proofs.Common.{◌≡◌, ◌<◌, ◌+◌, ◌↔◌, ℕ, suc, Bool, false, List, ◌∷◌, [], ◌++◌, length, get_or, set, take, drop, map, Contains, Option, Some, None, refl, sym, ap, ◌∙◌, subst, arith, inl, inr, append_assoc, true≢false}
 use Rattle.std.specs.Prelude.{IsTrue}
 use Rattle.std.specs.Map.{lookup}
 use Rattle.std.proofs.lemmas.List.{set_split, drop_all, take_more, length-take-le, length-append, length-map, map-append}
 use Rattle.ra_stamp.specs.declared.message.Message.{Message}
 use Rattle.ra_bag.specs.declared.places.Places.{Places}
-use Rattle.ra_bag.specs.Bag.{StandsIn}
+use Rattle.ra_bag.specs.Bag.{StandsIn, messages_in}
 use Rattle.ra_bag.specs.Places.{IsFirstSlot, numbers_of, later_numbers, AreKept, Has, Tells, IsTold, Learns, Unlearns}
-use Rattle.ra_bag.proofs.Numbers.{both_cases, put_one, put_other, last_gone, first_taken, other_taken, first_number}
+use Rattle.ra_bag.proofs.Numbers.{both_cases, put_one, put_other, last_gone, first_taken, other_taken, none_there, first_number}
 
 -- ---- One message
 
@@ -28,7 +28,11 @@ pub kept_none : {Q : Type 0} (items : Q → List ℕ) (first : ℕ) (old new : O
 kept_none items first old new numbers less gone kept =
     ([], kept ∙ ap (λ l. first ∷ l) (less ∙ ap (later_numbers items) gone), subst (λ q. AreKept items None q []) (sym gone) refl)
 
--- ---- All of them
+pub no_number : {Q : Type 0} (items : Q → List ℕ) (queue : Option Q) (numbers : List ℕ) → AreKept items None queue numbers → numbers ≡ []
+no_number items None numbers kept = kept
+no_number items (Some queue) numbers kept = absurd kept
+
+-- ---- All messages
 
 module _ (eq : Message → Message → Bool) (exact : (a b : Message) → IsTrue (eq a b) ↔ (a ≡ b)) where
   apart : (m q : Message) → eq m q ≡ false → eq q m ≡ false
@@ -37,7 +41,7 @@ module _ (eq : Message → Message → Bool) (exact : (a b : Message) → IsTrue
     | inr other ↦ other
   ]
 
-  -- told of each message, by whether it is this one
+  -- what holds of this message and of all others holds of each
   each : (P : Message → Type 0) (m : Message) → P m → ((q : Message) → eq m q ≡ false → P q) → (q : Message) → P q
   each P m here others q = elim (both_cases (eq m q)) [
     | inl same ↦ subst P ((exact m q).0 same) here
@@ -68,7 +72,7 @@ module _ (eq : Message → Message → Bool) (exact : (a b : Message) → IsTrue
       (sym (other_taken (eq q) old.first i slots m (apart m q differ) there.0 there.1) ∙ ap (λ f. numbers_of (eq q) f (set slots i None)) (sym unlearns.0))
       (unlearns.1 q (numbers_of (eq q) old.first slots) differ (tells q)))
 
-  -- the number that is kept of a message is that of the first slot that has it
+  -- the number that is kept for a message is that of the first slot that has it
   pub first_told : (places : Places) (slots : List (Option Message)) (m : Message) (number i : ℕ) → lookup (eq m) places.numbers.entries ≡ Some number → number ≡ places.first + i
       → Tells eq places slots → IsFirstSlot slots m i
   first_told places slots m number i found is tells =
@@ -81,7 +85,24 @@ module _ (eq : Message → Message → Bool) (exact : (a b : Message) → IsTrue
         λ k less has. true≢false (sym ((exact m m).1 refl) ∙ before k m less has),
       )
 
--- ---- Slots at the ends go
+  -- a message for which no number is kept is in no slot
+  pub none_told : (places : Places) (slots : List (Option Message)) (m : Message) → lookup (eq m) places.numbers.entries ≡ None → Tells eq places slots → Contains (messages_in slots) m → ⊥
+  none_told places slots m none tells there =
+      none_there (eq m) places.first slots m ((exact m m).1 refl)
+      (no_number (λ q. q.items) (lookup (eq m) places.later.entries) (numbers_of (eq m) places.first slots)
+      (subst (λ (o : Option ℕ). AreKept (λ q. q.items) o (lookup (eq m) places.later.entries) (numbers_of (eq m) places.first slots)) none (tells m)))
+      there
+
+  -- no number that is kept is below that of the first slot
+  pub number_told : (places : Places) (slots : List (Option Message)) (m : Message) (number : ℕ) → lookup (eq m) places.numbers.entries ≡ Some number → number < places.first
+      → Tells eq places slots → ⊥
+  number_told places slots m number found less tells =
+      let numbers = numbers_of (eq m) places.first slots in
+      let kept = subst (λ (o : Option ℕ). AreKept (λ q. q.items) o (lookup (eq m) places.later.entries) numbers) found (tells m) in
+      let here = first_number (eq m) places.first slots number (later_numbers (λ q. q.items) (lookup (eq m) places.later.entries)) m kept in
+      omega (arith, here.1, less)
+
+-- ---- Slots at the ends are dropped
 
 module _ (eq : Message → Message → Bool) where
   -- a slot at the end that has no message
@@ -109,7 +130,7 @@ module _ (eq : Message → Message → Bool) (exact : (a b : Message) → IsTrue
       subst (Tells eq new) (sym (take_more slots i (Some m) lt ∙ ap (λ (x : Option Message). take i slots ++ x ∷ []) at))
       (tells_more eq exact old new (take i slots) m number learns (omega (arith, first, is, length-take-le i slots (omega (arith, lt)))) tells)
 
-  -- a message that is put after
+  -- a message that is appended
   pub next_message : (ms : List Message) (slots : List (Option Message)) → number ≡ old.first + (length slots + i) → i < length ms → get_or ms i m ≡ m
       → Tells eq old (slots ++ map Some (take i ms)) → Tells eq new (slots ++ map Some (take (i + 1) ms))
   next_message ms slots is lt at tells =
@@ -117,7 +138,7 @@ module _ (eq : Message → Message → Bool) (exact : (a b : Message) → IsTrue
       (tells_more eq exact old new (slots ++ map Some (take i ms)) m number learns
       (omega (arith, is, length-append slots (map Some (take i ms)), length-map (take i ms) Some, length-take-le i ms (omega (arith, lt)))) tells)
 
--- a slot that has none
+-- a slot that has no message
 pub next_none : (eq : Message → Message → Bool) (places : Places) (slots : List (Option Message)) (i : ℕ) → i < length slots → get_or slots i None ≡ None → Tells eq places (take i slots) → Tells eq places (take (i + 1) slots)
 next_none eq places slots i lt at tells =
     subst (Tells eq places) (sym (take_more slots i None lt ∙ ap (λ (x : Option Message). take i slots ++ x ∷ []) at))

@@ -1,5 +1,5 @@
--- The bag: the messages under way, in the order in which they were sent. Equal messages may stand in it.
-use Rattle.std.specs.Prelude.{◌≡◌, ◌≢◌, ◌<◌, ◌≤◌, ◌+◌, ℕ, List, ◌∷◌, ◌++◌, Option, Some, All, length, slice_index_or}
+-- The bag: the messages under way, in the order in which they were sent. It may contain equal messages.
+use Rattle.std.specs.Prelude.{◌≡◌, ◌≢◌, ◌<◌, ◌≤◌, ◌+◌, ℕ, List, ◌∷◌, ◌++◌, Option, Some, None, All, length, take, slice_get, slice_index_or}
 use Rattle.std.specs.List.{filter_map, remove}
 use Rattle.ra_stamp.specs.declared.message.Message.{Message}
 
@@ -11,13 +11,17 @@ pub record TakesFirst (old : List Message) (message : Message) (new : List Messa
   pub first : All (λ m. m ≢ message) prefix
   pub new_is : new ≡ prefix ++ suffix
 
--- the new list is the old one without a message that is equal to this one, at whichever place
+-- the new list is the old one without one message that is equal to this one, at any place
 abbrev pub TakesOne : List Message → Message → List Message → Type 0
 TakesOne old message new = (place : ℕ) × (place < length old) × (slice_index_or old place message ≡ message) × (new ≡ remove old place)
 
--- ---- How a bag is kept: in slots, of which some are empty
+-- the new list is the old one without the message at this place
+abbrev pub TakesAt : List Message → ℕ → List Message → Type 0
+TakesAt old place new = new ≡ remove old place
 
--- the slot has this message
+-- ---- How a bag is kept: in slots, some of which are empty
+
+-- this slot contains the message
 abbrev pub StandsIn : List (Option Message) → Message → ℕ → Type 0
 StandsIn slots message slot = (slot < length slots) × (slice_index_or slots slot (Some message) ≡ Some message)
 
@@ -25,10 +29,16 @@ StandsIn slots message slot = (slot < length slots) × (slice_index_or slots slo
 abbrev pub messages_in : List (Option Message) → List Message
 messages_in slots = filter_map (λ slot. slot) slots
 
--- so many of the slots are empty
+-- the slot contains the message at this place, or there is no such place and no such slot
+abbrev pub IsAt : List (Option Message) → ℕ → ℕ → Type 0
+IsAt slots place slot =
+    (slice_index_or slots slot None ≡ slice_get (messages_in slots) place)
+    × (slot < length slots → length (messages_in (take slot slots)) ≡ place)
+
+-- this many of the slots are empty
 abbrev pub HasEmpty : List (Option Message) → ℕ → Type 0
 HasEmpty slots empty = length (messages_in slots) + empty ≡ length slots
 
--- no more of the slots are empty than have a message
+-- this number of empty slots is at most the number of slots that contain a message
 abbrev pub FewEmpty : List (Option Message) → ℕ → Type 0
 FewEmpty slots empty = empty ≤ length (messages_in slots)

@@ -1,28 +1,31 @@
 ghost use Rattle.std.specs.Prelude.{◌≡◌, ◌≢◌, ◌+◌, ◌≤◌, ◌↔◌, [], ◌∷◌, ◌++◌, take, drop, suc, length, slice_get, Contains, IsNone, IsSome, IsOk, IfOk, IfSome, OnOk, OnErr, IsTrue, IsFalse, ℕ};
 ghost use Rattle.std.specs.VecDeque.{deque_len, deque_capacity};
 ghost use Rattle.ra_stamp.specs.declared.message.Message.{Message};
-ghost use Rattle.ra_bag.specs.Bag.{TakesFirst, TakesOne, StandsIn, messages_in, HasEmpty, FewEmpty};
+ghost use Rattle.ra_bag.specs.Bag.{TakesFirst, TakesOne, TakesAt, StandsIn, IsAt, messages_in, HasEmpty, FewEmpty};
+ghost use Rattle.ra_bag.specs.declared.found.Found.{Found};
 ghost use Rattle.ra_bag.specs.Places.{IsFirstSlot, IsTold};
 
+use crate::found::Found;
 use crate::places::Places;
 use crate::slots::{
-    append, at, clear, close_up, contains, has, make_room, nth, slot_of, take_first, take_last,
-    take_out,
+    append, at, clear, close_up, contains, has, make_room, nth, slot_of, starts_empty, take_first,
+    take_last, take_out,
 };
 use ra_stamp::{Memory, Message, Messages};
 use std::alloc::Global;
 use std::collections::VecDeque;
 use std::marker::Model;
 
-/// The messages under way, in the order in which they were sent; equal ones may stand in it. Contracts see them
-/// and the spare, which is how many more messages there is room for already.
+/// The messages under way, in the order in which they were sent; some may be equal. Contracts see them and the spare,
+/// which is the number of further messages that there is already room for.
 #[derive(Drop)]
 pub struct Bag {
     /// The messages, with an empty slot for each one that was taken from between others since the slots were closed up.
     slots: VecDeque<Option<Message>>,
-    /// How many slots are empty: no more than have a message, so that to go through all slots is linear in the messages.
+    /// How many slots are empty: at most as many as have a message, so that going through all slots is linear in the
+    /// messages.
     empty: u64,
-    /// In which slots the messages stand, for finding them.
+    /// In which slots the messages are, to find them.
     places: Places,
 }
 
@@ -44,11 +47,11 @@ impl Model for Bag {
 }
 
 impl Bag {
-    /// Makes the bag in which nothing is under way. What it keeps grows by `alloc`.
+    /// Makes the bag in which nothing is under way. It allocates from `alloc` as it grows.
     ///
     /// # Errors
     ///
-    /// `Memory`: there is no bag. The call takes no memory yet, and no caller has to change when it does.
+    /// `Memory`: no bag was made. The call takes no memory yet; callers need not change when it does.
     pub fn new(alloc: Global) -> Result<Bag, Memory>
         ensures empty { IfOk result (λ bag. bag.items ≡ []) }
     {
@@ -66,80 +69,69 @@ impl Bag {
         self.slots.len() as u64 - self.empty
     }
 
-    /// Returns the message at this place, counted from 0, or `None` past the end. It does not allocate. The cost is constant where
-    /// no slot is empty, and else linear in the number of messages. Slots are emptied only once a message was looked for among many.
+    /// Returns the message at this place, counted from 0, or `None` past the end. It does not allocate. The cost is constant if no slot
+    /// is empty or the place is 0, and otherwise linear in the number of messages. Slots are emptied only after a message was looked for
+    /// among many.
     pub fn at(&self, place: u64) -> Option<Message>
         ensures { result ≡ slice_get self.now.items place }
     {
-        if self.empty > 0 {
-            return nth(&self.slots, place);
-        }
-        at(&self.slots, place as usize)
+        at(&self.slots, slot_at(&self.slots, self.empty, place))
     }
 
-    /// Returns whether a message that is equal to this one is under way. It does not allocate. The cost is constant on average where
-    /// one is and the bag knows where each stands, as `take` says; else it is linear in the number of messages.
+    /// Returns whether a message that is equal to this one is under way. It does not allocate. The cost is constant on
+    /// average if the bag knows in which slot each message is, as `take` explains; otherwise it is linear in the number
+    /// of messages.
     pub fn contains(&self, message: &Message) -> bool
         ensures { IsTrue result ↔ Contains self.now.items message.now }
     {
-        self.is_where_known(message) || contains(&self.slots, message)
-    }
-
-    /// Returns whether a message that is equal to this one stands in the slot that is known for it, if one is.
-    fn is_where_known(&self, message: &Message) -> bool
-        ensures { IsTrue result → Contains self.now.items message.now }
-    {
-        match self.places.tell(message) {
-            Some(known) => has(&self.slots, known, message),
-            None => false,
+        if self.places.are_known() {
+            return self.places.tell(message).is_some();
         }
+        contains(&self.slots, message)
     }
 
-    /// Returns in which slot a message stands that is equal to this one, for `take_from`, or `None` where there is none. It does not
-    /// allocate.
+    /// Returns where a message that is equal to this one is, for `take_from`, or `None` if no such message is under
+    /// way. It does not allocate.
     ///
-    /// Where no slot is empty the one at the place `near` is looked at first, at constant cost. Else it is the first one, and the cost
-    /// is that of `take`. Which number a slot has no clause says, so that `take_from` looks whether the message is there.
+    /// The message at the place `near` is looked at first, at the cost of `at`. If it is another one, the first equal
+    /// one is found, at the cost of `take`.
     #[inline(always)]
-    pub fn find(&mut self, message: &Message, near: u64) -> Option<u64>
+    pub fn find(&mut self, message: &Message, near: u64) -> Option<Found>
         ensures same { self.new ≡ self.old }
         ensures found { IsSome result ↔ Contains self.old.items message.now }
+        ensures near { slice_get self.old.items near ≡ Some message.now → result ≡ Some (Found.At near) }
+        ensures at { IfSome result (λ found. (place : ℕ) → found ≡ Found.At place
+            → slice_get self.old.items place ≡ Some message.now) }
     {
-        if self.empty == 0 && has(&self.slots, near as usize, message) {
-            return Some(near);
+        let at_near = slot_at(&self.slots, self.empty, near);
+        if has(&self.slots, at_near, message) {
+            return Some(Found::At(near));
         }
-        self.search(message)
-    }
-
-    /// Returns in which slot a message stands that is equal to this one.
-    fn search(&mut self, message: &Message) -> Option<u64>
-        ensures same { self.new ≡ self.old }
-        ensures found { IsSome result ↔ Contains self.old.items message.now }
-    {
         let slot = first_of(&self.slots, &mut self.places, message)?;
-        Some(slot as u64)
+        Some(Found::In(slot as u64))
     }
 
-    /// Makes room for this many more messages, in time linear in the number of messages. The messages stay, and
-    /// the spare is no smaller, whatever comes. A refusal may leave it larger, so that a bag may come to keep
-    /// more than one list. Where a message was looked for among many, it learns where each stands, if there is memory for that.
+    /// Makes room for this many more messages, in time linear in the number of messages. Whatever the result, the
+    /// messages stay and the spare does not shrink. A refusal may leave it larger, so that a bag may come to keep more
+    /// than one list. If a message was looked for among many, the bag learns in which slot each is, if there is memory
+    /// for that.
     ///
     /// # Errors
     ///
-    /// `Memory`: there is no such room.
+    /// `Memory`: that room cannot be made.
     pub fn reserve(&mut self, more: u64) -> Result<(), Memory>
         ensures same { self.new.items ≡ self.old.items }
         ensures ok { OnOk result (more ≤ self.new.spare) }
         ensures grows { self.old.spare ≤ self.new.spare }
     {
-        self.places.learn_if_wanted(&self.slots);
         self.slots.reserve(more as usize)?;
+        self.places.learn_if_wanted(&self.slots);
         Ok(())
     }
 
-    /// Puts messages under way, in order, after all others, in amortized time linear in the number of these
-    /// messages. Where there is room for them it cannot fail. Where a message was looked for among many, it learns where each stands,
-    /// if there is memory for that, in time linear in the number of messages.
+    /// Puts messages under way, in order, after all others, in amortized time linear in the number of these messages.
+    /// It cannot fail if there is room for them. If a message was looked for among many, the bag learns in which slot
+    /// each is, if there is memory for that, in time linear in the number of all messages.
     ///
     /// # Errors
     ///
@@ -154,12 +146,13 @@ impl Bag {
         self.put(messages.as_slice())
     }
 
-    /// Puts one more message under way that is equal to this one, after all others, and returns true, or returns false where there
-    /// is none and leaves the bag. The cost is that of `find`, plus amortized constant time. Where there is room it cannot fail.
+    /// If a message that is equal to this one is under way, puts one more after all others and returns true; otherwise
+    /// leaves the bag unchanged and returns false. The cost is that of `find`, plus amortized constant time. It cannot
+    /// fail if there is room.
     ///
     /// # Errors
     ///
-    /// `Memory`: the bag is as before, with its spare. Where no equal message is under way it is not answered.
+    /// `Memory`: the bag is as before, with its spare. It is not returned if no equal message is under way.
     pub fn again(&mut self, message: &Message) -> Result<bool, Memory>
         ensures told { IfOk result (λ again. IsTrue again ↔ Contains self.old.items message.now) }
         ensures copied { IfOk result (λ again. IsTrue again
@@ -193,11 +186,13 @@ impl Bag {
         Ok(())
     }
 
-    /// Takes the first message that is equal to this one, or returns `None` where there is none and leaves the bag. It does not allocate.
+    /// Takes the first message that is equal to this one. If no such message is under way, it leaves the bag unchanged
+    /// and returns `None`. It does not allocate.
     ///
-    /// The cost is constant where it is the oldest of all. Else it is amortized constant on average where the bag knows where each
-    /// message stands, equal ones too; and where it does not, or there is none such, linear in the number of messages. Once it was
-    /// looked through for one among more than 64, the next `reserve`, `put_all` or `again` learns where each stands.
+    /// The cost is constant if it is the oldest of all. Otherwise it is amortized constant on average if the bag knows
+    /// in which slot each message is, even if several are equal or no such message is under way. If the bag does not
+    /// know, the cost is linear in the number of messages. After a message was looked for among more than 64, the next
+    /// `reserve`, `put_all` or `again` learns in which slot each is.
     pub fn take(&mut self, message: &Message) -> Option<Message>
         ensures taken { IfSome result (λ taken. (taken ≡ message.now)
             × TakesFirst self.old.items message.now self.new.items) }
@@ -216,29 +211,58 @@ impl Bag {
         Some(*message)
     }
 
-    /// Takes a message that is equal to this one, at whichever place: the one in the slot that `find` told, where it still stands
-    /// there, else the first one. It does not allocate.
+    /// Takes a message that is equal to this one: the one that was found, if it is still there, and otherwise the first
+    /// one. It does not allocate.
     ///
-    /// In the first case the cost is amortized constant where it stands at an end, or where the bag knows where each message stands;
-    /// else it is linear in the distance from the nearer end. In the second it is that of `take`.
+    /// In the first case the cost is that of `at`, if the message was found at a place, and that of removing it.
+    /// Removing takes amortized constant time if the message is at an end, or if the bag knows in which slot each
+    /// message is and this is the first of equal ones. Otherwise it takes time linear in the distance from the nearer
+    /// end, and the bag has to learn the slots anew. In the second case the cost is that of `take`.
     #[inline(always)]
-    pub fn take_from(&mut self, slot: u64, message: &Message)
+    pub fn take_from(&mut self, found: Found, message: &Message)
         requires { Contains self.old.items message.now }
         ensures taken { TakesOne self.old.items message.now self.new.items }
+        ensures at { (place : ℕ) → found ≡ Found.At place → slice_get self.old.items place ≡ Some message.now
+            → TakesAt self.old.items place self.new.items }
         ensures spare { self.old.spare ≤ self.new.spare }
     {
-        if has(&self.slots, slot as usize, message) {
+        let slot = slot_found(&self.slots, self.empty, found);
+        if has(&self.slots, slot, message) {
             remove(
                 &mut self.slots,
                 &mut self.empty,
                 &mut self.places,
-                slot as usize,
+                slot,
                 message,
             );
         } else {
             self.take(message);
         }
     }
+}
+
+/// Returns the slot in which a message was found.
+#[inline(always)]
+fn slot_found(slots: &VecDeque<Option<Message>>, empty: u64, found: Found) -> usize
+    requires { HasEmpty slots.now.items empty }
+    ensures { (place : ℕ) → found ≡ Found.At place → IsAt slots.now.items place result }
+{
+    match found {
+        Found::At(place) => slot_at(slots, empty, place),
+        Found::In(slot) => slot as usize,
+    }
+}
+
+/// Returns the slot of the message at this place, or one past the end if there is no such place.
+#[inline(always)]
+fn slot_at(slots: &VecDeque<Option<Message>>, empty: u64, place: u64) -> usize
+    requires { HasEmpty slots.now.items empty }
+    ensures { IsAt slots.now.items place result }
+{
+    if empty > 0 {
+        return nth(slots, place);
+    }
+    place as usize
 }
 
 /// Returns the first slot that has a message that is equal to this one.
@@ -252,17 +276,18 @@ fn first_of(
     ensures some { IsSome result ↔ Contains (messages_in slots.now.items) message.now }
     ensures first { IfSome result (IsFirstSlot slots.now.items message.now) }
 {
-    // Who delivers the oldest takes the first.
+    // A caller that delivers the oldest message asks for the first one.
     if has(slots, 0, message) {
         return Some(0);
     }
-    if let Some(known) = places.look_up(slots, message) {
-        return Some(known);
+    if places.are_known() {
+        return places.tell(message);
     }
+    places.want(slots.len());
     slot_of(slots, message)
 }
 
-/// Takes the message, which stands in this slot, out of the slots. They are closed up where more than half of them are empty.
+/// Takes the message in this slot out of the slots. They are closed up if more than half of them are empty.
 #[inline(always)]
 fn remove(
     slots: &mut VecDeque<Option<Message>>,
@@ -290,7 +315,7 @@ fn remove(
     }
 }
 
-/// Removes the slot of a message, or only empties it where the places of the others are known and would change.
+/// Removes the slot of a message, or only empties it if the places of the others are known and would change.
 #[inline(always)]
 fn remove_slot(
     slots: &mut VecDeque<Option<Message>>,
@@ -313,13 +338,36 @@ fn remove_slot(
     if slot == 0 {
         take_first(slots);
         places.shift();
+        drop_leading(slots, empty, places);
     } else if slot + 1 == slots.len() {
-        // Who delivers the newest takes the last.
+        // A caller that delivers the newest message takes the last one.
         take_last(slots);
     } else if !places.are_known() {
         take_out(slots, slot);
     } else {
         clear(slots, slot);
         *empty += 1;
+    }
+}
+
+/// Drops the empty slots before the first message, so that it is found without looking at them. Each slot is emptied
+/// only once, so the cost is amortized constant.
+#[inline(always)]
+fn drop_leading(slots: &mut VecDeque<Option<Message>>, empty: &mut u64, places: &mut Places)
+    requires count { HasEmpty slots.old.items empty.old }
+    requires told { IsTold ⟦<Message as PartialEq>⟧.eq places.old slots.old.items }
+    ensures count { HasEmpty slots.new.items empty.new }
+    ensures told { IsTold ⟦<Message as PartialEq>⟧.eq places.new slots.new.items }
+    ensures items { messages_in slots.new.items ≡ messages_in slots.old.items }
+    ensures len { deque_len slots.new ≤ deque_len slots.old }
+    ensures capacity { deque_capacity slots.new ≡ deque_capacity slots.old }
+{
+    for _ in 0..*empty {
+        if !starts_empty(slots) {
+            return;
+        }
+        take_first(slots);
+        places.shift();
+        *empty -= 1;
     }
 }

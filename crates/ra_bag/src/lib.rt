@@ -2,7 +2,9 @@
 #![tactic(auto)]
 
 mod bag;
+mod found;
 mod places;
 mod slots;
 
 pub use bag::Bag;
+pub use found::Found;

@@ -1,31 +1,33 @@
-//! In which slots a message stands.
-ghost use Rattle.std.specs.Prelude.{◌≡◌, ◌≢◌, ◌+◌, ◌↔◌, ◌++◌, ◌∷◌, [], List, Option, Some, None, map, length, slice_set, IfSome, IfOk, OnOk, IsTrue, false, option_to_list, ℕ};
+//! In which slots each message is.
+ghost use Rattle.std.specs.Prelude.{◌≡◌, ◌≢◌, ◌+◌, ◌↔◌, ◌++◌, ◌∷◌, [], List, Option, Some, None, map, length, slice_set, Contains, IsSome, IsNone, IfSome, OnOk, IsTrue, false, option_to_list, ℕ};
 ghost use Rattle.std.specs.Map.{lookup};
 ghost use Rattle.std.specs.VecDeque.{deque_items};
 ghost use Rattle.ra_stamp.specs.declared.message.Message.{Message};
-ghost use Rattle.ra_bag.specs.Bag.{StandsIn};
+ghost use Rattle.ra_bag.specs.Bag.{StandsIn, messages_in};
 ghost use Rattle.ra_bag.specs.Places.{IsFirstSlot, IsTold, Tells, Learns, Unlearns, later_numbers};
 
 use indexmap::IndexMap;
 use ra_stamp::{Memory, Message, equal_is_same};
 use std::alloc::Global;
 use std::collections::VecDeque;
+use std::mem::replace;
 
-/// Where there are no more slots than these, they are looked through.
+/// If there are no more slots than this, they are searched one by one.
 const FEW: usize = 64;
 
-/// The slots of the messages in a bag, by which the first that has a message is found without looking at all of them. They are
-/// learned after a message was looked for among many, by the next call that may take memory: who looks for one takes none. A bag that
-/// does not know them, or for which there was no memory to, does the same in more time.
+/// The slots of the messages in a bag, to find the first slot that has a message without looking at all of them.
+/// Looking for a message takes no memory, so the slots are learned by the next call that may take it, after a message
+/// was looked for among many. A bag that does not know the slots, or had no memory to learn them, does the same in more
+/// time.
 #[derive(Drop)]
 pub struct Places {
     /// Each message with the number of the first slot that has it.
     numbers: IndexMap<Message, u64>,
-    /// Each message that several slots have, with the numbers of the others, in order.
+    /// Each message that several slots have, with the numbers of all but the first of them, in order.
     later: IndexMap<Message, VecDeque<u64>>,
     /// The number of the first slot.
     first: u64,
-    /// Whether a message was looked for among many while none was known.
+    /// Whether a message was looked for among many while no slots were known.
     wanted: bool,
 }
 
@@ -42,7 +44,7 @@ impl Places {
         }
     }
 
-    /// Returns whether there are places, which then tell the slots of each message.
+    /// Returns whether any places are known. If so, they tell the slots of each message.
     #[inline(always)]
     pub fn are_known(&self) -> bool
         ensures { IsTrue result ↔ (length self.now.numbers.entries ≢ 0) }
@@ -50,34 +52,33 @@ impl Places {
         !self.numbers.is_empty()
     }
 
-    /// Returns the first slot of a message, as far as that is known. Where there are many slots and none is known, they are to be learned.
-    /// It does not allocate.
-    pub fn look_up(&mut self, slots: &VecDeque<Option<Message>>, message: &Message) -> Option<usize>
-        requires { IsTold ⟦<Message as PartialEq>⟧.eq self.old slots.now.items }
-        ensures told { IsTold ⟦<Message as PartialEq>⟧.eq self.new slots.now.items }
-        ensures first { IfSome result (IsFirstSlot slots.now.items message.now) }
-    {
-        if slots.len() > FEW && !self.are_known() {
-            self.wanted = true;
-        }
-        self.tell(message)
-    }
-
-    /// Returns the first slot of a message, as far as that is known. It does not allocate.
+    /// Returns the first slot that has a message, or `None` if no slot does. The slots of each message are known. It
+    /// does not allocate.
     pub fn tell(&self, message: &Message) -> Option<usize>
-        ensures { (slots : List (Option Message)) → IsTold ⟦<Message as PartialEq>⟧.eq self.now slots
+        requires { length self.now.numbers.entries ≢ 0 }
+        ensures some { (slots : List (Option Message)) → IsTold ⟦<Message as PartialEq>⟧.eq self.now slots
+            → IsSome result ↔ Contains (messages_in slots) message.now }
+        ensures first { (slots : List (Option Message)) → IsTold ⟦<Message as PartialEq>⟧.eq self.now slots
             → IfSome result (IsFirstSlot slots message.now) }
     {
         equal_is_same();
-        if !self.are_known() {
-            return None;
-        }
         let number = *self.numbers.get(message)?;
         let slot = number.checked_sub(self.first)?;
         Some(slot as usize)
     }
 
-    /// Learns the slots of each message where they are to be learned, unless memory runs out. The cost is linear in the slots then.
+    /// Notes that a message was looked for among this many slots. If they are many, the slots of each message are to be learned.
+    pub fn want(&mut self, slots: usize)
+        ensures { (of : List (Option Message)) → IsTold ⟦<Message as PartialEq>⟧.eq self.old of
+            → IsTold ⟦<Message as PartialEq>⟧.eq self.new of }
+    {
+        if slots > FEW {
+            self.wanted = true;
+        }
+    }
+
+    /// Learns the slots of each message if they are to be learned, unless memory runs out. The cost is then linear in
+    /// the slots.
     #[inline(always)]
     pub fn learn_if_wanted(&mut self, slots: &VecDeque<Option<Message>>)
         requires { IsTold ⟦<Message as PartialEq>⟧.eq self.old slots.now.items }
@@ -99,11 +100,11 @@ impl Places {
         }
     }
 
-    /// Learns the slots of each message, where none is known.
+    /// Learns the slots of each message when none are known yet.
     ///
     /// # Errors
     ///
-    /// `Memory`: some are not known.
+    /// `Memory`: some slots are not known.
     fn learn_all(&mut self, slots: &VecDeque<Option<Message>>) -> Result<(), Memory>
         requires numbers { self.old.numbers.entries ≡ [] }
         requires later { self.old.later.entries ≡ [] }
@@ -119,7 +120,7 @@ impl Places {
         Ok(())
     }
 
-    /// Learns the slots of these messages, which are put after this many others, where those of the others are known.
+    /// Learns the slots of these messages, which are put after this many slots, if the slots of the others are known.
     #[inline(always)]
     pub fn follow(&mut self, slot: usize, messages: &[Message])
         ensures { (slots : List (Option Message)) → length slots ≡ slot
@@ -131,11 +132,11 @@ impl Places {
         }
     }
 
-    /// Adds the slots of these messages, which are put after this many others.
+    /// Adds the slots of these messages, which are put after this many slots.
     ///
     /// # Errors
     ///
-    /// `Memory`: some are not known. It is answered too where the numbers end.
+    /// `Memory`: some slots are not known. It is also returned if the numbers run out.
     fn add_all(&mut self, slot: usize, messages: &[Message]) -> Result<(), Memory>
         ensures { OnOk result ((slots : List (Option Message)) → length slots ≡ slot
             → Tells ⟦<Message as PartialEq>⟧.eq self.old slots
@@ -154,7 +155,7 @@ impl Places {
     ///
     /// # Errors
     ///
-    /// `Memory`: some are not known.
+    /// `Memory`: some slots are not known.
     fn add(&mut self, number: u64, message: &Message) -> Result<(), Memory>
         ensures { OnOk result (Learns ⟦<Message as PartialEq>⟧.eq self.old message.now number self.new) }
     {
@@ -165,7 +166,7 @@ impl Places {
         Ok(())
     }
 
-    /// Forgets that this slot has a message, which is taken.
+    /// Forgets that this slot has this message, which is taken.
     #[inline(always)]
     pub fn take(&mut self, slot: usize, message: &Message)
         ensures { (slots : List (Option Message)) → StandsIn slots message.now slot
@@ -190,16 +191,13 @@ impl Places {
         }
     }
 
-    /// Removes the first number of a message and returns it, or `None` where there is none, or where some are not known any more.
+    /// Removes the first number of a message and returns it, or `None` if it has no number. It does not allocate.
     fn remove(&mut self, message: &Message) -> Option<u64>
         ensures { IfSome result (λ number.
             Unlearns ⟦<Message as PartialEq>⟧.eq self.old message.now number self.new) }
     {
-        let Ok(next) = take_later(&mut self.later, message) else {
-            return None;
-        };
-        match next {
-            Some(next) => self.numbers.insert(*message, next).ok()?,
+        match take_later(&mut self.later, message) {
+            Some(next) => Some(replace(self.numbers.get_mut(message)?, next)),
             None => self.numbers.swap_remove(message),
         }
     }
@@ -222,18 +220,18 @@ impl Places {
         ensures later { self.new.later.entries ≡ [] }
         ensures first { self.new.first ≡ 0 }
     {
-        // `clear` would take time linear in the largest number of places that there ever were.
+        // `clear` would take time linear in the largest number of places ever kept.
         self.numbers.truncate(0);
         self.later.truncate(0);
         self.first = 0;
     }
 }
 
-/// Adds a number of a message after its later ones.
+/// Adds a number to a message, after its later ones.
 ///
 /// # Errors
 ///
-/// `Memory`: its later ones may be gone.
+/// `Memory`: its later numbers may be gone.
 fn add_later(
     later: &mut IndexMap<Message, VecDeque<u64>>,
     number: u64,
@@ -255,33 +253,24 @@ fn add_later(
     Ok(())
 }
 
-/// Takes the first of the later numbers of a message, if there is one.
-///
-/// # Errors
-///
-/// `Memory`: its later ones are gone.
-fn take_later(
-    later: &mut IndexMap<Message, VecDeque<u64>>,
-    message: &Message,
-) -> Result<Option<u64>, Memory>
-    ensures taken { IfOk result (λ next. later_numbers deque_items (lookup (⟦<Message as PartialEq>⟧.eq message.now) later.old.entries)
-        ≡ option_to_list next ++ later_numbers deque_items (lookup (⟦<Message as PartialEq>⟧.eq message.now) later.new.entries)) }
-    ensures none { IfOk result (λ next. next ≡ None
-        → lookup (⟦<Message as PartialEq>⟧.eq message.now) later.new.entries ≡ None) }
-    ensures others { OnOk result ((other : Message) → ⟦<Message as PartialEq>⟧.eq message.now other ≡ false
+/// Takes the first of the later numbers of a message, if there is one. It does not allocate.
+fn take_later(later: &mut IndexMap<Message, VecDeque<u64>>, message: &Message) -> Option<u64>
+    ensures taken { later_numbers deque_items (lookup (⟦<Message as PartialEq>⟧.eq message.now) later.old.entries)
+        ≡ option_to_list result ++ later_numbers deque_items (lookup (⟦<Message as PartialEq>⟧.eq message.now) later.new.entries) }
+    ensures none { IsNone result → lookup (⟦<Message as PartialEq>⟧.eq message.now) later.new.entries ≡ None }
+    ensures others { (other : Message) → ⟦<Message as PartialEq>⟧.eq message.now other ≡ false
         → lookup (⟦<Message as PartialEq>⟧.eq other) later.new.entries
-        ≡ lookup (⟦<Message as PartialEq>⟧.eq other) later.old.entries) }
+        ≡ lookup (⟦<Message as PartialEq>⟧.eq other) later.old.entries }
 {
-    // Where no message stands in two slots, none has to be hashed.
+    // If no message is in two slots, none has to be hashed.
     if later.is_empty() {
-        return Ok(None);
+        return None;
     }
-    let Some(mut queue) = later.swap_remove(message) else {
-        return Ok(None);
-    };
+    let queue = later.get_mut(message)?;
     let next = queue.pop_front();
-    if !queue.is_empty() {
-        later.insert(*message, queue)?;
+    let is_last = queue.is_empty();
+    if is_last {
+        later.swap_remove(message);
     }
-    Ok(next)
+    next
 }

@@ -1,14 +1,14 @@
-//! Messages in slots, of which some may be empty.
-ghost use Rattle.std.specs.Prelude.{◌≡◌, ◌≢◌, ◌+◌, ◌-◌, ◌<◌, ◌≤◌, ◌↔◌, ◌++◌, length, map, take, drop, slice_get, slice_index_or, slice_set, Contains, Some, None, IsNone, IsSome, IfSome, IsOk, OnOk, OnErr, IsTrue, ℕ};
+//! Messages in slots, some of which may be empty.
+ghost use Rattle.std.specs.Prelude.{◌≡◌, ◌≢◌, ◌+◌, ◌-◌, ◌<◌, ◌≤◌, ◌↔◌, ◌∷◌, ◌++◌, length, map, take, drop, slice_index_or, slice_set, Contains, Some, None, IsNone, IsSome, IfSome, IsOk, OnOk, OnErr, IsTrue, ℕ};
 ghost use Rattle.std.specs.List.{filter, remove};
 ghost use Rattle.std.specs.Option.{is_some};
 ghost use Rattle.std.specs.VecDeque.{deque_len, deque_capacity};
-ghost use Rattle.ra_bag.specs.Bag.{StandsIn, messages_in};
+ghost use Rattle.ra_bag.specs.Bag.{StandsIn, IsAt, messages_in};
 
 use ra_stamp::{Memory, Message};
 use std::collections::VecDeque;
 
-/// Makes room for this many more slots, where there is none yet.
+/// Makes room for this many more slots, unless the list already has it.
 pub fn make_room(slots: &mut VecDeque<Option<Message>>, more: usize) -> Result<(), Memory>
     ensures same { slots.new.items ≡ slots.old.items }
     ensures ok { OnOk result (deque_len slots.new + more ≤ deque_capacity slots.new) }
@@ -17,14 +17,14 @@ pub fn make_room(slots: &mut VecDeque<Option<Message>>, more: usize) -> Result<(
     ensures err { OnErr result (deque_capacity slots.new ≡ deque_capacity slots.old) }
     ensures succeeds { deque_len slots.old + more ≤ deque_capacity slots.old → IsOk result }
 {
-    // A list that has the room is left as it is, which `reserve` alone does not promise, nor that a refusal leaves the capacity.
+    // `reserve` promises neither to leave a list that has the room as it is, nor to keep the capacity if it is refused.
     if slots.capacity() - slots.len() < more {
         slots.reserve_exact(more.max(slots.capacity()))?;
     }
     Ok(())
 }
 
-/// Puts messages into slots at the end, for which there is room.
+/// Puts messages into new slots at the end. The list must have room for them.
 pub fn append(slots: &mut VecDeque<Option<Message>>, messages: &[Message])
     requires { deque_len slots.old + length messages.now ≤ deque_capacity slots.old }
     ensures items { slots.new.items ≡ slots.old.items ++ map Some messages.now }
@@ -47,8 +47,8 @@ pub fn has(slots: &VecDeque<Option<Message>>, slot: usize, message: &Message) ->
     }
 }
 
-/// Returns the first slot that has a message that is equal to this one. The slots lie in two parts, which are gone through faster
-/// one after the other.
+/// Returns the first slot that has a message that is equal to this one. The slots lie in two parts, which are searched
+/// one after the other because that is faster.
 pub fn slot_of(slots: &VecDeque<Option<Message>>, message: &Message) -> Option<usize>
     ensures some { IsSome result ↔ Contains (messages_in slots.now.items) message.now }
     ensures found { IfSome result (StandsIn slots.now.items message.now) }
@@ -82,7 +82,7 @@ fn slot_in(slots: &[Option<Message>], message: &Message) -> Option<usize>
 pub fn contains(slots: &VecDeque<Option<Message>>, message: &Message) -> bool
     ensures { IsTrue result ↔ Contains (messages_in slots.now.items) message.now }
 {
-    // Who delivers the newest asks for the last.
+    // A caller that delivers the newest message asks for the last one.
     is_last(slots, message) || slot_of(slots, message).is_some()
 }
 
@@ -93,32 +93,40 @@ fn is_last(slots: &VecDeque<Option<Message>>, message: &Message) -> bool
     has(slots, slots.len().saturating_sub(1), message)
 }
 
-/// Returns the message at this place among those in the slots.
-pub fn nth(slots: &VecDeque<Option<Message>>, place: u64) -> Option<Message>
-    ensures { result ≡ slice_get (messages_in slots.now.items) place }
+/// Returns the slot of the message at this place among those in the slots, or one past the end if there is no such
+/// message. The cost is linear in the number of slots before it.
+pub fn nth(slots: &VecDeque<Option<Message>>, place: u64) -> usize
+    ensures { IsAt slots.now.items place result }
 {
     let mut left = place;
     for slot in 0..slots.len() {
-        if let Some(message) = slots[slot] {
+        if slots[slot].is_some() {
             if left == 0 {
-                return Some(message);
+                return slot;
             }
             left -= 1;
         }
     }
-    None
+    slots.len()
 }
 
-/// Returns the message at this place, where no slot is empty.
+/// Returns the message in a slot, or `None` if the slot is empty or does not exist.
 #[inline(always)]
-pub fn at(slots: &VecDeque<Option<Message>>, place: usize) -> Option<Message>
-    requires { length (messages_in slots.now.items) ≡ length slots.now.items }
-    ensures { result ≡ slice_get (messages_in slots.now.items) place }
+pub fn at(slots: &VecDeque<Option<Message>>, slot: usize) -> Option<Message>
+    ensures { result ≡ slice_index_or slots.now.items slot None }
 {
-    match slots.get(place) {
+    match slots.get(slot) {
         Some(kept) => *kept,
         None => None,
     }
+}
+
+/// Returns whether the first slot is empty.
+#[inline(always)]
+pub fn starts_empty(slots: &VecDeque<Option<Message>>) -> bool
+    ensures { IsTrue result → slots.now.items ≡ None ∷ drop 1 slots.now.items }
+{
+    matches!(slots.front(), Some(None))
 }
 
 /// Takes a slot out, in time linear in the distance from the nearer end.
@@ -160,7 +168,7 @@ pub fn clear(slots: &mut VecDeque<Option<Message>>, slot: usize)
     slots[slot] = None;
 }
 
-/// Removes the empty slots. The order of the others stays.
+/// Removes the empty slots, and keeps the order of the others.
 pub fn close_up(slots: &mut VecDeque<Option<Message>>)
     ensures items { slots.new.items ≡ filter is_some slots.old.items }
     ensures len { deque_len slots.new ≤ deque_len slots.old }
@@ -169,7 +177,7 @@ pub fn close_up(slots: &mut VecDeque<Option<Message>>)
     slots.retain(|kept| kept.is_some());
 }
 
-/// Returns whether what a slot has is a message that is equal to this one.
+/// Returns whether the content of a slot is a message that is equal to this one.
 #[inline(always)]
 fn is_of(kept: &Option<Message>, message: &Message) -> bool
     ensures { IsTrue result ↔ (kept.now ≡ Some message.now) }
@@ -180,7 +188,8 @@ fn is_of(kept: &Option<Message>, message: &Message) -> bool
     }
 }
 
-/// Returns whether two messages are equal. Most that are not differ in their numbers or nodes, which are looked at first.
+/// Returns whether two messages are equal. Most unequal messages differ in their numbers or nodes, which are compared
+/// first.
 #[inline(always)]
 fn is_same(a: &Message, b: &Message) -> bool
     ensures { IsTrue result ↔ (a.now ≡ b.now) }

@@ -1,4 +1,4 @@
--- What the crates below say of messages, nodes and lock tables, as far as the laws of runs rest on it.
+-- What the crates below say of messages, nodes and lock tables, as far as the laws of runs depend on it.
 use Rattle.std.specs.Prelude.{◌≡◌, ◌≢◌, ◌⊎◌, ◌↔◌, ℕ, ◌≤◌, List, ◌++◌, All}
 use Rattle.ra_stamp.specs.declared.message.Message.{Message}
 use Rattle.ra_stamp.specs.declared.mode.Mode.{Mode}
@@ -17,6 +17,7 @@ use Rattle.ra_node.specs.Events.Event.{Ask, Leave, Receive}
 use Rattle.ra_node.specs.Carried.{IsSend, MarksLead}
 use Rattle.ra_table.specs.Table.{LockTable, TableSteps}
 
+-- the laws of modes, messages, automata, nodes and lock tables on which the laws of runs depend
 pub record LawsBelow : Type 0 where
   -- of modes and messages
   pub symmetric : (a b : Mode) → Conflict a b → Conflict b a

@@ -1,5 +1,5 @@
--- Steps that fit together: each node's are its own history, and each message was sent before it is taken, and is taken
--- once.
+-- Steps that fit together: the steps at each node are its own history, and each message is sent before it is taken, and
+-- is taken once.
 use Rattle.std.specs.Prelude.{◌≡◌, ◌≢◌, ℕ, ◌≤◌, List, [], ◌∷◌, ◌++◌, All, AllPairs, Contains, map, take, length, flat_map}
 use Rattle.ra_stamp.specs.declared.message.Message.{Message}
 use Rattle.ra_node.specs.Node.{NodeState, opening_node}
@@ -13,16 +13,16 @@ use Rattle.ra_world.specs.Run.{events_at}
 abbrev pub sent_in : List Happening → List Message
 sent_in happenings = flat_map (λ h. h.sends) happenings
 
--- what a node did by these steps: as many of its happenings as there are events of it in them
+-- what a node did in these steps: as many of its happenings as these steps have events of it
 abbrev pub happened_by : List Happening → ℕ → List Step → List Happening
 happened_by happenings i steps = take (length (flat_map (events_at i) steps)) happenings
 
--- some node sent the message by these steps
+-- some node sent the message in these steps
 abbrev pub WasSentBy : ℕ → (ℕ → List Happening) → List Step → Message → Type 0
 WasSentBy n happened steps message =
     (i : ℕ) × (1 ≤ i) × (i ≤ n) × Contains (sent_in (happened_by (happened i) i steps)) message
 
--- a client's step names a node that there is
+-- a client's step names an existing node
 abbrev pub NamesNode : ℕ → Step → Type 0
 NamesNode n (Ask node client name mode) = (1 ≤ node) × (node ≤ n)
 NamesNode n (Leave node client name) = (1 ≤ node) × (node ≤ n)
@@ -30,9 +30,9 @@ NamesNode n (Deliver message) = Unit {0}
 NamesNode n (Lose message) = Unit {0}
 NamesNode n (Repeat message) = Unit {0}
 
--- The steps fit together, where this happened at each node: it is a history of the node, and its events are those of the
--- steps. A client's step names a node that there is. Each message that a step takes was sent by the steps before it, and
--- no message is taken twice, nor repeated.
+-- These steps, and what happened at each node, fit together. What happened is a history of the node, and its events are
+-- those of the steps. A client's step names an existing node. Each message that a step takes was sent by the steps
+-- before it. No message is taken twice, and no message is repeated.
 pub record FitTogether (n start : ℕ) (steps : List Step) (happened : ℕ → List Happening) : Type 0 where
   pub nodes : (i : ℕ) → 1 ≤ i → i ≤ n
       → (node : NodeState) × NodeEvents (opening_node i n start) (happened i) node

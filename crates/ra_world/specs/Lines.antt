@@ -1,5 +1,5 @@
--- The printed lines of a report. A line is words with one space between two, and a line feed at its end. Numbers are decimal,
--- with no leading zero.
+-- The printed lines of a report. A line is words with one space between two, and a line feed at its end. Numbers are
+-- decimal, without leading zeros.
 use Rattle.std.specs.Prelude.{◌≡◌, ◌≢◌, ℕ, List, [], ◌++◌, codes, decimal, flat_map}
 use Rattle.ra_stamp.specs.declared.mode.Mode.{Mode}
 use Rattle.ra_stamp.specs.declared.mode.Mode.TheVariants.{Shared, Exclusive, IntentShared, IntentExclusive, SharedIntentExclusive}
@@ -8,6 +8,7 @@ use Rattle.ra_stamp.specs.declared.entry.Mark.{Mark}
 use Rattle.ra_stamp.specs.declared.entry.Mark.TheVariants.{Requested, Entered, Left}
 use Rattle.ra_world.specs.declared.report.Report.{Report}
 
+-- the word of a mode
 abbrev pub mode_word : Mode → List ℕ
 mode_word Shared = codes "S"
 mode_word Exclusive = codes "X"
@@ -15,24 +16,28 @@ mode_word IntentShared = codes "IS"
 mode_word IntentExclusive = codes "IX"
 mode_word SharedIntentExclusive = codes "SIX"
 
--- what stands after the first word of a line, with the space before it
+-- a field that follows the first word of a line, with the space before it
 abbrev pub field : List ℕ → List ℕ
 field text = codes " " ++ text
 
--- node, client, name, mode and number
+-- the fields of a request: node, client, name, mode and number
 abbrev pub entry_fields : Entry → List ℕ
 entry_fields entry =
     field (decimal entry.stamp.node) ++ field (decimal entry.client) ++ field entry.name ++ field (mode_word entry.mode)
     ++ field (decimal entry.stamp.seq)
 
+-- the line of a mark: the word `request`, `enter` or `leave`, and then the fields of its request
 abbrev pub mark_line : Mark → List ℕ
 mark_line (Requested entry) = codes "request" ++ entry_fields entry ++ codes "\n"
 mark_line (Entered entry) = codes "enter" ++ entry_fields entry ++ codes "\n"
 mark_line (Left entry) = codes "leave" ++ entry_fields entry ++ codes "\n"
 
+-- the line of a total: a word, and then the number
 abbrev pub total_line : List ℕ → ℕ → List ℕ
 total_line word total = word ++ field (decimal total) ++ codes "\n"
 
+-- the lines of the six totals: requests, messages sent, under way and lost, requests that wait, and clients that are
+-- queued
 abbrev pub total_lines : Report → List ℕ
 total_lines report =
     total_line (codes "requests") report.requests
@@ -42,11 +47,12 @@ total_lines report =
     ++ total_line (codes "waiting") report.waiting
     ++ total_line (codes "queued") report.queued
 
--- a line for each mark, in order, and then those of the six totals
+-- the text of a report: a line for each mark, in order, and then those of the six totals
 abbrev pub report_text : Report → List ℕ
 report_text report = flat_map mark_line report.marks.items ++ total_lines report
 
--- a prefix of the text was put after what was there, and not all of it
+-- a prefix of the text was added after what was there, but not all of it: this is what a call leaves that adds text and
+-- finds no memory for the rest
 pub record AddsPrefix (old new text : List ℕ) : Type 0 where
   pub prefix : List ℕ
   pub rest : List ℕ

@@ -1,5 +1,6 @@
--- How a log keeps the moves of a world: its marks in a list, or none of them, of the steps and the messages only how many there
--- were, and the moves themselves as a history that is not there at run time. No public contract speaks of it.
+-- How a log keeps the moves of a world. It keeps the marks in a list, or no marks at all, and of the steps and the
+-- messages it keeps only how many there were. The moves themselves are a ghost list, which does not exist at run time.
+-- No public contract speaks of it.
 use Rattle.std.specs.Prelude.{◌≡◌, ℕ, ◌*◌, ◌<◌, ◌≤◌, ◌==◌, if◌then◌else◌, List, length, map}
 use Rattle.ra_stamp.specs.declared.entry.Mark.{Mark}
 use Rattle.ra_node.specs.declared.outcome.Outcome.{Outcome}
@@ -13,7 +14,7 @@ pub record LogState : Type 0 where
   pub moves : List Move
   pub marks_room : ℕ
 
--- how many more marks there is room for: so many as the list has room for, where they are kept, and else as many as there may be
+-- how many more marks there is room for: the room of the list if marks are kept, and otherwise 2^64-1
 abbrev pub room_of : ℕ → ℕ → ℕ
 room_of keeps spare = if keeps == 1 then spare else 18446744073709551615
 
@@ -22,14 +23,16 @@ pub record HasRoom (log : LogState) (marks : ℕ) : Type 0 where
   pub for_step : length log.moves < 18446744073709551615
   pub for_marks : marks ≤ log.marks_room
 
--- a step with what came of it, as a move
+-- a step and what came of it, as a move
 abbrev pub move_of : Step × Outcome → Move
 move_of made = record { step = made.0; sends = made.1.sends.items; marks = made.1.marks.items }
 
+-- steps and what came of them, as moves
 abbrev pub moves_of : List (Step × Outcome) → List Move
 moves_of made = map move_of made
 
--- what is kept is that of the moves, the marks only where they are kept, and no list that was counted had 2^64 messages or marks
+-- What is kept is that of the moves, the marks only if they are to be kept. The messages sent are at most 2^64-1 times
+-- the steps, and so are the requests.
 pub record AreCounted (keeps : ℕ) (moves : List Move) (steps : ℕ) (marks : List Mark) (sent requests lost repeated : ℕ) : Type 0 where
   pub steps_are : steps ≡ length moves
   pub marks_are : keeps ≡ 1 → marks ≡ marks_of moves

@@ -1,4 +1,4 @@
--- The main theorem, of what a report says. docs/MODEL.md begins with a key to the notation.
+-- The main theorem, about what a report says. docs/MODEL.md has a key to the notation.
 use Rattle.std.specs.Prelude.{◌≡◌, ◌<◌, ℕ, ◌*◌, ◌-◌, List, All, length}
 use Rattle.ra_stamp.specs.declared.entry.Entry.{Entry}
 use Rattle.ra_stamp.specs.declared.entry.Mark.{Mark}
@@ -15,28 +15,28 @@ AreGrantedInOrder marks = (e f : Entry) (i j : ℕ) → i < j → IsAt marks i (
     → IsAt marks j (Entered f)
     → Excludes e f → IsEarlier e.stamp f.stamp
 
--- nothing was lost and nothing is under way
+-- the report says that nothing was lost and nothing is under way
 pub record IsQuietReport (report : Report) : Type 0 where
   pub none_lost : report.lost ≡ 0
   pub none_under_way : report.under_way ≡ 0
 
--- Of n nodes. The table of a report is any that its marks lead to.
+-- The theorem, for n nodes. A table of the report is any table that its marks lead to.
 pub record MainTheorem (n : ℕ) (report : Report) : Type 0 where
   -- the requests, grants and releases reported are a run of the lock table
   pub table_run : (table : LockTable) × TableRun report.marks.items table
-  -- in which as many requests wait as the report says
+  -- and as many requests wait in it as the report says
   pub waiting : (table : LockTable) → TableRun report.marks.items table
       → length table.waiting ≡ report.waiting
   -- no two conflicting entries on one name hold at once
   pub exclusive : (table : LockTable) → TableRun report.marks.items table → IsConflictFree table.holding
   -- and conflicting ones are granted in the order of their stamps
   pub in_order : AreGrantedInOrder report.marks.items
-  -- whenever nothing was lost and nothing is under way, each request that waits has a conflicting holder, or a conflicting
-  -- one with an earlier stamp that waits
+  -- whenever nothing was lost and nothing is under way, every waiting request is blocked by a conflicting request that
+  -- holds, or that waits with an earlier stamp
   pub blocked : (table : LockTable) → TableRun report.marks.items table → IsQuietReport report
       → All (IsBlocked table) table.waiting
-  -- so none could enter
+  -- so no waiting request could enter
   pub none_may_enter : (table : LockTable) → TableRun report.marks.items table → IsQuietReport report
       → All (λ e. MayEnter table e → ⊥) table.waiting
-  -- and if none waits, and nothing was repeated, exactly two messages for each request and other node were sent
+  -- and if no request waits and nothing was repeated, exactly two messages were sent for each request and other node
   pub count : IsQuietReport report → report.repeated ≡ 0 → report.waiting ≡ 0 → report.sent ≡ 2 * (n - 1) * report.requests

@@ -1,4 +1,4 @@
--- Which refusal of a step a refusal of its node is, and where a list of steps is refused.
+-- Which refusal of a step a refusal of its node is, and at which place a list of steps is refused.
 use Rattle.std.specs.Prelude.{◌≡◌, ℕ, ◌-◌, ◌≤◌, List, Some, map, take, slice_get}
 use Rattle.ra_node.specs.declared.error.AskError.{AskError}
 use Rattle.ra_node.specs.declared.error.AskError.TheVariants as ask
@@ -12,16 +12,18 @@ use Rattle.ra_world.specs.Traffic.{Move}
 use Rattle.ra_world.specs.Run.{IsRun, WorldRun, GoesOn}
 use Rattle.ra_world.specs.World.{WorldState, HasCause, HasMade}
 
+-- the refusal of a step that a refusal of its node's ask becomes
 abbrev pub refusal_of_ask : AskError → StepError
 refusal_of_ask ask.Busy = Node Busy
 refusal_of_ask ask.Exhausted = Node Exhausted
 refusal_of_ask ask.Memory = Memory
 
+-- the refusal of a step that a refusal of its node's leave becomes
 abbrev pub refusal_of_leave : LeaveError → StepError
 refusal_of_leave leave.NotHeld = Node NotHeld
 refusal_of_leave leave.Memory = Memory
 
--- the first place, counted from 1, at which a list of steps is no run any more, and why
+-- the first place, counted from 1, at which a list of steps is no longer a run, and why
 pub record IsRefusedAt (n start : ℕ) (steps : List Step) (place : ℕ) (cause : StepError) : Type 0 where
   pub from_one : 1 ≤ place
   pub moves : List Move
@@ -32,7 +34,7 @@ pub record IsRefusedAt (n start : ℕ) (steps : List Step) (place : ℕ) (cause 
   pub because : HasCause n start moves step cause
   pub no_run : WorldRun n start (take place steps) → ⊥
 
--- a world has made the first of these steps, and where one is left, the next one can be made
+-- a world has made the first of these steps, and if one is left, the next one can be made
 pub record GoesThrough (n start : ℕ) (steps : List Step) (world : WorldState) : Type 0 where
   pub place : ℕ
   pub made : HasMade n start (take place steps) world

@@ -11,7 +11,7 @@ use Rattle.ra_world.specs.declared.step.Step.{Step}
 use Rattle.ra_world.specs.declared.step.Step.TheVariants.{Ask, Leave, Deliver, Lose, Repeat}
 use Rattle.ra_world.specs.Traffic.{Move, IsUnderWay}
 
--- what happens at a node by a step: one event, or none
+-- what happens at a node in a step: one event, or nothing
 abbrev pub events_at : ℕ → Step → List Event
 events_at i (Ask node client name mode) = if node == i then AskedFor client name mode ∷ [] else []
 events_at i (Leave node client name) = if node == i then GivenBack client name ∷ [] else []
@@ -31,8 +31,8 @@ abbrev pub marks_of : List Move → List Mark
 marks_of [] = []
 marks_of (move ∷ moves) = move.marks ++ marks_of moves
 
--- a client's step names a node that there is, a message that is taken or repeated is under way, and the loss of one, or a copy, sends
--- and marks nothing
+-- a client's step names an existing node, a message that is delivered, lost or repeated is under way, and a loss or a
+-- repeat sends and marks nothing
 abbrev pub IsFit : ℕ → List Move → Step → List Message → List Mark → Type 0
 IsFit n before (Ask node client name mode) sends marks = (1 ≤ node) × (node ≤ n)
 IsFit n before (Leave node client name) sends marks = (1 ≤ node) × (node ≤ n)
@@ -40,14 +40,14 @@ IsFit n before (Deliver message) sends marks = IsUnderWay before message
 IsFit n before (Lose message) sends marks = IsUnderWay before message × (sends ≡ []) × (marks ≡ [])
 IsFit n before (Repeat message) sends marks = IsUnderWay before message × (sends ≡ []) × (marks ≡ [])
 
--- each of these moves fits, one after the other, after those that were before
+-- each of these moves fits, one after the other, after the moves before
 abbrev pub AreFit : ℕ → List Move → List Move → Type 0
 AreFit n before [] = Unit {0}
 AreFit n before (move ∷ moves) = IsFit n before move.step move.sends move.marks
     × AreFit n (before ++ move ∷ []) moves
 
--- After these moves, each the node's own events, the nodes 1 to n are these: all of them at once, so that a law can speak of two nodes, and
--- of a run that goes on.
+-- After these moves the nodes 1 to n are these: each node's own events lead there. It speaks of all nodes at once, so
+-- that a law can speak of two nodes, and of a run that goes on.
 abbrev pub EndsWith : ℕ → ℕ → List Move → (ℕ → NodeState) → Type 0
 EndsWith n start moves nodes = (i : ℕ) → 1 ≤ i → i ≤ n
     → NodeEvents (opening_node i n start) (happened_at i moves) (nodes i)
@@ -61,19 +61,20 @@ pub record IsRun (n start : ℕ) (moves : List Move) : Type 0 where
 abbrev pub WorldRun : ℕ → ℕ → List Step → Type 0
 WorldRun n start steps = (moves : List Move) × (map (λ move. move.step) moves ≡ steps) × IsRun n start moves
 
--- a run goes on with a step, whatever is sent and marked
+-- a run can continue with a step, whatever is sent and marked
 abbrev pub GoesOn : ℕ → ℕ → List Move → Step → Type 0
 GoesOn n start moves step =
     (sends : List Message) × (marks : List Mark)
     × IsRun n start (moves ++ record { step = step; sends = sends; marks = marks } ∷ [])
 
--- how many requests wait at the nodes, and how many clients are queued
+-- how many requests wait at all nodes
 abbrev pub waiting_at_all : ℕ → (ℕ → NodeState) → ℕ
 waiting_at_all n nodes = sum_by (λ i. waiting_count (nodes i)) (range_with_len 1 n)
 
+-- how many clients are queued at the nodes
 abbrev pub queued_at_all : ℕ → (ℕ → NodeState) → ℕ
 queued_at_all n nodes = sum_by (λ i. queued_count (nodes i)) (range_with_len 1 n)
 
--- the nodes, one of them in another state
+-- the same nodes, except that one of them is in another state
 abbrev pub with_node : (ℕ → NodeState) → ℕ → NodeState → ℕ → NodeState
 with_node nodes i new j = if i == j then new else nodes j

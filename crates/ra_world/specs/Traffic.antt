@@ -25,11 +25,12 @@ taken_in (Deliver message) = message ∷ []
 taken_in (Lose message) = message ∷ []
 taken_in (Repeat message) = []
 
+-- all messages that these steps took from those under way, to deliver or lose them, in order
 abbrev pub taken_by : List Move → List Message
 taken_by [] = []
 taken_by (move ∷ moves) = taken_in move.step ++ taken_by moves
 
--- the messages that were lost, in order
+-- the message that a step loses, if it loses one
 abbrev pub lost_in : Step → List Message
 lost_in (Ask node client name mode) = []
 lost_in (Leave node client name) = []
@@ -37,6 +38,7 @@ lost_in (Deliver message) = []
 lost_in (Lose message) = message ∷ []
 lost_in (Repeat message) = []
 
+-- all messages that these steps lost, in order
 abbrev pub lost_by : List Move → List Message
 lost_by [] = []
 lost_by (move ∷ moves) = lost_in move.step ++ lost_by moves
@@ -49,26 +51,28 @@ repeated_in (Deliver message) = []
 repeated_in (Lose message) = []
 repeated_in (Repeat message) = message ∷ []
 
+-- all messages of which these steps put a copy under way, in order
 abbrev pub repeated_by : List Move → List Message
 repeated_by [] = []
 repeated_by (move ∷ moves) = repeated_in move.step ++ repeated_by moves
 
--- all messages that these steps put under way, in order: those that they sent, and the copies, which nobody sent
+-- the messages that a move puts under way: those that it sent, and the copy if it is a repeat, which no node sent
 abbrev pub put_in : Move → List Message
 put_in move = move.sends ++ repeated_in move.step
 
+-- all messages that these steps put under way, in order: those that they sent, and the copies
 abbrev pub put_by : List Move → List Message
 put_by [] = []
 put_by (move ∷ moves) = put_in move ++ put_by moves
 
--- the new list is the old one less the first equal message for each of these, in order
+-- the new list is the old one without the first equal message for each of these, in order
 abbrev pub TakesEach : List Message → List Message → List Message → Type 0
 TakesEach old [] new = new ≡ old
 TakesEach old (message ∷ messages) new = (next : List Message) × TakesFirst old message next
     × TakesEach next messages new
 
--- these steps leave these messages under way, in the order in which they were put there: what was sent and the copies, less what
--- was delivered or lost
+-- these steps leave these messages under way, in the order in which they were put there: what was sent and the copies,
+-- without what was delivered or lost
 abbrev pub LeavesUnderWay : List Move → List Message → Type 0
 LeavesUnderWay moves left = TakesEach (put_by moves) (taken_by moves) left
 

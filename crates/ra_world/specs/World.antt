@@ -20,7 +20,7 @@ use Rattle.ra_world.specs.Traffic.{Move, LeavesUnderWay, IsUnderWay, sent_by, lo
 use Rattle.ra_world.specs.Run.{IsRun, GoesOn, EndsWith, marks_of, waiting_at_all, queued_at_all}
 use Rattle.ra_world.specs.Quiet.{requests_in}
 
--- how many nodes there are, the highest number that each resource begins with, and the steps so far with what came of
+-- how many nodes there are, the highest number with which each resource begins, and the steps so far with what came of
 -- them
 pub record WorldState : Type 0 where
   pub count : ℕ
@@ -39,7 +39,7 @@ pub record HasMade (n start : ℕ) (steps : List Step) (world : WorldState) : Ty
   pub made : map (λ (move : Move). move.step) world.moves ≡ steps
   pub run : IsRun n start world.moves
 
--- a fact about a node that there is, at the end of a run
+-- a fact about an existing node, at the end of a run
 pub record AtNode (n start : ℕ) (moves : List Move) (i : ℕ) (P : NodeState → Type 0) : Type 0 where
   pub first : 1 ≤ i
   pub last : i ≤ n
@@ -47,7 +47,7 @@ pub record AtNode (n start : ℕ) (moves : List Move) (i : ℕ) (P : NodeState �
   pub ends : EndsWith n start moves nodes
   pub holds : P (nodes i)
 
--- why a run does not go on with a step: the first cause that stands
+-- why a run does not go on with a step: the first cause that applies
 abbrev pub HasCause : ℕ → ℕ → List Move → Step → StepError → Type 0
 HasCause n start moves (Ask node client name mode) NoNode = n < node
 HasCause n start moves (Ask node client name mode) (Node Busy) =
@@ -78,12 +78,12 @@ HasCause n start moves (Repeat message) (Node why) = ⊥
 HasCause n start moves (Repeat message) NotUnderWay = IsUnderWay moves message → ⊥
 HasCause n start moves (Repeat message) Memory = ⊥
 
--- so many steps were made that no further one is counted: 2^64-1
+-- 2^64-1 steps were made, so no further step can be counted
 abbrev pub IsFull : List Move → Type 0
 IsFull moves = 18446744073709551615 ≤ length moves
 
--- which steps can run out of memory: a client that asks may queue, one that leaves is marked, a message that is delivered may bring
--- something, one that is lost brings nothing, and a copy has to be put somewhere
+-- Which steps may need memory. A client that asks may be queued, one that leaves is marked, a message that is delivered
+-- may bring something, and a copy has to be put somewhere. A message that is lost brings nothing.
 abbrev pub MayNeedMemory : ℕ → ℕ → List Move → Step → Type 0
 MayNeedMemory n start moves (Ask node client name mode) = Unit {0}
 MayNeedMemory n start moves (Leave node client name) = Unit {0}
@@ -91,18 +91,19 @@ MayNeedMemory n start moves (Deliver message) = AtNode n start moves (to_of mess
 MayNeedMemory n start moves (Lose message) = ⊥
 MayNeedMemory n start moves (Repeat message) = Unit {0}
 
--- What a world answers to a step, and what it is then. It stands once, so that `step_near` can promise no less than `step`.
+-- What a world answers to a step, and what it is then. This is one record, so that `step_near` promises no less than
+-- `step`.
 pub record AnswersStep (old : WorldState) (step : Step) (result : Result Outcome StepError) (new : WorldState) : Type 0 where
   pub ok : IfOk result (λ outcome. new ≡ with_move old step outcome.sends.items outcome.marks.items)
   pub run : IsRun new.count new.start new.moves
   pub count : IsNodeNumber new.count
   pub refused : (cause : StepError) → cause ≢ Memory → IsErrOf result cause ↔ HasCause old.count old.start old.moves step cause
-  -- `Memory` is the one other error
+  -- `Memory` is the only other error
   pub allowed : IsOkUnless result Memory ↔ GoesOn old.count old.start old.moves step
   pub err : OnErr result (new ≡ old)
   pub memory : IsErrOf result Memory → MayNeedMemory old.count old.start old.moves step ⊎ IsFull old.moves
 
--- the report of a run
+-- the report of a run: each of its figures is what the definitions say
 pub record Reports (n start : ℕ) (moves : List Move) (report : Report) : Type 0 where
   pub marks : report.marks.items ≡ marks_of moves
   pub sent : report.sent ≡ length (sent_by moves)

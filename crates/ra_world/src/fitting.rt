@@ -1,5 +1,5 @@
-//! Which lists of steps are runs, said by each node's own history and by where each message was sent. The function does
-//! nothing, and its contract is the law.
+//! Which lists of steps are runs, in terms of each node's own history and of the step that sent each message. The
+//! function does nothing, and its contract is the law.
 ghost use Rattle.std.specs.Prelude.{◌≡◌, ◌≤◌, ℕ, List, map};
 ghost use Rattle.ra_stamp.specs.NodeId.{IsNodeNumber};
 ghost use Rattle.ra_node.specs.Events.{Happening};
@@ -11,9 +11,14 @@ ghost use Rattle.ra_world.specs.Fitting.{FitTogether};
 use crate::laws::{messages_under_way_are_between_nodes, runs_go_on_by_events};
 use ra_node::{events_are_determined, events_go_on};
 
-/// Steps that fit together are a run. Where each client's step names a node that there is, the steps that name each node
-/// are the events of a history of that node, each message that a step takes was sent by an earlier one, and no message is
-/// taken twice or repeated, there are moves with these steps that are a run, and what happens at each node in it is that history.
+/// Steps that fit together are a run. They fit together if
+///
+/// - each client's step names an existing node,
+/// - the steps that name a node are the events of a history of that node,
+/// - each message that a step takes was sent by an earlier step, and
+/// - no message is taken twice or repeated.
+///
+/// Then a run has these steps, and what happens at each node in it is that history.
 pub fn steps_that_fit_together_are_runs()
     ensures run { (n start : ℕ) (steps : List Step) (happened : ℕ → List Happening)
         → IsNodeNumber n → FitTogether n start steps happened → WorldRun n start steps }

@@ -29,7 +29,7 @@ use crate::{
     quiet_runs_sent_two_messages_for_each_request_and_other_node, runs_go_on_by_events,
     runs_go_on_where_steps_are_allowed, waiting_requests_are_blocked_in_quiet_runs,
 };
-use ra_bag::Bag;
+use ra_bag::{Bag, Found};
 use ra_node::{
     Node, Outcome, events_are_determined, events_keep_a_node_consistent, events_leave_other_names,
 };
@@ -41,7 +41,7 @@ use std::alloc::Global;
 ///
 /// # Errors
 ///
-/// `Memory`. Where it is for no message and no mark, it is answered only where 2^64-1 steps were made.
+/// `Memory`. Room for no message and no mark is refused only if 2^64-1 steps were made.
 pub fn make_room<const KEEPS_MARKS: u8>(
     under_way: &mut Bag,
     log: &mut Log<KEEPS_MARKS>,
@@ -61,12 +61,12 @@ pub fn make_room<const KEEPS_MARKS: u8>(
     Ok(())
 }
 
-/// Makes room for what comes of a message at the node that it is for: one message by a REQUEST, and one mark by a REPLY. Only where
-/// there is no such room the node is asked whether the message brings anything, which costs one more look at its resource.
+/// Makes room for what a message brings at its node: one message for a REQUEST, and one mark for a REPLY. Only if there
+/// is no such room is the node asked whether the message brings anything, which costs one more look at its resource.
 ///
 /// # Errors
 ///
-/// `Memory`, where the message brings something or 2^64-1 steps were made.
+/// `Memory`. It is returned only if the message brings something or 2^64-1 steps were made.
 pub fn make_room_for<const KEEPS_MARKS: u8>(
     under_way: &mut Bag,
     log: &mut Log<KEEPS_MARKS>,
@@ -92,7 +92,7 @@ pub fn make_room_for<const KEEPS_MARKS: u8>(
     Ok(())
 }
 
-/// Returns how many REPLYs a message has its node send at most.
+/// Returns the most REPLYs that a message can make its node send.
 fn most_replies(message: &Message) -> u64
     ensures { result ≡ replies_at_most message.now }
 {
@@ -102,7 +102,7 @@ fn most_replies(message: &Message) -> u64
     }
 }
 
-/// Returns how many requests a message lets enter at most.
+/// Returns the most requests that a message can let enter.
 fn most_entries(message: &Message) -> u64
     ensures { result ≡ entries_at_most message.now }
 {
@@ -112,7 +112,7 @@ fn most_entries(message: &Message) -> u64
     }
 }
 
-/// Puts what a step sent under way and logs the step, where there is room for it.
+/// Puts what a step sent under way and logs the step, for which there is room.
 #[inline(always)]
 pub fn keep<const KEEPS_MARKS: u8>(
     under_way: &mut Bag,
@@ -130,13 +130,13 @@ pub fn keep<const KEEPS_MARKS: u8>(
     log.push(step, outcome);
 }
 
-/// Takes a message from those under way, the first that is equal to it. Where nothing was repeated there is no other, and it is in
-/// the slot in which it was found.
+/// Takes the first message that is equal to this one from those under way. If nothing was repeated there is no other,
+/// and it is where it was found.
 #[inline(always)]
 pub fn take<const KEEPS_MARKS: u8>(
     under_way: &mut Bag,
     log: &Log<KEEPS_MARKS>,
-    slot: u64,
+    found: Found,
     message: &Message,
 )
     requires { Contains under_way.old.items message.now }
@@ -145,7 +145,7 @@ pub fn take<const KEEPS_MARKS: u8>(
     ensures spare { under_way.old.spare ≤ under_way.new.spare }
 {
     if log.repeated() == 0 {
-        under_way.take_from(slot, message);
+        under_way.take_from(found, message);
     } else {
         under_way.take(message);
     }
@@ -173,7 +173,7 @@ pub fn copy_of(alloc: Global, marks: &Marks) -> Result<Marks, Memory>
     Ok(copy)
 }
 
-/// A world that keeps a run goes on keeping it: at an event of a node, and at the loss or a copy of a message.
+/// A world that keeps a run still keeps one after an event of a node, and after the loss or a copy of a message.
 pub fn kept_runs_go_on()
     ensures opened { (n start : ℕ) → IsNodeNumber n
         → Keeps start (map (λ i. opening_node i n start) (range_with_len 1 n)) [] [] }
@@ -192,7 +192,7 @@ pub fn kept_runs_go_on()
     ensures copy { (start : ℕ) (nodes : List NodeState) (left : List Message) (moves : List Move) (message : Message)
         → Keeps start nodes left moves → Contains left message → Keeps start nodes (left ++ message ∷ [])
         (moves ++ record { step = Step.Repeat message; sends = []; marks = [] } ∷ []) }
-    // A message is under way where it is kept, and then it is for a node that there is, which takes it.
+    // A message is under way exactly if it is kept. Then it is for an existing node, which takes it.
     ensures under_way { (start : ℕ) (nodes : List NodeState) (left : List Message) (moves : List Move)
         (message : Message)
         → Keeps start nodes left moves → IsUnderWay moves message ↔ Contains left message }
@@ -207,12 +207,12 @@ pub fn kept_runs_go_on()
         → finmap.get (nodes_of nodes (to_of message)).resources (name_of message) ≡ None → ⊥ }
     ensures counts { (start : ℕ) (nodes : List NodeState) (left : List Message) (moves : List Move) (place : ℕ)
         → Keeps start nodes left moves → place < length nodes → (nodes_of nodes (place + 1)).nodes ≡ length nodes }
-    // Where nothing was repeated all messages under way are different, so the one at whichever place is the first of its kind.
+    // If nothing was repeated, all messages under way are different, so each is the first of its kind.
     ensures taken { (start : ℕ) (nodes : List NodeState) (left next : List Message) (moves : List Move)
         (message : Message)
         → Keeps start nodes left moves → repeated_by moves ≡ [] → TakesOne left message next
         → TakesFirst left message next }
-    // At most one client more is queued after each step.
+    // Each step queues at most one more client.
     ensures queued { (start : ℕ) (nodes : List NodeState) (left : List Message) (moves : List Move)
         → Keeps start nodes left moves → sum_by queued_count nodes ≤ length moves }
     ensures at_all { (nodes : List NodeState) (f : NodeState → ℕ)
@@ -225,7 +225,7 @@ pub fn kept_runs_go_on()
     events_leave_other_names();
 }
 
-/// A step that has a cause is not one that the run goes on with, and it has one cause.
+/// If a step has a cause of refusal, the run does not go on with it, and it has one cause.
 pub fn steps_have_one_cause()
     ensures no_step { (n start : ℕ) (moves : List Move) (step : Step) (cause : StepError) → IsNodeNumber n
         → IsRun n start moves

@@ -1,4 +1,4 @@
-//! What is true of every run of a world, for the crates above: each function does nothing, and its contract is the law.
+//! What is true of every run of a world, for the crates above. Each function does nothing, and its contract is the law.
 ghost use Rattle.std.specs.Prelude.{◌≡◌, ◌≢◌, ◌<◌, ◌≤◌, ◌++◌, ◌∷◌, ◌↔◌, [], ℕ, List, Some, All, AllPairs, Contains, length, map};
 ghost use Rattle.ra_stamp.specs.declared.message.Message.{Message};
 ghost use Rattle.ra_stamp.specs.declared.mode.Mode.{Mode};
@@ -30,7 +30,7 @@ use ra_node::{
 use ra_stamp::{Entry, Message, conflict_is_symmetric, equal_is_same};
 use ra_table::{runs_go_on_by_steps, tables_of_one_run_have_the_same_entries};
 
-/// What the laws of runs rest on: the laws of the crates below, in one place.
+/// What the laws of runs are proved from: the laws of the crates below, in one place.
 fn laws_below()
     ensures { LawsBelow }
 {
@@ -45,8 +45,8 @@ fn laws_below()
     runs_go_on_by_steps();
 }
 
-/// Mutual exclusion. At the end of a run no two different nodes hold a name in modes that conflict, whatever was lost or repeated
-/// and in whatever order the messages came.
+/// Mutual exclusion: at the end of a run no two different nodes hold a name in modes that conflict, whatever was lost
+/// or repeated and in whatever order the messages came.
 pub fn two_nodes_never_hold_in_conflict()
     ensures { (n start : ℕ) (moves : List Move) (nodes : ℕ
         → NodeState) (i j : ℕ) (name : List ℕ) (a b : Entry)
@@ -58,8 +58,8 @@ pub fn two_nodes_never_hold_in_conflict()
     laws_below();
 }
 
-/// Which steps a run goes on with: an ask or a leave at a node that there is, where its client may ask or holds at the end
-/// of the run, and the delivery, the loss or a copy of a message that is under way.
+/// Which steps a run goes on with: an ask or a leave at an existing node, if its client may ask or holds at the end of
+/// the run; and the delivery, the loss or a copy of a message that is under way.
 pub fn runs_go_on_where_steps_are_allowed()
     ensures empty { (n start : ℕ) → IsRun n start [] }
     ensures ask { (n start : ℕ) (moves : List Move) (nodes : ℕ → NodeState)
@@ -83,8 +83,8 @@ pub fn runs_go_on_where_steps_are_allowed()
     laws_below();
 }
 
-/// A node changes by its own steps alone: after a move at another one a run goes on with an ask or a leave at the node where it
-/// did before.
+/// A node changes by its own steps alone: after a move at another node, a run goes on with an ask or a leave at this
+/// node if it did before.
 pub fn steps_elsewhere_leave_a_node()
     ensures ask { (n start : ℕ) (moves : List Move) (move : Move) → IsNodeNumber n → IsRun n start (moves ++ move ∷ [])
         → (node client : ℕ) (name : List ℕ) (mode : Mode) → events_at node move.step ≡ []
@@ -99,9 +99,9 @@ pub fn steps_elsewhere_leave_a_node()
     runs_go_on_where_steps_are_allowed();
 }
 
-/// The marks of a run, also of one in which messages were lost or repeated, are a run of the lock table. So no two conflicting
-/// entries on one name hold at once, and conflicting entries on one name are granted in the order of their stamps. As many
-/// requests wait in the table as at the nodes.
+/// The marks of a run are a run of the lock table, even if messages were lost or repeated. So no two conflicting
+/// entries on one name hold at once, and conflicting entries on one name are granted in the order of their stamps. As
+/// many requests wait in the table as at the nodes.
 pub fn marks_of_runs_are_table_runs()
     ensures table { (n start : ℕ) (moves : List Move) → IsNodeNumber n → IsRun n start moves
         → (table : LockTable) × TableRun (marks_of moves) table }
@@ -114,9 +114,9 @@ pub fn marks_of_runs_are_table_runs()
     tables_of_one_run_have_the_same_entries();
 }
 
-/// After each run the messages under way are one list, and each of them has a number and is from a node to another one of
-/// those there are. The list goes on step by step: a message that is taken is out of it, and what is sent, or a copy, comes
-/// after it. Where nothing was repeated, what was put under way is what was sent.
+/// After each run the messages under way are one list. Each of them has a number, and goes from one existing node to
+/// another. The list changes step by step: a message that is taken is removed, and what is sent, or a copy, is added at
+/// the end. If nothing was repeated, what was put under way is what was sent.
 pub fn messages_under_way_are_between_nodes()
     ensures exist { (n start : ℕ) (moves : List Move) → IsNodeNumber n → IsRun n start moves
         → (left : List Message) × LeavesUnderWay moves left }
@@ -142,8 +142,8 @@ pub fn messages_under_way_are_between_nodes()
     laws_below();
 }
 
-/// A run goes on by the event that a node really makes of a step, and the other nodes stay; and by the loss or a copy of a message
-/// under way, at which all nodes stay.
+/// A run goes on by the event that a node really makes of a step, and the other nodes stay as they are. It also goes on
+/// by the loss or a copy of a message under way, and then all nodes stay.
 pub fn runs_go_on_by_events()
     ensures event { (n start : ℕ) (moves : List Move) (nodes : ℕ
         → NodeState) (i : ℕ) (event : Event) (move : Move)
@@ -163,8 +163,8 @@ pub fn runs_go_on_by_events()
     events_go_on();
 }
 
-/// Each prefix of a run is a run, also of a list of steps; and a list of steps that is a run goes on with a step exactly
-/// where the run does.
+/// Each prefix of a run is a run, and so is each prefix of a list of steps that is a run. Such a list goes on with a
+/// step exactly if the run does.
 pub fn prefixes_of_runs_are_runs()
     ensures moves { (n start : ℕ) (prefix rest : List Move) → IsRun n start (prefix ++ rest)
         → IsRun n start prefix }
@@ -187,7 +187,8 @@ pub fn marks_of_runs_are_numbered()
     events_keep_a_node_consistent();
 }
 
-/// All messages that a run sends are different, where nothing was repeated: a REQUEST that comes again is answered again.
+/// If nothing was repeated, all messages that a run sends are different. (A REQUEST that comes again is answered
+/// again.)
 pub fn messages_of_runs_are_different()
     ensures { (n start : ℕ) (moves : List Move) → IsNodeNumber n → IsRun n start moves → repeated_by moves ≡ []
         → AllPairs (λ a b. a ≢ b) (sent_by moves) }
@@ -195,7 +196,7 @@ pub fn messages_of_runs_are_different()
     laws_below();
 }
 
-/// No REPLY that is delivered in a run is a stray, where nothing was repeated before: the node that it is for waits with its number
+/// If nothing was repeated before, no REPLY that is delivered in a run is a stray: its receiver waits with its number
 /// and awaits it.
 pub fn no_delivered_reply_is_a_stray()
     ensures { (n start : ℕ) (prefix rest : List Move) (move : Move) (from to : ℕ) (name : List ℕ) (seq : ℕ)
@@ -208,7 +209,7 @@ pub fn no_delivered_reply_is_a_stray()
     laws_below();
 }
 
-/// The steps of a run decide what is sent and marked.
+/// The steps of a run determine what is sent and marked.
 pub fn runs_are_determined()
     ensures { (n start : ℕ) (a b : List Move) → IsNodeNumber n → IsRun n start a → IsRun n start b
         → map (λ move. move.step) a ≡ map (λ move. move.step) b → a ≡ b }
@@ -216,8 +217,8 @@ pub fn runs_are_determined()
     laws_below();
 }
 
-/// Where nothing was lost and nothing is under way, no copy either, each request that waits is blocked: an entry that excludes it
-/// holds, or waits with an earlier stamp. So none that waits could enter, whatever was repeated.
+/// If nothing was lost and nothing is under way, not even a copy, each waiting request is blocked: an entry that
+/// excludes it holds, or waits with an earlier stamp. So no waiting request could enter, whatever was repeated.
 pub fn waiting_requests_are_blocked_in_quiet_runs()
     ensures blocked { (n start : ℕ) (moves : List Move) (table : LockTable) (e : Entry)
         → IsNodeNumber n → IsRun n start moves → IsQuiet moves → TableRun (marks_of moves) table
@@ -230,8 +231,8 @@ pub fn waiting_requests_are_blocked_in_quiet_runs()
     tables_of_one_run_have_the_same_entries();
 }
 
-/// Where nothing was lost or repeated, nothing is under way and no request waits, exactly two messages to or from each other node
-/// were sent for each request.
+/// If nothing was lost or repeated, nothing is under way and no request waits, exactly two messages were sent for each
+/// request and other node, in all.
 pub fn quiet_runs_sent_two_messages_for_each_request_and_other_node()
     ensures { (n start : ℕ) (moves : List Move) (table : LockTable)
         → IsNodeNumber n → IsRun n start moves → IsQuiet moves → repeated_by moves ≡ []

@@ -1,5 +1,5 @@
-//! What a run of the cluster is, what holds of every run, and a cluster in one thread that makes such runs. Also the lines in
-//! which its report is printed, and how bytes are read and written.
+//! What a run of the cluster is, what holds of every run, and a cluster in one thread that makes such runs. Also the
+//! lines in which its report is printed, and how bytes are read and written.
 #![tactic(auto)]
 
 mod error;

@@ -17,14 +17,15 @@ use std::marker::Model;
 /// A world that keeps the marks of its steps, and can report them.
 pub type World = WorldOf<1>;
 
-/// A world that keeps no marks, for who looks at those of each step as it is made. What it keeps does not grow with the marks.
+/// A world that keeps no marks, for a caller that looks at the marks of each step as it is made. Its memory does not
+/// grow with the marks.
 pub type MarklessWorld = WorldOf<0>;
 
-/// A cluster of nodes in one thread, with the messages under way between them. Contracts see how many nodes there are, the
-/// start value and the steps so far with what came of them, which are a run.
+/// A cluster of nodes in one thread, with the messages under way between them. Contracts see the number of nodes, the
+/// start value, and the steps so far with what came of them, which are a run.
 ///
-/// A world keeps the marks of its steps where `KEEPS_MARKS` is 1, which is a number since a type with an invariant can't be stated over a
-/// bool; and of the messages that they sent those under way. Of the steps and of all messages it keeps only how many there were.
+/// If `KEEPS_MARKS` is 1 the world keeps the marks of its steps. (It is a number because the invariant of a type cannot
+/// be stated over a bool.) It keeps the messages under way, but only counts the steps and all messages sent.
 #[derive(Drop)]
 pub struct WorldOf<const KEEPS_MARKS: u8> {
     start: u64,
@@ -53,8 +54,8 @@ impl<const KEEPS_MARKS: u8> WorldOf<KEEPS_MARKS> {
     ghost use Rattle.ra_world.specs.World.{AnswersStep};
     ghost use Rattle.ra_world.specs.Keeping.{Tries};
 
-    /// Makes a world of this many nodes, in which nothing has happened yet. The highest number of each resource begins at
-    /// `start`, 0 to 2^64-1. The cost is linear in the number of nodes.
+    /// Makes a world of this many nodes, in which nothing has happened yet. The highest number of each resource begins
+    /// at `start`, 0 to 2^64-1. The cost is linear in the number of nodes.
     ///
     /// # Errors
     ///
@@ -82,30 +83,30 @@ impl<const KEEPS_MARKS: u8> WorldOf<KEEPS_MARKS> {
         })
     }
 
-    /// Makes a step, and answers what came of it: the messages that it sent, which are under way then, and its marks. By a
-    /// loss or a repeat nothing is sent or marked. The cost is that of the node's event, plus amortized constant on
-    /// average, with finding and taking a message: the steps so far are not looked at. Where the message is not under way, or there
-    /// was no memory to know where each stands, it is linear in the number of messages under way.
+    /// Makes a step, and returns what came of it: the messages that it sent, which are now under way, and its marks. A
+    /// loss or a repeat sends and marks nothing. The cost is that of the node's event, plus an amortized constant for
+    /// finding and taking a message; it does not depend on the steps so far. If the message is not under way, or there
+    /// was no memory to index the messages, the cost is linear in the number of messages under way.
     ///
     /// # Errors
     ///
     /// The first that holds, and the world is as before:
     ///
-    /// 1. `NoNode`: an ask or a leave is at a node above the number of nodes.
+    /// 1. `NoNode`: an ask or a leave names a node above the number of nodes.
     /// 2. `NotUnderWay`: a message that is to be delivered, lost or repeated is not under way.
     /// 3. `Node`: the node refuses an ask (`Busy`, `Exhausted`) or a leave (`NotHeld`).
-    /// 4. `Memory`: there is no room for what the step makes, or 2^64-1 steps were made, since no more are counted. A message by
-    ///    which nothing is sent or marked is never refused for lack of room, nor is a loss.
+    /// 4. `Memory`: there is no room for what the step makes, or 2^64-1 steps were made, since no more are counted. A
+    ///    loss, and a message that makes its node send and mark nothing, are never refused for lack of room.
     pub fn step(&mut self, alloc: Global, step: &Step) -> Result<Outcome, StepError>
         ensures { AnswersStep self.old step.now result self.new }
     {
         self.step_near(alloc, step, 0)
     }
 
-    /// Makes a step as `step` does. A message that is to be delivered, lost or repeated is looked for at the place `near` first,
-    /// counted from 0 in the order of sending, where it costs no search. Where all messages so far were found so and none was repeated,
-    /// taking one is linear in its distance from the nearer end, and `message_at` takes constant time. Once one was repeated, of equal
-    /// messages the first is taken, wherever that stands.
+    /// Makes a step as `step` does, but first looks for the message that is to be delivered, lost or repeated at the
+    /// place `near`, counted from 0 in the order of sending. There it is found without a search. As long as all
+    /// messages were found this way and none was repeated, taking one is linear in its distance from the nearer end,
+    /// and `message_at` takes constant time. After a repeat, the first of equal messages is taken, wherever it is.
     ///
     /// # Errors
     ///
@@ -115,7 +116,7 @@ impl<const KEEPS_MARKS: u8> WorldOf<KEEPS_MARKS> {
         ensures { AnswersStep self.old step.now result self.new }
     {
         steps_have_one_cause();
-        // What holds before the step is that the steps so far are a run.
+        // Before the step, the steps so far are a run.
         let _ = &self.start;
         match step {
             Step::Ask {
@@ -131,8 +132,8 @@ impl<const KEEPS_MARKS: u8> WorldOf<KEEPS_MARKS> {
         }
     }
 
-    /// Returns whether `step` would make this step, unless memory runs out. It does not allocate. The cost is that of looking at the
-    /// node's resource, or linear in the number of messages under way.
+    /// Returns whether `step` would make this step, unless memory runs out. It does not allocate. The cost is that of
+    /// looking at the node's resource, or linear in the number of messages under way.
     pub fn accepts(&self, step: &Step) -> bool
         ensures value { IsTrue result ↔ GoesOn self.now.count self.now.start self.now.moves step.now }
         ensures run { IsRun self.now.count self.now.start self.now.moves }
@@ -154,9 +155,9 @@ impl<const KEEPS_MARKS: u8> WorldOf<KEEPS_MARKS> {
         }
     }
 
-    /// Returns the message under way at this place, counted from 0 in the order of sending, or `None` past the end.
-    /// It does not allocate. The cost is constant where `step_near` found the messages taken so far at their places, and else at
-    /// most linear in the number of messages under way.
+    /// Returns the message under way at this place, counted from 0 in the order of sending, or `None` past the end. It
+    /// does not allocate. The cost is constant if `step_near` found the messages taken so far at their places, and
+    /// otherwise at most linear in the number of messages under way.
     pub fn message_at(&self, place: u64) -> Option<Message>
         ensures value { (left : List Message) × LeavesUnderWay self.now.moves left
             × (result ≡ slice_get left place) }
@@ -184,7 +185,7 @@ impl<const KEEPS_MARKS: u8> WorldOf<KEEPS_MARKS> {
         self.log.len()
     }
 
-    /// Returns how many requests were made. It does not allocate; a report does, since it copies all marks.
+    /// Returns how many requests were made. It does not allocate. (A report does, since it copies all marks.)
     pub fn requests(&self) -> u128
         ensures value { result ≡ requests_in (marks_of self.now.moves) }
         ensures run { IsRun self.now.count self.now.start self.now.moves }
@@ -202,7 +203,7 @@ impl<const KEEPS_MARKS: u8> WorldOf<KEEPS_MARKS> {
         self.log.sent()
     }
 
-    /// A client asks for a name at a node.
+    /// Makes the step in which a client asks for a name at a node.
     fn ask(
         &mut self,
         alloc: Global,
@@ -223,7 +224,7 @@ impl<const KEEPS_MARKS: u8> WorldOf<KEEPS_MARKS> {
         };
         let asked = &self.nodes[place];
         asked.may_ask(client, &name)?;
-        // A request is sent to each node, and it may enter at once.
+        // A REQUEST is sent to each other node, and the request may enter at once.
         let sends = self.nodes.len() as u64;
         make_room(&mut self.under_way, &mut self.log, sends, 2)?;
         let asked = &mut self.nodes[place];
@@ -238,7 +239,7 @@ impl<const KEEPS_MARKS: u8> WorldOf<KEEPS_MARKS> {
         Ok(outcome)
     }
 
-    /// A client leaves a name at a node.
+    /// Makes the step in which a client leaves a name at a node.
     fn leave(
         &mut self,
         alloc: Global,
@@ -260,7 +261,7 @@ impl<const KEEPS_MARKS: u8> WorldOf<KEEPS_MARKS> {
         if !is_held_by(left, client, &name) {
             return Err(StepError::Node(NodeRefusal::NotHeld));
         }
-        // The REPLYs that were deferred and the next request are sent, and it is left, requested and entered.
+        // The deferred REPLYs and the next request are sent, and the marks are Left, Requested and Entered.
         let sends = 2 * self.nodes.len() as u64;
         make_room(&mut self.under_way, &mut self.log, sends, 3)?;
         let left = &mut self.nodes[place];
@@ -270,7 +271,7 @@ impl<const KEEPS_MARKS: u8> WorldOf<KEEPS_MARKS> {
         Ok(outcome)
     }
 
-    /// A message under way reaches its node.
+    /// Makes the step in which a message under way reaches its node.
     fn deliver(&mut self, alloc: Global, message: &Message, near: u64) -> Result<Outcome, StepError>
         ensures tried { Tries self.old (Step.Deliver message.now) result self.new }
         ensures run { IsRun self.new.count self.new.start self.new.moves }
@@ -278,10 +279,10 @@ impl<const KEEPS_MARKS: u8> WorldOf<KEEPS_MARKS> {
     {
         kept_runs_go_on();
         runs_go_on_where_steps_are_allowed();
-        let Some(slot) = self.under_way.find(message, near) else {
+        let Some(found) = self.under_way.find(message, near) else {
             return Err(StepError::NotUnderWay);
         };
-        // What is under way is for one of the nodes.
+        // A message under way is for one of the nodes.
         let Some(place) = place_of(&self.nodes, message.to()) else {
             unreachable!()
         };
@@ -291,16 +292,16 @@ impl<const KEEPS_MARKS: u8> WorldOf<KEEPS_MARKS> {
         let outcome = match receiver.receive(alloc, message) {
             Ok(outcome) => outcome,
             Err(ReceiveError::Memory) => return Err(StepError::Memory),
-            // What is under way is for its node and from another one.
+            // A message under way is for its node, and from another one.
             Err(ReceiveError::WrongNode | ReceiveError::Stranger) => unreachable!(),
         };
-        take(&mut self.under_way, &self.log, slot, message);
+        take(&mut self.under_way, &self.log, found, message);
         let step = Step::Deliver(*message);
         keep(&mut self.under_way, &mut self.log, &step, &outcome);
         Ok(outcome)
     }
 
-    /// A message under way is lost.
+    /// Makes the step in which a message under way is lost.
     fn lose(&mut self, alloc: Global, message: &Message, near: u64) -> Result<Outcome, StepError>
         ensures tried { Tries self.old (Step.Lose message.now) result self.new }
         ensures run { IsRun self.new.count self.new.start self.new.moves }
@@ -309,18 +310,18 @@ impl<const KEEPS_MARKS: u8> WorldOf<KEEPS_MARKS> {
         kept_runs_go_on();
         runs_go_on_where_steps_are_allowed();
         events_keep_a_node_consistent();
-        let Some(slot) = self.under_way.find(message, near) else {
+        let Some(found) = self.under_way.find(message, near) else {
             return Err(StepError::NotUnderWay);
         };
         make_room(&mut self.under_way, &mut self.log, 0, 0)?;
         let outcome = nothing(alloc);
-        take(&mut self.under_way, &self.log, slot, message);
+        take(&mut self.under_way, &self.log, found, message);
         let step = Step::Lose(*message);
         keep(&mut self.under_way, &mut self.log, &step, &outcome);
         Ok(outcome)
     }
 
-    /// A copy of a message under way comes under way.
+    /// Makes the step in which a copy of a message under way is put under way, after all others.
     fn repeat(&mut self, alloc: Global, message: &Message, near: u64) -> Result<Outcome, StepError>
         ensures tried { Tries self.old (Step.Repeat message.now) result self.new }
         ensures run { IsRun self.new.count self.new.start self.new.moves }
@@ -332,7 +333,7 @@ impl<const KEEPS_MARKS: u8> WorldOf<KEEPS_MARKS> {
             return Err(StepError::NotUnderWay);
         };
         make_room(&mut self.under_way, &mut self.log, 1, 0)?;
-        // It is under way, and there is room for the copy.
+        // The message is under way, and there is room for the copy.
         self.under_way.again(message).unwrap();
         let outcome = nothing(alloc);
         self.log.push(&Step::Repeat(*message), &outcome);
@@ -388,7 +389,7 @@ impl WorldOf<1> {
         kept_runs_go_on();
         reports_meet_the_main_theorem();
         let marks = copy_of(alloc, self.log.marks())?;
-        // No more clients are queued than steps were made, so their count fits.
+        // There are at most as many queued clients as steps, so their count fits.
         let _steps = self.log.len();
         Ok(Report {
             marks,

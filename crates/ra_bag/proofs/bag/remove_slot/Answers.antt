@@ -44,8 +44,8 @@ returns-else-not-are_known-clause-count c =
 
 -- ---- What is known of the slots
 
-pub returns-then-slot-eq0-clause-told : goal.returns-then-slot-eq0-clause-told
-returns-then-slot-eq0-clause-told c =
+pub drop_leading-requires-clause-told : goal.drop_leading-requires-clause-told
+drop_leading-requires-clause-told c =
     let is_first : c.args.slot ≡ 0 = search rules in
     let taken = c.take.ensures c.args.slots.now.items c.requires.there c.requires.told in
     subst (λ (l : List (Option Message)). IsTold eq-value.it c.shift.new.self l) (sym c.take_first.ensures.items)

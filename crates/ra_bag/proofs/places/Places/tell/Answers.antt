@@ -1,10 +1,28 @@
-use Rattle.std.proofs.Common.{rules, ◌≡◌, ◌≢◌, ◌+◌, length, sym}
-use Rattle.ra_bag.proofs.Told.{first_told}
+use Rattle.std.proofs.Common.{rules, ◌≡◌, ◌+◌, ◌<◌, refl, sym}
+use Rattle.std.specs.Prelude.{IsNone}
+use Rattle.ra_bag.proofs.Emptied.{out_there, some_and_none}
+use Rattle.ra_bag.proofs.Told.{first_told, none_told, number_told}
 use Rattle.ra_bag.proofs.places.Places.tell.Goals as goal
 
-pub returns : goal.returns
-returns c = λ slots told.
-    let known : length c.args.self.now.numbers.entries ≢ 0 = search rules in
+pub returns-in_err-number-clause-some : goal.returns-in_err-number-clause-some
+returns-in_err-number-clause-some c = λ slots told.
+    let is_none : IsNone c.from_residual.result = search rules in
+    let none = none_told _ c.equal_is_same.ensures.messages c.args.self.now slots c.args.message.now (sym c.in_err-number.ensures.value) (told c.requires) in
+    (λ some. absurd (some_and_none c.from_residual.result some is_none), λ there. absurd (none there))
+
+pub returns-in_err-slot-clause-some : goal.returns-in_err-slot-clause-some
+returns-in_err-slot-clause-some c = λ slots told.
+    let less : c.in_ok-number.field-0.now < c.args.self.now.first = search rules in
+    absurd (number_told _ c.equal_is_same.ensures.messages c.args.self.now slots c.args.message.now c.in_ok-number.field-0.now
+    (sym c.in_ok-number.ensures.value) less (told c.requires))
+
+pub returns-clause-first : goal.returns-clause-first
+returns-clause-first c = λ slots told.
     let is : c.in_ok-number.field-0.now ≡ c.args.self.now.first + c.in_ok-slot.slot = search rules in
     first_told _ c.equal_is_same.ensures.messages c.args.self.now slots c.args.message.now c.in_ok-number.field-0.now c.in_ok-slot.slot
-    (sym c.in_ok-number.ensures.value) is (told known)
+    (sym c.in_ok-number.ensures.value) is (told c.requires)
+
+pub returns-clause-some : goal.returns-clause-some
+returns-clause-some c = λ slots told.
+    let there = (returns-clause-first c slots told).0 in
+    (λ _. out_there slots c.args.message.now c.in_ok-slot.slot there.0 there.1, λ _. refl)
