@@ -1,8 +1,8 @@
-//! What `ra sim` does by the policies `oldest`, `newest` and `seeded`, as a plain program: a hash map of names at each node, a
-//! queue of messages, and nothing proved or kept but what is printed. It reads a script with the crate `toml`, or, with the feature
-//! `cut_script`, by cutting it at its quotes, which does for what `bench/largest-script` writes. The argument is the policy; the seed
-//! is 0. Each message has a copy of its name, or, with the feature `shared_names`, a counted reference to it, which only one thread
-//! can have.
+//! What `ra sim` does under the policies `oldest`, `newest` and `seeded`, as a plain program: a hash map of names at
+//! each node and a queue of messages. Nothing is proved, and nothing is kept but what is printed. It reads a script
+//! with the crate `toml` or, with the feature `cut_script`, by cutting it at its quotes, which is enough for what
+//! `bench/largest-script` writes. The argument is the policy; the seed is 0. Each message has a copy of its name or,
+//! with the feature `shared_names`, a counted reference to it, which only one thread can have.
 use std::collections::{HashMap, VecDeque};
 use std::fmt::Write as _;
 use std::io::{self, Read, Write as _};
@@ -35,7 +35,7 @@ struct Message {
     from: usize,
     to: usize,
     name: Name,
-    /// The mode and the number of a REQUEST; a REPLY has none.
+    /// The mode and number of a REQUEST; `None` for a REPLY.
     request: Option<(Mode, u64)>,
 }
 
@@ -114,7 +114,7 @@ impl Cluster {
         }
     }
 
-    /// Takes the next number, and asks all other nodes.
+    /// Takes the next number and asks all other nodes.
     fn request(&mut self, node: usize, client: usize, name: &Name, mode: Mode) {
         let count = self.nodes.len();
         let resource = self.nodes[node].get_mut(name).expect("the name was met");
@@ -186,7 +186,7 @@ impl Cluster {
         }
     }
 
-    /// Goes on with the first client that can, or else with a message, until there is neither.
+    /// Continues with the first client that can go on, or otherwise with a message, until there is neither.
     fn run_in_turn(&mut self, newest: bool) {
         loop {
             if let Some(client) = self.clients.iter().position(Client::can_go_on) {
@@ -201,7 +201,7 @@ impl Cluster {
         }
     }
 
-    /// Goes on with whichever client or message chance picks, until there is none.
+    /// Continues with a client or message picked at random, until there is neither.
     fn run_by_chance(&mut self) {
         let mut chance = Chance::new(0);
         loop {
@@ -213,10 +213,10 @@ impl Cluster {
             let picked = (chance.next() % choices as u64) as usize;
             if picked < enabled {
                 let mut places = (0..self.clients.len()).filter(|place| self.clients[*place].can_go_on());
-                let client = places.nth(picked).expect("so many can go on");
+                let client = places.nth(picked).expect("a client that can go on");
                 self.go_on(client);
             } else {
-                let message = self.under_way.remove(picked - enabled).expect("so many are under way");
+                let message = self.under_way.remove(picked - enabled).expect("a message under way");
                 self.deliver(message);
             }
         }
@@ -301,7 +301,7 @@ fn read_script(text: &str) -> Cluster {
             cluster.clients.push(Client { node: number - 1, ops: Vec::new(), done: 0, waits: false });
         } else if let Some(list) = line.strip_prefix("ops = ") {
             let client = cluster.clients.last_mut().expect("a client");
-            // Between quotes, so each second piece.
+            // The text between quotes is every second piece.
             client.ops.extend(list.split('"').skip(1).step_by(2).map(read_op));
         }
     }
@@ -316,7 +316,7 @@ fn main() {
         Some("oldest") => cluster.run_in_turn(false),
         Some("newest") => cluster.run_in_turn(true),
         Some("seeded") => cluster.run_by_chance(),
-        _ => panic!("the argument is oldest, newest or seeded"),
+        _ => panic!("the argument must be oldest, newest or seeded"),
     }
     let (requests, sent, under_way) = (cluster.requests, cluster.sent, cluster.under_way.len());
     let lines = &mut cluster.lines;

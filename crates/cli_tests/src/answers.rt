@@ -122,31 +122,35 @@ fn an_idle_node_says_nothing_to_a_reply(rt: HostRuntime) {
     assert_meets(&rt, REPLIES);
 }
 
-const ANSWER_HELP: &str = "Answer one frame, a line of hexadecimal digits, as an idle node does
+const ANSWER_HELP: &str = "Answer one frame, in hexadecimal digits, as an idle node would
 
 Usage: ra answer --node <node> --nodes <nodes>
 
 Options:
-      --node <node>    The number of the node that answers, 1 to that of --nodes
-      --nodes <nodes>  How many nodes there are, 1 to 64
+      --node <node>    Answer as this node, 1 to the value of --nodes
+      --nodes <nodes>  Set the number of nodes, 1 to 64
   -h, --help           Print help
 
-The node has met no number before, and its clock was 0. A frame of version 1 or
-2 is read, and the frames that the node sends are printed in version 2, a line
-each. The modes, and their bytes, of which version 1 has the first two:
+Read one frame of version 1 or 2 from standard input, as a line of hexadecimal
+digits, and print the frames with which the node answers, in version 2, one per
+line. The node is idle: it has seen no sequence number, and its event clock is
+0.
+
+Modes, and their bytes in a frame (version 1 has only the first two):
   S    00  shared
   X    01  exclusive
   IS   02  intent shared
   IX   03  intent exclusive
   SIX  04  shared and intent exclusive
 
-Example, a REQUEST of node 1 for the name r, in version 1, answered by node 2
-of 3:
+Example: node 2 of 3 answers a version 1 REQUEST of node 1 for the name r.
   echo 0101010201000000000000000100000000000000010172 |
     ra answer --node 2 --nodes 3
 
-Status 0: answered. Status 1: the input or the output failed. Status 2: the
-words or the frame are refused.
+Exit status:
+  0  the frame was answered
+  1  standard input or standard output failed
+  2  the command line or the frame was refused
 ";
 
 #[test]

@@ -1,11 +1,11 @@
-//! The choices of a run, printed by `ra sim --as-choices`, and the run that they make again.
+//! The choices of a run, printed by `ra sim --as-choices`, and the same run made again from them.
 use crate::helpers::{Answered, Case, Refused, assert_meets, assert_refuses, run};
 use crate::scripts::{A_QUEUE, A_WRITER, ONE_CLIENT, TWO_CLIENTS};
 use std::process::Abort;
 use std::sync::Wait;
 use std::thread::Threads;
 
-/// Runs whose choices can be told by hand.
+/// Runs whose choices can be derived by hand.
 const PRINTED: &[Case] = &[
     Case {
         shows: "a client asks, its REQUEST and the REPLY are delivered, and it leaves",
@@ -49,7 +49,101 @@ fn the_choices_of_a_run_are_printed(rt: HostRuntime) {
     assert_meets(&rt, PRINTED);
 }
 
-/// What has no choices to print.
+/// The choices were computed by a model of the algorithm, the policies and the generator PCG XSL RR 128/64. The model
+/// is written in Python, independently of the program, from the rules in docs/ALGORITHM.md and docs/FORMATS.md.
+const COMPUTED: &[Case] = &[
+    Case {
+        shows: "a writer and two readers, from the newest message on",
+        words: "ra sim --policy newest --as-choices",
+        input: A_WRITER,
+        status: 0,
+        output: "c1 c2 c3 m5 m4 m4 m3 m3 m2 m1 m1 m0 m0 c1 m0 c2 m0 c3\n",
+    },
+    Case {
+        shows: "a writer and two readers, by seed 0",
+        words: "ra sim --policy seeded --seed 0 --as-choices",
+        input: A_WRITER,
+        status: 0,
+        output: "c1 m1 c3 m2 m2 m3 m0 m0 m1 c1 m0 c2 m1 m0 c3 m1 m0 c2\n",
+    },
+    Case {
+        shows: "a writer and two readers, by seed 5",
+        words: "ra sim --policy seeded --seed 5 --as-choices",
+        input: A_WRITER,
+        status: 0,
+        output: "c3 c2 m1 m1 m0 m0 m1 m1 m0 c1 m1 m0 m0 c2 m1 m0 c3 c1\n",
+    },
+    Case {
+        shows: "a writer and two readers, by seed 1, with losses",
+        words: "ra sim --policy faulty --lose 200 --seed 1 --as-choices",
+        input: A_WRITER,
+        status: 3,
+        output: "c1 m1 m1 m0 m0 c2 c3 c1 m0 m0 m2 m2 l0 l0 c2\n",
+    },
+    Case {
+        shows: "two writers, from the newest message on",
+        words: "ra sim --policy newest --as-choices",
+        input: TWO_CLIENTS,
+        status: 0,
+        output: "c1 c2 m3 m3 m2 m1 m1 m0 m0 c1 m0 c2\n",
+    },
+    Case {
+        shows: "two writers, by seed 0",
+        words: "ra sim --policy seeded --seed 0 --as-choices",
+        input: TWO_CLIENTS,
+        status: 0,
+        output: "c2 m1 c1 m2 m2 m3 m0 m1 c1 m1 m0 c2\n",
+    },
+    Case {
+        shows: "two writers, by seed 5",
+        words: "ra sim --policy seeded --seed 5 --as-choices",
+        input: TWO_CLIENTS,
+        status: 0,
+        output: "c1 c2 m1 m2 m1 m1 m0 m0 m0 c1 m0 c2\n",
+    },
+    Case {
+        shows: "two writers, by seed 1, with losses",
+        words: "ra sim --policy faulty --lose 200 --seed 1 --as-choices",
+        input: TWO_CLIENTS,
+        status: 3,
+        output: "c2 c1 m0 l0 m1 m1 l0\n",
+    },
+    Case {
+        shows: "two clients of one node, from the newest message on",
+        words: "ra sim --policy newest --as-choices",
+        input: A_QUEUE,
+        status: 0,
+        output: "c1 c2 m0 m0 c1 m0 m0 c2\n",
+    },
+    Case {
+        shows: "two clients of one node, by seed 0",
+        words: "ra sim --policy seeded --seed 0 --as-choices",
+        input: A_QUEUE,
+        status: 0,
+        output: "c2 m0 m0 c1 c2 m0 m0 c1\n",
+    },
+    Case {
+        shows: "two clients of one node, by seed 5",
+        words: "ra sim --policy seeded --seed 5 --as-choices",
+        input: A_QUEUE,
+        status: 0,
+        output: "c1 m0 m0 c1 c2 m0 m0 c2\n",
+    },
+    Case {
+        shows: "two clients of one node, by seed 1, with losses",
+        words: "ra sim --policy faulty --lose 200 --seed 1 --as-choices",
+        input: A_QUEUE,
+        status: 0,
+        output: "c2 m0 m0 c1 c2 m0 m0 c1\n",
+    },
+];
+
+#[test]
+fn the_choices_of_a_run_are_those_of_a_model(rt: HostRuntime) {
+    assert_meets(&rt, COMPUTED);
+}
+
+/// Commands that have no choices to print.
 const REFUSED: &[Refused] = &[
     Refused {
         words: "ra sim --as-choices --trace",
@@ -83,7 +177,7 @@ fn what_has_no_choices_is_refused(rt: HostRuntime) {
     assert_refuses(&rt, REFUSED);
 }
 
-/// Returns the line without its end, or `None` where it has none.
+/// Returns the line without its newline, or `None` if it has no newline.
 fn words_in(output: &[u8]) -> Option<&str> {
     let line = output.strip_suffix(b"\n")?;
     str::from_utf8(line).ok()
@@ -94,7 +188,7 @@ fn are_the_same(one: &Answered, other: &Answered) -> bool {
     one.status == other.status && one.output.as_slice() == other.output.as_slice()
 }
 
-/// Returns whether the choices of a policy, listed, have its trace and its status.
+/// Returns whether policy `listed`, given the choices of a policy's run, yields the same trace and status.
 fn makes_again<T: AllocGlobal + Threads + Wait + Abort + Sync>(
     rt: &T,
     policy: &str,
@@ -116,7 +210,7 @@ fn makes_again<T: AllocGlobal + Threads + Wait + Abort + Sync>(
     printed.status == trace.status && are_the_same(&again, &trace)
 }
 
-/// Returns whether it is so by chance from a seed, and where that loses messages, too.
+/// Returns whether that holds for random choices from a seed, both without lost messages and with them.
 fn makes_seed_again<T: AllocGlobal + Threads + Wait + Abort + Sync>(
     rt: &T,
     seed: u64,

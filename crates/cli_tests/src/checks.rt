@@ -60,7 +60,7 @@ fn sim_prints_the_trace_of_its_run(rt: HostRuntime) {
     assert!(rt; is_answer(&run(&rt, listed, Some("c1 l0"), ONE_CLIENT), 3, LOST));
 }
 
-/// Traces, and what is said of them.
+/// Traces and their verdicts.
 const TRACES: &[Case] = &[
     Case {
         shows: "one client",
@@ -90,17 +90,17 @@ fn traces_of_runs_are_valid(rt: HostRuntime) {
     assert_meets(&rt, TRACES);
 }
 
-/// A line, counted from 1, that is put in before the one that stands there, or stands in its place.
+/// A line that is inserted before the line at this place, counted from 1, or replaces it.
 #[derive(Clone, Copy)]
 struct Edit {
     place: usize,
     line: &'static str,
     stays: bool,
-    /// What is said of the trace with the edit.
+    /// The verdict on the trace with the edit.
     verdict: &'static str,
 }
 
-/// Adds a line of a trace and what the edit makes of it, and returns whether there was memory for it.
+/// Adds a line of a trace, with the edit if it is at this line. Returns whether there was memory for it.
 fn push_edited(text: &mut String, old: &str, number: usize, edit: &Edit) -> bool {
     if number == edit.place && text.push_str(edit.line).is_err() {
         return false;
@@ -123,7 +123,7 @@ fn edited(alloc: Global, trace: &str, edit: &Edit) -> Option<String> {
     Some(text)
 }
 
-/// Returns whether the verdict, with status 3, is said of a trace with an edit.
+/// Returns whether a trace with an edit gets the edit's verdict, with status 3.
 fn is_invalid<T: AllocGlobal + Threads + Wait + Abort + Sync>(
     rt: &T,
     trace: &str,
@@ -135,7 +135,7 @@ fn is_invalid<T: AllocGlobal + Threads + Wait + Abort + Sync>(
     }
 }
 
-/// The first line in version 1 of the two clients' trace.
+/// The first line of the two clients' trace in version 1.
 const IN_VERSION_1: Edit = Edit {
     place: 1,
     line: "trace 1 3 0\n",
@@ -143,7 +143,8 @@ const IN_VERSION_1: Edit = Edit {
     verdict: "valid\nrequests 2\nmessages 8\n",
 };
 
-/// Returns whether it is so of the two clients' trace with an edit, in version 2, in which it is written, and in version 1.
+/// Returns whether the two clients' trace with an edit gets the edit's verdict, both in version 2, in which it is
+/// written, and in version 1.
 fn is_invalid_in_both<T: AllocGlobal + Threads + Wait + Abort + Sync>(rt: &T, edit: &Edit) -> bool {
     match edited(rt.alloc(), AT_ONCE, &IN_VERSION_1) {
         Some(old) => is_invalid(rt, AT_ONCE, edit) && is_invalid(rt, old.as_str(), edit),
@@ -151,14 +152,14 @@ fn is_invalid_in_both<T: AllocGlobal + Threads + Wait + Abort + Sync>(rt: &T, ed
     }
 }
 
-/// Traces, the lines in version 1 that may stand in place of their first, and what is said of them then.
+/// Traces, each with a line in version 1 that may replace its first line, and the verdict on the result.
 const OLDER: &[(&str, &str, &str)] = &[
     (ALONE, "trace 1 2 0\n", "valid\nrequests 1\nmessages 2\n"),
     (AT_ONCE, "trace 1 3 0\n", "valid\nrequests 2\nmessages 8\n"),
     (LOST, "trace 1 2 0\n", "valid\nrequests 1\nmessages 1\n"),
 ];
 
-/// Returns whether the verdict, with status 0, is said of a trace with another first line.
+/// Returns whether a trace with another first line gets the verdict, with status 0.
 fn is_valid_behind<T: AllocGlobal + Threads + Wait + Abort + Sync>(
     rt: &T,
     trace: &str,
@@ -184,7 +185,7 @@ fn the_same_traces_are_valid_in_version_1(rt: HostRuntime) {
     }
 }
 
-/// The lines of the client alone in version 1, with a mode that only version 2 has.
+/// The trace of the client alone in version 1, with a mode that only version 2 has.
 const NEWER_MODE: &str = "trace 1 2 0
 ask 1 1 r IS
 request 1 1 r X 1
@@ -201,7 +202,7 @@ fn a_mode_of_version_2_is_no_line_of_version_1(rt: HostRuntime) {
     assert_answers(&rt, "ra check", NEWER_MODE, 3, "invalid 2 Line\n");
 }
 
-/// Edits by which a trace is none any more.
+/// Edits that make a trace invalid.
 const EDITS: &[Edit] = &[
     Edit {
         place: 13,
@@ -264,7 +265,7 @@ fn two_lines_that_are_exchanged_are_wrong_at_the_first(rt: HostRuntime) {
     assert_answers(&rt, "ra check", EXCHANGED, 3, "invalid 5 Marks\n");
 }
 
-/// The trace of the client alone, and a byte after it.
+/// The trace of the client alone, followed by one byte.
 const FOLLOWED: &str = "trace 1 2 0
 ask 1 1 r X
 request 1 1 r X 1
@@ -281,7 +282,7 @@ fn what_stands_behind_a_trace_is_a_wrong_line(rt: HostRuntime) {
     assert_answers(&rt, "ra check", FOLLOWED, 3, "invalid 10 Line\n");
 }
 
-/// Returns whether what these words print of a script, with this status, is a trace with this verdict.
+/// Returns whether this command line, run on a script, ends with this status and prints a trace with this verdict.
 fn is_valid<T: AllocGlobal + Threads + Wait + Abort + Sync>(
     rt: &T,
     line: &str,
@@ -296,7 +297,7 @@ fn is_valid<T: AllocGlobal + Threads + Wait + Abort + Sync>(
     }
 }
 
-/// The words of five policies.
+/// Command lines, each with a policy.
 const POLICIES: &[&str] = &[
     "ra sim --trace --policy oldest",
     "ra sim --trace --policy newest",
@@ -305,7 +306,7 @@ const POLICIES: &[&str] = &[
     "ra sim --trace --policy faulty --seed 1",
 ];
 
-/// Ends the test where it is not so with status 0 by one of them.
+/// Ends the test unless each of them prints a trace with this verdict and ends with status 0.
 fn assert_valid<T: AllocGlobal + Threads + Wait + Abort + Sync>(
     rt: &T,
     script: &str,
@@ -331,16 +332,16 @@ fn the_trace_of_a_deadlock_is_valid(rt: HostRuntime) {
     assert!(rt; is_valid(&rt, "ra sim --trace", A_DEADLOCK, 3, verdict));
 }
 
-const HELP: &str = "Check the trace of a run, or the log of a lock service, line by line
+const HELP: &str = "Check the trace of a run, or the mark log of a lock service
 
 Usage: ra check [OPTIONS]
 
 Options:
-      --marks  Check the log of any lock service, which has marks alone
+      --marks  Check the mark log of any lock service, not a trace
   -h, --help   Print help
 
-A trace, read from standard input, is the steps of a run, each on a line with
-its marks on the lines below it:
+Read a trace from standard input: the steps of a run, one per line, each with
+its marks on the lines after it.
   trace 2 2 0
   ask 1 1 r X
   request 1 1 r X 1
@@ -348,52 +349,54 @@ its marks on the lines below it:
   deliver reply 2 1 r 1
   enter 1 1 r X 1
   end
-The first line says which version of traces it is, how many nodes there are, and
-the number that each resource begins with, 0 to 2^64 - 1. The others have nodes,
-a client, 0 to 2^32 - 1, the name, the mode and the number, 1 to 2^64 - 1. In
-version 2, which `ra sim --trace` prints, there are 1 to 64 nodes and five
-modes; version 1 has 1 to 16 nodes and the modes S and X:
+The first line has the version, the number of nodes, and the number that each
+name begins with (0 to 2^64 - 1). The others have nodes, a client (0 to
+2^32 - 1), a name, a mode and a number (1 to 2^64 - 1). Version 2, which `ra sim
+--trace` prints, has 1 to 64 nodes and five modes. Version 1 has 1 to 16 nodes
+and the modes S and X.
   S    shared
   X    exclusive
   IS   intent shared
   IX   intent exclusive
   SIX  shared and intent exclusive
-A line with `lose` in place of `deliver` says that a message is lost, and in
-version 2 one with `repeat` that it will come once more.
+A line with `lose` in place of `deliver` loses the message. In version 2, a line
+with `repeat` puts a copy of the message under way.
 
-It prints `valid`, and how many requests and messages there were; or `invalid`,
-the first line that is wrong, and why:
-  Line         it is not a line of a trace, or may not stand there
-  Refused      the client may not ask or leave
-  NotUnderWay  nobody sent the message, or it was taken already
-  Marks        the marks are not what came of the step
-  Table        a lock table does not allow the mark
+Print `valid` and the numbers of requests and messages, or `invalid`, the first
+wrong line and the cause:
+  Line         not a line of a trace, or not allowed here
+  Refused      the client may not ask or release
+  NotUnderWay  the message was never sent, or was already delivered or lost
+  Marks        the marks are not those of the step
+  Table        the lock table does not allow the mark
 
 Example: ra sim --trace < script.toml | ra check
 
-With --marks the text is a log of marks alone, a line for each request, grant
-and release of any lock service, with the number of a node, 1 to 64, a client, 0
-to 2^32 - 1, the name, the mode, and a number, 1 to 2^64 - 1, that is above each
-one granted on the name so far:
+With --marks, read a mark log: a line for each request, grant and release of any
+lock service. Each has a node (1 to 64), a client (0 to 2^32 - 1), a name, a
+mode and a number (1 to 2^64 - 1). The number of a request must be above every
+number granted for the name so far.
   request 1 1 r X 1
   enter 1 1 r X 1
   leave 1 1 r X 1
-It prints `valid`, and how many requests and grants there were, where a lock
-table allows each mark; or `invalid`, the first line that is wrong, and why:
-  Line        it is no such line
-  NodeBusy    a request, and its node waits or holds on the name
-  NotAbove    a request, and its number is not above each one granted on the
-              name
-  NotWaiting  a grant, and it was not requested, or was granted already
-  Held        a grant, and one that conflicts holds
-  Earlier     a grant, and one that conflicts waits with a lower number, or the
-              same at a lower node
+Print `valid` and the numbers of requests and grants if the lock table allows
+each mark, or `invalid`, the first wrong line and the cause:
+  Line        not a mark
+  NodeBusy    a request, but its node already waits for the name or holds it
+  NotAbove    a request, but a number granted for the name is as high or higher
+  NotWaiting  a grant, but it was never requested, or was already granted
+  Held        a grant, but a conflicting request holds the name
+  Earlier     a grant, but a conflicting request waits with a lower number, or
+              with the same number at a lower node
   NotHeld     a release of what is not held
 
 Example: ra check --marks < service.log
 
-Status 0: it is a run. Status 3: it is not. Status 2: the words are refused, or
-it has more than 16777216 bytes. Status 1: the input or the output failed.
+Exit status:
+  0  valid
+  1  standard input or standard output failed
+  2  the command line was refused, or the input has more than 16777216 bytes
+  3  invalid
 ";
 
 #[test]
@@ -401,7 +404,7 @@ fn help_on_check_prints_a_trace(rt: HostRuntime) {
     assert_answers(&rt, "ra check --help", "", 0, HELP);
 }
 
-/// Words that are no check.
+/// Command lines that are not a valid `check`.
 const NO_CHECKS: &[Refused] = &[
     Refused {
         words: "ra check --trace",
@@ -437,7 +440,7 @@ fn a_writer_that_fails_has_a_prefix_of_the_verdict(rt: HostRuntime) {
     assert_written(&rt, "ra check", ALONE, printed, 0);
 }
 
-/// Adds the line of a client that asks, which has 52 bytes, and returns whether there was memory for it.
+/// Adds the 52-byte line of a client that asks. Returns whether there was memory for it.
 fn push_ask(alloc: Global, trace: &mut String, client: u32) -> bool {
     match format!(in alloc; "ask 1 {client} a_name_that_has_thirty_two_bytes X\n") {
         Ok(line) => trace.push_str(line.as_str()).is_ok(),
@@ -445,7 +448,7 @@ fn push_ask(alloc: Global, trace: &mut String, client: u32) -> bool {
     }
 }
 
-/// Returns what is a prefix of a trace, and longer than a trace may be: one client enters, and many ask after it.
+/// Returns a prefix of a trace that is longer than a trace may be: one client enters, and many ask after it.
 fn long_queue(alloc: Global) -> Option<String> {
     let mut trace = "trace 1 1 0
 ask 1 1 a_name_that_has_thirty_two_bytes X
@@ -462,8 +465,8 @@ enter 1 1 a_name_that_has_thirty_two_bytes X 1
     Some(trace)
 }
 
-/// Returns whether `ra check` refuses a trace as too long, and reads one byte after the limit. No thread looks for its end, which
-/// may come late.
+/// Returns whether `ra check` refuses a trace as too long, and reads one byte after the limit. No thread waits for its
+/// end, which may come late.
 fn is_too_long<T: AllocGlobal + Threads + Wait + Sync>(rt: &T, trace: &[u8]) -> bool {
     let mut bytes = trace;
     let mut output = Vec::new(rt.alloc());
@@ -472,7 +475,7 @@ fn is_too_long<T: AllocGlobal + Threads + Wait + Sync>(rt: &T, trace: &[u8]) -> 
     is_refusal(&answered, "Limit") && trace.get(16_777_217..) == Some(bytes)
 }
 
-/// Returns whether it is so for a trace with no wrong line within the limit.
+/// Returns whether that holds for a trace without a wrong line within the limit.
 fn stops_at_the_limit<T: AllocGlobal + Threads + Wait + Sync>(rt: &T) -> bool {
     match long_queue(rt.alloc()) {
         Some(trace) => is_too_long(rt, trace.as_bytes()),

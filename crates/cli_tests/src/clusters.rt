@@ -15,11 +15,11 @@ use std::process::Abort;
 use std::sync::Wait;
 use std::thread::Threads;
 
-/// How often a script is run whose marks come in an order that is up to the threads.
+/// How often a script is run if the order of its marks is up to the threads.
 const RUNS: u32 = 10;
 
-/// Returns the word at a place of a line, counted from 0, or an empty text where there is none. The line of a mark has its kind,
-/// node, client, name, mode and number, and that of a total two words.
+/// Returns the word at a place of a line, counted from 0, or an empty text if the line has fewer words. The line of a
+/// mark has its kind, node, client, name, mode and number; that of a total has two words.
 fn word_at(line: &str, place: usize) -> &str {
     match line.split(' ').nth(place) {
         Some(word) => word,
@@ -27,7 +27,7 @@ fn word_at(line: &str, place: usize) -> &str {
     }
 }
 
-/// Returns whether the marks of a client begin with these texts, in their order, and are no more.
+/// Returns whether a client has exactly one mark for each of these texts, in order, and each mark begins with its text.
 fn has_marks(output: &str, client: &str, prefixes: &[&str]) -> bool {
     let mut left = prefixes;
     for line in output.split_terminator('\n') {
@@ -41,7 +41,8 @@ fn has_marks(output: &str, client: &str, prefixes: &[&str]) -> bool {
     left.is_empty()
 }
 
-/// Returns whether after each enter of a writer the next mark, except for requests, is its leave. So it is where there is one name.
+/// Returns whether the next mark after each enter of a writer, except for requests, is its leave. With one
+/// name, this always holds.
 fn writers_are_alone(output: &str) -> bool {
     let mut writer: Option<&str> = None;
     for line in output.split_terminator('\n') {
@@ -64,21 +65,21 @@ fn writers_are_alone(output: &str) -> bool {
     writer.is_none()
 }
 
-/// A script that threads run, and what is determined of that.
+/// A script that threads run, and the parts of its output that are determined.
 struct Run {
     shows: &'static str,
     script: &'static str,
-    /// With what the marks of each client begin, up to their numbers, in their order.
+    /// How the marks of each client begin, up to their numbers, in order.
     first: &'static [&'static str],
     second: &'static [&'static str],
     third: &'static [&'static str],
     totals: &'static str,
-    /// How many lines there are in all: each lock has two marks and each unlock one, and there are six totals.
+    /// The total number of lines: each lock has two marks, each unlock has one, and there are six totals.
     lines: usize,
 }
 
-/// Returns whether a text is that of a run: the marks of each client, in their order, and the totals, where nothing is left. With
-/// so many lines in all, no mark names another client.
+/// Returns whether a text is the output of a run: the marks of each client, in order, and totals that leave nothing to
+/// do. With this many lines in all, no mark names another client.
 fn is_output(row: &Run, output: &str) -> bool {
     output.ends_with(row.totals)
         && output.split_terminator('\n').count() == row.lines
@@ -87,7 +88,7 @@ fn is_output(row: &Run, output: &str) -> bool {
         && has_marks(output, "3", row.third)
 }
 
-/// Returns whether a script is run by threads so.
+/// Returns whether threads run a script with this output and status 0.
 fn runs<T: AllocGlobal + Threads + Wait + Abort + Sync>(rt: &T, row: &Run) -> bool {
     let answered = run(rt, "ra cluster", None, row.script);
     match str::from_utf8(answered.output.as_slice()) {
@@ -132,7 +133,7 @@ fn a_script_of_no_operation_has_no_marks(rt: HostRuntime) {
     assert_answers(&rt, "ra cluster", idle, 0, NOTHING);
 }
 
-/// Scripts whose marks come in an order that is up to the threads.
+/// Scripts for which the order of the marks is up to the threads.
 const IN_ORDER: &[Run] = &[
     Run {
         shows: "two clients",
@@ -236,7 +237,7 @@ fn each_client_does_its_operations_in_order(rt: HostRuntime) {
     }
 }
 
-/// Returns whether a script is run by threads so that no writer is inside with another client.
+/// Returns whether threads run a script so that no writer is inside with another client.
 fn has_writers_alone<T: AllocGlobal + Threads + Wait + Abort + Sync>(rt: &T, script: &str) -> bool {
     let answered = run(rt, "ra cluster", None, script);
     match str::from_utf8(answered.output.as_slice()) {
@@ -245,7 +246,7 @@ fn has_writers_alone<T: AllocGlobal + Threads + Wait + Abort + Sync>(rt: &T, scr
     }
 }
 
-/// Scripts with a writer, and one name.
+/// Scripts with a writer and one name.
 const WRITERS: &[&str] = &[TWO_CLIENTS, A_WRITER, A_QUEUE];
 
 #[test]
@@ -257,7 +258,7 @@ fn no_two_conflicting_clients_are_inside_together(rt: HostRuntime) {
     }
 }
 
-/// What the queue at one node prints where the second client goes first. The one that goes second has the next number.
+/// What the queue at one node prints if the second client goes first. The client that goes second has the next number.
 const SECOND_FIRST: &str = "request 1 2 r X 1
 enter 1 2 r X 1
 leave 1 2 r X 1
@@ -272,7 +273,7 @@ waiting 0
 queued 0
 ";
 
-/// Returns whether the queue at one node is run by threads with one of its two outputs.
+/// Returns whether threads run the queue at one node with one of its two outputs.
 fn takes_turns<T: AllocGlobal + Threads + Wait + Abort + Sync>(rt: &T) -> bool {
     let answered = run(rt, "ra cluster", None, A_QUEUE);
     is_answer(&answered, 0, A_QUEUE_PRINTED) || is_answer(&answered, 0, SECOND_FIRST)
@@ -302,7 +303,7 @@ const NO_ORDER: &[Refused] = &[
         input: A_KEEPER,
         word: "Unreleased",
     },
-    // Where both hold, in one client or in two.
+    // Both faults, in one client or in two.
     Refused {
         words: "ra cluster",
         input: "nodes = 1\nclient = [{ node = 1, ops = [\"X b\", \"X a\"] }]",
@@ -324,7 +325,7 @@ fn names_are_locked_in_ascending_order_and_given_back(rt: HostRuntime) {
     assert_refuses(&rt, NO_ORDER);
 }
 
-/// Scripts with a client that locks names out of order, and one that does what is none.
+/// Scripts in which one client locks names out of order and another has an invalid operation.
 const NO_OPERATIONS: &[Refused] = &[
     Refused {
         words: "ra cluster",
@@ -348,7 +349,7 @@ fn what_is_no_script_is_refused_first(rt: HostRuntime) {
     assert_refuses(&rt, NO_OPERATIONS);
 }
 
-/// Texts that are no document of a script.
+/// Texts that are not a valid script document.
 const NO_DOCUMENTS: &[Refused] = &[
     Refused {
         words: "ra cluster",
@@ -377,7 +378,7 @@ fn what_is_no_document_of_a_script_is_refused(rt: HostRuntime) {
     assert_refuses(&rt, NO_DOCUMENTS);
 }
 
-/// Ends the test where the fault of a reader that fails after the last byte of a script is not printed.
+/// Ends the test unless the fault of a reader that fails after the last byte of a script is printed.
 fn assert_fails_at_the_end<T: AllocGlobal + Threads + Wait + Abort + Sync>(rt: &T, script: &str) {
     let (bytes, fault) = (script.as_bytes(), io::ErrorKind::Interrupted);
     assert!(rt;
@@ -397,11 +398,11 @@ fn a_fault_of_the_reader_comes_before_what_is_wrong_with_the_script(rt: HostRunt
 fn a_writer_that_fails_has_a_prefix_of_what_the_threads_did(rt: HostRuntime) {
     assert_fails_in_prefixes(&rt, "ra cluster", ONE_CLIENT, ONE_CLIENT_PRINTED);
     assert_fails_in_prefixes(&rt, "ra cluster", TWO_NAMES, "refused OutOfOrder\n");
-    // It fails only where something is left to be written.
+    // The writer fails only if something is left to be written.
     assert_written(&rt, "ra cluster", ONE_CLIENT, ONE_CLIENT_PRINTED, 0);
 }
 
-/// Why threads do not bring a script to its end, and the word of it.
+/// The reasons why threads do not bring a script to its end, and the word for each.
 const CLUSTER_ERRORS: &[(ClusterError, &str)] = &[
     (ClusterError::OutOfOrder, "OutOfOrder"),
     (ClusterError::Unreleased, "Unreleased"),
@@ -414,26 +415,26 @@ const CLUSTER_ERRORS: &[(ClusterError, &str)] = &[
     (ClusterError::Memory, "Memory"),
 ];
 
-/// Where there is memory and threads start, most of these are the answer to no script, so that only the words are shown.
+/// As long as there is memory and threads start, most of these occur for no script, so only the words are tested.
 #[test]
 fn each_refusal_of_a_cluster_is_printed_by_its_word(rt: HostRuntime) {
     assert_prints(&rt, CLUSTER_ERRORS);
 }
 
-/// Why a script is not read, and the word of it.
+/// The reasons why a script is not read, and the word for each.
 const SCRIPT_ERRORS: &[(ScriptError, &str)] = &[
     (ScriptError::Limit, "Limit"),
     (ScriptError::Memory, "Memory"),
 ];
 
-/// Where there is memory, `Memory` is the answer to no script, so that only the word is shown.
+/// As long as there is memory, `Memory` occurs for no script, so only the word is tested.
 #[test]
 fn each_refusal_of_a_script_to_be_run_is_printed_by_its_word(rt: HostRuntime) {
     assert_prints(&rt, SCRIPT_ERRORS);
     assert_fails_at_the_end(&rt, ONE_CLIENT);
 }
 
-/// Words that are no run by threads.
+/// Command lines that are not a valid `cluster`.
 const NO_CLUSTERS: &[Refused] = &[
     Refused {
         words: "ra cluster script.toml",
@@ -472,15 +473,15 @@ fn words_that_are_no_cluster_are_refused(rt: HostRuntime) {
     assert_refuses(&rt, NO_CLUSTERS);
 }
 
-const HELP: &str = "Run a script by threads: who asked, entered and left
+const HELP: &str = "Run a script in a cluster of threads: who asks, enters and leaves
 
 Usage: ra cluster
 
 Options:
   -h, --help  Print help
 
-A script is read from standard input; `ra sim --help` says what it is. It has 1
-to 64 nodes and 1 to 64 clients, and its modes are
+Read a script from standard input, as `ra sim --help` describes it: 1 to 64
+nodes, and 1 to 64 clients that lock names in these modes:
   S    shared
   X    exclusive
   IS   intent shared
@@ -494,28 +495,29 @@ This one has two clients that want the same name:
 
 Example: ra cluster < script.toml
 
-Each node and each client has a thread of its own. What happens first is up to
-the threads, so the marks may come in another order, and with other numbers,
-each time. When the threads have ended, what the nodes wrote down is put
-together into one run of the cluster, whose marks and totals are printed.
+Each node and each client has a thread of its own. The threads decide what comes
+first, so the order of the marks and their numbers may differ from run to run.
+When all threads have ended, what the nodes recorded is put together into one
+run of the cluster, whose marks and totals are printed.
 
-Two conditions on the script are checked before any thread starts, since a
-client that waits in vain keeps its thread, and so the program, waiting for
-ever:
-  OutOfOrder  a client locks a name that is not above, byte by byte, each name
-              that it holds then. If one client locks b while it holds a, and
-              another locks a while it holds b, each waits for the other
-  Unreleased  a client holds a name at its end. Whoever asks for that name later
-              waits for a client that is gone
+A client that waits in vain would keep the program waiting forever. So two kinds
+of scripts are refused before any thread starts:
+  OutOfOrder  a client locks a name that does not sort, byte by byte, after
+              every name that it holds. If one client locks b while it holds a,
+              and another locks a while it holds b, each waits for the other
+  Unreleased  a client holds a name at its end, so a client that asks for it
+              later would wait for one that is gone
 
-Nothing bounds how long a run takes. `ra sim` takes any script, and says who
+Nothing bounds how long a run takes. `ra sim` takes any script, and tells who
 waits at the end.
 
-Status 0: each operation is done, and nothing waits, is queued, lost or under
-way. Status 1: the input or the output failed. Status 2: the words or the script
-are refused, or the run failed: Fault where a node was stopped, as where memory
-ran out or no thread could be started, and Settle, PlanUnmet, Lost or UnderWay
-where what the nodes wrote down is no run, or not that of the whole script.
+Exit status:
+  0  all operations are done, and nothing waits, is queued, lost or under way
+  1  standard input or standard output failed
+  2  the command line or the script was refused, or the run failed: Fault if a
+     node was stopped, for example for lack of memory or threads; Settle,
+     PlanUnmet, Lost or UnderWay if the nodes did not record one run of the
+     whole script
 ";
 
 #[test]

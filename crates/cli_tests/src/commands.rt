@@ -78,15 +78,15 @@ fn words_that_are_no_command_are_refused(rt: HostRuntime) {
     assert_refuses(&rt, NO_COMMANDS);
 }
 
-const HELP: &str = "Lock named resources by messages alone
+const HELP: &str = "Simulate, run, check and draw a lock cluster that works by messages alone
 
 Usage: ra <COMMAND>
 
 Commands:
-  answer   Answer one frame, a line of hexadecimal digits, as an idle node does
-  sim      Drive a cluster through a script: who asked, entered and left
-  cluster  Run a script by threads: who asked, entered and left
-  check    Check the trace of a run, or the log of a lock service, line by line
+  answer   Answer one frame, in hexadecimal digits, as an idle node would
+  sim      Run a script in a simulated cluster: who asks, enters and leaves
+  cluster  Run a script in a cluster of threads: who asks, enters and leaves
+  check    Check the trace of a run, or the mark log of a lock service
   draw     Draw the trace of a run as an SVG file
 
 Options:
@@ -95,9 +95,11 @@ Options:
 
 Example: ra sim < script.toml
 
-Status 0: done. Status 1: the input or the output failed. Status 2: refused, by
-one line with the word that says why. Status 3: a run that ended with something
-left to do, or a trace or a log that is not valid.
+Exit status:
+  0  done
+  1  standard input or standard output failed
+  2  refused: standard output has the cause as one word
+  3  a run did not finish, or a trace or a mark log is not valid
 ";
 
 #[test]

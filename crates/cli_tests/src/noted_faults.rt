@@ -1,4 +1,4 @@
-//! What is said where the reader fails, or the writer, and what becomes of a command where what is said can't be written.
+//! The notes for a reader or a writer that fails, and what becomes of a command whose notes cannot be written.
 use crate::checks::ALONE;
 use crate::frames::{ANSWER, REPLY, REQUEST};
 use crate::helpers::WRITER_FAULTS;
@@ -23,18 +23,18 @@ fn a_reader_that_fails_is_said(rt: HostRuntime) {
     let (mut output, mut notes) = (Vec::new(rt.alloc()), Vec::new(rt.alloc()));
     let status = run_noted(&rt, "ra sim", None, &mut reader, &mut output, &mut notes);
     assert!(rt; status == 1 && output.as_slice() == b"refused Read\n".as_slice());
-    assert!(rt; notes.as_slice() == b"ra: standard input could not be read\n".as_slice());
+    assert!(rt; notes.as_slice() == b"ra: cannot read standard input\n".as_slice());
 }
 
-/// What is said of a writer that fails.
-const UNWRITTEN: &str = "ra: standard output could not be written\n";
+/// The note for a writer that fails.
+const UNWRITTEN: &str = "ra: cannot write to standard output\n";
 
-/// How a writer fails, or that it takes nothing, and what is said of that.
+/// How a writer fails, or `None` if it takes nothing, and the note for that.
 const SAID: &[(Option<io::ErrorKind>, &str)] = &[
     (Some(io::ErrorKind::BrokenPipe), ""),
     (
         Some(io::ErrorKind::StorageFull),
-        "ra: standard output could not be written: no space is left\n",
+        "ra: cannot write to standard output: no space left on device\n",
     ),
     (Some(io::ErrorKind::Interrupted), UNWRITTEN),
     (Some(io::ErrorKind::WouldBlock), UNWRITTEN),
@@ -42,7 +42,7 @@ const SAID: &[(Option<io::ErrorKind>, &str)] = &[
     (None, UNWRITTEN),
 ];
 
-/// A command, how what it prints begins, and what is said of it whether or not that can be written.
+/// A command, how its output begins, and the note for it, whether or not the output can be written.
 #[derive(Clone, Copy)]
 struct Broken {
     words: &'static str,
@@ -51,7 +51,7 @@ struct Broken {
     note: &'static str,
 }
 
-/// Of each kind of command one or more.
+/// At least one command of each kind.
 const BROKEN: &[Broken] = &[
     Broken {
         words: ANSWER,
@@ -134,13 +134,13 @@ const BROKEN: &[Broken] = &[
     Broken {
         words: "ra --help",
         input: "",
-        printed: "Lock named resources",
+        printed: "Simulate, run, check",
         note: "",
     },
     Broken {
         words: "ra sim --help",
         input: "",
-        printed: "Drive a cluster",
+        printed: "Run a script",
         note: "",
     },
     Broken {
@@ -153,17 +153,17 @@ const BROKEN: &[Broken] = &[
         words: "ra sim --find stuck",
         input: ONE_CLIENT,
         printed: "refused Usage\n",
-        note: "ra: --find looks for one of --seeds; see ra sim --help\n",
+        note: "ra: --find requires --seeds; see ra sim --help\n",
     },
     Broken {
         words: "ra answer --node 4 --nodes 3",
         input: REQUEST,
         printed: "refused BadNode\n",
-        note: "ra: there is no node 4 among 3: --node is 1 to 3\n",
+        note: "ra: --node is 4: must be 1 to 3\n",
     },
 ];
 
-/// Returns whether a fault of the writer after 7 bytes gives status 1, and this is said of it behind what is said of the command.
+/// Returns whether a fault of the writer after 7 bytes gives status 1, and adds this note after that of the command.
 fn breaks_off<T: AllocGlobal + Threads + Wait + Abort + Sync>(
     rt: &T,
     case: &Broken,
@@ -179,7 +179,7 @@ fn breaks_off<T: AllocGlobal + Threads + Wait + Abort + Sync>(
         && notes.as_slice().strip_prefix(case.note.as_bytes()) == Some(said.as_bytes())
 }
 
-/// Ends the test where something else is said of a fault of the writer.
+/// Ends the test unless each command reports a fault of the writer with this note.
 fn assert_said<T: AllocGlobal + Threads + Wait + Abort + Sync>(
     rt: &T,
     fault: Option<io::ErrorKind>,
@@ -197,7 +197,7 @@ fn a_writer_that_fails_is_said_unless_nobody_reads_on(rt: HostRuntime) {
     }
 }
 
-/// Returns whether it is said of a reader and a writer that both fail, of the writer after 7 bytes.
+/// Returns whether both faults are reported if the reader fails and the writer fails after 7 bytes.
 fn says_both<T: AllocGlobal + Threads + Wait + Abort + Sync>(rt: &T) -> bool {
     let mut reader = FailingReader {
         bytes: "".as_bytes(),
@@ -208,7 +208,7 @@ fn says_both<T: AllocGlobal + Threads + Wait + Abort + Sync>(rt: &T) -> bool {
     let mut writer = failing_writer("refused Read\n".as_bytes(), 7, Some(io::ErrorKind::Other));
     let mut notes = Vec::new(rt.alloc());
     let status = run_noted(rt, "ra sim", None, &mut reader, &mut writer, &mut notes);
-    let said = "ra: standard input could not be read\nra: standard output could not be written\n";
+    let said = "ra: cannot read standard input\nra: cannot write to standard output\n";
     status == 1 && notes.as_slice() == said.as_bytes()
 }
 
@@ -217,14 +217,14 @@ fn a_reader_and_a_writer_that_fail_are_said_both(rt: HostRuntime) {
     assert!(rt; says_both(&rt));
 }
 
-/// Returns whether a fault of the writer is said of words that are not there.
+/// Returns whether a fault of the writer is reported if the arguments could not be read.
 fn is_said_of_no_words(alloc: Global, fault: Option<io::ErrorKind>, said: &str) -> bool {
     let printed = "refused Memory\n".as_bytes();
     let mut output = failing_writer(printed, 7, fault);
     let mut notes = Vec::new(alloc);
     let mut writer = SeenWriter::new(&mut output);
     let status = refuse_words_with_note(&mut writer, CommandFault::Memory, &mut notes);
-    let note = b"ra: memory ran out\n".as_slice();
+    let note = b"ra: out of memory\n".as_slice();
     status == 1
         && output.has_taken(printed, 7)
         && notes.as_slice().strip_prefix(note) == Some(said.as_bytes())
@@ -237,11 +237,11 @@ fn a_writer_that_fails_is_said_of_words_that_are_not_there(rt: HostRuntime) {
     }
 }
 
-/// What is said of the line of a trace that is no mark.
+/// The note for the line of a trace that is not a mark.
 const NO_MARK: &str =
     "ra: line 1, 'trace 2 2 0': this looks like a trace, which ra check reads without --marks\n";
 
-/// Returns whether a fault of the writer of the notes, after this many bytes, leaves the status and what is printed as they are.
+/// Returns whether a fault of the notes' writer, after this many bytes, leaves the status and the output as they are.
 fn changes_nothing<T: AllocGlobal + Threads + Wait + Abort + Sync>(
     rt: &T,
     place: usize,
@@ -266,7 +266,7 @@ fn changes_nothing<T: AllocGlobal + Threads + Wait + Abort + Sync>(
 fn a_fault_of_the_notes_changes_nothing_else(rt: HostRuntime) {
     for fault in WRITER_FAULTS {
         for place in 0..NO_MARK.len() {
-            assert!(rt; changes_nothing(&rt, place, fault), "behind {place} bytes");
+            assert!(rt; changes_nothing(&rt, place, fault), "after {place} bytes");
         }
     }
 }

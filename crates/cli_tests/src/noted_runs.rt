@@ -1,11 +1,12 @@
-//! What is said of choices that are none or can't be made, of many seeds, and of the end of a run.
+//! The notes for choices that are invalid or cannot be made, for many seeds, and for the end of a run.
 use crate::notes::{Noted, assert_says, run_noted, says};
 use crate::scripts::{A_DEADLOCK, A_KEEPER, ONE_CLIENT};
 
-/// A client that is alone: a run takes two turns.
+/// A client that is alone, whose run takes two turns.
 const ONE_NODE: &str = "nodes = 1\nclient = [{ node = 1, ops = [\"X r\", \"U r\"] }]\n";
 
-/// Many seeds. A line is written each 2^23 turns, a run counted as 16 besides its own: that is 466,034 times 18, and no fewer.
+/// Many seeds. A note is written every 2^23 turns, and each run counts as 16 turns besides its own. The first note
+/// comes after 466,034 runs of 18 turns.
 const MANY_SEEDS: &[Noted] = &[
     Noted {
         words: "ra sim --policy seeded --seeds 1..466033",
@@ -19,17 +20,17 @@ const MANY_SEEDS: &[Noted] = &[
         input: ONE_NODE,
         status: 0,
         output: "none\n",
-        note: "ra: 466034 seeds are done, up to 466035; finished: 466034\n",
+        note: "ra: 466034 seeds done, up to seed 466035: 466034 finished\n",
     },
 ];
 
-/// The first of some seeds whose run is stuck, since the REQUEST is lost.
+/// The first of some seeds whose run is stuck because the REQUEST is lost.
 const FIRST_STUCK: &[Noted] = &[Noted {
     words: "ra sim --policy faulty --lose 1000 --seeds 3..9 --find stuck",
     input: ONE_CLIENT,
     status: 3,
     output: "trace 2 2 0\nask 1 1 r X\nrequest 1 1 r X 1\nlose request 1 2 r X 1\nend\n",
-    note: "ra: the run ended with something left to do: client 1 at node 1 waits for 'r' (X): no client keeps it out, but a message was lost\n",
+    note: "ra: the run did not finish: client 1 at node 1 waits for 'r' (X): no client blocks it, but a message was lost\n",
 }];
 
 #[test]
@@ -42,27 +43,27 @@ fn how_far_many_seeds_are_is_said(rt: HostRuntime) {
     assert_says(&rt, MANY_SEEDS);
 }
 
-/// Choices that can't be made, each with what is said of it.
+/// Choices that cannot be made, each with what is printed and the note for it.
 const CHOICES: &[(&str, &str, &str)] = &[
     (
         "c1 m5 m0",
         "refused BadPlace\n",
-        "ra: choice 2 of --choices, m5, can't be made: one message is under way then, at place 0\n",
+        "ra: choice 2 of --choices, m5, is not possible: one message is under way at that point, at place 0\n",
     ),
     (
         "c1 m0 m0 l0",
         "refused BadPlace\n",
-        "ra: choice 4 of --choices, l0, can't be made: no message is under way then\n",
+        "ra: choice 4 of --choices, l0, is not possible: no message is under way at that point\n",
     ),
     (
         "c1 m0 m0 c2 c1",
         "refused BadPlace\n",
-        "ra: choice 4 of --choices, c2, can't be made: the script has client 1 alone\n",
+        "ra: choice 4 of --choices, c2, is not possible: the script has only client 1\n",
     ),
     (
         "c1 c1",
         "refused NotEnabled\n",
-        "ra: choice 2 of --choices, c1, can't be made: client 1 waits for 'r' (X) then\n",
+        "ra: choice 2 of --choices, c1, is not possible: client 1 waits for 'r' (X) at that point\n",
     ),
 ];
 
@@ -91,18 +92,18 @@ fn the_word_that_is_no_choice_is_said(rt: HostRuntime) {
         input: ONE_CLIENT,
         status: 2,
         output: "refused Choice\n",
-        note: "ra: --choices: \"x2\" is no choice: each is c, m or l and 1 to 9 digits, as c1, with no zeros before them, and one space between two\n",
+        note: "ra: --choices: \"x2\" is not a choice: expected c, m or l and a number of 1 to 9 digits without leading zeros, with one space between choices\n",
     };
     assert!(rt; says(&rt, &case, Some("c1 x2")));
 }
 
-/// A run that is finished, and leaves a name locked.
+/// A run that finishes and leaves a name locked.
 const KEPT: &[Noted] = &[Noted {
     words: "ra sim",
     input: A_KEEPER,
     status: 0,
     output: "request 1 1 r X 1\nenter 1 1 r X 1\nrequests 1\nmessages 0\nunder-way 0\nlost 0\nwaiting 0\nqueued 0\n",
-    note: "ra: the run is finished, with names still locked: client 1 holds 'r' (X)\n",
+    note: "ra: the run finished with names still locked: client 1 holds 'r' (X)\n",
 }];
 
 #[test]
@@ -116,6 +117,6 @@ fn a_run_that_leaves_something_to_do_is_said(rt: HostRuntime) {
     let (mut output, mut notes) = (Vec::new(rt.alloc()), Vec::new(rt.alloc()));
     let status = run_noted(&rt, "ra sim", None, &mut input, &mut output, &mut notes);
     let note =
-        "ra: the run ended with something left to do: client 1 at node 1 waits for 'b' (X): client 2 holds it (X); client 2 at node 2 waits for 'a' (X): client 1 holds it (X)\n";
+        "ra: the run did not finish: client 1 at node 1 waits for 'b' (X): client 2 holds it (X); client 2 at node 2 waits for 'a' (X): client 1 holds it (X)\n";
     assert!(rt; status == 3 && notes.as_slice() == note.as_bytes());
 }

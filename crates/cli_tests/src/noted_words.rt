@@ -1,4 +1,5 @@
-//! What is said of words: of those that are no command line, of options that say nothing, and on a terminal of what they wait for.
+//! The notes about arguments: invalid command lines, options without effect, and, on a terminal, what a command waits
+//! for.
 use crate::frames::REQUEST;
 use crate::helpers::words_of;
 use crate::notes::{Noted, assert_says};
@@ -6,7 +7,7 @@ use crate::scripts::{ONE_CLIENT, ONE_CLIENT_PRINTED};
 use ra_cli::{CommandFault, SeenWriter, refuse_words_with_note, write_waiting_note};
 use std::alloc::Global;
 
-/// Words that are no command line.
+/// Invalid command lines.
 const USAGES: &[Noted] = &[
     Noted {
         words: "ra",
@@ -34,7 +35,7 @@ const USAGES: &[Noted] = &[
         input: ONE_CLIENT,
         status: 2,
         output: "refused Usage\n",
-        note: "ra: unexpected argument 'script.toml' found; a file is read as standard input: ra sim < script.toml; see ra sim --help\n",
+        note: "ra: unexpected argument 'script.toml' found; to read a file, run ra sim < script.toml; see ra sim --help\n",
     },
     Noted {
         words: "ra answer --node 2",
@@ -55,43 +56,43 @@ const USAGES: &[Noted] = &[
         input: ONE_CLIENT,
         status: 2,
         output: "refused Usage\n",
-        note: "ra: --lose and --repeat are at most 1000 together, and --repeat is at most 400; see ra sim --help\n",
+        note: "ra: --repeat must be at most 400, and --lose and --repeat together at most 1000; see ra sim --help\n",
     },
     Noted {
         words: "ra sim --policy seeded --seeds 2..1",
         input: ONE_CLIENT,
         status: 2,
         output: "refused Usage\n",
-        note: "ra: --seeds is A..B, as 1..1000, with --policy seeded or faulty and without --trace and --as-choices; see ra sim --help\n",
+        note: "ra: --seeds must be A..B (A at most B), such as 1..1000, with --policy seeded or faulty and without --trace or --as-choices; see ra sim --help\n",
     },
     Noted {
         words: "ra sim --policy seeded --find stuck",
         input: ONE_CLIENT,
         status: 2,
         output: "refused Usage\n",
-        note: "ra: --find looks for one of --seeds; see ra sim --help\n",
+        note: "ra: --find requires --seeds; see ra sim --help\n",
     },
     Noted {
         words: "ra sim --policy faulty --repeat 1 --as-choices",
         input: ONE_CLIENT,
         status: 2,
         output: "refused Usage\n",
-        note: "ra: --as-choices is without --trace, and with --policy faulty only where --repeat is 0; see ra sim --help\n",
+        note: "ra: --as-choices cannot be used with --trace, nor with --policy faulty unless --repeat is 0; see ra sim --help\n",
     },
-    // Where two words can't be, the cause is that which is looked for first.
+    // If two arguments are wrong, the note names the fault that is checked first.
     Noted {
         words: "ra sim --policy faulty --seeds 1..9 --repeat 401",
         input: ONE_CLIENT,
         status: 2,
         output: "refused Usage\n",
-        note: "ra: --lose and --repeat are at most 1000 together, and --repeat is at most 400; see ra sim --help\n",
+        note: "ra: --repeat must be at most 400, and --lose and --repeat together at most 1000; see ra sim --help\n",
     },
     Noted {
         words: "ra sim --policy seeded --seeds 1..9 --trace --as-choices",
         input: ONE_CLIENT,
         status: 2,
         output: "refused Usage\n",
-        note: "ra: --as-choices is without --trace, and with --policy faulty only where --repeat is 0; see ra sim --help\n",
+        note: "ra: --as-choices cannot be used with --trace, nor with --policy faulty unless --repeat is 0; see ra sim --help\n",
     },
 ];
 
@@ -100,35 +101,35 @@ fn what_the_parser_says_is_said_on_one_line(rt: HostRuntime) {
     assert_says(&rt, USAGES);
 }
 
-/// Runs with an option that says nothing to them.
+/// Runs with an option that has no effect.
 const IGNORED: &[Noted] = &[
     Noted {
         words: "ra sim --seed 3",
         input: ONE_CLIENT,
         status: 0,
         output: ONE_CLIENT_PRINTED,
-        note: "ra: --seed is ignored: a seed is for --policy seeded or faulty\n",
+        note: "ra: --seed is ignored: only --policy seeded and faulty use it\n",
     },
     Noted {
         words: "ra sim --policy seeded --lose 3 --repeat=4",
         input: ONE_CLIENT,
         status: 0,
         output: ONE_CLIENT_PRINTED,
-        note: "ra: --lose is ignored: messages are lost by chance under --policy faulty alone\nra: --repeat is ignored: messages are repeated by chance under --policy faulty alone\n",
+        note: "ra: --lose is ignored: only --policy faulty uses it\nra: --repeat is ignored: only --policy faulty uses it\n",
     },
     Noted {
         words: "ra sim --policy=newest --choices c1",
         input: ONE_CLIENT,
         status: 0,
         output: ONE_CLIENT_PRINTED,
-        note: "ra: --choices is ignored: choices are for --policy listed\n",
+        note: "ra: --choices is ignored: only --policy listed uses it\n",
     },
     Noted {
         words: "ra sim --policy seeded --seeds 1..2 --seed 3",
         input: ONE_CLIENT,
         status: 0,
         output: "finished 2 first 1\nturns 4 4\nmessages 2 2\n",
-        note: "ra: --seed is ignored: --seeds says which ones\n",
+        note: "ra: --seed is ignored: --seeds gives the seeds\n",
     },
 ];
 
@@ -137,7 +138,7 @@ fn an_option_that_says_nothing_is_said(rt: HostRuntime) {
     assert_says(&rt, IGNORED);
 }
 
-/// Returns whether this is said of a line of words on a terminal.
+/// Returns whether this note says, on a terminal, what a command line waits for.
 fn waits_for(alloc: Global, line: &str, said: &str) -> bool {
     let mut notes = Vec::new(alloc);
     let Some(words) = words_of(alloc, line, None) else {
@@ -150,14 +151,13 @@ fn waits_for(alloc: Global, line: &str, said: &str) -> bool {
 #[test]
 fn what_a_command_waits_for_is_said_on_a_terminal(rt: HostRuntime) {
     let alloc = rt.alloc();
-    let frame =
-        "ra: a frame is read from standard input: type its digits and Enter, and then Ctrl-D\n";
+    let frame = "ra: reading a frame from standard input: type its digits and Enter, then Ctrl-D\n";
     let script =
-        "ra: a script is read from standard input: type it and then Ctrl-D, or name a file by < FILE\n";
+        "ra: reading a script from standard input: type it and then Ctrl-D, or redirect a file with < FILE\n";
     let trace =
-        "ra: a trace is read from standard input: type it and then Ctrl-D, or name a file by < FILE\n";
+        "ra: reading a trace from standard input: type it and then Ctrl-D, or redirect a file with < FILE\n";
     let log =
-        "ra: a log of marks is read from standard input: type it and then Ctrl-D, or name a file by < FILE\n";
+        "ra: reading a mark log from standard input: type it and then Ctrl-D, or redirect a file with < FILE\n";
     assert!(rt; waits_for(alloc, "ra answer --node 1 --nodes 2", frame));
     assert!(rt; waits_for(alloc, "ra sim", script) && waits_for(alloc, "ra cluster", script));
     assert!(rt; waits_for(alloc, "ra check", trace) && waits_for(alloc, "ra draw", trace));
@@ -165,7 +165,7 @@ fn what_a_command_waits_for_is_said_on_a_terminal(rt: HostRuntime) {
     assert!(rt; waits_for(alloc, "ra simm", "") && waits_for(alloc, "ra check --marks", log));
 }
 
-/// Returns whether this is said of words that are not there, and printed as ever.
+/// Returns whether this note and the usual output are written if the arguments could not be read.
 fn is_said(alloc: Global, fault: CommandFault, printed: &str, note: &str) -> bool {
     let (mut output, mut notes) = (Vec::new(alloc), Vec::new(alloc));
     let mut writer = SeenWriter::new(&mut output);
@@ -177,8 +177,8 @@ fn is_said(alloc: Global, fault: CommandFault, printed: &str, note: &str) -> boo
 #[test]
 fn why_words_are_not_there_is_said(rt: HostRuntime) {
     let alloc = rt.alloc();
-    let usage = "ra: a word of the command line is not UTF-8\n";
+    let usage = "ra: a command-line argument is not valid UTF-8\n";
     assert!(rt; is_said(alloc, CommandFault::Usage, "refused Usage\n", usage));
-    let memory = "ra: memory ran out\n";
+    let memory = "ra: out of memory\n";
     assert!(rt; is_said(alloc, CommandFault::Memory, "refused Memory\n", memory));
 }

@@ -1,5 +1,5 @@
 //! The policy `seeded`.
-use crate::helpers::{Answered, has_status, run};
+use crate::helpers::{Answered, Case, assert_meets, run};
 use crate::scripts::{A_WRITER, TWO_CLIENTS};
 use std::process::Abort;
 use std::sync::Wait;
@@ -17,7 +17,7 @@ fn are_the_same(one: &Answered, other: &Answered) -> bool {
     one.status == other.status && one.output.as_slice() == other.output.as_slice()
 }
 
-/// Returns whether by the words of a line, twice, the same is printed of a script, with this end and status 0.
+/// Returns whether a command line, run twice on a script, prints the same text, with this end and status 0.
 fn leads_to<T: AllocGlobal + Threads + Wait + Abort + Sync>(
     rt: &T,
     line: &str,
@@ -29,7 +29,7 @@ fn leads_to<T: AllocGlobal + Threads + Wait + Abort + Sync>(
     one.status == 0 && one.output.ends_with(end.as_bytes()) && are_the_same(&one, &other)
 }
 
-/// Returns whether it is so by a seed.
+/// Returns whether that holds for a seed.
 fn seed_leads_to<T: AllocGlobal + Threads + Wait + Abort + Sync>(
     rt: &T,
     seed: u64,
@@ -56,108 +56,162 @@ fn each_seed_leads_to_the_end(rt: HostRuntime) {
     }
 }
 
-/// Two lines of words, and whether they print the same of a script, with the same status.
-struct Pair {
-    one: &'static str,
-    other: &'static str,
-    same: bool,
-}
+// The choices of the runs of the writer and the readers. They were computed by a model of the algorithm, the policies
+// and the generator PCG XSL RR 128/64. The model is written in Python, independently of the program, from the rules in
+// docs/ALGORITHM.md and docs/FORMATS.md.
 
-/// Returns whether it is so of the script of the writer and the readers.
-fn is_so<T: AllocGlobal + Threads + Wait + Abort + Sync>(rt: &T, pair: &Pair) -> bool {
-    let one = run(rt, pair.one, None, A_WRITER);
-    let other = run(rt, pair.other, None, A_WRITER);
-    are_the_same(&one, &other) == pair.same
-}
+/// With seed 0.
+const BY_SEED_0: &str = "c1 m1 c3 m2 m2 m3 m0 m0 m1 c1 m0 c2 m1 m0 c3 m1 m0 c2\n";
 
-/// Ends the test where it is not so of one of the pairs.
-fn assert_so<T: AllocGlobal + Threads + Wait + Abort + Sync>(rt: &T, pairs: &[Pair]) {
-    for pair in pairs {
-        assert!(rt; is_so(rt, pair), "{}", pair.other);
-    }
-}
+/// With seed 1.
+const BY_SEED_1: &str = "c1 m1 c2 m0 m0 c3 m2 c1 m3 m1 m1 m1 m0 m0 m0 c2 m0 c3\n";
+
+/// With the last seed.
+const BY_THE_LAST_SEED: &str = "c1 m0 c3 m2 m1 m1 c2 m0 m3 m2 m0 m0 m0 c1 c3 m0 m0 c2\n";
+
+/// With seed 0 under policy `faulty`, without any faults.
+const FAULTY_BY_SEED_0: &str = "c1 m1 m0 m1 c3 m1 m2 m1 c2 m3 m1 c3 m0 m1 m0 c1 m0 c2\n";
+
+/// With the oldest message first.
+const FROM_THE_OLDEST: &str = "c1 c2 c3 m0 m0 m0 m0 m0 m0 m0 m0 c1 m0 m0 m0 c2 m0 c3\n";
+
+/// With the newest message first.
+const FROM_THE_NEWEST: &str = "c1 c2 c3 m5 m4 m4 m3 m3 m2 m1 m1 m0 m0 c1 m0 c2 m0 c3\n";
 
 /// Seeds, written in several ways.
-const SEEDS: &[Pair] = &[
-    Pair {
-        one: "ra sim --policy seeded",
-        other: "ra sim --policy seeded --seed 0",
-        same: true,
+const SEEDS: &[Case] = &[
+    Case {
+        shows: "there is no seed",
+        words: "ra sim --as-choices --policy seeded",
+        input: A_WRITER,
+        status: 0,
+        output: BY_SEED_0,
     },
-    Pair {
-        one: "ra sim --policy seeded",
-        other: "ra sim --policy seeded --seed 1",
-        same: false,
+    Case {
+        shows: "seed 0",
+        words: "ra sim --as-choices --policy seeded --seed 0",
+        input: A_WRITER,
+        status: 0,
+        output: BY_SEED_0,
     },
-    Pair {
-        one: "ra sim --policy seeded --seed 1",
-        other: "ra sim --policy seeded --seed +1",
-        same: true,
+    Case {
+        shows: "seed 1",
+        words: "ra sim --as-choices --policy seeded --seed 1",
+        input: A_WRITER,
+        status: 0,
+        output: BY_SEED_1,
     },
-    Pair {
-        one: "ra sim --policy seeded --seed 1",
-        other: "ra sim --policy seeded --seed 001",
-        same: true,
+    Case {
+        shows: "a plus before it",
+        words: "ra sim --as-choices --policy seeded --seed +1",
+        input: A_WRITER,
+        status: 0,
+        output: BY_SEED_1,
     },
-    Pair {
-        one: "ra sim --policy faulty",
-        other: "ra sim --policy faulty --seed 0 --lose 0 --repeat 0",
-        same: true,
+    Case {
+        shows: "zeros before it",
+        words: "ra sim --as-choices --policy seeded --seed 001",
+        input: A_WRITER,
+        status: 0,
+        output: BY_SEED_1,
     },
-    Pair {
-        one: "ra sim --policy seeded",
-        other: "ra sim --policy faulty",
-        same: false,
+    Case {
+        shows: "the last seed",
+        words: "ra sim --as-choices --policy seeded --seed 18446744073709551615",
+        input: A_WRITER,
+        status: 0,
+        output: BY_THE_LAST_SEED,
+    },
+    Case {
+        shows: "there is no seed and there are no faults",
+        words: "ra sim --as-choices --policy faulty",
+        input: A_WRITER,
+        status: 0,
+        output: FAULTY_BY_SEED_0,
+    },
+    Case {
+        shows: "all of them are 0",
+        words: "ra sim --as-choices --policy faulty --seed 0 --lose 0 --repeat 0",
+        input: A_WRITER,
+        status: 0,
+        output: FAULTY_BY_SEED_0,
     },
 ];
 
 #[test]
 fn the_seed_is_0_where_there_is_none(rt: HostRuntime) {
-    assert_so(&rt, SEEDS);
-}
-
-#[test]
-fn the_last_seed_is_taken(rt: HostRuntime) {
-    let last = "ra sim --policy seeded --seed 18446744073709551615";
-    assert!(rt; has_status(&rt, last, A_WRITER, 0));
+    assert_meets(&rt, SEEDS);
 }
 
 /// Policies without and with a seed or faults.
-const POLICIES: &[Pair] = &[
-    Pair {
-        one: "ra sim",
-        other: "ra sim --seed 1",
-        same: true,
+const POLICIES: &[Case] = &[
+    Case {
+        shows: "the oldest message first",
+        words: "ra sim --as-choices",
+        input: A_WRITER,
+        status: 0,
+        output: FROM_THE_OLDEST,
     },
-    Pair {
-        one: "ra sim --policy oldest",
-        other: "ra sim --policy oldest --seed 1",
-        same: true,
+    Case {
+        shows: "with a seed",
+        words: "ra sim --as-choices --seed 1",
+        input: A_WRITER,
+        status: 0,
+        output: FROM_THE_OLDEST,
     },
-    Pair {
-        one: "ra sim --policy newest",
-        other: "ra sim --seed 1 --policy newest",
-        same: true,
+    Case {
+        shows: "named, with a seed",
+        words: "ra sim --as-choices --policy oldest --seed 1",
+        input: A_WRITER,
+        status: 0,
+        output: FROM_THE_OLDEST,
     },
-    Pair {
-        one: "ra sim --policy listed --choices c2",
-        other: "ra sim --policy listed --choices c2 --seed 1",
-        same: true,
+    Case {
+        shows: "with losses",
+        words: "ra sim --as-choices --lose 1000",
+        input: A_WRITER,
+        status: 0,
+        output: FROM_THE_OLDEST,
     },
-    Pair {
-        one: "ra sim",
-        other: "ra sim --lose 1000",
-        same: true,
+    Case {
+        shows: "the newest message first",
+        words: "ra sim --as-choices --policy newest",
+        input: A_WRITER,
+        status: 0,
+        output: FROM_THE_NEWEST,
     },
-    Pair {
-        one: "ra sim --policy seeded --seed 1",
-        other: "ra sim --lose 600 --repeat 400 --policy seeded --seed 1",
-        same: true,
+    Case {
+        shows: "the newest with a seed",
+        words: "ra sim --as-choices --seed 1 --policy newest",
+        input: A_WRITER,
+        status: 0,
+        output: FROM_THE_NEWEST,
+    },
+    Case {
+        shows: "listed choices",
+        words: "ra sim --as-choices --policy listed --choices c2",
+        input: A_WRITER,
+        status: 3,
+        output: "c2\n",
+    },
+    Case {
+        shows: "listed choices with a seed",
+        words: "ra sim --as-choices --policy listed --choices c2 --seed 1",
+        input: A_WRITER,
+        status: 3,
+        output: "c2\n",
+    },
+    Case {
+        shows: "chance without faults, with their numbers",
+        words: "ra sim --as-choices --lose 600 --repeat 400 --policy seeded --seed 1",
+        input: A_WRITER,
+        status: 0,
+        output: BY_SEED_1,
     },
 ];
 
-/// A policy that draws no words does not look at the seed, and one without faults at none.
+/// A policy without random draws ignores the seed, and one without faults ignores the faults.
 #[test]
 fn another_policy_has_no_seed_and_no_faults(rt: HostRuntime) {
-    assert_so(&rt, POLICIES);
+    assert_meets(&rt, POLICIES);
 }

@@ -1,4 +1,4 @@
-//! The command `sim` by policies that choose by themselves, and its help.
+//! The command `sim` under policies that choose by themselves, and its help.
 use crate::helpers::{Case, assert_answers, assert_meets};
 use crate::scripts::{
     A_DEADLOCK, A_KEEPER, A_QUEUE, A_QUEUE_PRINTED, A_TABLE, A_WRITER, ALONE, ALONE_PRINTED, APART,
@@ -7,7 +7,7 @@ use crate::scripts::{
     TWO_NAMES,
 };
 
-/// What the deadlock prints by the policy newest.
+/// What the deadlock prints under policy `newest`.
 const STUCK_BY_NEWEST: &str = "request 1 1 a X 1
 request 2 2 b X 1
 enter 2 2 b X 1
@@ -22,7 +22,7 @@ waiting 2
 queued 0
 ";
 
-/// What the two clients with names of their own print by the policy oldest.
+/// What the two clients with names of their own print under policy `oldest`.
 const APART_BY_OLDEST: &str = "request 1 1 a X 1
 request 2 2 b X 1
 enter 1 1 a X 1
@@ -37,7 +37,7 @@ waiting 0
 queued 0
 ";
 
-/// What they print by the policy newest.
+/// What they print under policy `newest`.
 const APART_BY_NEWEST: &str = "request 1 1 a X 1
 request 2 2 b X 1
 enter 2 2 b X 1
@@ -100,7 +100,8 @@ waiting 0
 queued 0
 ";
 
-/// What the clients of the table print: those who change rows are inside at once, and who reads it whole waits for both.
+/// What the clients of the table print: those that change rows are inside at once, and the one that reads it whole
+/// waits for both.
 const A_TABLE_PRINTED: &str = "request 1 1 t IX 1
 request 2 2 t IX 1
 request 3 3 t S 1
@@ -165,7 +166,7 @@ waiting 0
 queued 0
 ";
 
-/// Scripts by a policy that chooses by itself.
+/// Scripts under a policy that chooses by itself.
 const SCRIPTS: &[Case] = &[
     Case {
         shows: "two clients in opposite orders, by the newest",
@@ -300,7 +301,7 @@ fn scripts_print_their_marks_and_totals(rt: HostRuntime) {
     assert_meets(&rt, SCRIPTS);
 }
 
-/// What the two clients that lock two names in one order print.
+/// What the two clients that lock two names in the same order print.
 const ONE_ORDER_PRINTED: &str = "request 1 1 a X 1
 request 2 2 a X 1
 enter 1 1 a X 1
@@ -326,85 +327,79 @@ fn names_that_are_locked_in_one_order_are_held_in_turn(rt: HostRuntime) {
     assert_answers(&rt, "ra sim", ONE_ORDER, 0, ONE_ORDER_PRINTED);
 }
 
-const HELP: &str = "Drive a cluster through a script: who asked, entered and left
+const HELP: &str = "Run a script in a simulated cluster: who asks, enters and leaves
 
 Usage: ra sim [OPTIONS]
 
 Options:
-      --policy <policy>    Who chooses what comes next [default: oldest]
-      --seed <seed>        The seed of chance, 0 to 2^64 - 1 [default: 0]
-      --lose <lose>        How many of 1000 faulty loses, 0 to 1000 [default: 0]
-      --repeat <repeat>    How many of 1000 it repeats, 0 to 400 [default: 0]
-      --choices <choices>  The choices of the policy listed, as below
-      --seeds <seeds>      Each of many seeds, as 1..1000: what came of them
-      --find <find>        The first trace by --seeds that ends so, as stuck
-      --trace              Print the trace of the run
-      --as-choices         Print the choices of the run
+      --policy <policy>    Choose each step by this policy [default: oldest]
+      --seed <seed>        Set the random seed, 0 to 2^64 - 1 [default: 0]
+      --lose <lose>        Lose 0 to 1000 of 1000 messages [default: 0]
+      --repeat <repeat>    Repeat 0 to 400 of 1000 messages [default: 0]
+      --choices <choices>  Make these choices, under listed [default: none]
+      --seeds <seeds>      Survey the seeds of a range, such as 1..1000
+      --find <find>        With --seeds, trace the first finished or stuck run
+      --trace              Print the trace in place of marks and totals
+      --as-choices         Print the choices in place of marks and totals
   -h, --help               Print help
 
-A script, read from standard input, is a TOML document: how many nodes there
-are, 1 to 64, and for each of 1 to 64 clients its node and what it does, at most
-1024 operations, in order. A mode and a name, as `X r`, lock the name in that
-mode, and `U r` unlocks it. A name has 1 to 32 of A to Z, a to z, 0 to 9, _, -
-and .
+Read a script from standard input. A script is a TOML document with the number
+of nodes, 1 to 64, and with 1 to 64 clients. Each client has a node and at most
+1024 operations, which it does in order: `X r` locks the name r in mode X, and
+`U r` unlocks it. A name is 1 to 32 characters from A-Z, a-z, 0-9, _, - and .
   nodes = 2
   client = [{ node = 1, ops = [\"X r\", \"U r\"] },
             { node = 2, ops = [\"S r\", \"U r\"] }]
 
-Modes:
-  S    shared: to read it whole, beside S and IS
-  X    exclusive: to change it whole, beside none
-  IS   intent shared: to read parts of it, which are locked S each, beside all
-       but X
-  IX   intent exclusive: to change parts of it, which are locked X each, beside
-       IS and IX
-  SIX  shared and intent exclusive: to read it whole, and change parts of it,
-       which are locked X each, beside IS
+Modes, and which ones others may hold at the same time:
+  S    shared, to read all of it: S, IS
+  X    exclusive, to change all of it: no other
+  IS   intent shared, to read parts that are locked with S: all but X
+  IX   intent exclusive, to change parts that are locked with X: IS, IX
+  SIX  shared and intent exclusive, to read all of it and to change parts that
+       are locked with X: IS
 
-Policies:
-  oldest  the first client in the order of the script that can go on, and else
-          the message that was sent first
-  newest  the same, with the message that was sent last
-  seeded  by chance: each turn takes one of the clients that can go on and the
-          messages under way, by the next word of the generator PCG XSL RR
-          128/64 of --seed. A script and a seed have one run, the same on each
-          machine
-  faulty  the same, but where the word names a message one word more, modulo
-          1000, says what becomes of it: below --lose it is lost, below --lose
-          and --repeat together it is repeated, and comes once more, and else
-          it is delivered. The two are at most 1000 together
-  listed  the words of --choices, one after the other: cK the next operation of
-          client K, counted from 1, mI delivers and lI loses the message at
-          place I of those under way, counted from 0 in the order of sending,
-          as in --choices \"c1 m0 m0 c1\"
+Policies, which choose each step:
+  oldest  the first client of the script that can go on; if there is none, the
+          message that was sent first
+  newest  the same, but the message that was sent last
+  seeded  a client that can go on or a message under way, at random: the next
+          word of the generator PCG XSL RR 128/64 decides. A script and a --seed
+          give the same run on every machine
+  faulty  like seeded, but a second word, modulo 1000, decides what becomes of a
+          message: below --lose it is lost, below --lose plus --repeat it is
+          repeated, and otherwise it is delivered. The two add up to at most
+          1000
+  listed  the --choices, in order: cK does the next operation of client K,
+          counted from 1; mI delivers and lI loses the message at place I of
+          those under way, counted from 0 in the order of sending. For example:
+          --choices \"c1 m0 m0 c1\"
 
-With --trace it prints the steps of the run, each with its marks, in place of
-the marks and totals, as `ra check` reads them.
-
+--trace prints the steps of the run, each with its marks, as `ra check` reads
+them.
 Example: ra sim --trace < script.toml | ra check
 
-With --as-choices it prints the words of --choices by which the policy listed
-makes the run again, so that some can be taken out by hand. No word stands for a
-repeat, so faulty has to have --repeat 0 then.
-
+--as-choices prints the choices of the run, by which --policy listed repeats it,
+so that you can edit them. A repeated message cannot be written as a choice, so
+faulty needs --repeat 0 here.
 Example: ra sim --policy seeded --seed 7 --as-choices < script.toml
 
-With --seeds A..B, where each is 0 to 2^64 - 1 and A at most B, and a policy of
-chance it runs the script by each seed from A to B, both included, and prints
-how many of them ended finished, and stuck, and the first of each, and the least
-and the most of the turns and of the messages sent.
-
+--seeds A..B runs the script under seeded or faulty with each seed from A to B,
+0 <= A <= B < 2^64. It prints how many runs ended finished and stuck, the first
+seed of each, and the least and the most turns and messages of a run.
 Example: ra sim --policy seeded --seeds 1..1000 < script.toml
 
-With --find stuck, or finished, it prints the trace by the first seed from A to
-B whose run ended so, and stops there. Where none did it prints `none`.
-
+--find finished or --find stuck prints the trace of the first of these runs that
+ends so, and tries no seed after it; if there is none, it prints `none`.
 Example: ra sim --policy seeded --seeds 1..1000 --find stuck < script.toml
 
-Status 0: each operation is done, and nothing waits, is queued or under way: by
-each seed of --seeds, and in the trace of --find; or --find found no run that is
-stuck. Status 3: that is not so. Status 2: the words or the script are refused.
-Status 1: the input or the output failed.
+Exit status:
+  0  every run finished: all operations are done, and nothing waits, is queued
+     or is under way. With --find: the printed run finished, or --find stuck
+     found none
+  1  standard input or standard output failed
+  2  the command line or the script was refused
+  3  a run did not finish, or --find finished found none
 ";
 
 #[test]

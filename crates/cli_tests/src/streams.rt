@@ -52,7 +52,7 @@ fn a_reader_that_fails_once_at_any_byte_is_a_fault(rt: HostRuntime) {
     for before_fault in 0..=bytes.len() {
         assert!(rt;
             are_faults(&rt, bytes, before_fault),
-            "behind {before_fault} bytes"
+            "after {before_fault} bytes"
         );
     }
 }
@@ -119,7 +119,7 @@ fn a_writer_that_fails_has_a_prefix_of_what_is_printed(rt: HostRuntime) {
     assert_fails_in_prefixes(&rt, ANSWER, REQUEST, REPLY);
     assert_fails_in_prefixes(&rt, ANSWER, "zz", "refused Hex\n");
     assert_fails_in_prefixes(&rt, "ra", REQUEST, "refused Usage\n");
-    assert_fails_in_prefixes(&rt, "ra --help", "", "Lock named resources");
+    assert_fails_in_prefixes(&rt, "ra --help", "", "Simulate, run, check");
 }
 
 #[test]

@@ -1,4 +1,4 @@
-//! What the tests of books share: what a book does or shows, one after the other.
+//! What the tests of books share: the steps that a book does or shows, one after another.
 use crate::helpers;
 use crate::helpers::{assert_prints, r};
 use Call::{Ask, Leave, Receive};
@@ -15,7 +15,7 @@ use ra_stamp::{Entry, Mark, Message, Mode, Name, NodeId};
 use std::alloc::Global;
 use std::process::Abort;
 
-/// A REQUEST of number 1 from node 1 to node 2 for `r`, exclusively, at clock 1.
+/// A REQUEST with number 1 from node 1 to node 2 for `r`, exclusively, at clock 1.
 pub const ASKS: [u8; 25] = [
     2, 1, 0, 1, 0, 2, 1, 0, 0, 0, 0, 0, 0, 0, 1, 0, 0, 0, 0, 0, 0, 0, 1, 1, b'r',
 ];
@@ -35,21 +35,21 @@ pub const REPLIES_1: [u8; 23] = [
     1, 2, 2, 1, 0, 0, 0, 0, 0, 0, 0, 0, 1, 0, 0, 0, 0, 0, 0, 0, 2, 1, b'r',
 ];
 
-/// A call of a book, in which all that is asked for or left is `r`.
+/// A call of a book, which always asks for or leaves `r`.
 #[derive(Clone, Copy)]
 pub enum Call<'a> {
     /// This client asks for it.
     Ask(u32, Mode),
     /// This client leaves it.
     Leave(u32),
-    /// These bytes come.
+    /// These bytes arrive.
     Receive(&'a [u8]),
 }
 
 /// Client 1 asks for `r`, exclusively.
 pub const ASK: Call<'static> = Ask(1, Mode::Exclusive);
 
-/// It leaves it.
+/// Client 1 leaves `r`.
 pub const LEAVE: Call<'static> = Leave(1);
 
 /// A message.
@@ -61,7 +61,7 @@ pub enum Wire {
     Replies,
 }
 
-/// What becomes of the request that client 1 asks with.
+/// What becomes of client 1's request.
 #[derive(Clone, Copy)]
 pub enum Turn {
     /// It is made.
@@ -77,10 +77,11 @@ pub enum Turn {
 pub enum Step<'a> {
     /// It takes the call, whatever comes of it.
     Takes(Call<'a>),
-    /// It takes the call, and where there was no memory, when it is made again. Then it was as before, with so many events and sent
-    /// frames, and this clock.
-    TakesAgain(Call<'a>, u64, u64, u64),
-    /// It takes the call, which sends just a frame with this text, or none, and has just this mark, or none.
+    /// It takes the call, or takes it when it is made again because memory ran out. In that case it was unchanged in
+    /// between, with this many events and sent frames, and this clock. The call sends exactly this message, or none, at
+    /// the next clock, and has exactly this mark.
+    TakesAgain(Call<'a>, u64, u64, u64, Option<Wire>, Turn),
+    /// It takes the call, which sends exactly one frame with this text, or none, and has exactly this mark, or none.
     Posts(Call<'a>, Option<&'a [u8; 25]>, Option<Turn>),
     /// It refuses the call, for this reason.
     Refuses(Call<'a>, BookError),
@@ -92,9 +93,9 @@ pub enum Step<'a> {
     HasFault(Stop),
     /// It flags the REQUEST of [`ASKS`] at this clock as lost.
     Loses(u64),
-    /// It does not, for this reason.
+    /// It refuses to do so, for this reason.
     RefusesToLose(u64, MarkLostError),
-    /// It has so many events and sent frames, and this clock.
+    /// It has this many events and sent frames, and this clock.
     Has(u64, u64, u64),
     /// It sent the message at this place and clock, with this flag.
     WasSent(u64, u64, Wire, bool),
@@ -102,17 +103,17 @@ pub enum Step<'a> {
     Asked(u64, u64),
     /// Client 1 left `r` at this place and clock.
     Gave(u64, u64),
-    /// The message came at this place and clock, in a frame of the other clock.
+    /// The message arrived at this place and clock, in a frame with the other clock.
     Got(u64, u64, u64, Wire),
     /// Nobody holds `r`.
     IsFree,
     /// Client 1 holds it.
     IsHeld,
-    /// It is the book of node 2 of 3 that begins at 7, in which nothing has happened.
+    /// It is the book of node 2 of 3 that begins at 7, and nothing has happened in it.
     IsNew,
 }
 
-/// Returns the request that client 1 asks with.
+/// Returns client 1's request.
 fn entry(name: Name) -> Option<Entry> {
     helpers::entry(name, 1, 1, Mode::Exclusive, 1)
 }
@@ -161,7 +162,7 @@ fn is_text(alloc: Global, frame: &Frame, text: &[u8; 25]) -> bool {
     }
 }
 
-/// Returns whether just a frame with this text is sent, or none.
+/// Returns whether exactly one frame with this text is sent, or no frame if the text is `None`.
 fn has_frame(alloc: Global, posted: &Posted, text: Option<&[u8; 25]>) -> bool {
     let count = posted.frames.len();
     match (posted.frames.at(0), text) {
@@ -171,7 +172,7 @@ fn has_frame(alloc: Global, posted: &Posted, text: Option<&[u8; 25]>) -> bool {
     }
 }
 
-/// Returns the mark of what becomes of the request of client 1.
+/// Returns the mark for what becomes of client 1's request.
 fn mark(name: Name, turn: Turn) -> Option<Mark> {
     let entry = entry(name)?;
     match turn {
@@ -181,7 +182,7 @@ fn mark(name: Name, turn: Turn) -> Option<Mark> {
     }
 }
 
-/// Returns whether there is just the mark of this, or none.
+/// Returns whether there is exactly the mark for this turn, or no mark if the turn is `None`.
 fn has_mark(posted: &Posted, name: Name, turn: Option<Turn>) -> bool {
     let count = posted.marks.len();
     match turn {
@@ -220,7 +221,8 @@ fn refuses_byte(
     refuses(alloc, book, name, Receive(&bytes), fault)
 }
 
-/// Flags the REQUEST of [`ASKS`] at this clock as lost. Returns whether the refusal is this one.
+/// Flags the REQUEST of [`ASKS`] at this clock as lost. Returns whether it is refused for this reason, or accepted if
+/// that is `None`.
 fn loses(book: &mut Book, name: Name, clock: u64, refusal: Option<MarkLostError>) -> bool {
     match message(name, Asks) {
         Some(message) => match book.mark_lost(&Frame { clock, message }) {
@@ -231,7 +233,7 @@ fn loses(book: &mut Book, name: Name, clock: u64, refusal: Option<MarkLostError>
     }
 }
 
-/// Returns whether a book has so many events and sent frames, and this clock.
+/// Returns whether a book has this many events and sent frames, and this clock.
 pub fn has(book: &Book, events: u64, sent: u64, clock: u64) -> bool {
     book.events().len() == events && book.sent_len() == sent && book.clock() == clock
 }
@@ -247,7 +249,7 @@ pub fn was_sent(book: &Book, name: Name, place: u64, clock: u64, wire: Wire, los
     }
 }
 
-/// Returns whether this event stands at this place.
+/// Returns whether this event is at this place.
 fn happened(book: &Book, place: u64, clock: u64, kind: BookKind) -> bool {
     book.events().at(place) == Some(BookEvent { clock, kind })
 }
@@ -275,30 +277,70 @@ fn is_new(book: &Book, name: &Name) -> bool {
         && book.node().highest(name) == 7
 }
 
-/// Makes a call, and again where there was no memory. Returns whether the book was as before then: with so many events and sent
-/// frames, and this clock.
+/// Returns whether exactly this message is sent, at this clock, or no message if it is `None`.
+fn has_message(posted: &Posted, name: Name, clock: u64, wire: Option<Wire>) -> bool {
+    let Some(wire) = wire else {
+        return posted.frames.len() == 0;
+    };
+    match message(name, wire) {
+        Some(message) => {
+            posted.frames.len() == 1 && posted.frames.at(0) == Some(Frame { clock, message })
+        }
+        None => false,
+    }
+}
+
+/// The events, sent frames and clock of a book before a call, and what the call sends and marks.
+#[derive(Clone, Copy)]
+struct Expected {
+    events: u64,
+    sent: u64,
+    clock: u64,
+    wire: Option<Wire>,
+    turn: Turn,
+}
+
+/// Makes a call, and makes it again if memory ran out. Returns whether a refused call left the book as it was, and the
+/// answer is as expected.
 fn takes_again(
     alloc: Global,
     book: &mut Book,
     name: Name,
     call: Call<'_>,
-    events: u64,
-    sent: u64,
-    clock: u64,
+    expected: &Expected,
 ) -> bool {
-    if refuses(alloc, book, name, call, BookError::Memory) {
-        has(book, events, sent, clock) && takes(alloc, book, name, call)
-    } else {
-        true
+    let answer = match make(alloc, book, name, call) {
+        Err(BookError::Memory) if has(book, expected.events, expected.sent, expected.clock) => {
+            make(alloc, book, name, call)
+        }
+        answer => answer,
+    };
+    match answer {
+        Ok(posted) => {
+            has_message(
+                &posted,
+                name,
+                expected.clock.saturating_add(1),
+                expected.wire,
+            ) && has_mark(&posted, name, Some(expected.turn))
+        }
+        Err(_) => false,
     }
 }
 
-/// Returns whether a book does or shows this.
+/// Returns whether a book does or shows this step.
 pub fn does(alloc: Global, book: &mut Book, name: Name, step: Step<'_>) -> bool {
     match step {
         Takes(call) => takes(alloc, book, name, call),
-        TakesAgain(call, events, sent, clock) => {
-            takes_again(alloc, book, name, call, events, sent, clock)
+        TakesAgain(call, events, sent, clock, wire, turn) => {
+            let expected = Expected {
+                events,
+                sent,
+                clock,
+                wire,
+                turn,
+            };
+            takes_again(alloc, book, name, call, &expected)
         }
         Posts(call, text, turn) => posts(alloc, book, name, call, text, turn),
         Refuses(call, fault) => refuses(alloc, book, name, call, fault),
@@ -324,28 +366,27 @@ pub fn does(alloc: Global, book: &mut Book, name: Name, step: Step<'_>) -> bool 
     }
 }
 
-/// Returns whether a book does and shows all of this, in order.
-fn does_all(alloc: Global, book: &mut Book, name: Name, steps: &[Step<'_>]) -> bool {
-    for step in steps {
-        if !does(alloc, book, name, *step) {
-            return false;
+/// Returns how many of these steps a book does and shows, in order, before the first that it does not.
+fn done(alloc: Global, book: &mut Book, name: Name, steps: &[Step<'_>]) -> usize {
+    for place in 0..steps.len() {
+        if !does(alloc, book, name, steps[place]) {
+            return place;
         }
     }
-    true
+    steps.len()
 }
 
-/// Returns whether the book of node `me` of so many that begins at `start` does and shows all of this, in order.
-fn book_does(alloc: Global, me: u16, nodes: u16, start: u64, steps: &[Step<'_>]) -> bool {
-    let (Some(me), Some(name)) = (NodeId::new(me), r()) else {
-        return false;
-    };
+/// Returns how many of these steps the book of node `me` of `nodes` that begins at `start` does and shows, in order,
+/// before the first that it does not, or `None` if there is no such book.
+fn done_by(alloc: Global, me: u16, nodes: u16, start: u64, steps: &[Step<'_>]) -> Option<usize> {
+    let (me, name) = (NodeId::new(me)?, r()?);
     match Book::new(alloc, me, nodes, start) {
-        Ok(mut book) => does_all(alloc, &mut book, name, steps),
-        Err(_) => false,
+        Ok(mut book) => Some(done(alloc, &mut book, name, steps)),
+        Err(_) => None,
     }
 }
 
-/// Ends the test where it does not.
+/// Ends the test unless the book does and shows all of these steps.
 pub fn assert_book_does<R: Abort + AllocGlobal>(
     rt: &R,
     me: u16,
@@ -353,9 +394,8 @@ pub fn assert_book_does<R: Abort + AllocGlobal>(
     start: u64,
     steps: &[Step<'_>],
 ) {
-    assert!(rt;
-        book_does(rt.alloc(), me, nodes, start, steps),
-        "{} steps",
-        steps.len()
-    );
+    match done_by(rt.alloc(), me, nodes, start, steps) {
+        Some(done) => assert!(rt; done == steps.len(), "step {done}, counted from 0"),
+        None => panic!(rt; "there is no such book"),
+    }
 }

@@ -1,18 +1,20 @@
-//! Each growth refused: the call answers that memory ran out and leaves all as it was, and does what it should when it is made again.
-use crate::books::Call::Receive;
+//! Each growth is refused: the call answers that memory ran out, leaves everything as it was, and does what it should
+//! when it is made again.
+use crate::books::Call::{Ask, Receive};
 use crate::books::Step::Takes;
-use crate::books::{ASK, Call, LEAVE, REPLIES, has, make};
+use crate::books::{ASK, ASKS, Call, LEAVE, REPLIES, has, make};
 use crate::helpers::{r, request, sites_of};
 use crate::histories::Done::{At, Passes};
-use crate::histories::{Done, ONE, TWO, books_after};
+use crate::histories::{Done, Granted, ONE, TWO, books_after, grants_of};
 use crate::plans::{TWO_WRITERS, script_of};
 use ra_cluster::{
     Book, BookError, CallError, Cluster, ClusterError, Gate, Grant, NewPostError, OpenGate, Post,
-    SendError, SettleError, Site, SiteError, Stop, is_cluster, run_cluster, settle,
+    SendError, SettleError, Settled, Site, SiteError, Stop, is_cluster, run_cluster, settle,
 };
 use ra_frame::Frame;
 use ra_schedule::Script;
 use ra_stamp::{Entry, Mode, Name, NodeId};
+use ra_world::Step as WorldStep;
 use std::alloc::Global;
 use std::process::Abort;
 use std::sync::Wait;
@@ -32,11 +34,11 @@ fn end(rt: &(impl Abort), tried: Tried) {
     );
 }
 
-/// What was kept before a call: so many events and sent frames, and this clock.
+/// What a book had before a call: this many events and sent frames, and this clock.
 #[derive(Clone, Copy)]
 struct Kept(u64, u64, u64);
 
-/// Makes a call of a book. Where it is refused, returns whether memory ran out.
+/// Makes a call of a book. If it is refused, returns whether memory ran out.
 fn made_once(alloc: Global, book: &mut Book, name: Name, call: Call<'_>) -> Result<(), bool> {
     match make(alloc, book, name, call) {
         Ok(_) => Ok(()),
@@ -44,7 +46,7 @@ fn made_once(alloc: Global, book: &mut Book, name: Name, call: Call<'_>) -> Resu
     }
 }
 
-/// Makes a call of a book, and again where memory ran out.
+/// Makes a call of a book, and makes it again if memory ran out.
 fn try_call(alloc: Global, book: &mut Book, name: Name, call: Call<'_>, kept: Kept) -> Tried {
     match made_once(alloc, book, name, call) {
         Ok(()) => Tried::AtOnce,
@@ -68,7 +70,7 @@ fn try_calls(alloc: Global, book: &mut Book, name: Name) -> Tried {
     }
 }
 
-/// Makes a book, which takes no memory, and all calls of it.
+/// Makes a book, which takes no memory, and makes all calls of it.
 fn try_book(alloc: Global) -> Option<Tried> {
     let (me, name) = (NodeId::new(1)?, r()?);
     match Book::new(alloc, me, 2, 0) {
@@ -82,7 +84,61 @@ fn growth_of_a_book(rt: HostRuntime) {
     end(&rt, try_book(rt.alloc()).unwrap_or(Tried::Wrong));
 }
 
-/// How often a client asks for `r` and leaves it where much happens, with two events each time.
+/// The REQUEST of node 1 to node 2 for `r`, exclusively, with number 3 and at clock 5.
+const ASKS_AFTER: [u8; 25] = [
+    2, 1, 0, 1, 0, 2, 1, 0, 0, 0, 0, 0, 0, 0, 3, 0, 0, 0, 0, 0, 0, 0, 5, 1, b'r',
+];
+
+/// The REPLY of node 1 to the request of node 2 with number 2, at clock 7.
+const REPLIES_TO_SECOND: [u8; 25] = [
+    2, 2, 0, 1, 0, 2, 0, 0, 0, 0, 0, 0, 0, 0, 2, 0, 0, 0, 0, 0, 0, 0, 7, 1, b'r',
+];
+
+/// A call of the book of node 2, and what the book has before the call.
+struct Row(Call<'static>, Kept);
+
+/// Node 2 answers a REQUEST, asks, defers the next REQUEST and is let in; then a second client queues. When the first
+/// client leaves, the deferred REPLY and the REQUEST of the second client are sent.
+const ANSWERS: &[Row] = &[
+    Row(Receive(&ASKS), Kept(0, 0, 0)),
+    Row(ASK, Kept(1, 1, 2)),
+    Row(Receive(&ASKS_AFTER), Kept(2, 2, 3)),
+    Row(Receive(&REPLIES_TO_SECOND), Kept(3, 2, 6)),
+    Row(Ask(2, Mode::Exclusive), Kept(4, 2, 8)),
+    Row(LEAVE, Kept(5, 2, 9)),
+];
+
+/// Makes all calls of the book of node 2.
+fn try_answers(alloc: Global, book: &mut Book, name: Name) -> Tried {
+    let mut tried = Tried::AtOnce;
+    for row in ANSWERS {
+        if !has(book, row.1.0, row.1.1, row.1.2) {
+            return Tried::Wrong;
+        }
+        tried = both(tried, try_call(alloc, book, name, row.0, row.1));
+    }
+    if has(book, 6, 4, 10) {
+        tried
+    } else {
+        Tried::Wrong
+    }
+}
+
+/// Makes the book of node 2, which takes no memory, and makes all calls of it.
+fn try_answering_book(alloc: Global) -> Option<Tried> {
+    let (me, name) = (NodeId::new(2)?, r()?);
+    match Book::new(alloc, me, 2, 0) {
+        Ok(mut book) => Some(try_answers(alloc, &mut book, name)),
+        Err(_) => None,
+    }
+}
+
+#[test]
+fn growth_of_a_book_that_answers_and_defers(rt: HostRuntime) {
+    end(&rt, try_answering_book(rt.alloc()).unwrap_or(Tried::Wrong));
+}
+
+/// How often a client asks for `r` and leaves it in the large book. Each time takes two events.
 const MANY: u64 = 5_000;
 
 /// A client of a cluster of one node asks for `r` and leaves it, many times.
@@ -103,7 +159,7 @@ fn try_many_calls(alloc: Global, book: &mut Book, name: Name) -> Tried {
     tried
 }
 
-/// Makes the book of one node alone, and many calls of it.
+/// Makes the book of a single node, and makes many calls of it.
 fn try_large_book(alloc: Global) -> Option<Tried> {
     let (me, name) = (NodeId::new(1)?, r()?);
     match Book::new(alloc, me, 1, 0) {
@@ -125,9 +181,9 @@ const ONE_LOCK: &[Done] = &[
     At(1, Takes(LEAVE)),
 ];
 
-/// Settles two books. Where that is refused, returns whether memory ran out.
+/// Settles two books. If that is refused, returns whether memory ran out.
 fn try_settling(alloc: Global) -> Result<Tried, bool> {
-    let Some(books) = books_after(alloc, &[ONE, TWO], ONE_LOCK) else {
+    let Ok(books) = books_after(alloc, &[ONE, TWO], ONE_LOCK) else {
         return Err(true);
     };
     if !is_cluster(&books) {
@@ -142,10 +198,81 @@ fn try_settling(alloc: Global) -> Result<Tried, bool> {
     }
 }
 
-/// How often a client asks for `r` and leaves it in the book that is settled, with two events each time.
+/// The same, after which the client asks again.
+const ASKS_AGAIN: &[Done] = &[
+    At(1, Takes(ASK)),
+    Passes(1, 0),
+    Passes(2, 0),
+    At(1, Takes(LEAVE)),
+    At(1, Takes(ASK)),
+];
+
+/// Flags the second frame sent by the first book as lost. Returns whether that succeeds.
+fn loses_second(books: &mut [Book]) -> bool {
+    let Some(book) = books.get_mut(0) else {
+        return false;
+    };
+    match book.sent(1) {
+        Some(sent) => book.mark_lost(&sent.frame).is_ok(),
+        None => false,
+    }
+}
+
+/// Makes the books after that, with the last REQUEST lost, or returns `None` if memory ran out.
+fn books_with_a_loss(alloc: Global) -> Option<Vec<Book>> {
+    match books_after(alloc, &[ONE, TWO], ASKS_AGAIN) {
+        Ok(mut books) => {
+            if loses_second(&mut books) {
+                Some(books)
+            } else {
+                None
+            }
+        }
+        Err(_) => None,
+    }
+}
+
+/// Returns whether books settled into the run of the client, with the loss at its end.
+fn is_with_a_loss(settled: &Settled) -> bool {
+    let report = &settled.report;
+    settled.steps.len() == 6
+        && matches!(settled.steps.at(5), Some(WorldStep::Lose(_)))
+        && report.requests == 2
+        && report.sent == 3
+        && report.lost == 1
+        && report.waiting == 1
+        && report.under_way == 0
+}
+
+/// Settles two books with a grant and a lost frame. If that is refused, returns whether memory ran out.
+fn try_settling_a_loss(alloc: Global) -> Result<Tried, bool> {
+    let granted = grants_of(alloc, &[Granted(1, 1, Mode::Exclusive, 1)]);
+    let (Some(books), Some(grants)) = (books_with_a_loss(alloc), granted) else {
+        return Err(true);
+    };
+    if !is_cluster(&books) {
+        return Err(false);
+    }
+    match settle(alloc, &books, &grants) {
+        Ok(settled) if is_with_a_loss(&settled) => Ok(Tried::AtOnce),
+        Ok(_) => Ok(Tried::Wrong),
+        Err(fault) => Err(fault == SettleError::Memory),
+    }
+}
+
+#[test]
+fn growth_of_settling_with_a_grant_and_a_loss(rt: HostRuntime) {
+    let alloc = rt.alloc();
+    end(
+        &rt,
+        again(try_settling_a_loss(alloc), try_settling_a_loss(alloc)),
+    );
+}
+
+/// How often a client asks for `r` and leaves it in the book that is settled. Each time takes two events.
 const VERY_MANY: u64 = 50_000;
 
-/// Makes the book of one node alone in which very much happened, or `None` where memory ran out.
+/// Makes the book of a single node, with very many events, or returns `None` if memory ran out.
 fn large_book(alloc: Global) -> Option<Book> {
     let (me, name) = (NodeId::new(1)?, r()?);
     let mut book = Book::new(alloc, me, 1, 0).ok()?;
@@ -156,14 +283,14 @@ fn large_book(alloc: Global) -> Option<Book> {
     Some(book)
 }
 
-/// Makes books of one node alone, or `None` where memory ran out.
+/// Makes the books of a single node, or returns `None` if memory ran out.
 fn large_books(alloc: Global) -> Option<Vec<Book>> {
     let mut books = Vec::new(alloc);
     books.push(large_book(alloc)?).ok()?;
     Some(books)
 }
 
-/// Settles books in which very much happened. Where that is refused, returns whether memory ran out.
+/// Settles books with very many events. If that is refused, returns whether memory ran out.
 fn try_large_settling(alloc: Global) -> Result<Tried, bool> {
     let Some(books) = large_books(alloc) else {
         return Err(true);
@@ -195,7 +322,7 @@ fn growth_of_settling(rt: HostRuntime) {
     );
 }
 
-/// Sends a frame of node 1 to node 2, and again where it was refused.
+/// Sends a frame from node 1 to node 2, and sends it again if it was refused.
 fn try_send<R: Wait>(rt: &R, alloc: Global, post: &Post) -> Tried {
     let message = match r() {
         Some(name) => request(name, 1, 2, Mode::Exclusive),
@@ -215,7 +342,7 @@ fn try_send<R: Wait>(rt: &R, alloc: Global, post: &Post) -> Tried {
     }
 }
 
-/// Makes a post and sends a frame by it. Where there is none, returns whether memory ran out.
+/// Makes a post and sends a frame through it. If the post cannot be made, returns whether memory ran out.
 fn try_post<R: Wait>(rt: &R, alloc: Global) -> Result<Tried, bool> {
     match Post::new(alloc, 2) {
         Ok((post, _inboxes)) => Ok(try_send(rt, alloc, &post)),
@@ -229,7 +356,7 @@ fn growth_of_a_post(rt: HostRuntime) {
     end(&rt, again(try_post(&rt, alloc), try_post(&rt, alloc)));
 }
 
-/// Returns what became of a call of a site: whether it was taken, or where it was not, whether memory ran out.
+/// Returns `Ok` if a site took a call; otherwise returns whether memory ran out.
 fn taken<T: Drop>(answer: Result<T, SiteError>) -> Result<(), bool> {
     match answer {
         Ok(_) => Ok(()),
@@ -237,7 +364,8 @@ fn taken<T: Drop>(answer: Result<T, SiteError>) -> Result<(), bool> {
     }
 }
 
-/// Returns whether a site is as it was where a call found no memory: so many events, this holder of the name, and nobody waits.
+/// Returns whether a site is as it was before a call found no memory: this many events, this holder of the name, and no
+/// client waiting.
 fn is_as_before<R: Wait>(
     rt: &R,
     site: &Site,
@@ -278,7 +406,7 @@ fn call_at<R: Wait>(
     }
 }
 
-/// Makes a call of the one site, and again where memory ran out and the site is as before.
+/// Makes a call of the one site, and makes it again if memory ran out and the site is as before.
 fn try_at<R: Wait>(
     rt: &R,
     alloc: Global,
@@ -301,7 +429,7 @@ fn try_at<R: Wait>(
     }
 }
 
-/// A client locks `r` at the one site, and unlocks it.
+/// A client locks `r` at the one site and unlocks it.
 fn try_site<R: Wait>(rt: &R, alloc: Global, name: &Name, post: &Post, sites: &[Site]) -> Tried {
     both(
         try_at(rt, alloc, Act::Locks, name, post, sites),
@@ -309,7 +437,8 @@ fn try_site<R: Wait>(rt: &R, alloc: Global, name: &Name, post: &Post, sites: &[S
     )
 }
 
-/// Makes a cluster of one site, at which a client locks `r` and unlocks it. Where there is none, memory ran out.
+/// Makes a cluster of one site, at which a client locks `r` and unlocks it. If it cannot be made, returns whether
+/// memory ran out.
 fn try_sites<R: Wait>(rt: &R, alloc: Global) -> Result<Tried, bool> {
     let (Some(name), Some(sites)) = (r(), sites_of(alloc, 1, 0)) else {
         return Err(true);
@@ -326,11 +455,11 @@ fn growth_of_a_site(rt: HostRuntime) {
     end(&rt, again(try_sites(&rt, alloc), try_sites(&rt, alloc)));
 }
 
-/// What a call answers that found no memory, and did nothing.
+/// The answer of a call that found no memory and did nothing.
 const WANTING: SiteError = SiteError::Refused(BookError::Memory);
 
-/// Returns whether a call of a cluster may answer so where a growth was refused: that of the caller, or one of a thread that carries
-/// frames, which then stops all nodes.
+/// Returns whether a call of a cluster may answer this if a growth was refused, either in the caller's thread or in one
+/// that carries frames, which then stops all nodes.
 fn is_wanting(fault: SiteError) -> bool {
     matches!(
         fault,
@@ -341,8 +470,8 @@ fn is_wanting(fault: SiteError) -> bool {
     )
 }
 
-/// A client of a node of a cluster locks `r`, does nothing and unlocks it. Where it is not let in, or the cluster was stopped, returns
-/// whether memory ran out.
+/// A client of a node of a cluster locks `r`, does nothing and unlocks it. If it is not let in, or the cluster was
+/// stopped, returns whether memory ran out.
 fn try_work<R: Wait>(
     rt: &R,
     alloc: Global,
@@ -365,8 +494,8 @@ fn try_work<R: Wait>(
     }
 }
 
-/// Makes a cluster of one node, at which a client works, and closes it, which takes no memory. Where there is none, returns whether
-/// memory ran out.
+/// Makes a cluster of one node, has a client work at it, and closes it, which takes no memory. If the cluster cannot be
+/// made, returns whether memory ran out.
 fn try_whole<R: Wait>(rt: &R, alloc: Global) -> Result<Tried, bool> {
     let (Some(node), Some(name)) = (NodeId::new(1), r()) else {
         return Ok(Tried::Wrong);
@@ -392,8 +521,8 @@ fn growth_of_a_whole_cluster(rt: HostRuntime) {
     end(&rt, again(try_whole(&rt, alloc), try_whole(&rt, alloc)));
 }
 
-/// Has two threads carry the frames of a cluster of two nodes, while a client of node 1 works. Where it is not let in, or a thread is
-/// not started, returns whether memory ran out.
+/// Has two threads carry the frames of a cluster of two nodes while a client of node 1 works. If the client is not let
+/// in, or a thread is not started, returns whether memory ran out.
 fn try_between<R: Threads + Wait + Sync>(
     rt: &R,
     alloc: Global,
@@ -418,8 +547,8 @@ fn try_between<R: Threads + Wait + Sync>(
     })
 }
 
-/// Makes a cluster of two nodes, at the first of which a client works, and closes it. Where there is none, or it was stopped, returns
-/// whether memory ran out.
+/// Makes a cluster of two nodes, has a client work at the first, and closes it. If the cluster cannot be made, or was
+/// stopped, returns whether memory ran out.
 fn try_two<R: Threads + Wait + Sync>(rt: &R, alloc: Global) -> Result<Tried, bool> {
     let (Some(one), Some(two), Some(name)) = (NodeId::new(1), NodeId::new(2), r()) else {
         return Ok(Tried::Wrong);
@@ -442,7 +571,7 @@ fn growth_of_a_whole_cluster_of_two_nodes(rt: HostRuntime) {
     end(&rt, again(try_two(&rt, alloc), try_two(&rt, alloc)));
 }
 
-/// Returns whether a cluster of threads may answer so where a growth was refused.
+/// Returns whether a cluster of threads may answer this if a growth was refused.
 fn is_of_memory(fault: ClusterError) -> bool {
     matches!(
         fault,
@@ -453,8 +582,8 @@ fn is_of_memory(fault: ClusterError) -> bool {
     )
 }
 
-/// Has threads do a script of two writers. Where they do not, returns whether memory ran out. No thread of the test's own stands
-/// round it, since that would have growths of its own.
+/// Has threads run a script of two writers. If they do not, returns whether memory ran out. The test starts no thread
+/// of its own around this, since that thread would have growths of its own.
 fn try_threads<R: Threads + Wait + Sync>(
     rt: &R,
     alloc: Global,
@@ -469,7 +598,7 @@ fn try_threads<R: Threads + Wait + Sync>(
     }
 }
 
-/// Makes a script, and has threads do it. Where there is none, memory ran out.
+/// Makes a script and has threads run it. If the script cannot be made, memory ran out.
 fn try_cluster<R: Threads + Wait + Sync>(rt: &R, alloc: Global) -> Result<Tried, bool> {
     match script_of(alloc, 2, TWO_WRITERS) {
         Some(script) => try_threads(rt, alloc, &script),

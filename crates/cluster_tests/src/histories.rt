@@ -7,7 +7,8 @@ use ra_frame::{Frame, encode};
 use ra_stamp::{Mode, Name, NodeId};
 use std::alloc::Global;
 
-/// A book in which nothing has happened: that of node `me` of this many, where each name begins with the number `start`.
+/// A book in which nothing has happened: that of node `me` of `nodes`, in which each name begins with the number
+/// `start`.
 #[derive(Clone, Copy)]
 pub struct Made {
     /// Its node.
@@ -32,12 +33,12 @@ pub const TWO: Made = Made {
     start: 0,
 };
 
-/// What is done to books, each of which stands at the place of its node. All is about `r`.
+/// What is done to books, each of which is at the place of its node. All of it is about `r`.
 #[derive(Clone, Copy)]
 pub enum Done {
     /// The book of this node does or shows this.
     At(u16, Step<'static>),
-    /// The frame that the book of this node sent at the place comes to the node that it is for.
+    /// The frame that this node's book sent at this place reaches its destination node.
     Passes(u16, u64),
 }
 
@@ -73,7 +74,7 @@ fn sent(books: &[Book], number: u16, place: u64) -> Option<Frame> {
     Some(sent.frame)
 }
 
-/// A frame comes to the node that it is for. Returns whether its book takes it.
+/// Delivers a frame to its destination node. Returns whether that node's book takes it.
 fn takes(alloc: Global, books: &mut [Book], frame: &Frame) -> bool {
     let place = usize::from(frame.message.to().get()).wrapping_sub(1);
     if !frame.fits() {
@@ -102,24 +103,34 @@ fn is_done(alloc: Global, books: &mut [Book], name: Name, done: Done) -> bool {
     }
 }
 
-/// Does all of this to the books, in order. Returns whether it can be done.
-fn are_done(alloc: Global, books: &mut [Book], name: Name, all: &[Done]) -> bool {
-    for done in all {
-        if !is_done(alloc, books, name, *done) {
-            return false;
+/// Does all of this to the books, in order. Returns how many of these can be done before the first that cannot.
+fn count_done(alloc: Global, books: &mut [Book], name: Name, all: &[Done]) -> usize {
+    for place in 0..all.len() {
+        if !is_done(alloc, books, name, all[place]) {
+            return place;
         }
     }
-    true
+    all.len()
 }
 
-/// Makes these books, to which all of this was done, in order.
-pub fn books_after(alloc: Global, made: &[Made], all: &[Done]) -> Option<Vec<Book>> {
-    let name = r()?;
+/// Makes these books, and does all of this to them, in order.
+///
+/// # Errors
+///
+/// How many of these could be done before the first that could not: 0 if there are no such books.
+pub fn books_after(alloc: Global, made: &[Made], all: &[Done]) -> Result<Vec<Book>, usize> {
     let mut books = Vec::new(alloc);
-    if adds_books(alloc, &mut books, made) && are_done(alloc, &mut books, name, all) {
-        Some(books)
+    let Some(name) = r() else {
+        return Err(0);
+    };
+    if !adds_books(alloc, &mut books, made) {
+        return Err(0);
+    }
+    let done = count_done(alloc, &mut books, name, all);
+    if done == all.len() {
+        Ok(books)
     } else {
-        None
+        Err(done)
     }
 }
 

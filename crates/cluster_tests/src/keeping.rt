@@ -1,4 +1,4 @@
-//! The book of a node: what it keeps and sends, what it refuses, and the words of that.
+//! The book of a node: what it keeps and sends, what it refuses, and the words for its refusals.
 use crate::books::{
     ASK, ASKS, ASKS_1, Call, LEAVE, REPLIES, REPLIES_1, Step, Turn, Wire, assert_book_does,
 };
@@ -25,7 +25,7 @@ const ASKS_LAST: [u8; 25] = [
     2, 1, 0, 1, 0, 2, 1, 0, 0, 0, 0, 0, 0, 0, 1, 0x40, 0, 0, 0, 0, 0, 0, 0, 1, b'r',
 ];
 
-/// Returns whether there is no book of this node of this many, for this reason.
+/// Returns whether a book of this node, in a cluster of this many nodes, is refused for this reason.
 fn is_no_book(alloc: Global, me: u16, nodes: u16, fault: NewError) -> bool {
     match NodeId::new(me) {
         Some(me) => match Book::new(alloc, me, nodes, 0) {
@@ -65,7 +65,7 @@ fn frames_carry_the_clock_of_their_event(rt: HostRuntime) {
         0,
         &[
             Posts(Receive(&ASKS), Some(&REPLIES), None),
-            // A frame that comes twice is taken twice: no book knows what was sent.
+            // A frame that arrives twice is taken twice: no book knows what was sent.
             Takes(Receive(&ASKS)),
             WasSent(1, 3, Replies, false),
             Has(2, 2, 3),
@@ -184,7 +184,7 @@ fn a_book_keeps_its_first_fault(rt: HostRuntime) {
             Refuses(ASK, BookError::Failed),
             Refuses(LEAVE, BookError::Failed),
             Refuses(Receive(&REPLIES), BookError::Failed),
-            // Before it looks at the bytes.
+            // It refuses before it looks at the bytes.
             Refuses(Receive(&[]), BookError::Failed),
             Has(1, 1, 1),
             Loses(1),
@@ -206,7 +206,7 @@ fn the_last_clock_is_reached_and_not_passed(rt: HostRuntime) {
             Takes(Receive(&ASKS_LATE)),
             WasSent(0, last, Replies, false),
             Has(1, 1, last),
-            // A book at the last clock takes nothing more, and what the node refuses comes first.
+            // A book at the last clock takes nothing more, but a refusal of the node comes first.
             Refuses(ASK, BookError::ClockFull),
             Refuses(Receive(&ASKS), BookError::ClockFull),
             Refuses(LEAVE, BookError::NotHeld),
@@ -268,20 +268,20 @@ fn an_ask_past_the_last_number_leaves_the_book(rt: HostRuntime) {
     );
 }
 
-/// Where an allocation is refused, whichever it is, the book is as before, and takes the call when it is made again.
+/// If any allocation is refused, the book is as before, and takes the call when it is made again.
 #[test]
 fn a_call_that_found_no_memory_can_be_made_again(rt: HostRuntime) {
     let steps = [
-        TakesAgain(ASK, 0, 0, 0),
-        TakesAgain(Receive(&REPLIES), 1, 1, 1),
-        TakesAgain(LEAVE, 2, 1, 3),
+        TakesAgain(ASK, 0, 0, 0, Some(Asks), Turn::Requested),
+        TakesAgain(Receive(&REPLIES), 1, 1, 1, None, Turn::Entered),
+        TakesAgain(LEAVE, 2, 1, 3, None, Turn::Left),
         Has(3, 1, 4),
         WasSent(0, 1, Asks, false),
     ];
     assert_book_does(&rt, 1, 2, 0, &steps);
 }
 
-/// Why a book refuses an event, and the word of it.
+/// The reasons why a book refuses an event, and the word for each.
 const BOOK_ERRORS: &[(BookError, &str)] = &[
     (BookError::Failed, "Failed"),
     (BookError::Frame(FrameError::Trailing), "Trailing"),
@@ -299,7 +299,7 @@ fn refusals_of_events_are_printed_as_their_words(rt: HostRuntime) {
     assert_prints(&rt, BOOK_ERRORS);
 }
 
-/// For what a book is stopped, and the word of it.
+/// The faults that stop a book, and the word for each.
 const FAULTS: &[(Stop, &str)] = &[
     (Stop::Memory, "Memory"),
     (Stop::Send, "Send"),
@@ -316,7 +316,7 @@ fn faults_are_printed_as_their_words(rt: HostRuntime) {
     assert_prints(&rt, FAULTS);
 }
 
-/// Why a book flags no frame, and the word of it.
+/// The reasons why a book does not flag a frame, and the word for each.
 const FLAG_ERRORS: &[(MarkLostError, &str)] = &[
     (MarkLostError::NotSent, "NotSent"),
     (MarkLostError::AlreadyLost, "AlreadyLost"),

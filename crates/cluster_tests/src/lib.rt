@@ -1,5 +1,5 @@
-//! Tests of `ra_cluster` through its public calls: books, sites, clients that wait at a site, how books settle, and scripts that
-//! threads do. They stand here and not beside the code so that the two are proved side by side.
+//! Tests of `ra_cluster` through its public calls: books, sites, clients that wait at a site, how books settle, and
+//! scripts run by threads. They are in a crate of their own so that the tests and the code are proved side by side.
 #![tactic(auto)]
 
 #[cfg(test)]

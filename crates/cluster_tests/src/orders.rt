@@ -1,4 +1,4 @@
-//! Scripts whose clients a gate brings into an order that no choice of a policy has: what is told of them has to be what the threads
+//! Scripts whose clients a gate brings into an order that no policy chooses. The report has to tell what the threads
 //! did, and not what a simulation of the script would do.
 use crate::endings::is_done;
 use crate::helpers::{comes_to, r, ran};
@@ -14,12 +14,12 @@ use std::sync::Wait;
 use std::sync::atomic::{AtomicU64, Ordering};
 use std::thread::Threads;
 
-/// A gate that keeps one of two clients inside a name of its own until the other one was inside `r`.
+/// A gate that keeps one of two clients inside a name of its own until the other has been inside `r`.
 #[derive(Drop)]
 struct Keeps {
     client: u32,
     r: Name,
-    /// How often the other client was inside `r`.
+    /// How often the other client has been inside `r`.
     others: AtomicU64,
 }
 
@@ -62,7 +62,7 @@ fn has_in_order(text: &str, first: &str, second: &str) -> bool {
     false
 }
 
-/// Returns whether two lines are printed of what came of the script, the first before the second.
+/// Returns whether these two lines are printed for the settled run, the first before the second.
 fn are_printed(alloc: Global, settled: &Settled, first: &str, second: &str) -> bool {
     match report_text(alloc, &settled.report) {
         Ok(text) => has_in_order(text.as_str(), first, second),
@@ -70,7 +70,7 @@ fn are_printed(alloc: Global, settled: &Settled, first: &str, second: &str) -> b
     }
 }
 
-/// Returns whether the script comes to its end where this client is kept, and these lines are printed of it in order.
+/// Returns whether the script comes to its end while this client is kept, and these lines are printed in order.
 fn ends_so<R: Threads + Wait + Abort + Sync>(
     rt: &R,
     alloc: Global,
@@ -85,10 +85,11 @@ fn ends_so<R: Threads + Wait + Abort + Sync>(
         others: AtomicU64::new(0),
     };
     let settled = ran(rt, alloc, &script, &gate).ok()?;
-    Some(is_done(alloc, 2, &settled, 4, 8) && are_printed(alloc, &settled, first, second))
+    Some(is_done(&settled, 4, 8) && are_printed(alloc, &settled, first, second))
 }
 
-/// Which client is kept, and the lines of the two who enter `r`: who comes first has the number 1, and the other 2.
+/// Which client is kept, and the lines of the two that enter `r`: the first to enter has number 1, and the other has
+/// number 2.
 const ORDERS: &[(u32, &str, &str)] = &[
     (1, "enter 2 2 r X 1", "enter 1 1 r X 2"),
     (2, "enter 1 1 r X 1", "enter 2 2 r X 2"),

@@ -1,4 +1,4 @@
-//! What comes of books in which a script was done, or was not.
+//! Outcomes of settling books in which a script was run, or was not.
 use crate::books::Call::{Ask, Leave, Receive};
 use crate::books::Step::{Fails, Loses, Posts, Takes};
 use crate::books::{ASK, ASKS, LEAVE, Turn};
@@ -20,11 +20,11 @@ struct Case {
     made: &'static [Made],
     done: &'static [Done],
     granted: &'static [Granted],
-    /// Why the books and grants do not settle into the end of the script, or `None` where they do.
+    /// Why the books and grants do not settle into the end of the script, or `None` if they do.
     refusal: Option<ClusterError>,
 }
 
-/// Returns whether this comes of books and grants.
+/// Returns whether settling the books and the grants has this outcome.
 fn comes(
     alloc: Global,
     script: &Script,
@@ -38,28 +38,28 @@ fn comes(
     }
 }
 
-/// Returns whether this is what comes of the books and the grants.
+/// Returns whether settling the books and the grants of a case has its outcome.
 fn has_outcome(alloc: Global, case: &Case) -> bool {
     match (
         script_of(alloc, case.nodes, case.clients),
         books_after(alloc, case.made, case.done),
         grants_of(alloc, case.granted),
     ) {
-        (Some(script), Some(books), Some(grants)) => {
+        (Some(script), Ok(books), Some(grants)) => {
             comes(alloc, &script, &books, &grants, case.refusal)
         }
         _ => false,
     }
 }
 
-/// Ends the test where a case has another outcome.
+/// Ends the test if a case has another outcome.
 fn assert_outcomes<R: Abort + AllocGlobal>(rt: &R, cases: &[Case]) {
     for case in cases {
         assert!(rt; has_outcome(rt.alloc(), case), "{}", case.shows);
     }
 }
 
-/// The books of two nodes in which nothing has happened, and a script of as many without clients.
+/// The books of two nodes in which nothing has happened, and a script of two nodes without clients.
 const IDLE: Case = Case {
     shows: "two nodes without clients",
     nodes: 2,
@@ -76,7 +76,7 @@ const NOT_SETTLED: Case = Case {
     ..IDLE
 };
 
-/// The book of a node alone.
+/// The book of the only node of a cluster.
 const ALONE: Made = Made {
     me: 1,
     nodes: 1,
@@ -86,7 +86,7 @@ const ALONE: Made = Made {
 /// The book of node 2 of two, from number 7.
 const LATE: Made = Made { start: 7, ..TWO };
 
-/// The books of one node alone, and of three, are a cluster, but not the script's.
+/// The book of a single node is a cluster, and so are the books of three nodes, but neither is the script's cluster.
 const BOOKS: &[Case] = &[
     IDLE,
     Case {
@@ -186,7 +186,7 @@ fn the_fault_of_the_lowest_node_is_the_outcome(rt: HostRuntime) {
     assert_outcomes(&rt, FAULTS);
 }
 
-/// Node 2 has a frame that nobody sent, and a fault of it goes before.
+/// Node 2 has a frame that nobody sent; a fault of the node takes precedence.
 const STRANGE: &[Case] = &[
     Case {
         shows: "a frame that nobody sent",
@@ -206,13 +206,13 @@ fn a_frame_that_nobody_sent_does_not_settle(rt: HostRuntime) {
     assert_outcomes(&rt, STRANGE);
 }
 
-/// Client 1 of a node alone asks for `r`, and enters.
+/// Client 1 of a single node asks for `r`, and enters.
 const ENTERS: Done = At(1, Takes(ASK));
 
 /// Client 2 asks, and is queued.
 const QUEUES: Done = At(1, Takes(Ask(2, Mode::Exclusive)));
 
-/// Client 1 leaves, and client 2 enters, where it is queued.
+/// Client 1 leaves, and client 2 enters if it is queued.
 const LEAVES: Done = At(1, Takes(LEAVE));
 
 /// Client 2 leaves.
@@ -236,20 +236,20 @@ const USES: Client = Client {
     ops: USES_R,
 };
 
-/// A script of a node alone, whose plan is met.
+/// A script of a single node, whose plan is met.
 const MET: Case = Case {
     nodes: 1,
     made: &[ALONE],
     ..IDLE
 };
 
-/// A script of a node alone, whose plan is not met.
+/// A script of a single node, whose plan is not met.
 const UNMET: Case = Case {
     refusal: Some(ClusterError::PlanUnmet),
     ..MET
 };
 
-/// Scripts of a node alone, and the events there.
+/// Scripts of a single node, and the events there.
 const PLANS: &[Case] = &[
     Case {
         shows: "no lock",
@@ -264,7 +264,7 @@ const PLANS: &[Case] = &[
         ..MET
     },
     Case {
-        // Client 2, whom the script does not have, is queued, of which no mark tells.
+        // Client 2, which is not in the script, is queued; no mark reports that.
         shows: "a lock, and another client is queued",
         clients: &[LOCKS],
         done: &[ENTERS, QUEUES],
@@ -323,7 +323,7 @@ const USED: Case = Case {
 /// It asks, and the REQUEST goes out.
 const REQUESTS: Done = At(1, Posts(ASK, Some(&ASKS), Some(Turn::Requested)));
 
-/// What is missing of that.
+/// Cases in which a part of that is missing.
 const MISSING: &[Case] = &[
     Case {
         shows: "nothing has happened",
@@ -346,7 +346,7 @@ fn what_is_missing_at_two_nodes_leaves_the_plan_unmet(rt: HostRuntime) {
     assert_outcomes(&rt, MISSING);
 }
 
-/// Grants of a node alone where a client locks `r`.
+/// Grants of a single node whose client locks `r`.
 const GRANTS: &[Case] = &[
     Case {
         shows: "a grant that was got",

@@ -1,4 +1,4 @@
-//! Scripts that threads do.
+//! Scripts that threads run.
 use crate::endings::{ends_behind, fails_behind, is_done};
 use crate::helpers::{Counting, assert_prints, ran};
 use crate::plans::Does::{Locks, Shares, Unlocks};
@@ -10,7 +10,7 @@ use std::sync::Wait;
 use std::sync::atomic::Ordering;
 use std::thread::Threads;
 
-/// Returns whether a client alone that does these is refused for this reason, before any step.
+/// Returns whether a script whose only client does these is refused for this reason, before any step.
 fn is_refused<R: Threads + Wait + Abort + Sync>(
     rt: &R,
     alloc: Global,
@@ -22,7 +22,7 @@ fn is_refused<R: Threads + Wait + Abort + Sync>(
         && gate.steps.load(Ordering::SeqCst) == 0
 }
 
-/// Ends the test where it is not.
+/// Ends the test if it is not.
 fn assert_refused<R: AllocGlobal + Threads + Wait + Abort + Sync>(
     rt: &R,
     shows: &str,
@@ -35,10 +35,10 @@ fn assert_refused<R: AllocGlobal + Threads + Wait + Abort + Sync>(
 /// A client locks a name below the one that it holds.
 const FALLING: &[Does] = &[Locks(b'b'), Locks(b'a'), Unlocks(b'a'), Unlocks(b'b')];
 
-/// It does so after it gave the lower one back.
+/// It does so after it unlocked the lower one.
 const FALLING_LATER: &[Does] = &[Locks(b'a'), Unlocks(b'a'), Locks(b'b'), Shares(b'a')];
 
-/// It gives one of two names back.
+/// It unlocks one of two names.
 const ONE_OF_TWO: &[Does] = &[Locks(b'a'), Locks(b'b'), Unlocks(b'b')];
 
 #[test]
@@ -59,7 +59,7 @@ fn names_out_of_order_or_kept_are_refused_before_any_step(rt: HostRuntime) {
     );
 }
 
-/// Ends the test where a client alone does not do these with so many requests, or the node does not step once for each.
+/// Ends the test unless the only client does these with this many requests, and the node steps once for each.
 fn assert_done_alone<R: AllocGlobal + Threads + Wait + Abort + Sync>(
     rt: &R,
     ops: &'static [Does],
@@ -79,7 +79,7 @@ fn assert_done_alone<R: AllocGlobal + Threads + Wait + Abort + Sync>(
 /// A client locks and unlocks one name after the other.
 const ONE_BY_ONE: &[Does] = &[Locks(b'b'), Unlocks(b'b'), Locks(b'a'), Unlocks(b'a')];
 
-/// A client has two names at a time.
+/// A client holds two names at a time.
 const OVERLAPPING: &[Does] = &[
     Locks(b'a'),
     Locks(b'b'),
@@ -95,13 +95,13 @@ fn names_in_order_are_taken_and_given_back(rt: HostRuntime) {
     assert_done_alone(&rt, OVERLAPPING, 3);
 }
 
-/// Returns whether a run has so many steps and marks, and is at its end with two requests and eight messages.
+/// Returns whether a run has the steps and marks of two writers, and ends with two requests and eight messages.
 fn is_of_two_writers(alloc: Global, settled: &Settled) -> bool {
-    // Two asks, two leaves and eight frames that come. Each client requests, enters and leaves.
-    is_done(alloc, 3, settled, 2, 8) && settled.steps.len() == 12 && settled.report.marks.len() == 6
+    // Two asks, two leaves and eight frames that arrive. Each client requests, enters and leaves.
+    is_done(settled, 2, 8) && settled.steps.len() == 12 && settled.report.marks.len() == 6
 }
 
-/// Returns whether two writers of three nodes come to their end.
+/// Returns whether two writers of three nodes run to their end.
 fn two_writers_end<R: Threads + Wait + Abort + Sync>(rt: &R, alloc: Global) -> bool {
     match script_of(alloc, 3, TWO_WRITERS) {
         Some(script) => match ran(rt, alloc, &script, &OpenGate) {
@@ -122,10 +122,10 @@ fn no_clients_do_nothing(rt: HostRuntime) {
     assert!(rt; ends_behind(&rt, rt.alloc(), 64, &[], &OpenGate, 0, 0));
 }
 
-/// A client has `a` exclusively and `b` shared at a time.
+/// A client holds `a` exclusively and `b` shared at the same time.
 const USES_TWO: &[Does] = &[Locks(b'a'), Shares(b'b'), Unlocks(b'a'), Unlocks(b'b')];
 
-/// Twelve clients at four nodes in turn, of which each third has two names and the others read `r`.
+/// Twelve clients at four nodes in turn. Every third one, from the first on, uses two names; the others read `r`.
 const TWELVE: &[Client] = &[
     Client {
         node: 1,
@@ -179,7 +179,7 @@ const TWELVE: &[Client] = &[
 
 #[test]
 fn many_clients_of_many_nodes(rt: HostRuntime) {
-    // 4 clients with two locks and 8 with one, and 6 messages for each.
+    // 4 clients with two locks and 8 with one, and 6 messages for each lock.
     assert!(rt; ends_behind(&rt, rt.alloc(), 4, TWELVE, &OpenGate, 16, 96));
 }
 
@@ -199,12 +199,12 @@ fn writers_of_64_nodes() -> [Client; 64] {
 
 #[test]
 fn as_many_nodes_and_clients_as_there_may_be(rt: HostRuntime) {
-    // Each of the 64 requests has a REQUEST to each of the 63 other nodes, and a REPLY from it.
+    // Each of the 64 requests sends a REQUEST to each of the 63 other nodes, and gets a REPLY from it.
     let clients = writers_of_64_nodes();
     assert!(rt; ends_behind(&rt, rt.alloc(), 64, &clients, &OpenGate, 64, 8064));
 }
 
-/// Why threads do not bring a script to its end, and the word of it.
+/// Why threads do not bring a script to its end, and the word printed for it.
 const ERRORS: &[(ClusterError, &str)] = &[
     (ClusterError::OutOfOrder, "OutOfOrder"),
     (ClusterError::Unreleased, "Unreleased"),

@@ -14,22 +14,22 @@ use ra_world::{Step, report_text};
 use std::alloc::Global;
 use std::process::Abort;
 
-/// A step of the run. All is about `r`, and the client of each node has its number.
+/// A step of the run. All steps are about `r`, and the client of each node has the node's number.
 #[derive(Clone, Copy)]
 pub enum Seen {
     /// The client of this node asks.
     Asked(u16, Mode),
     /// The client of this node leaves.
     Left(u16),
-    /// A REQUEST from this node comes to this one.
+    /// A REQUEST from the first node is delivered to the second.
     Requested(u16, u16, Mode),
-    /// A REPLY from this node comes to this one.
+    /// A REPLY from the first node is delivered to the second.
     Replied(u16, u16),
-    /// A REQUEST from this node to this one is lost.
+    /// A REQUEST from the first node to the second is lost.
     Lost(u16, u16, Mode),
 }
 
-/// What comes of books.
+/// The outcome of settling books.
 #[derive(Clone, Copy)]
 pub enum Outcome {
     /// They are refused for this reason.
@@ -66,17 +66,25 @@ fn is_step(found: &Step, name: Name, seen: Seen) -> bool {
     }
 }
 
-/// Returns whether the steps are these.
-fn are_steps(found: &[Step], all: &[Seen]) -> bool {
-    let Some(name) = r() else {
-        return false;
-    };
+/// Returns how many of the steps are these, up to the first that differs, or `None` if more steps follow.
+fn steps_so(found: &[Step], all: &[Seen]) -> Option<usize> {
+    let (name, mut count) = (r()?, 0usize);
     for (found, seen) in found.iter().zip(all.iter()) {
         if !is_step(found, name, *seen) {
-            return false;
+            return Some(count);
         }
+        count = count.saturating_add(1);
     }
-    found.len() == all.len()
+    if found.len() > all.len() {
+        None
+    } else {
+        Some(count)
+    }
+}
+
+/// Returns whether the steps are these.
+fn are_steps(found: &[Step], all: &[Seen]) -> bool {
+    steps_so(found, all) == Some(all.len())
 }
 
 /// Returns whether the report prints as this text.
@@ -87,7 +95,7 @@ fn has_text(alloc: Global, settled: &Settled, text: &str) -> bool {
     }
 }
 
-/// Returns whether books are a cluster, and this comes of them.
+/// Returns whether books are a cluster and have this outcome.
 pub fn comes(alloc: Global, books: &[Book], grants: &[Grant], outcome: Outcome) -> bool {
     if !is_cluster(books) {
         return false;
@@ -101,41 +109,50 @@ pub fn comes(alloc: Global, books: &[Book], grants: &[Grant], outcome: Outcome) 
     }
 }
 
-/// Returns whether this comes of the books of two nodes to which all of this was done, with these grants.
-fn has_outcome(alloc: Global, done: &[Done], granted: &[Granted], outcome: Outcome) -> bool {
-    match (
-        books_after(alloc, &[ONE, TWO], done),
-        grants_of(alloc, granted),
-    ) {
-        (Some(books), Some(grants)) => comes(alloc, &books, &grants, outcome),
-        _ => false,
+/// Ends the test unless the books are a cluster and have this outcome.
+fn assert_settles<R: Abort + AllocGlobal>(
+    rt: &R,
+    books: &[Book],
+    grants: &[Grant],
+    outcome: Outcome,
+) {
+    assert!(rt; is_cluster(books), "the books are a cluster");
+    match (settle(rt.alloc(), books, grants), outcome) {
+        (Ok(settled), Settles(steps, text)) => {
+            let so = steps_so(settled.steps.as_slice(), steps);
+            assert!(rt; so == Some(steps.len()), "the steps up to {so:?} are so");
+            assert!(rt; has_text(rt.alloc(), &settled, text), "the report is so");
+        }
+        (Ok(_), Refused(fault)) => panic!(rt; "it settles, and is not refused: {fault}"),
+        (Err(found), Refused(fault)) => assert_eq!(rt; found, fault),
+        (Err(found), Settles(_, _)) => panic!(rt; "it does not settle: {found}"),
     }
 }
 
-/// Ends the test where it does not.
+/// Does all of this to the books of two nodes. Ends the test if these and the grants have another outcome.
 fn assert_outcome<R: Abort + AllocGlobal>(
     rt: &R,
     done: &[Done],
     granted: &[Granted],
     outcome: Outcome,
 ) {
-    assert!(rt;
-        has_outcome(rt.alloc(), done, granted, outcome),
-        "{} were done, with {} grants",
-        done.len(),
-        granted.len()
-    );
-}
-
-/// Returns whether these books are a cluster, or `None` where there are no such books.
-fn are_cluster(alloc: Global, made: &[Made]) -> Option<bool> {
-    match books_after(alloc, made, &[]) {
-        Some(books) => Some(is_cluster(&books)),
-        None => None,
+    let books = books_after(rt.alloc(), &[ONE, TWO], done);
+    match (books, grants_of(rt.alloc(), granted)) {
+        (Ok(books), Some(grants)) => assert_settles(rt, &books, &grants, outcome),
+        (Err(place), _) => panic!(rt; "what is done at place {place}, counted from 0, can't be"),
+        (Ok(_), None) => panic!(rt; "there are no such grants"),
     }
 }
 
-/// Books that are no cluster.
+/// Returns whether these books are a cluster, or `None` if there are no such books.
+fn are_cluster(alloc: Global, made: &[Made]) -> Option<bool> {
+    match books_after(alloc, made, &[]) {
+        Ok(books) => Some(is_cluster(&books)),
+        Err(_) => None,
+    }
+}
+
+/// Books that are not a cluster.
 const NO_CLUSTERS: &[&[Made]] = &[
     &[TWO, ONE],
     &[ONE, ONE],
@@ -152,7 +169,7 @@ fn books_of_all_nodes_in_order_are_a_cluster(rt: HostRuntime) {
     }
 }
 
-/// The client of node 1 locks `r` exclusively, for which node 2 answers, and unlocks it.
+/// The client of node 1 locks `r` exclusively, node 2 replies, and the client unlocks it.
 const LOCKS_ONCE: &[Done] = &[
     At(1, Takes(ASK)),
     Passes(1, 0),
@@ -160,10 +177,10 @@ const LOCKS_ONCE: &[Done] = &[
     At(1, Takes(LEAVE)),
 ];
 
-/// The grant of node 1, exclusively.
+/// The exclusive grant of node 1.
 const FIRST: Granted = Granted(1, 1, Exclusive, 1);
 
-/// The run of it.
+/// The run into which this settles.
 const LOCKED_ONCE: &[Seen] = &[
     Asked(1, Exclusive),
     Requested(1, 2, Exclusive),
@@ -179,14 +196,14 @@ fn one_lock_settles_into_the_run_of_it(rt: HostRuntime) {
     assert_outcome(&rt, LOCKS_ONCE, &[FIRST], outcome);
 }
 
-/// The REQUEST of [`ASKS`] comes to node 2.
+/// The REQUEST of [`ASKS`] arrives at node 2.
 const HEARS: Done = At(2, Takes(Receive(&ASKS)));
 
 #[test]
 fn a_frame_that_was_not_sent_is_refused(rt: HostRuntime) {
     let not_sent = Refused(SettleError::NotSent);
     assert_outcome(&rt, &[HEARS], &[], not_sent);
-    // It comes before a grant that is missing.
+    // It takes precedence over a missing grant.
     assert_outcome(&rt, &[HEARS], &[FIRST], not_sent);
 }
 
@@ -197,7 +214,7 @@ const ASKS_AT_2: [u8; 25] = [
 
 #[test]
 fn a_frame_with_another_clock_was_not_sent(rt: HostRuntime) {
-    // It is sent at clock 1.
+    // It was sent at clock 1.
     assert_outcome(
         &rt,
         &[At(1, Takes(ASK)), At(2, Takes(Receive(&ASKS_AT_2)))],
@@ -226,7 +243,7 @@ fn a_request_that_waits_is_no_grant(rt: HostRuntime) {
 fn each_grant_stands_once(rt: HostRuntime) {
     let twice = Refused(SettleError::GrantTwice);
     assert_outcome(&rt, LOCKS_ONCE, &[FIRST, FIRST], twice);
-    // A grant that is missing comes before it.
+    // A missing grant takes precedence over it.
     let missing = Refused(SettleError::GrantMissing);
     assert_outcome(
         &rt,
@@ -263,8 +280,9 @@ fn a_lost_frame_is_lost_at_the_end(rt: HostRuntime) {
     assert_outcome(&rt, &[At(1, Takes(ASK)), At(1, Loses(1))], &[], LOST_ONCE);
 }
 
-/// The clients of two nodes ask for `r` shared, each at clock 1, and the REQUESTs and the REPLYs come, each event of the one node
-/// at the clock of one of the other; and both leave. In each book the REQUEST stands first, and then the REPLY.
+/// The clients of two nodes ask for `r` shared, each at clock 1. The REQUESTs and the REPLYs arrive, and both clients
+/// leave. Each event of one node has the clock of an event of the other. Each book sends the REQUEST first, and then
+/// the REPLY.
 const READ_AT_ONCE: &[Done] = &[
     At(1, Takes(Ask(1, Shared))),
     At(2, Takes(Ask(2, Shared))),
@@ -276,7 +294,7 @@ const READ_AT_ONCE: &[Done] = &[
     At(2, Takes(Leave(2))),
 ];
 
-/// The run of it.
+/// The run into which this settles.
 const READS_AT_ONCE: &[Seen] = &[
     Asked(1, Shared),
     Asked(2, Shared),
@@ -302,7 +320,7 @@ fn events_of_one_clock_are_settled_by_node(rt: HostRuntime) {
     );
 }
 
-/// Returns whether the event at each place of a book has the clock above it, and there are four.
+/// Returns whether a book has four events, and the clock of each is its place plus one.
 fn has_four_clocks(book: &Book) -> bool {
     for place in 0..4u64 {
         match book.events().at(place) {
@@ -313,14 +331,14 @@ fn has_four_clocks(book: &Book) -> bool {
     book.events().len() == 4
 }
 
-/// Returns whether it is so of the book of each node where both read at once.
+/// Returns whether this is so for the book of each node when both read at once.
 fn both_have_four_clocks(alloc: Global) -> bool {
     match books_after(alloc, &[ONE, TWO], READ_AT_ONCE) {
-        Some(books) => match books.as_slice() {
+        Ok(books) => match books.as_slice() {
             [one, two] => has_four_clocks(one) && has_four_clocks(two),
             _ => false,
         },
-        None => false,
+        Err(_) => false,
     }
 }
 
@@ -329,7 +347,7 @@ fn who_reads_at_once_has_the_same_clocks(rt: HostRuntime) {
     assert!(rt; both_have_four_clocks(rt.alloc()));
 }
 
-/// Why books do not settle, and the word of it.
+/// Why books do not settle, and the word printed for it.
 const ERRORS: &[(SettleError, &str)] = &[
     (SettleError::NotSent, "NotSent"),
     (SettleError::Twice, "Twice"),

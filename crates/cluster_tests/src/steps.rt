@@ -15,45 +15,46 @@ use std::sync::Wait;
 use std::sync::atomic::Ordering;
 use std::thread::Threads;
 
-/// What a cluster does or shows. All requests are for `r`, exclusively, with number 1, and all that lock it are client 1 of their
-/// node.
+/// What a cluster does or shows. All requests are for `r`, exclusively, with number 1. Only client 1 of each node locks
+/// it.
 #[derive(Clone, Copy)]
 pub enum Step {
-    /// The post sends a REQUEST of this clock between these nodes.
+    /// The post sends a REQUEST with this clock from the first node to the second.
     Sends(u64, u16, u16),
-    /// It does not send one of clock 1 between these nodes, for this reason.
+    /// It refuses to send one with clock 1 from the first node to the second, for this reason.
     RefusesToSend(u16, u16, SendError),
     /// The post is closed.
     ClosesPost,
-    /// The inbox at this place is gone, and those after it are at one place less.
+    /// The inbox at this place is dropped, and those after it move one place to the front.
     LosesInbox(usize),
-    /// All inboxes are gone.
+    /// All inboxes are dropped.
     LosesAllInboxes,
-    /// The site of this node is stopped for this cause.
+    /// The site of this node is stopped for this reason.
     Stops(u16, Stop),
     /// The client of this node locks `r`.
     Locks(u16),
-    /// It does not, for this reason.
+    /// The client of this node does not lock `r`, for this reason.
     RefusesToLock(u16, SiteError),
     /// The client of this node unlocks `r`.
     Unlocks(u16),
-    /// It does not, for this reason.
+    /// The client of this node does not unlock `r`, for this reason.
     RefusesToUnlock(u16, SiteError),
-    /// The site of this node takes the frames of the inbox at its place.
+    /// The site of this node takes the frames from the inbox at its place.
     Pumps(u16),
-    /// In the inbox at this place, that of this node, so many frames are left, which another site of the node takes. The post is
-    /// closed before.
+    /// This many frames are left in the inbox at this place, that of this node. Another site of the node takes them.
+    /// The post has to be closed before.
     HasLeft(usize, u16, u64),
-    /// Just the REQUEST of clock 1 from node 1 to node 2 is left in the inbox of node 2, likewise.
+    /// Only the REQUEST with clock 1 from node 1 to node 2 is left in the inbox of node 2, which another site of node 2
+    /// takes. The post has to be closed before.
     HasLeftOne,
-    /// The gate has counted so many steps.
+    /// The gate has counted this many steps.
     HasStepped(u64),
 }
 
 /// A book at the end: its fault, and how many events it has.
 #[derive(Clone, Copy)]
 pub struct Ended {
-    /// What it was stopped for.
+    /// Why it was stopped, if it was.
     pub fault: Option<Stop>,
     /// How many events it has.
     pub events: u64,
@@ -67,7 +68,7 @@ pub fn runs(events: u64) -> Ended {
     }
 }
 
-/// The book of a node that is stopped for this cause.
+/// The book of a node that is stopped for this reason.
 pub fn stopped(stop: Stop, events: u64) -> Ended {
     Ended {
         fault: Some(stop),
@@ -88,7 +89,7 @@ pub struct Cluster {
     gate: Counting,
 }
 
-/// Makes a cluster of this many nodes, whose numbers begin at `start` and whose gate lets so many steps pass.
+/// Makes a cluster of this many nodes. Its numbers begin at `start`, and its gate lets `most` steps pass.
 pub fn make_cluster(alloc: Global, nodes: u16, start: u64, most: u64) -> Option<Cluster> {
     let sites = sites_of(alloc, nodes, start)?;
     let (post, inboxes) = Post::new(alloc, nodes).ok()?;
@@ -107,7 +108,8 @@ fn site(sites: &[Site], number: u16) -> Option<&Site> {
     sites.get(usize::from(number).wrapping_sub(1))
 }
 
-/// Sends a message in a frame of this clock. Returns whether the refusal is this one.
+/// Sends a message in a frame with this clock. Returns whether it is refused for this reason, or is sent if there is no
+/// reason.
 fn sends<R: Wait>(
     rt: &R,
     alloc: Global,
@@ -129,7 +131,7 @@ fn sends<R: Wait>(
     }
 }
 
-/// Returns whether a client is let in, or is not for this reason.
+/// Returns whether a client locks the name, or does not for this reason.
 fn locks<R: Wait>(
     rt: &R,
     alloc: Global,
@@ -148,7 +150,7 @@ fn locks<R: Wait>(
     }
 }
 
-/// Returns whether a client gives the name back, or does not for this reason.
+/// Returns whether a client unlocks the name, or does not for this reason.
 fn unlocks<R: Wait>(
     rt: &R,
     alloc: Global,
@@ -187,8 +189,8 @@ fn pumps<R: Wait>(rt: &R, alloc: Global, all: &Cluster, number: u16) -> bool {
     }
 }
 
-/// A new site of a node of so many takes all frames that are left in an inbox. Returns how many events its book has then, and the
-/// first.
+/// Makes a new site of one of this many nodes, which takes all frames that are left in an inbox. Returns how many
+/// events its book then has, and the first of them.
 fn taken<R: Wait>(
     rt: &R,
     alloc: Global,
@@ -203,7 +205,7 @@ fn taken<R: Wait>(
     Some((book.events().len(), book.events().at(0)))
 }
 
-/// Returns this for the inbox at a place, that of the node with this number. The site sends by a post of its own.
+/// Does this for the inbox at a place, that of the node with this number. The site sends through a post of its own.
 fn taken_from<R: Wait>(
     rt: &R,
     alloc: Global,
@@ -218,7 +220,8 @@ fn taken_from<R: Wait>(
     }
 }
 
-/// Returns whether so many frames are left in the inbox at a place, that of the node with this number. The post is closed before.
+/// Returns whether this many frames are left in the inbox at a place, that of the node with this number. The post has
+/// to be closed before.
 pub fn has_left<R: Wait>(
     rt: &R,
     alloc: Global,
@@ -233,7 +236,7 @@ pub fn has_left<R: Wait>(
     }
 }
 
-/// Returns whether just the message is left in the inbox of node 2, in a frame of clock 1.
+/// Returns whether only the message is left in the inbox of node 2, in a frame with clock 1.
 fn has_left_one<R: Wait>(rt: &R, alloc: Global, all: &Cluster, message: &Message) -> bool {
     let (clock, message) = (1, *message);
     let kind = BookKind::Got(Frame { clock, message });
@@ -243,7 +246,7 @@ fn has_left_one<R: Wait>(rt: &R, alloc: Global, all: &Cluster, message: &Message
     }
 }
 
-/// Returns the REQUEST between these nodes.
+/// Returns the REQUEST from one node to the other.
 fn asks(name: Name, from: u16, to: u16) -> Option<Message> {
     request(name, from, to, Mode::Exclusive)
 }
@@ -288,18 +291,33 @@ fn does<R: Wait>(rt: &R, alloc: Global, all: &mut Cluster, name: Name, step: Ste
     }
 }
 
-/// Returns whether a cluster does and shows all of this, in order.
-fn does_all<R: Wait>(rt: &R, alloc: Global, all: &mut Cluster, name: Name, steps: &[Step]) -> bool {
-    for step in steps {
-        if !does(rt, alloc, all, name, *step) {
-            return false;
+/// Returns how many of these steps a cluster does or shows, in order, up to the first that it does not.
+fn done<R: Wait>(rt: &R, alloc: Global, all: &mut Cluster, name: Name, steps: &[Step]) -> usize {
+    for place in 0..steps.len() {
+        if !does(rt, alloc, all, name, steps[place]) {
+            return place;
         }
     }
-    true
+    steps.len()
 }
 
-/// Has a cluster do and show all of this, in order, and returns its books, or `None` where it does not. The cluster is of this many
-/// nodes, its numbers begin at `start`, and its gate lets so many steps pass.
+/// What is not as it should be.
+#[derive(Clone, Copy)]
+enum Wrong {
+    /// There is no such cluster.
+    Cluster,
+    /// The step at this place is not done or shown.
+    Step(usize),
+    /// The book of this node does not end as expected.
+    Book(usize),
+}
+
+/// Has a cluster do and show all of this, in order, and returns its books. The cluster has this many nodes, its numbers
+/// begin at `start`, and its gate lets `most` steps pass.
+///
+/// # Errors
+///
+/// What is not as it should be.
 fn books_of_steps<R: Wait>(
     rt: &R,
     alloc: Global,
@@ -307,16 +325,18 @@ fn books_of_steps<R: Wait>(
     start: u64,
     most: u64,
     steps: &[Step],
-) -> Option<Vec<Book>> {
-    let name = r()?;
-    let mut all = make_cluster(alloc, nodes, start, most)?;
-    if !does_all(rt, alloc, &mut all, name, steps) {
-        return None;
+) -> Result<Vec<Book>, Wrong> {
+    let (Some(name), Some(mut all)) = (r(), make_cluster(alloc, nodes, start, most)) else {
+        return Err(Wrong::Cluster);
+    };
+    let done = done(rt, alloc, &mut all, name, steps);
+    if done < steps.len() {
+        return Err(Wrong::Step(done));
     }
-    books_of(alloc, all.sites)
+    books_of(alloc, all.sites).ok_or(Wrong::Cluster)
 }
 
-/// The same in a thread.
+/// Has a cluster do and show all of this, in order, in a thread, and returns its books, or `None` if it does not.
 pub fn books_after<R: Threads + Wait + Abort + Sync>(
     rt: &R,
     alloc: Global,
@@ -327,40 +347,59 @@ pub fn books_after<R: Threads + Wait + Abort + Sync>(
 ) -> Option<Vec<Book>> {
     in_a_thread(
         rt,
-        move || books_of_steps(rt, alloc, nodes, start, most, steps),
+        move || books_of_steps(rt, alloc, nodes, start, most, steps).ok(),
     )
 }
 
-/// Returns whether the books have ended so, and there are no others.
-pub fn have_ended(books: &[Book], ended: &[Ended]) -> bool {
+/// Returns how many of the books, from the first on, end as expected, or `None` if there are more or fewer books.
+fn ended_so(books: &[Book], ended: &[Ended]) -> Option<usize> {
+    let mut count = 0usize;
     for (book, ended) in books.iter().zip(ended.iter()) {
         if book.fault() != ended.fault || book.events().len() != ended.events {
-            return false;
+            return Some(count);
         }
+        count = count.saturating_add(1);
     }
-    books.len() == ended.len()
+    if books.len() == ended.len() {
+        Some(count)
+    } else {
+        None
+    }
 }
 
-/// Returns whether a cluster of as many nodes as end so, whose numbers begin at `start` and whose gate lets so many steps pass, does
-/// and shows all of this, in order.
-fn does_from<R: Threads + Wait + Abort + Sync>(
+/// Returns whether all the books end as expected, and there are no others.
+pub fn have_ended(books: &[Book], ended: &[Ended]) -> bool {
+    ended_so(books, ended) == Some(ended.len())
+}
+
+/// Has a cluster do and show all of this. It has a node for each end, its numbers begin at `start`, and its gate lets
+/// `most` steps pass. Returns what is not as it should be, or `None` if all is.
+fn wrong_from<R: Threads + Wait + Abort + Sync>(
     rt: &R,
     alloc: Global,
     start: u64,
     most: u64,
     steps: &[Step],
     ended: &[Ended],
-) -> bool {
+) -> Option<Wrong> {
     let Ok(nodes) = u16::try_from(ended.len()) else {
-        return false;
+        return Some(Wrong::Cluster);
     };
-    match books_after(rt, alloc, nodes, start, most, steps) {
-        Some(books) => have_ended(&books, ended),
-        None => false,
+    let made = in_a_thread(
+        rt,
+        move || books_of_steps(rt, alloc, nodes, start, most, steps),
+    );
+    match made {
+        Ok(books) => match ended_so(&books, ended) {
+            Some(count) if count == ended.len() => None,
+            Some(count) => Some(Wrong::Book(count.saturating_add(1))),
+            None => Some(Wrong::Cluster),
+        },
+        Err(wrong) => Some(wrong),
     }
 }
 
-/// Ends the test where it does not.
+/// Ends the test if something is not as it should be.
 pub fn assert_does_from<R: AllocGlobal + Threads + Wait + Abort + Sync>(
     rt: &R,
     start: u64,
@@ -368,14 +407,15 @@ pub fn assert_does_from<R: AllocGlobal + Threads + Wait + Abort + Sync>(
     steps: &[Step],
     ended: &[Ended],
 ) {
-    assert!(rt;
-        does_from(rt, rt.alloc(), start, most, steps, ended),
-        "{} steps",
-        steps.len()
-    );
+    match wrong_from(rt, rt.alloc(), start, most, steps, ended) {
+        None => {}
+        Some(Wrong::Cluster) => panic!(rt; "there is no such cluster"),
+        Some(Wrong::Step(place)) => panic!(rt; "step {place}, counted from 0"),
+        Some(Wrong::Book(node)) => panic!(rt; "the book of node {node} has not ended so"),
+    }
 }
 
-/// The same from number 0, and all steps pass.
+/// Does the same from number 0, with a gate that lets all steps pass.
 pub fn assert_cluster_does<R: AllocGlobal + Threads + Wait + Abort + Sync>(
     rt: &R,
     steps: &[Step],

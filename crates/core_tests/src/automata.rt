@@ -4,8 +4,8 @@ use crate::steps::{Answer, NOTHING, Step, Wire, follow};
 use Answer::{Defer, Reply};
 use Mode::{Exclusive, Shared};
 use Step::{
-    Asks, Awaits, Begins, Defers, IsIdle, IsInside, Leaves, LeavesAndAsks, RefusesToAsk,
-    RefusesToLeave, RefusesToLeaveAndAsk, TakesReply, TakesRequest, Waits,
+    Asks, Awaits, Begins, Defers, IgnoresReply, IsIdle, IsInside, Leaves, LeavesAndAsks,
+    RefusesToAsk, RefusesToLeave, RefusesToLeaveAndAsk, TakesReply, TakesRequest, Waits,
 };
 use Wire::{Replies, Requests};
 use ra_automaton::RequestError;
@@ -23,8 +23,12 @@ fn a_request_is_asked_deferred_granted_and_left(rt: HostRuntime) {
         TakesRequest(3, Exclusive, 1, Defer),
         Defers([None, None, Some(1)]),
         TakesReply(1, 1, false),
+        Waits(Exclusive, 1, 1),
         Awaits([false, false, true]),
-        TakesReply(1, 1, false),
+        IgnoresReply(1, 1),
+        Waits(Exclusive, 1, 1),
+        Awaits([false, false, true]),
+        Defers([None, None, Some(1)]),
         TakesReply(3, 1, true),
         IsInside(Exclusive, 1, 1),
         RefusesToAsk(RequestError::NotIdle),

@@ -4,8 +4,9 @@ use Mode::{Exclusive, IntentExclusive, IntentShared, Shared, SharedIntentExclusi
 use ra_frame::{Frame, FrameError, decode, encode};
 use ra_stamp::{Message, Mode, Name, NodeId};
 use std::alloc::Global;
+use std::process::Abort;
 
-/// A REQUEST of number 1 from node 1 to node 2 for `r`, exclusively, at clock 1, in version 1.
+/// A REQUEST with number 1 from node 1 to node 2 for `r`, exclusively, at clock 1, in version 1.
 pub const ASKS_1: [u8; 23] = [
     1, 1, 1, 2, 1, 0, 0, 0, 0, 0, 0, 0, 1, 0, 0, 0, 0, 0, 0, 0, 1, 1, b'r',
 ];
@@ -33,7 +34,7 @@ const LONGEST_1: [u8; 54] = [
     0x75, 0x76, 0x77, 0x78,
 ];
 
-/// The same in version 2, in which no frame is longer.
+/// The same in version 2, also its longest frame.
 const LONGEST_2: [u8; 56] = [
     2, 1, 0, 16, 0, 1, 0, 0x01, 0x02, 0x03, 0x04, 0x05, 0x06, 0x07, 0x08, 0x11, 0x12, 0x13, 0x14,
     0x15, 0x16, 0x17, 0x18, 32, 0x41, 0x5a, 0x61, 0x7a, 0x30, 0x39, 0x5f, 0x2d, 0x2e, 0x62, 0x63,
@@ -112,18 +113,27 @@ fn is_written(alloc: Global, frame: &Frame, bytes: &[u8]) -> bool {
     }
 }
 
-/// Returns whether the bytes of version 2 are read as the frame, and the frame is written as them.
+/// Returns whether the bytes of version 2 are read as the frame, and the frame is written as these bytes.
 fn comes_back(alloc: Global, bytes: &[u8], frame: &Frame) -> bool {
     is_read(bytes, frame) && is_written(alloc, frame, bytes)
 }
 
-/// Returns whether the bytes of version 1, and those of version 2, are read as the frame, and it is written as the latter.
-fn comes_anew(alloc: Global, old: &[u8], new: &[u8], frame: &Frame) -> bool {
-    is_read(old, frame) && comes_back(alloc, new, frame)
+/// Asserts that the bytes of both versions are read as the frame, and that it is written as those of version 2.
+fn assert_comes_anew(
+    rt: &(impl Abort + AllocGlobal),
+    label: &str,
+    old: &[u8],
+    new: &[u8],
+    frame: &Frame,
+) {
+    assert!(rt; is_read(old, frame), "{label} is read in version 1");
+    assert!(rt; is_read(new, frame), "{label} is read in version 2");
+    assert!(rt; is_written(rt.alloc(), frame, new), "{label} is written");
 }
 
-/// Returns whether three REQUESTs are read in both versions, and written in version 2.
-fn three_requests_come_anew(alloc: Global, name: Name) -> bool {
+#[test]
+fn requests_are_read_in_both_versions_and_written_in_the_second(rt: HostRuntime) {
+    let name = r().expect(&rt, "r is a name");
     let (numbered_1, numbered_2) = (
         with(&ASKS_1, &[(5, 1), (12, 2)]),
         with(&ASKS_2, &[(7, 1), (14, 2)]),
@@ -132,20 +142,14 @@ fn three_requests_come_anew(alloc: Global, name: Name) -> bool {
         with(&ASKS_1, &[(13, 0x40), (20, 0)]),
         with(&ASKS_2, &[(15, 0x40), (22, 0)]),
     );
+    let (first, latest) = (request(name, 1, 1), request(name, LAST, 1));
     let numbered = request(name, 1, (1 << 56) + 2);
-    comes_anew(alloc, &ASKS_1, &ASKS_2, &request(name, 1, 1))
-        && comes_anew(alloc, &numbered_1, &numbered_2, &numbered)
-        && comes_anew(alloc, &latest_1, &latest_2, &request(name, LAST, 1))
+    assert_comes_anew(&rt, "the first REQUEST", &ASKS_1, &ASKS_2, &first);
+    assert_comes_anew(&rt, "a long number", &numbered_1, &numbered_2, &numbered);
+    assert_comes_anew(&rt, "the last clock", &latest_1, &latest_2, &latest);
 }
 
-#[test]
-fn requests_are_read_in_both_versions_and_written_in_the_second(rt: HostRuntime) {
-    let name = r();
-    assert!(rt; name.is_some());
-    assert!(rt; three_requests_come_anew(rt.alloc(), name.unwrap()));
-}
-
-/// The changes of a REPLY of version 1 that give it the greatest number and the greatest clock.
+/// The changes that give a REPLY of version 1 the greatest number and the greatest clock.
 const GREATEST_1: [Change; 10] = [
     (5, 0xff),
     (6, 0xff),
@@ -173,9 +177,9 @@ const GREATEST_2: [Change; 10] = [
     (22, 0),
 ];
 
-/// Returns whether three REPLYs are read in both versions, and written in version 2.
-fn three_replies_come_anew(alloc: Global, name: Name) -> bool {
-    let to_second = Frame {
+/// Returns a REPLY from node 1 to node 2.
+fn reply_to_second(name: Name) -> Frame {
+    Frame {
         clock: 1,
         message: Message::Reply {
             from: node(1),
@@ -183,30 +187,25 @@ fn three_replies_come_anew(alloc: Global, name: Name) -> bool {
             name,
             seq: 1,
         },
-    };
+    }
+}
+
+#[test]
+fn replies_are_read_in_both_versions_and_written_in_the_second(rt: HostRuntime) {
+    let name = r().expect(&rt, "r is a name");
     let (turned_1, turned_2) = (
         with(&REPLIES_1, &[(2, 1), (3, 2), (20, 1)]),
         with(&REPLIES_2, &[(3, 1), (5, 2), (22, 1)]),
     );
     let (greatest_1, greatest_2) = (with(&REPLIES_1, &GREATEST_1), with(&REPLIES_2, &GREATEST_2));
-    comes_anew(alloc, &REPLIES_1, &REPLIES_2, &reply(name, 2, 1))
-        && comes_anew(alloc, &turned_1, &turned_2, &to_second)
-        && comes_anew(
-            alloc,
-            &greatest_1,
-            &greatest_2,
-            &reply(name, LAST, u64::MAX),
-        )
+    let (first, turned) = (reply(name, 2, 1), reply_to_second(name));
+    let greatest = reply(name, LAST, u64::MAX);
+    assert_comes_anew(&rt, "the first REPLY", &REPLIES_1, &REPLIES_2, &first);
+    assert_comes_anew(&rt, "a REPLY to node 2", &turned_1, &turned_2, &turned);
+    assert_comes_anew(&rt, "the greatest", &greatest_1, &greatest_2, &greatest);
 }
 
-#[test]
-fn replies_are_read_in_both_versions_and_written_in_the_second(rt: HostRuntime) {
-    let name = r();
-    assert!(rt; name.is_some());
-    assert!(rt; three_replies_come_anew(rt.alloc(), name.unwrap()));
-}
-
-/// Returns a REQUEST of the longest frame's parts.
+/// Returns a REQUEST with the values of the longest frame.
 fn longest_request(name: Name) -> Frame {
     Frame {
         clock: 0x1112_1314_1516_1718,
@@ -220,7 +219,7 @@ fn longest_request(name: Name) -> Frame {
     }
 }
 
-/// Returns a REPLY of the same parts.
+/// Returns a REPLY with the same values.
 fn longest_reply(name: Name) -> Frame {
     Frame {
         clock: 0x1112_1314_1516_1718,
@@ -233,21 +232,14 @@ fn longest_reply(name: Name) -> Frame {
     }
 }
 
-/// Returns whether the longest REQUEST and the longest REPLY are read in both versions, and written in version 2.
-fn the_longest_come_anew(alloc: Global) -> bool {
-    let (reply_1, reply_2) = (with(&LONGEST_1, &[(1, 2)]), with(&LONGEST_2, &[(1, 2)]));
-    match Name::new(b"AZaz09_-.bcdefghijklmnopqrstuvwx") {
-        Ok(name) => {
-            comes_anew(alloc, &LONGEST_1, &LONGEST_2, &longest_request(name))
-                && comes_anew(alloc, &reply_1, &reply_2, &longest_reply(name))
-        }
-        Err(_) => false,
-    }
-}
-
 #[test]
 fn the_longest_frames_are_read_in_both_versions_and_written_in_the_second(rt: HostRuntime) {
-    assert!(rt; the_longest_come_anew(rt.alloc()));
+    let (reply_1, reply_2) = (with(&LONGEST_1, &[(1, 2)]), with(&LONGEST_2, &[(1, 2)]));
+    let named = Name::new(b"AZaz09_-.bcdefghijklmnopqrstuvwx");
+    let name = named.expect(&rt, "a name has 32 bytes at most");
+    let (request, reply) = (longest_request(name), longest_reply(name));
+    assert_comes_anew(&rt, "the longest REQUEST", &LONGEST_1, &LONGEST_2, &request);
+    assert_comes_anew(&rt, "the longest REPLY", &reply_1, &reply_2, &reply);
 }
 
 /// Two nodes and a mode, and the changes that put them into the REQUEST of version 2.
@@ -265,7 +257,7 @@ const SENT: &[Sent] = &[
     Sent(63, 64, SharedIntentExclusive, &[(3, 63), (5, 64), (6, 4)]),
 ];
 
-/// Returns the REQUEST between the nodes in the mode, or `None` where there are no such nodes.
+/// Returns the REQUEST from the first node to the second in the mode, or `None` if there are no such nodes.
 fn sent_by(sent: &Sent, name: Name) -> Option<Frame> {
     match (NodeId::new(sent.0), NodeId::new(sent.1)) {
         (Some(from), Some(to)) => Some(Frame {
@@ -282,7 +274,7 @@ fn sent_by(sent: &Sent, name: Name) -> Option<Frame> {
     }
 }
 
-/// Returns whether it is read from the bytes with the changes, and written as them.
+/// Returns whether this REQUEST is read from the bytes with the changes, and written as these bytes.
 fn is_sent(alloc: Global, sent: &Sent, name: Name) -> bool {
     match sent_by(sent, name) {
         Some(frame) => comes_back(alloc, &with(&ASKS_2, sent.3), &frame),
@@ -290,7 +282,7 @@ fn is_sent(alloc: Global, sent: &Sent, name: Name) -> bool {
     }
 }
 
-/// Returns how many are so, up to the first that is not.
+/// Returns how many rows of `SENT` pass this, up to the first that does not.
 fn sent_rows(alloc: Global, name: Name) -> usize {
     for row in 0..SENT.len() {
         if !is_sent(alloc, &SENT[row], name) {
@@ -307,34 +299,42 @@ fn version_2_has_five_modes_and_64_nodes(rt: HostRuntime) {
     assert_rows(&rt, sent_rows(rt.alloc(), name.unwrap()), SENT.len());
 }
 
-/// Returns whether a REPLY with this mode is refused in both versions.
-fn has_no_mode(mode: u8) -> bool {
-    is_refused(&with(&REPLIES_1, &[(4, mode)]), FrameError::Mode)
-        && is_refused(&with(&REPLIES_2, &[(6, mode)]), FrameError::Mode)
-}
-
 #[test]
 fn a_reply_has_no_mode(rt: HostRuntime) {
-    assert!(rt; has_no_mode(1));
-    assert!(rt; has_no_mode(2));
-    assert!(rt; has_no_mode(255));
-}
-
-/// Returns whether four frames are written.
-fn four_are_written(alloc: Global, name: Name) -> bool {
-    let latest = with(&REPLIES_2, &[(15, 0x40), (22, 0)]);
-    let numbered = with(&REPLIES_2, &[(7, 1)]);
-    is_written(alloc, &request(name, 1, 1), &ASKS_2)
-        && is_written(alloc, &reply(name, 2, 1), &REPLIES_2)
-        && is_written(alloc, &reply(name, LAST, 1), &latest)
-        && is_written(alloc, &reply(name, 2, (1 << 56) + 1), &numbered)
+    for mode in [1u8, 2, 255] {
+        let (first, second) = (
+            with(&REPLIES_1, &[(4, mode)]),
+            with(&REPLIES_2, &[(6, mode)]),
+        );
+        assert!(rt; is_refused(&first, FrameError::Mode), "{mode} in version 1");
+        assert!(rt;
+            is_refused(&second, FrameError::Mode),
+            "{mode} in version 2"
+        );
+    }
 }
 
 #[test]
 fn frames_are_written(rt: HostRuntime) {
-    let name = r();
-    assert!(rt; name.is_some());
-    assert!(rt; four_are_written(rt.alloc(), name.unwrap()));
+    let (alloc, name) = (rt.alloc(), r().expect(&rt, "r is a name"));
+    let latest = with(&REPLIES_2, &[(15, 0x40), (22, 0)]);
+    let numbered = with(&REPLIES_2, &[(7, 1)]);
+    assert!(rt;
+        is_written(alloc, &request(name, 1, 1), &ASKS_2),
+        "a REQUEST"
+    );
+    assert!(rt;
+        is_written(alloc, &reply(name, 2, 1), &REPLIES_2),
+        "a REPLY"
+    );
+    assert!(rt;
+        is_written(alloc, &reply(name, LAST, 1), &latest),
+        "the last clock"
+    );
+    assert!(rt;
+        is_written(alloc, &reply(name, 2, (1 << 56) + 1), &numbered),
+        "a long number"
+    );
 }
 
 /// Returns a REPLY from node 2 to itself.
@@ -350,21 +350,21 @@ fn reply_to_itself(name: Name) -> Frame {
     }
 }
 
-/// Returns whether frames fit whose clock, number and nodes are in their ranges, and others do not.
-fn frames_fit_by_their_ranges(name: Name) -> bool {
-    request(name, 1, 1).fits()
-        && reply(name, LAST, u64::MAX).fits()
-        && !reply(name, 0, 1).fits()
-        && !reply(name, LAST + 1, 1).fits()
-        && !request(name, 1, 0).fits()
-        && !reply_to_itself(name).fits()
-}
-
 #[test]
 fn a_frame_fits_by_its_ranges(rt: HostRuntime) {
-    let name = r();
-    assert!(rt; name.is_some());
-    assert!(rt; frames_fit_by_their_ranges(name.unwrap()));
+    let name = r().expect(&rt, "r is a name");
+    assert!(rt; request(name, 1, 1).fits(), "the least clock and number");
+    assert!(rt;
+        reply(name, LAST, u64::MAX).fits(),
+        "the greatest clock and number"
+    );
+    assert!(rt; !reply(name, 0, 1).fits(), "clock 0");
+    assert!(rt;
+        !reply(name, LAST + 1, 1).fits(),
+        "a clock above the last one"
+    );
+    assert!(rt; !request(name, 1, 0).fits(), "number 0");
+    assert!(rt; !reply_to_itself(name).fits(), "a REPLY to the node itself");
 }
 
 const FAULTS: &[(FrameError, &str)] = &[

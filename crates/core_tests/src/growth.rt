@@ -1,4 +1,4 @@
-//! Each growth refused: the call answers `Memory` and leaves all as it was, and is taken when it is made again.
+//! If a growth is refused, the call returns `Memory` and changes nothing, and it succeeds when it is made again.
 use crate::helpers::{node, r};
 use Call::{Ask, Leave, LeaveAndAsk, Reply, Request};
 use Tried::{Again, AtOnce, Wrong};
@@ -21,30 +21,32 @@ fn end(rt: &(impl Abort), tried: Tried) {
     );
 }
 
-/// A call of the automaton of node 1 of 2.
+/// A call to the automaton of node 1 of 2.
 #[derive(Clone, Copy)]
 enum Call {
     Ask,
-    /// The REPLY of node 2 to this number comes.
+    /// The REPLY of node 2 to this number arrives.
     Reply(u64),
-    /// The REQUEST of node 2 with this number comes.
+    /// The REQUEST of node 2 with this number arrives.
     Request(u64),
     LeaveAndAsk,
     Leave,
 }
 
-/// Each call once at least, and each is taken where it stands.
-const CALLS: [Call; 7] = [
+/// Every call at least once; each succeeds at its place. Both times that the automaton leaves, node 2 is deferred.
+const CALLS: [Call; 8] = [
     Request(3),
     Ask,
     Reply(4),
     Request(5),
     LeaveAndAsk,
     Reply(6),
+    Request(7),
     Leave,
 ];
 
-/// What is seen of an automaton: its phase, the highest number, whether it awaits node 2, and with which number it defers it.
+/// What is seen of an automaton: its phase, the highest number, whether it awaits node 2, and the number with which it
+/// defers node 2.
 type Look = (Phase, u64, bool, Option<u64>);
 
 fn look(automaton: &Automaton) -> Look {
@@ -64,7 +66,7 @@ fn looks_so(automaton: &Automaton, look: Look) -> bool {
         && automaton.deferred(node(2)) == deferred
 }
 
-/// Has the automaton take a message about its resource. Where it does not, returns whether memory ran out.
+/// Has the automaton take a message about its resource. If it does not, returns whether memory ran out.
 fn take(alloc: Global, automaton: &mut Automaton, is_reply: bool, seq: u64) -> Result<(), bool> {
     let (from, to, name) = (node(2), node(1), automaton.name());
     let message = if is_reply {
@@ -90,7 +92,8 @@ fn take(alloc: Global, automaton: &mut Automaton, is_reply: bool, seq: u64) -> R
     }
 }
 
-/// Makes a call. Where it is refused, returns whether memory ran out.
+/// Makes a call. If it is refused, returns whether memory ran out. Leaving sends the deferred REPLY, and asking again
+/// sends a REQUEST.
 fn make(alloc: Global, automaton: &mut Automaton, call: Call) -> Result<(), bool> {
     match call {
         Ask => match automaton.request(alloc, Mode::Exclusive) {
@@ -101,17 +104,19 @@ fn make(alloc: Global, automaton: &mut Automaton, call: Call) -> Result<(), bool
         Request(seq) => take(alloc, automaton, false, seq),
         LeaveAndAsk if automaton.highest() == u64::MAX => Err(false),
         LeaveAndAsk => match automaton.leave_and_request(alloc, Mode::Shared) {
-            Ok(_) => Ok(()),
+            Ok(reaction) if reaction.sends.len() == 2 => Ok(()),
+            Ok(_) => Err(false),
             Err(fault) => Err(fault == LeaveError::Memory),
         },
         Leave => match automaton.leave(alloc) {
-            Ok(_) => Ok(()),
+            Ok(reaction) if reaction.sends.len() == 1 => Ok(()),
+            Ok(_) => Err(false),
             Err(fault) => Err(fault == LeaveError::Memory),
         },
     }
 }
 
-/// Makes a call, and again where memory ran out.
+/// Makes a call, and makes it again if memory ran out.
 fn try_call(alloc: Global, automaton: &mut Automaton, call: Call) -> Tried {
     let before = look(automaton);
     match make(alloc, automaton, call) {
@@ -132,7 +137,7 @@ fn try_calls(alloc: Global, automaton: &mut Automaton) -> Tried {
     tried
 }
 
-/// Makes an automaton and all calls of it. Where there is none, returns whether memory ran out.
+/// Makes an automaton and all calls to it. If there is no automaton, returns whether memory ran out.
 fn try_automaton(alloc: Global, name: Name) -> Result<Tried, bool> {
     match Automaton::new(alloc, node(1), 2, name, 0) {
         Ok(mut automaton) => Ok(try_calls(alloc, &mut automaton)),
@@ -140,7 +145,7 @@ fn try_automaton(alloc: Global, name: Name) -> Result<Tried, bool> {
     }
 }
 
-/// Encodes a frame. Where there are no bytes, memory ran out.
+/// Encodes a frame. If there are no bytes, returns whether memory ran out.
 fn try_frame(alloc: Global, name: Name) -> Result<Tried, bool> {
     let frame = Frame {
         clock: 1,

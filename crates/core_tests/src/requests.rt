@@ -4,7 +4,8 @@ use crate::steps::{Answer, NOTHING, Step, done_by, follow};
 use Answer::{Defer, Reply};
 use Mode::{Exclusive, IntentExclusive, IntentShared, Shared, SharedIntentExclusive};
 use Step::{
-    Begins, Defers, DefersOf, IgnoresReply, Is, IsIdle, IsInside, TakesReply, TakesRequest, Waits,
+    Awaits, Begins, Defers, DefersOf, IgnoresReply, Is, IsIdle, IsInside, TakesReply, TakesRequest,
+    Waits,
 };
 use ra_stamp::Mode;
 use std::alloc::Global;
@@ -24,7 +25,7 @@ fn a_deferral_keeps_the_greater_number(rt: HostRuntime) {
     follow(&rt, node(2), 3, 4, STEPS);
 }
 
-/// Returns whether node 2 of 3, which has met number 4, goes through all the steps.
+/// Returns whether node 2 of 3, which has seen number 4, goes through all the steps.
 fn goes(alloc: Global, steps: &[Step]) -> bool {
     done_by(alloc, node(2), 3, 4, steps) == Some(steps.len())
 }
@@ -37,7 +38,7 @@ fn is_answered_when_idle(alloc: Global, mode: Mode) -> bool {
     )
 }
 
-/// Returns how many modes are answered at once by an idle node, up to the first that is not.
+/// Returns how many modes an idle node answers at once, up to the first that it does not.
 fn answered_when_idle(alloc: Global, modes: &[Mode]) -> usize {
     for place in 0..modes.len() {
         if !is_answered_when_idle(alloc, modes[place]) {
@@ -59,8 +60,8 @@ fn an_idle_node_answers_each_request(rt: HostRuntime) {
     assert_rows(&rt, answered_when_idle(rt.alloc(), MODES), MODES.len());
 }
 
-/// How the stamp of a REQUEST compares with that of the request with number 5 of node 2: its label, its node, its number,
-/// and whether it is behind.
+/// How the stamp of a REQUEST compares with that of the request with number 5 of node 2: its label, its node, its
+/// number, and whether it is later.
 #[derive(Clone, Copy)]
 struct Order(&'static str, u16, u64, bool);
 
@@ -71,8 +72,8 @@ const ORDERS: &[Order] = &[
     Order("a higher number", 1, 6, true),
 ];
 
-/// A REQUEST at node 2, which waits or is inside with number 5: the own mode, the sender, the mode that is wanted, the
-/// number, and what becomes of it.
+/// A REQUEST at node 2, which waits or is inside with number 5: the mode of the node, the sender, the requested mode,
+/// the number, and what becomes of the REQUEST.
 #[derive(Drop)]
 struct Case {
     own: Mode,
@@ -82,8 +83,7 @@ struct Case {
     answer: Answer,
 }
 
-/// Returns the case of two modes and an order: the REPLY is deferred where the modes do not go together and the REQUEST
-/// is behind.
+/// Returns the case of two modes and an order: the REPLY is deferred if the modes conflict and the REQUEST is later.
 fn case_of(modes: Modes, order: Order) -> Case {
     let Modes(_, own, wanted, together) = modes;
     let Order(_, from, seq, behind) = order;
@@ -97,7 +97,7 @@ fn case_of(modes: Modes, order: Order) -> Case {
     }
 }
 
-/// Returns the number with which the sender of a case is deferred, or `None` where it is not.
+/// Returns the number with which the sender of a case is deferred, or `None` if it is not.
 fn deferred_in(case: &Case) -> Option<u64> {
     match case.answer {
         Reply => None,
@@ -110,7 +110,7 @@ fn request_of(case: &Case) -> Step {
     TakesRequest(case.from, case.wanted, case.seq, case.answer)
 }
 
-/// Returns whether a node that waits meets a case.
+/// Returns whether a node that waits does what a case says.
 fn meets_waiting(alloc: Global, case: &Case) -> bool {
     goes(
         alloc,
@@ -118,12 +118,13 @@ fn meets_waiting(alloc: Global, case: &Case) -> bool {
             Begins(case.own),
             request_of(case),
             Waits(case.own, 5, case.seq.max(5)),
+            Awaits([true, false, true]),
             DefersOf(case.from, deferred_in(case)),
         ],
     )
 }
 
-/// Returns whether a node that is inside meets a case.
+/// Returns whether a node that is inside does what a case says.
 fn meets_inside(alloc: Global, case: &Case) -> bool {
     goes(
         alloc,
@@ -133,13 +134,14 @@ fn meets_inside(alloc: Global, case: &Case) -> bool {
             TakesReply(3, 5, true),
             request_of(case),
             IsInside(case.own, 5, case.seq.max(5)),
+            Awaits([false, false, false]),
             DefersOf(case.from, deferred_in(case)),
         ],
     )
 }
 
-/// Returns the label of the first order in which a node does not meet the case of two modes, while it is inside or while it
-/// waits, or `None` where it meets all.
+/// Returns the label of the first order in which a node, while it is inside or while it waits, does not do what the
+/// case of two modes says, or `None` if it always does.
 fn wrong_order(alloc: Global, modes: Modes, inside: bool) -> Option<&'static str> {
     for order in ORDERS {
         let case = case_of(modes, *order);
@@ -155,7 +157,8 @@ fn wrong_order(alloc: Global, modes: Modes, inside: bool) -> Option<&'static str
     None
 }
 
-/// Returns the labels of the first modes and their order in which a node does not meet the case, likewise.
+/// Returns the labels of the first modes and order in which a node does not do what the case says, or `None` if it
+/// always does.
 fn first_not_met(alloc: Global, inside: bool) -> Option<(&'static str, &'static str)> {
     for modes in PAIRS {
         if let Some(order) = wrong_order(alloc, *modes, inside) {
@@ -165,7 +168,7 @@ fn first_not_met(alloc: Global, inside: bool) -> Option<(&'static str, &'static 
     None
 }
 
-/// Asserts that no case is wrong, where these are the labels of the first that is.
+/// Asserts that no case is wrong. `wrong` has the labels of the first that is.
 fn assert_no_case_wrong(rt: &impl Abort, wrong: Option<(&str, &str)>) {
     if let Some((modes, order)) = wrong {
         panic!(rt; "{modes}, {order}");

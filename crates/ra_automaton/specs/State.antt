@@ -10,9 +10,9 @@ use Rattle.ra_stamp.specs.NodeId.{IsNodeNumber}
 use Rattle.ra_automaton.specs.declared.phase.Phase.{Phase}
 use Rattle.ra_automaton.specs.declared.phase.Phase.TheVariants.{Idle, Waiting, Inside}
 
--- the node's number, how many nodes there are, the resource's name, the highest number that the node has
--- met, what the node is doing, the nodes whose REPLY it awaits, and the nodes whose REPLY it has deferred,
--- each with the number of its request
+-- The node's number, how many nodes there are, the resource's name, the highest number that the node has met, and what
+-- the node is doing. Then the nodes whose REPLY it awaits, and those to which it has deferred a REPLY, each with the
+-- number of its request.
 pub record State : Type 0 where
   pub me : ℕ
   pub nodes : ℕ
@@ -22,40 +22,44 @@ pub record State : Type 0 where
   pub awaited : set.FinSet nat_cmp
   pub deferred : map.FinMap nat_cmp ℕ
 
--- another node of those that there are
+-- the node is another one of the nodes 1 to `nodes`
 pub record IsOtherNode (me nodes node : ℕ) : Type 0 where
   pub first : 1 ≤ node
   pub last : node ≤ nodes
   pub other : node ≡ me → ⊥
 
+-- the same, for the node and the number of nodes of a state
 abbrev pub IsOther : State → ℕ → Type 0
 IsOther s node = IsOtherNode s.me s.nodes node
 
--- the message is for a node, and from another one
+-- the message is for this node, and from another one
 pub record IsForNode (me nodes : ℕ) (message : Message) : Type 0 where
   pub to : to_of message ≡ me
   pub from : IsOtherNode me nodes (from_of message)
 
+-- the same, for the node and the number of nodes of a state
 abbrev pub IsAddressed : State → Message → Type 0
 IsAddressed s message = IsForNode s.me s.nodes message
 
+-- the node's request awaits REPLYs
 abbrev pub IsWaiting : Phase → Type 0
 IsWaiting Idle = ⊥
 IsWaiting (Waiting seq mode) = Unit {0}
 IsWaiting (Inside seq mode) = ⊥
 
+-- the node's request is granted
 abbrev pub IsInside : Phase → Type 0
 IsInside Idle = ⊥
 IsInside (Waiting seq mode) = ⊥
 IsInside (Inside seq mode) = Unit {0}
 
--- the phase of a node that enters
+-- the phase of a node that enters: its waiting request becomes a granted one, with the same number and mode
 abbrev pub entered_phase : Phase → Phase
 entered_phase Idle = Idle
 entered_phase (Waiting seq mode) = Inside seq mode
 entered_phase (Inside seq mode) = Inside seq mode
 
--- the number of the node's request is 1 or more, and at most the highest that it has met
+-- the number of the node's request, if it has one, is 1 or more, and at most this highest number
 abbrev pub HasNumber : Phase → ℕ → Type 0
 HasNumber Idle highest = Unit {0}
 HasNumber (Waiting seq mode) highest = (1 ≤ seq) × (seq ≤ highest)
@@ -78,17 +82,17 @@ opening me nodes name start =
 pub record IsConsistent (s : State) : Type 0 where
   pub count : IsNodeNumber s.nodes
   pub member : (1 ≤ s.me) × (s.me ≤ s.nodes)
-  -- who is awaited or deferred is another node
+  -- each awaited node and each deferred one is another node
   pub awaited_others : (node : ℕ) → IsTrue (set.contains s.awaited node) → IsOther s node
   pub deferred_others : (node number : ℕ) → map.get s.deferred node ≡ Some number → IsOther s node
-  -- the number of a deferral is 1 or more, and one that the node has met
+  -- the number of a deferral is 1 or more, and at most the highest that the node has met
   pub deferred_numbers : (node number : ℕ) → map.get s.deferred node ≡ Some number
       → (1 ≤ number) × (number ≤ s.highest)
-  -- a node awaits replies exactly while it waits, and defers none while it is idle
+  -- a node awaits REPLYs exactly while it waits, and defers no REPLY while it is idle
   pub awaits : IsWaiting s.phase → s.awaited ≡ set.empty → ⊥
   pub awaits_only : (IsWaiting s.phase → ⊥) → s.awaited ≡ set.empty
   pub defers_only : s.phase ≡ Idle → s.deferred ≡ map.empty
-  -- the number of its request is one that it has met
+  -- the number of its request is 1 or more, and at most the highest that it has met
   pub numbered : HasNumber s.phase s.highest
 
 -- a state is stored as its fields

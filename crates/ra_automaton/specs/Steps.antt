@@ -1,11 +1,13 @@
--- The rules of the algorithm: what a node does when its client asks for the resource, when a message
--- comes, and when its client leaves. Whatever a rule does not mention stays as it was.
+-- The rules of the algorithm: what a node does when its client asks for the resource, when a message comes, and when
+-- its client leaves. Whatever a rule does not mention stays as it was.
 --
--- The rules are those of G. Ricart and A. K. Agrawala, CACM 24(1), 1981. This project's own are: that requests
--- have modes, and exclude each other only where these conflict, that a request sets the number and the highest
--- number at once, that a REPLY carries the number of its request, so that strays are told apart, that a deferral
--- keeps the greater of two numbers, that messages go out in ascending order of the nodes with the REPLYs of a
--- leave first, and that no request comes after the greatest number.
+-- The rules are those of G. Ricart and A. K. Agrawala, CACM 24(1), 1981. This project adds its own:
+-- - Requests have modes, and exclude each other only if these conflict.
+-- - A request sets its number and the highest number at once.
+-- - A REPLY carries the number of its request, so that strays can be told apart.
+-- - A deferral keeps the greater of two numbers.
+-- - Messages go out in ascending order of the nodes, and at a leave the REPLYs come first.
+-- - No request comes after the greatest number.
 use Rattle.std.specs.Prelude.{◌≡◌, ℕ, ◌+◌, ◌-◌, ◌<◌, ◌^◌, ◌⊎◌, max, Bool, true, false, not}
 use Rattle.std.specs.Prelude.{List, [], ◌∷◌, ◌++◌, filter, map, Option, Some, None, IsTrue, ◌==◌}
 use Rattle.std.specs.List.{range_with_len}
@@ -20,17 +22,17 @@ use Rattle.ra_automaton.specs.declared.phase.Phase.{Phase}
 use Rattle.ra_automaton.specs.declared.phase.Phase.TheVariants.{Idle, Waiting, Inside}
 use Rattle.ra_automaton.specs.State.{State}
 
--- the greatest number that a request can have
+-- the greatest number that a request can have: 2^64-1
 abbrev pub greatest_number : ℕ
 greatest_number = 2 ^ 64 - 1
 
--- the nodes from 1 up but this one, in ascending order
+-- all nodes but this one, in ascending order
 abbrev pub others_of : ℕ → ℕ → List ℕ
 others_of me nodes = filter (λ node. not (node == me)) (range_with_len 1 nodes)
 
 -- ---- A client asks: the request takes the next number, and a REQUEST goes to each other node.
 
--- where there are other nodes, each REPLY is awaited
+-- if there are other nodes, the REPLY of each is awaited
 pub record AsksOthers (old : State) (mode : Mode) (entered : Bool) (new : State) : Type 0 where
   pub others : 1 < old.nodes
   pub entered_is : entered ≡ false
@@ -40,16 +42,17 @@ pub record AsksOthers (old : State) (mode : Mode) (entered : Bool) (new : State)
     awaited = set.from_list (others_of old.me old.nodes);
   }
 
--- the only node there is enters at once
+-- the only node enters at once
 pub record EntersAlone (old : State) (mode : Mode) (entered : Bool) (new : State) : Type 0 where
   pub alone : old.nodes ≡ 1
   pub entered_is : entered ≡ true
   pub new_is : new ≡ record old { highest = old.highest + 1; phase = Inside (old.highest + 1) mode }
 
+-- the request of a node that has others to ask awaits their REPLYs; that of the only node enters at once
 abbrev pub Begins : State → Mode → Bool → State → Type 0
 Begins old mode entered new = AsksOthers old mode entered new ⊎ EntersAlone old mode entered new
 
--- where the node is idle and a number is left
+-- a request needs an idle node and a number that is left
 pub record RequestStep (old : State) (mode : Mode) (sends : List Message) (entered : Bool) (new : State)
     : Type 0 where
   pub idle : old.phase ≡ Idle
@@ -66,18 +69,18 @@ pub record GoesFirst (me seq : ℕ) (mode : Mode) (other number : ℕ) (wanted :
   pub excludes : Conflict mode wanted
   pub earlier : IsEarlier (record { seq = seq; node = me }) (record { seq = number; node = other })
 
--- a node that waits or is inside has a request of its own, which may go first; an idle one has none
+-- a node that waits or is inside has a request of its own, which may go first; an idle node has no request
 abbrev pub OwnGoesFirst : Phase → ℕ → ℕ → ℕ → Mode → Type 0
 OwnGoesFirst Idle me other number wanted = ⊥
 OwnGoesFirst (Waiting seq mode) me other number wanted = GoesFirst me seq mode other number wanted
 OwnGoesFirst (Inside seq mode) me other number wanted = GoesFirst me seq mode other number wanted
 
--- the number that a node is deferred with: of two requests of one node the greater number counts
+-- the number with which a node is deferred: of two requests of one node the greater number counts
 abbrev pub later_of : Option ℕ → ℕ → ℕ
 later_of None number = number
 later_of (Some before) number = max before number
 
--- where the own request goes first, the REPLY is deferred until the node leaves
+-- if the own request goes first, the REPLY is deferred until the node leaves
 pub record Defers (old : State) (other number : ℕ) (wanted : Mode) (sends : List Message) (new : State)
     : Type 0 where
   pub own_first : OwnGoesFirst old.phase old.me other number wanted
@@ -109,7 +112,7 @@ pub record Enters (old : State) (other number : ℕ) (mode : Mode) (entered : Bo
   pub entered_is : entered ≡ true
   pub new_is : new ≡ record old { phase = Inside number mode; awaited = set.empty }
 
--- after another one the node waits on
+-- after any other awaited REPLY the node still waits
 pub record WaitsOn (old : State) (other number : ℕ) (mode : Mode) (entered : Bool) (new : State)
     : Type 0 where
   pub awaits : Awaits old other number mode
@@ -123,25 +126,29 @@ pub record IsStray (old : State) (other number : ℕ) (entered : Bool) (new : St
   pub entered_is : entered ≡ false
   pub new_is : new ≡ old
 
+-- a REPLY comes: the last one awaited lets the node enter, any other awaited one is counted, and the rest are strays
 abbrev pub TakesReply : State → ℕ → ℕ → Bool → State → Type 0
 TakesReply old other number entered new =
     IsStray old other number entered new
     ⊎ ((mode : Mode) × (Enters old other number mode entered new ⊎ WaitsOn old other number mode entered new))
 
+-- a message comes: the REPLY to a REQUEST is deferred or goes out at once, and a REPLY is taken without sending
+-- anything
 abbrev pub ReceiveStep : State → Message → List Message → Bool → State → Type 0
 ReceiveStep old (Request from to name mode seq) sends entered new =
     (entered ≡ false) × (Defers old from seq mode sends new ⊎ RepliesAtOnce old from seq mode sends new)
 ReceiveStep old (Reply from to name seq) sends entered new =
     (sends ≡ []) × TakesReply old from seq entered new
 
--- the message is the last REPLY that the node awaits, by which it enters
+-- the message is the last REPLY that the node awaits, so that it enters
 abbrev pub LetsEnter : State → Message → Type 0
 LetsEnter old (Request from to name mode seq) = ⊥
 LetsEnter old (Reply from to name seq) =
     (mode : Mode) × Awaits old from seq mode × (set.remove old.awaited from ≡ set.empty)
 
--- ---- The client leaves: each deferred REPLY goes out, and none is deferred any more.
+-- ---- The client leaves: each deferred REPLY goes out, and no deferral is left.
 
+-- a leave needs a node that is inside, and makes it idle
 pub record LeaveStep (old : State) (sends : List Message) (new : State) : Type 0 where
   pub seq : ℕ
   pub mode : Mode
@@ -153,6 +160,7 @@ pub record LeaveStep (old : State) (sends : List Message) (new : State) : Type 0
 
 -- ---- The client leaves and another one asks, in one event: the REPLYs come first.
 
+-- the node leaves, and then requests again in this mode
 pub record LeaveAndRequestStep (old : State) (mode : Mode) (sends : List Message) (entered : Bool)
     (new : State) : Type 0 where
   pub between : State

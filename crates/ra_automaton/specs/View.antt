@@ -1,9 +1,11 @@
--- An automaton's fields as its state.
+-- The state that the fields of an automaton represent.
 use Rattle.std.specs.Prelude.{◌≡◌, length}
 use Rattle.ra_automaton.specs.declared.automaton.Automaton.TheInside.{Inside}
 use Rattle.ra_automaton.specs.State.{State, IsConsistent}
 use Rattle.ra_automaton.specs.Words.{set_of, map_of}
 
+-- the state of these fields: the awaited and the deferred nodes are the bits of two words, and the numbers of the
+-- deferred ones are in a list
 abbrev pub state_of : Inside → State
 state_of a =
     record {
@@ -16,7 +18,8 @@ state_of a =
       deferred = map_of a.deferred a.numbers.items;
     }
 
--- there is a number for each node, and the state is consistent: so no bit is set above the nodes
+-- what holds of the fields: there is a number for each node, and the state is consistent, so that only bits of existing
+-- nodes are set
 pub record IsKept (a : Inside) : Type 0 where
   pub numbers : length a.numbers.items ≡ a.nodes
   pub consistent : IsConsistent (state_of a)

@@ -1,5 +1,5 @@
--- How the nodes that are awaited and those that are deferred stand in words of 64 bits, and the numbers of the
--- deferred ones in a list. No public contract speaks of words.
+-- How words of 64 bits represent the nodes that are awaited and those that are deferred, and how a list represents the
+-- numbers of the deferred ones. No public contract speaks of words.
 use Rattle.std.specs.Prelude.{ℕ, ◌-◌, Bool, List, filter, map, ◌==◌, slice_index}
 use Rattle.std.specs.Int.{bit_at}
 use Rattle.std.specs.List.{range_with_len}
@@ -7,21 +7,22 @@ use Rattle.std.specs.Ordering.{nat_cmp}
 use Rattle.std.specs.FinSet as set
 use Rattle.std.specs.FinMap as finmap
 
--- the width of a word, kept shut so that no proof goes through 64 cases
+-- the width of a word, which is unfolded only on demand, so that no proof goes through 64 cases
 unfoldable pub bits_of_a_word : ℕ
 bits_of_a_word = 64
 
--- the bit of node i is bit i - 1
+-- whether the bit of a node is set: that of node i is bit i - 1
 abbrev pub has_bit : ℕ → ℕ → Bool
 has_bit word node = bit_at word (node - 1) == 1
 
--- the nodes of the bits that are set, in ascending order
+-- the nodes whose bits are set, in ascending order
 abbrev pub nodes_of : ℕ → List ℕ
 nodes_of word = filter (has_bit word) (range_with_len 1 bits_of_a_word)
 
+-- the nodes whose bits are set, as a set
 abbrev pub set_of : ℕ → set.FinSet nat_cmp
 set_of word = set.from_list (nodes_of word)
 
--- those nodes, each with its number: that of node i is at place i - 1
+-- the nodes whose bits are set, each with its number: that of node i is at place i - 1 of the list
 abbrev pub map_of : ℕ → List ℕ → finmap.FinMap nat_cmp ℕ
 map_of word numbers = finmap.from_sorted (map (λ node. (node, slice_index numbers (node - 1))) (nodes_of word))

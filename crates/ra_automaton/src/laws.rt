@@ -1,5 +1,5 @@
-//! What is true of the steps of an automaton, for the crates above: the function has no code, and its contract is
-//! the law.
+//! What is true of the steps of an automaton, for the crates above. The function has no code, and its contract is the
+//! law.
 ghost use Rattle.std.specs.Prelude.{ℕ, ◌≤◌, List, Bool};
 ghost use Rattle.ra_stamp.specs.declared.message.Message.{Message};
 ghost use Rattle.ra_stamp.specs.declared.mode.Mode.{Mode};
@@ -8,8 +8,8 @@ ghost use Rattle.ra_stamp.specs.NodeId.{IsNodeNumber};
 ghost use Rattle.ra_automaton.specs.State.{State, opening, IsOther, IsConsistent};
 ghost use Rattle.ra_automaton.specs.Steps.{RequestStep, ReceiveStep, LeaveStep, LeaveAndRequestStep};
 
-/// The state of one of 1 to 64 nodes that has met nothing is consistent; and each request, each leave, and each
-/// message from another node leads from a consistent state to one.
+/// The state of one of 1 to 64 nodes that has met nothing is consistent. Each request, each leave, and each message
+/// from another node leads from a consistent state to a consistent one.
 pub fn steps_keep_a_state_consistent()
     ensures opening { (me nodes start : ℕ) (name : List ℕ)
         → IsNodeNumber nodes → IsNodeNumber me → me ≤ nodes → IsConsistent (opening me nodes name start) }

@@ -1,5 +1,5 @@
-//! One resource at one node: the algorithm of G. Ricart and A. K. Agrawala, CACM 24(1), 1981, with lock
-//! modes. An event goes in, and the messages that it sends come out; nothing is read or written.
+//! One resource at one node: the algorithm of G. Ricart and A. K. Agrawala, CACM 24(1), 1981, with lock modes. An event
+//! goes in, and the messages that it sends come out; nothing is read or written.
 #![tactic(auto)]
 
 mod automaton;

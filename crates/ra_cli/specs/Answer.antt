@@ -17,7 +17,7 @@ use Rattle.ra_cli.specs.Line.{IsLine}
 abbrev pub Spells : List ℕ → List ℕ → Type 0
 Spells input bytes = (digits : List ℕ) × IsLine input digits × (decode_of digits ≡ Ok bytes)
 
--- the input is a line of the digits of this frame, in a version that may be read
+-- the input is a line of the hexadecimal digits of this frame's text, in either version
 abbrev pub Carries : List ℕ → Frame → Type 0
 Carries input frame = (bytes : List ℕ) × Spells input bytes × IsFrameText bytes frame
 
@@ -32,29 +32,30 @@ abbrev pub Reacts : ℕ → ℕ → Message → List Message → Bool → Type 0
 Reacts node nodes message sends entered =
     (after : State) × ReceiveStep (opening node nodes (name_of message) 0) message sends entered after
 
--- the sender is the node itself, or there is no such node
+-- the sender is the node itself, or does not exist
 abbrev pub IsStrange : ℕ → ℕ → Message → Type 0
 IsStrange node nodes message = (to_of message ≡ node) × ((from_of message ≡ node) ⊎ (nodes < from_of message))
 
--- where a message is not taken
+-- why a message is not taken: it is for another node, or its sender is strange, or memory runs out
 abbrev pub IsUnwanted : ℕ → ℕ → Message → AnswerError → Type 0
 IsUnwanted node nodes message why =
     ((why ≡ fault.WrongNode) × (to_of message ≢ node))
     ⊎ (((why ≡ fault.Stranger) × IsStrange node nodes message) ⊎ (why ≡ fault.Memory))
 
--- a node's clock after it has received a frame: one more than the greater of the two (L. Lamport, CACM 21(7), 1978)
+-- a node's clock after it has received a frame: one more than the greater of its own clock and the frame's (L. Lamport,
+-- CACM 21(7), 1978)
 abbrev pub clock_after : ℕ → ℕ → ℕ
 clock_after own received = max own received + 1
 
--- for each message, in order, the digits of its frame as it is written, in lower case, and a line feed
+-- the output is a line for each message, in order: the hexadecimal digits of its frame as it is written, in lower case
 abbrev pub AreLines : ℕ → List Message → List ℕ → Type 0
 AreLines clock [] output = output ≡ []
 AreLines clock (message ∷ messages) output =
     (text : List ℕ) × (rest : List ℕ) × IsWrittenText text (record { clock = clock; message = message })
     × (output ≡ encode_lower text ++ 10 ∷ rest) × AreLines clock messages rest
 
--- The output is the frames that an idle node sends when it receives the frame of the input. The node has met no
--- number before, and its clock was 0.
+-- The output is the frames that an idle node sends when it receives the frame of the input. The node has met no number
+-- before, and its clock was 0.
 pub record IsAnswered (node nodes : ℕ) (input output : List ℕ) : Type 0 where
   pub frame : Frame
   pub sends : List Message
@@ -66,8 +67,8 @@ pub record IsAnswered (node nodes : ℕ) (input output : List ℕ) : Type 0 wher
   pub reacts : Reacts node nodes frame.message sends entered
   pub lines : AreLines (clock_after 0 frame.clock) sends output
 
--- where each refusal may come: its cause stands, and the cause of none before it. `Memory` and faults of the
--- reader and the writer come from outside, but the writer fails only where there is something to write.
+-- when each refusal may come: its cause applies, and no earlier one does. `Memory` and faults of the reader and the
+-- writer come from outside, but the writer fails only if there is something to write.
 abbrev pub Refuses : ℕ → ℕ → List ℕ → AnswerError → Type 0
 Refuses node nodes input fault.BadCount = IsNodeNumber nodes → ⊥
 Refuses node nodes input fault.BadNode = IsNodeNumber nodes × (IsMember node nodes → ⊥)

@@ -5,8 +5,8 @@ use Rattle.ra_cli.specs.declared.error.AnswerError.{AnswerError}
 use Rattle.ra_cli.specs.declared.error.AnswerError.TheVariants as fault
 use Rattle.ra_cli.specs.Answer.{IsMember, IsAnswered, Refuses}
 
--- What was read and written, or which cause a refusal has. That the reader and the writer stay as they were is for the caller to say: two
--- of the propositions are these.
+-- What was read and written, or the cause of a refusal. The caller says what it means that the reader and the writer
+-- stay as they were: two of the propositions are these.
 pub record ComesTo {T : Type 0} (node nodes : ℕ) (old new before after : Option (List ℕ)) (same_reader same_writer : Type 0)
     (result : Result T AnswerError) : Type 0 where
   pub ok : OnOk result (IfSome old (λ input. (output : List ℕ) × IsAnswered node nodes input output × Consumes old new input

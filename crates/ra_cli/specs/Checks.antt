@@ -14,6 +14,7 @@ use Rattle.ra_trace.specs.declared.marks_verdict.MarksVerdict.TheVariants as mar
 use Rattle.ra_trace.specs.Marks.{IsMarksVerdict}
 use Rattle.ra_cli.specs.Words.{HasMarksWord}
 
+-- the word for the cause of an invalid trace
 abbrev pub cause_word : Cause → List ℕ
 cause_word Line = codes "Line"
 cause_word Refused = codes "Refused"
@@ -32,8 +33,8 @@ abbrev pub is_valid : Verdict → Bool
 is_valid (Valid requests messages) = true
 is_valid (Invalid line cause) = false
 
--- What was to be read, where it is known, has a verdict, valid or not, and the lines of the verdict were written and nothing else.
--- It was read from its beginning, and to its end where it is valid. Where it is not known, there still is such a text.
+-- If the input is known, it has a verdict, valid or not, and exactly the lines of the verdict were written. It was read
+-- from its beginning, and to its end if it is valid. If it is not known, a text with such a verdict still exists.
 abbrev pub Checks : (old new before after : Option (List ℕ)) → Bool → Type 0
 Checks old new before after valid =
     IfSome old (λ input. (verdict : Verdict) × IsVerdict input verdict × (is_valid verdict ≡ valid)
@@ -44,6 +45,7 @@ Checks old new before after valid =
 
 -- ---- Mark logs
 
+-- the word for the cause of an invalid mark log
 abbrev pub mark_cause_word : MarkCause → List ℕ
 mark_cause_word mark.Line = codes "Line"
 mark_cause_word mark.NodeBusy = codes "NodeBusy"
@@ -65,7 +67,7 @@ abbrev pub is_run : MarksVerdict → Bool
 is_run (marks.Valid requests grants) = true
 is_run (marks.Invalid line cause) = false
 
--- the same as `Checks`, of a mark log
+-- the same as `Checks`, for a mark log
 abbrev pub ChecksMarks : (old new before after : Option (List ℕ)) → Bool → Type 0
 ChecksMarks old new before after valid =
     IfSome old (λ input. (verdict : MarksVerdict) × IsMarksVerdict input verdict × (is_run verdict ≡ valid)
@@ -74,7 +76,7 @@ ChecksMarks old new before after valid =
     × ((input : List ℕ) × (verdict : MarksVerdict) × IsMarksVerdict input verdict × (is_run verdict ≡ valid)
     × Appends before after (marks_verdict_text verdict))
 
--- the input was checked as the words say: as a mark log where one of them is `--marks`, and else as a trace
+-- the input was checked as the words say: as a mark log if one of them is `--marks`, and otherwise as a trace
 abbrev pub Judges : (words : List (List ℕ)) → (old new before after : Option (List ℕ)) → Bool → Type 0
 Judges words old new before after valid =
     ((HasMarksWord words → ⊥) × Checks old new before after valid) ⊎ (HasMarksWord words × ChecksMarks old new before after valid)

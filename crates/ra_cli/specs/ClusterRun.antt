@@ -19,9 +19,10 @@ use Rattle.ra_cluster.specs.Plan.{MeetsPlan, IsQuietEnd, locks_of}
 use Rattle.ra_cli.specs.declared.error.RunScriptError.{RunScriptError}
 use Rattle.ra_cli.specs.declared.error.RunScriptError.TheVariants as fault
 
--- The input is the text of a script, and the output is the lines of the report of a run of its nodes, from numbers that begin at
--- 0: the marks of each client are those of its operations, in order, nobody waits or is queued, no message is lost or under way,
--- each lock of the script was requested, and two messages to or from each other node were sent for each.
+-- The input is the text of a script, and the output is the lines of the report of a run of its nodes, with numbers that
+-- begin at 0. The marks of each client are those of its operations, in order. Nothing waits or is queued, and no
+-- message is lost or under way. Each lock of the script was requested, and exactly two messages were sent for each
+-- request and other node.
 pub record IsClusterRun (input output : List ℕ) : Type 0 where
   pub script : ScriptState
   pub script_is : script_of input ≡ Ok script
@@ -36,8 +37,8 @@ pub record IsClusterRun (input output : List ℕ) : Type 0 where
   pub count : report.sent ≡ 2 * (script.nodes - 1) * locks_of script
   pub output_is : output ≡ report_text report
 
--- What was to be read, where it is known, is a script that a cluster of threads brought to its end; it was read to its end, and
--- the lines of the report were written and nothing else. Where it is not known, there still is such a script.
+-- If the input is known, it is a script that a cluster of threads brought to its end. It was read to its end, and
+-- exactly the lines of the report were written. If it is not known, such a script still exists.
 abbrev pub RunsCluster : (old new before after : Option (List ℕ)) → Type 0
 RunsCluster old new before after =
     IfSome old (λ input. (output : List ℕ) × IsClusterRun input output × Consumes old new input × Appends before after output)
@@ -49,7 +50,7 @@ RunsCluster old new before after =
 abbrev pub MayRun : ScriptState → Type 0
 MayRun script = (IsOutOfOrder script → ⊥) × (IsUnreleased script → ⊥)
 
--- which scripts each refusal is for; `Memory` is named elsewhere
+-- which scripts each refusal is for; `Memory` is treated elsewhere
 abbrev pub StopsAt : ScriptState → ClusterError → Type 0
 StopsAt script cluster.OutOfOrder = IsOutOfOrder script
 StopsAt script cluster.Unreleased = (IsOutOfOrder script → ⊥) × IsUnreleased script
@@ -60,8 +61,8 @@ StopsAt script cluster.Lost = MayRun script
 StopsAt script cluster.UnderWay = MayRun script
 StopsAt script cluster.Memory = ⊥
 
--- where each refusal may come: its cause stands, and none before it. `Memory` and faults of the reader and the writer come
--- from outside.
+-- when each refusal may come: its cause applies, and no earlier one does. `Memory` and faults of the reader and the
+-- writer come from outside.
 abbrev pub RefusesRun : List ℕ → RunScriptError → Type 0
 RefusesRun input fault.Read = Unit {0}
 RefusesRun input (fault.Script why) = (why ≢ text.Memory) × (script_of input ≡ Err why)
@@ -69,14 +70,14 @@ RefusesRun input (fault.Cluster why) = (script : ScriptState) × (script_of inpu
 RefusesRun input fault.Memory = Unit {0}
 RefusesRun input fault.Write = (output : List ℕ) × IsClusterRun input output
 
--- ---- As which refusal one of a part is named
+-- ---- How the refusals of the parts become refusals of a run
 
--- of an input that was not read
+-- the refusal of an input that was not read
 abbrev pub of_read : ReadFault → RunScriptError
 of_read read.Read = fault.Read
 of_read read.Memory = fault.Memory
 
--- of a text that is no script
+-- the refusal of a text that is not a script
 abbrev pub of_script : ScriptError → RunScriptError
 of_script text.Toml = fault.Script text.Toml
 of_script text.Shape = fault.Script text.Shape
@@ -88,7 +89,7 @@ of_script text.AlreadyHeld = fault.Script text.AlreadyHeld
 of_script text.Limit = fault.Script text.Limit
 of_script text.Memory = fault.Memory
 
--- of a script that threads did not bring to its end
+-- the refusal of a script that threads did not bring to its end
 abbrev pub of_cluster : ClusterError → RunScriptError
 of_cluster cluster.OutOfOrder = fault.Cluster cluster.OutOfOrder
 of_cluster cluster.Unreleased = fault.Cluster cluster.Unreleased

@@ -11,7 +11,7 @@ use Rattle.ra_script.specs.Performed.{IsPerformedAs}
 use Rattle.ra_cli.specs.declared.command_line.PolicyName.{PolicyName}
 use Rattle.ra_cli.specs.declared.command_line.PolicyName.TheVariants.{Oldest, Newest, Seeded, Faulty, Listed}
 
--- the policy of a name, with its seed and its faults, and of the text of its choices
+-- the policy that this name means, with its seed and its faults, or with the choices in this text
 abbrev pub IsNamed : PolicyName → List ℕ → Policy → Type 0
 IsNamed Oldest text policy = policy ≡ policies.Oldest
 IsNamed Newest text policy = policy ≡ policies.Newest
@@ -20,15 +20,15 @@ IsNamed (Faulty seed faults) text policy = policy ≡ policies.Faulty seed fault
 IsNamed Listed text policy = (choices : Listing Choice) × (choices_of text ≡ Some choices.items)
     × (policy ≡ policies.Listed choices)
 
--- What was to be read, where it is known, is a script that this policy performed, finished or not; it was read to its end, and
--- what came of it was written in this format and nothing else. Where it is not known, there still is such a script.
+-- If the input is known, it is a script that was performed under this policy, finished or not. It was read to its end,
+-- and exactly what came of it was written, in this format. If it is not known, such a script still exists.
 abbrev pub PerformsBy : Policy → Format → (old new before after : Option (List ℕ)) → Bool → Type 0
 PerformsBy policy format old new before after finished =
     IfSome old (λ input. (output : List ℕ) × IsPerformedAs format policy input output finished
     × Consumes old new input × Appends before after output)
     × ((input output : List ℕ) × IsPerformedAs format policy input output finished × Appends before after output)
 
--- some policy performed it so
+-- it was performed under some policy and written in some format
 abbrev pub Performs : (old new before after : Option (List ℕ)) → Bool → Type 0
 Performs old new before after finished =
     (policy : Policy) × (format : Format) × PerformsBy policy format old new before after finished

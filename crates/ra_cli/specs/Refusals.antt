@@ -1,4 +1,4 @@
--- What `ra` prints where it does not do what it is asked: the word of each refusal, after `refused`, as one line.
+-- What `ra` prints if it does not do what it is asked: the word of each refusal, after `refused`, as one line.
 use Rattle.std.specs.Prelude.{◌≡◌, ℕ, ◌⊎◌, List, ◌++◌, codes}
 use Rattle.ra_frame.specs.declared.error.FrameError.{FrameError}
 use Rattle.ra_frame.specs.declared.error.FrameError.TheVariants as frame
@@ -25,6 +25,7 @@ use Rattle.ra_cli.specs.declared.error.RunScriptError.TheVariants as run
 use Rattle.ra_cli.specs.declared.refusal.Refusal.{Refusal}
 use Rattle.ra_cli.specs.declared.refusal.Refusal.TheVariants.{Command, Answer, Choices, Perform, Check, Draw, Cluster}
 
+-- the word for what is wrong with a frame
 abbrev pub frame_word : FrameError → List ℕ
 frame_word frame.Short = codes "Short"
 frame_word frame.Version = codes "Version"
@@ -39,6 +40,7 @@ frame_word frame.NameLength = codes "NameLength"
 frame_word frame.NameByte = codes "NameByte"
 frame_word frame.Trailing = codes "Trailing"
 
+-- the word for what is wrong with a script
 abbrev pub script_word : ScriptError → List ℕ
 script_word script.Toml = codes "Toml"
 script_word script.Shape = codes "Shape"
@@ -50,12 +52,14 @@ script_word script.AlreadyHeld = codes "AlreadyHeld"
 script_word script.Limit = codes "Limit"
 script_word script.Memory = codes "Memory"
 
+-- the word for why a policy could not go on
 abbrev pub drive_word : DriveError → List ℕ
 drive_word drive.TurnLimit = codes "TurnLimit"
 drive_word drive.BadPlace = codes "BadPlace"
 drive_word drive.NotEnabled = codes "NotEnabled"
 drive_word drive.Memory = codes "Memory"
 
+-- the word for why threads did not bring a script to its end
 abbrev pub cluster_word : ClusterError → List ℕ
 cluster_word cluster.OutOfOrder = codes "OutOfOrder"
 cluster_word cluster.Unreleased = codes "Unreleased"
@@ -66,10 +70,12 @@ cluster_word cluster.Lost = codes "Lost"
 cluster_word cluster.UnderWay = codes "UnderWay"
 cluster_word cluster.Memory = codes "Memory"
 
+-- the word for why a command line was not taken
 abbrev pub command_word : CommandFault → List ℕ
 command_word command.Usage = codes "Usage"
 command_word command.Memory = codes "Memory"
 
+-- the word for a refusal of `ra answer`
 abbrev pub answer_word : AnswerError → List ℕ
 answer_word answer.BadCount = codes "BadCount"
 answer_word answer.BadNode = codes "BadNode"
@@ -83,10 +89,12 @@ answer_word answer.ClockFull = codes "ClockFull"
 answer_word answer.Memory = codes "Memory"
 answer_word answer.Write = codes "Write"
 
+-- the word for what is wrong with the text of choices
 abbrev pub choices_word : ChoicesError → List ℕ
 choices_word choices.Choice = codes "Choice"
 choices_word choices.Memory = codes "Memory"
 
+-- the word for a refusal of `ra sim` under one policy
 abbrev pub perform_word : PerformError → List ℕ
 perform_word perform.Read = codes "Read"
 perform_word (perform.Script why) = script_word why
@@ -95,11 +103,13 @@ perform_word perform.Choice = codes "Choice"
 perform_word perform.Memory = codes "Memory"
 perform_word perform.Write = codes "Write"
 
+-- the word for a refusal of `ra check`
 abbrev pub trace_word : TraceError → List ℕ
 trace_word trace.Read = codes "Read"
 trace_word trace.Limit = codes "Limit"
 trace_word trace.Memory = codes "Memory"
 
+-- the word for a refusal of `ra draw`
 abbrev pub draw_word : DrawError → List ℕ
 draw_word draw.Read = codes "Read"
 draw_word draw.Limit = codes "Limit"
@@ -107,6 +117,7 @@ draw_word draw.TooLong = codes "TooLong"
 draw_word draw.Memory = codes "Memory"
 draw_word draw.Write = codes "Write"
 
+-- the word for a refusal of `ra cluster`, or of `ra sim` under many seeds
 abbrev pub run_word : RunScriptError → List ℕ
 run_word run.Read = codes "Read"
 run_word (run.Script why) = script_word why
@@ -114,7 +125,7 @@ run_word (run.Cluster why) = cluster_word why
 run_word run.Memory = codes "Memory"
 run_word run.Write = codes "Write"
 
--- the word of a refusal
+-- the word for a refusal of any command
 abbrev pub word_of : Refusal → List ℕ
 word_of (Command why) = command_word why
 word_of (Answer why) = answer_word why
@@ -124,7 +135,7 @@ word_of (Check why) = trace_word why
 word_of (Draw why) = draw_word why
 word_of (Cluster why) = run_word why
 
--- the line of a word
+-- the line of a refusal with this word
 abbrev pub refused_line : List ℕ → List ℕ
 refused_line word = codes "refused " ++ word ++ codes "\n"
 

@@ -1,4 +1,4 @@
--- What the statuses of the commands say.
+-- What the exit statuses of the commands mean.
 use Rattle.std.specs.Prelude.{◌≡◌, ◌≢◌, ℕ, ◌⊎◌, List, [], ◌++◌, Bool, true, false, Option, IfSome, Any, codes}
 use Rattle.std.specs.Io.KnownBytes.{Consumes, Appends}
 use Rattle.ra_schedule.specs.declared.choice.Policy.{Policy}
@@ -16,21 +16,21 @@ use Rattle.ra_cli.specs.Pictures.{IsDrawn, IsNoTrace, IsDrawing}
 use Rattle.ra_cli.specs.Surveyed.{IsTold, Surveys}
 use Rattle.ra_cli.specs.Refusals.{IsOfReader, IsOfWriter, refused_line, word_of}
 
--- the node of the words, of as many as they say, answered what was to be read, where it is known; it was read to its end, and the answer
--- was written and nothing else
+-- The words give a node and the number of nodes, and this node answered the input, if that is known. The input was read
+-- to its end, and exactly the answer was written.
 abbrev pub Answers : (words : List (List ℕ)) → (old new before after : Option (List ℕ)) → Type 0
 Answers words old new before after = (node : ℕ) × (nodes : ℕ) × GivesNode words node nodes × IfSome old (λ input. (output : List ℕ)
     × IsAnswered node nodes input output × Consumes old new input × Appends before after output)
 
--- status 0: the input was answered, or performed to its end, under one seed or each of many, or is the trace of a run, or the log of one
--- of the lock table, or was drawn
+-- Status 0: the input was answered, or was drawn. Or it was performed to its end, under one seed or each of many. Or it
+-- is the trace of a run, or the log of a run of the lock table.
 abbrev pub IsDone : (words : List (List ℕ)) → (old new before after : Option (List ℕ)) → Type 0
 IsDone words old new before after =
     Answers words old new before after ⊎ Performs old new before after true ⊎ Judges words old new before after true
     ⊎ IsDrawn old new before after ⊎ Surveys old new before after true
 
--- status 3: the input was performed and something is left to do, under one seed or some of many, or is the trace of no run, which is not
--- drawn, or the log of none of the lock table
+-- Status 3: the input was performed and something is left to do, under one seed or some of many. Or it was checked or
+-- was to be drawn, and is not the trace of a run. Or it was checked, and is not the log of a run of the lock table.
 abbrev pub IsUnfinished : (words : List (List ℕ)) → (old new before after : Option (List ℕ)) → Type 0
 IsUnfinished words old new before after =
     Performs old new before after false ⊎ Judges words old new before after false ⊎ IsNoTrace old new before after
@@ -41,12 +41,13 @@ abbrev pub IsRefused : (before after : Option (List ℕ)) → Type 0
 IsRefused before after = (refusal : Refusal) × (IsOfReader refusal → ⊥) × (IsOfWriter refusal → ⊥)
     × Appends before after (refused_line (word_of refusal))
 
--- of a refusal that is not the writer's: the reader failed and the line was written, or the writer failed at the line
+-- a refusal that is not the writer's: the reader failed and the line of the refusal was written, or the writer failed
+-- at that line
 abbrev pub IsSaid : Refusal → (before after : Option (List ℕ)) → Type 0
 IsSaid refusal before after = (IsOfReader refusal × Appends before after (refused_line (word_of refusal)))
     ⊎ ((prefix rest : List ℕ) × (refused_line (word_of refusal) ≡ prefix ++ rest) × (rest ≢ []) × Appends before after prefix)
 
--- what the words have printed of an input: the line of a refusal, or what came of it, or a text of help
+-- what the words print for an input: the line of a refusal, what came of the input, or a text of help
 abbrev pub IsPrinted : (words : List (List ℕ)) → (input text : List ℕ) → Type 0
 IsPrinted words input text =
     ((refusal : Refusal) × (text ≡ refused_line (word_of refusal)))
@@ -58,13 +59,13 @@ IsPrinted words input text =
     ⊎ IsDrawing input text
     ⊎ ((faults : Option FaultRates) × (find : Option Ending) × (first last : ℕ) × (finished : Bool) × IsTold faults find first last input text finished)
 
--- a prefix of what is to be printed was written, and not all of it
+-- a prefix of what is to be printed was written, but not all of it
 abbrev pub BreaksOff : (words : List (List ℕ)) → (input : List ℕ) → (before after : Option (List ℕ)) → Type 0
 BreaksOff words input before after = (prefix rest : List ℕ) × IsPrinted words input (prefix ++ rest) × (rest ≢ [])
     × Appends before after prefix
 
--- status 1: the reader failed and the line that says so was written, or the writer failed; where what was to be read is known, a prefix
--- of what is printed was written then
+-- Status 1: the reader failed and the line that says so was written. Or the writer failed: then, if the input is known,
+-- only a prefix of what is printed was written.
 abbrev pub IsBroken : (words : List (List ℕ)) → (old before after : Option (List ℕ)) → Type 0
 IsBroken words old before after =
     Appends before after (codes "refused Read\n") ⊎ IfSome old (λ input. BreaksOff words input before after)

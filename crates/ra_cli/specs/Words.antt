@@ -8,21 +8,22 @@ use Rattle.ra_cli.specs.declared.command_line.Task.TheVariants.{Answer, Sim, Sur
 abbrev pub IsHelpWord : List ℕ → Type 0
 IsHelpWord word = (word ≡ codes "--help") ⊎ (word ≡ codes "-h") ⊎ (word ≡ codes "--version") ⊎ (word ≡ codes "-V")
 
--- after the program's name, a word is this option and the next one this text, or one word is both, with `=` between them
+-- after the program's name, one word is this option and the next is this text, or one word is both, with `=` between
+-- them
 abbrev pub GivesText : (words : List (List ℕ)) → (option text : List ℕ) → Type 0
 GivesText words option text = (place : ℕ) × (1 ≤ place) × (((slice_get words place ≡ Some option) × (slice_get words (place + 1) ≡ Some text))
     ⊎ (slice_get words place ≡ Some (option ++ 61 ∷ text)))
 
--- the words give an option this number, in decimal digits, before which a plus may stand
+-- the words give an option this number, in decimal digits with or without a leading plus
 abbrev pub Gives : (words : List (List ℕ)) → (option : List ℕ) → ℕ → Type 0
 Gives words option number = (text : List ℕ) × GivesText words option text × IsNumeral 10 (without_leading_plus text)
     × (digits_value 10 (without_leading_plus text) ≡ number)
 
--- the words give the number of a node, and how many there are
+-- the words give the number of a node and the number of nodes
 abbrev pub GivesNode : (words : List (List ℕ)) → ℕ → ℕ → Type 0
 GivesNode words node nodes = Gives words (codes "--node") node × Gives words (codes "--nodes") nodes
 
--- a fact for the two numbers of the command `answer`
+-- a fact about the two numbers of the command `answer`; for any other command it says nothing
 abbrev pub OnAnswer : Task → (ℕ → ℕ → Type 0) → Type 0
 OnAnswer (Answer node nodes) P = P node nodes
 OnAnswer (Sim policy choices format) P = ⊤
@@ -33,7 +34,7 @@ OnAnswer (Draw part) P = ⊤
 OnAnswer Cluster P = ⊤
 OnAnswer (Help text) P = ⊤
 
--- a fact for a text of help, or for the version
+-- a fact, if a text of help or the version is printed; for any other command it says nothing
 abbrev pub OnHelp : Task → Type 0 → Type 0
 OnHelp (Answer node nodes) P = ⊤
 OnHelp (Sim policy choices format) P = ⊤
@@ -44,11 +45,11 @@ OnHelp (Draw part) P = ⊤
 OnHelp Cluster P = ⊤
 OnHelp (Help text) P = P
 
--- a word is `--marks`
+-- one of the words is `--marks`
 abbrev pub HasMarksWord : (words : List (List ℕ)) → Type 0
 HasMarksWord words = Any (λ word. word ≡ codes "--marks") words
 
--- the command `check` is that of mark logs exactly where a word says so
+-- the command `check` is the one for mark logs exactly if one of the words is `--marks`
 abbrev pub ChecksBy : (words : List (List ℕ)) → Task → Type 0
 ChecksBy words (Answer node nodes) = ⊤
 ChecksBy words (Sim policy choices format) = ⊤

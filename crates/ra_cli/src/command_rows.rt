@@ -1,10 +1,10 @@
-//! The commands of `ra`, each a row of a table, so that they are all made by the same few lines.
+//! The commands of `ra`, each a row of a table, so that the same few lines make them all.
 use crate::helps::{help_on, status_help};
 use crate::option_rows::{options_of, with_options};
 use clap::Command;
 use std::alloc::{AllocError, Global};
 
-/// The version of the program, and those of what it reads.
+/// The version of the program, and the versions of the formats that it reads.
 const VERSION: &str = "0.1.0 (frames 1 and 2, traces 1 and 2)";
 
 /// Which command it is.
@@ -17,7 +17,7 @@ pub enum CommandKind {
     Draw,
 }
 
-/// A command, what it is called, and what help says of it first.
+/// A command, its name, and what its help says first.
 #[derive(Clone, Copy)]
 struct CommandRow<'a> {
     kind: CommandKind,
@@ -30,22 +30,22 @@ const COMMANDS: &[CommandRow] = &[
     CommandRow {
         kind: CommandKind::Answer,
         name: "answer",
-        about: "Answer one frame, a line of hexadecimal digits, as an idle node does",
+        about: "Answer one frame, in hexadecimal digits, as an idle node would",
     },
     CommandRow {
         kind: CommandKind::Sim,
         name: "sim",
-        about: "Drive a cluster through a script: who asked, entered and left",
+        about: "Run a script in a simulated cluster: who asks, enters and leaves",
     },
     CommandRow {
         kind: CommandKind::Cluster,
         name: "cluster",
-        about: "Run a script by threads: who asked, entered and left",
+        about: "Run a script in a cluster of threads: who asks, enters and leaves",
     },
     CommandRow {
         kind: CommandKind::Check,
         name: "check",
-        about: "Check the trace of a run, or the log of a lock service, line by line",
+        about: "Check the trace of a run, or the mark log of a lock service",
     },
     CommandRow {
         kind: CommandKind::Draw,
@@ -62,15 +62,15 @@ fn command_of<'a>(alloc: Global, row: &CommandRow<'a>) -> Result<Command<'a>, Al
     with_options(alloc, command, options_of(row.kind))
 }
 
-/// Makes the program with what is said of it.
+/// Makes the program with its version and its help.
 fn named_program<'a>(alloc: Global) -> Command<'a> {
     Command::new(alloc, "ra")
         .version(VERSION)
-        .about("Lock named resources by messages alone")
+        .about("Simulate, run, check and draw a lock cluster that works by messages alone")
         .after_help(status_help())
 }
 
-/// Makes the program without its commands, of which one has to be named.
+/// Makes the program without its commands. A command line must name one.
 fn program<'a>(alloc: Global) -> Command<'a> {
     named_program(alloc)
         .disable_help_subcommand(true)

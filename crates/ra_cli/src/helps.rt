@@ -1,95 +1,93 @@
-//! What help says of the program and of each command below their options.
+//! The help of the program and of each command, below their options.
 use crate::command_rows::CommandKind;
 
-/// What is said of the command `answer` below its options.
+/// The help of the command `answer`, below its options.
 const ANSWER_HELP: &str = "\
-The node has met no number before, and its clock was 0. A frame of version 1 or
-2 is read, and the frames that the node sends are printed in version 2, a line
-each. The modes, and their bytes, of which version 1 has the first two:
+Read one frame of version 1 or 2 from standard input, as a line of hexadecimal
+digits, and print the frames with which the node answers, in version 2, one per
+line. The node is idle: it has seen no sequence number, and its event clock is
+0.
+
+Modes, and their bytes in a frame (version 1 has only the first two):
   S    00  shared
   X    01  exclusive
   IS   02  intent shared
   IX   03  intent exclusive
   SIX  04  shared and intent exclusive
 
-Example, a REQUEST of node 1 for the name r, in version 1, answered by node 2
-of 3:
+Example: node 2 of 3 answers a version 1 REQUEST of node 1 for the name r.
   echo 0101010201000000000000000100000000000000010172 |
     ra answer --node 2 --nodes 3
 
-Status 0: answered. Status 1: the input or the output failed. Status 2: the
-words or the frame are refused.";
+Exit status:
+  0  the frame was answered
+  1  standard input or standard output failed
+  2  the command line or the frame was refused";
 
-/// What is said of the command `sim` below its options.
+/// The help of the command `sim`, below its options.
 const SIM_HELP: &str = "\
-A script, read from standard input, is a TOML document: how many nodes there
-are, 1 to 64, and for each of 1 to 64 clients its node and what it does, at most
-1024 operations, in order. A mode and a name, as `X r`, lock the name in that
-mode, and `U r` unlocks it. A name has 1 to 32 of A to Z, a to z, 0 to 9, _, -
-and .
+Read a script from standard input. A script is a TOML document with the number
+of nodes, 1 to 64, and with 1 to 64 clients. Each client has a node and at most
+1024 operations, which it does in order: `X r` locks the name r in mode X, and
+`U r` unlocks it. A name is 1 to 32 characters from A-Z, a-z, 0-9, _, - and .
   nodes = 2
   client = [{ node = 1, ops = [\"X r\", \"U r\"] },
             { node = 2, ops = [\"S r\", \"U r\"] }]
 
-Modes:
-  S    shared: to read it whole, beside S and IS
-  X    exclusive: to change it whole, beside none
-  IS   intent shared: to read parts of it, which are locked S each, beside all
-       but X
-  IX   intent exclusive: to change parts of it, which are locked X each, beside
-       IS and IX
-  SIX  shared and intent exclusive: to read it whole, and change parts of it,
-       which are locked X each, beside IS
+Modes, and which ones others may hold at the same time:
+  S    shared, to read all of it: S, IS
+  X    exclusive, to change all of it: no other
+  IS   intent shared, to read parts that are locked with S: all but X
+  IX   intent exclusive, to change parts that are locked with X: IS, IX
+  SIX  shared and intent exclusive, to read all of it and to change parts that
+       are locked with X: IS
 
-Policies:
-  oldest  the first client in the order of the script that can go on, and else
-          the message that was sent first
-  newest  the same, with the message that was sent last
-  seeded  by chance: each turn takes one of the clients that can go on and the
-          messages under way, by the next word of the generator PCG XSL RR
-          128/64 of --seed. A script and a seed have one run, the same on each
-          machine
-  faulty  the same, but where the word names a message one word more, modulo
-          1000, says what becomes of it: below --lose it is lost, below --lose
-          and --repeat together it is repeated, and comes once more, and else
-          it is delivered. The two are at most 1000 together
-  listed  the words of --choices, one after the other: cK the next operation of
-          client K, counted from 1, mI delivers and lI loses the message at
-          place I of those under way, counted from 0 in the order of sending,
-          as in --choices \"c1 m0 m0 c1\"
+Policies, which choose each step:
+  oldest  the first client of the script that can go on; if there is none, the
+          message that was sent first
+  newest  the same, but the message that was sent last
+  seeded  a client that can go on or a message under way, at random: the next
+          word of the generator PCG XSL RR 128/64 decides. A script and a --seed
+          give the same run on every machine
+  faulty  like seeded, but a second word, modulo 1000, decides what becomes of a
+          message: below --lose it is lost, below --lose plus --repeat it is
+          repeated, and otherwise it is delivered. The two add up to at most
+          1000
+  listed  the --choices, in order: cK does the next operation of client K,
+          counted from 1; mI delivers and lI loses the message at place I of
+          those under way, counted from 0 in the order of sending. For example:
+          --choices \"c1 m0 m0 c1\"
 
-With --trace it prints the steps of the run, each with its marks, in place of
-the marks and totals, as `ra check` reads them.
-
+--trace prints the steps of the run, each with its marks, as `ra check` reads
+them.
 Example: ra sim --trace < script.toml | ra check
 
-With --as-choices it prints the words of --choices by which the policy listed
-makes the run again, so that some can be taken out by hand. No word stands for a
-repeat, so faulty has to have --repeat 0 then.
-
+--as-choices prints the choices of the run, by which --policy listed repeats it,
+so that you can edit them. A repeated message cannot be written as a choice, so
+faulty needs --repeat 0 here.
 Example: ra sim --policy seeded --seed 7 --as-choices < script.toml
 
-With --seeds A..B, where each is 0 to 2^64 - 1 and A at most B, and a policy of
-chance it runs the script by each seed from A to B, both included, and prints
-how many of them ended finished, and stuck, and the first of each, and the least
-and the most of the turns and of the messages sent.
-
+--seeds A..B runs the script under seeded or faulty with each seed from A to B,
+0 <= A <= B < 2^64. It prints how many runs ended finished and stuck, the first
+seed of each, and the least and the most turns and messages of a run.
 Example: ra sim --policy seeded --seeds 1..1000 < script.toml
 
-With --find stuck, or finished, it prints the trace by the first seed from A to
-B whose run ended so, and stops there. Where none did it prints `none`.
-
+--find finished or --find stuck prints the trace of the first of these runs that
+ends so, and tries no seed after it; if there is none, it prints `none`.
 Example: ra sim --policy seeded --seeds 1..1000 --find stuck < script.toml
 
-Status 0: each operation is done, and nothing waits, is queued or under way: by
-each seed of --seeds, and in the trace of --find; or --find found no run that is
-stuck. Status 3: that is not so. Status 2: the words or the script are refused.
-Status 1: the input or the output failed.";
+Exit status:
+  0  every run finished: all operations are done, and nothing waits, is queued
+     or is under way. With --find: the printed run finished, or --find stuck
+     found none
+  1  standard input or standard output failed
+  2  the command line or the script was refused
+  3  a run did not finish, or --find finished found none";
 
-/// What is said of the command `check` below its options.
+/// The help of the command `check`, below its options.
 const CHECK_HELP: &str = "\
-A trace, read from standard input, is the steps of a run, each on a line with
-its marks on the lines below it:
+Read a trace from standard input: the steps of a run, one per line, each with
+its marks on the lines after it.
   trace 2 2 0
   ask 1 1 r X
   request 1 1 r X 1
@@ -97,77 +95,81 @@ its marks on the lines below it:
   deliver reply 2 1 r 1
   enter 1 1 r X 1
   end
-The first line says which version of traces it is, how many nodes there are, and
-the number that each resource begins with, 0 to 2^64 - 1. The others have nodes,
-a client, 0 to 2^32 - 1, the name, the mode and the number, 1 to 2^64 - 1. In
-version 2, which `ra sim --trace` prints, there are 1 to 64 nodes and five
-modes; version 1 has 1 to 16 nodes and the modes S and X:
+The first line has the version, the number of nodes, and the number that each
+name begins with (0 to 2^64 - 1). The others have nodes, a client (0 to
+2^32 - 1), a name, a mode and a number (1 to 2^64 - 1). Version 2, which `ra sim
+--trace` prints, has 1 to 64 nodes and five modes. Version 1 has 1 to 16 nodes
+and the modes S and X.
   S    shared
   X    exclusive
   IS   intent shared
   IX   intent exclusive
   SIX  shared and intent exclusive
-A line with `lose` in place of `deliver` says that a message is lost, and in
-version 2 one with `repeat` that it will come once more.
+A line with `lose` in place of `deliver` loses the message. In version 2, a line
+with `repeat` puts a copy of the message under way.
 
-It prints `valid`, and how many requests and messages there were; or `invalid`,
-the first line that is wrong, and why:
-  Line         it is not a line of a trace, or may not stand there
-  Refused      the client may not ask or leave
-  NotUnderWay  nobody sent the message, or it was taken already
-  Marks        the marks are not what came of the step
-  Table        a lock table does not allow the mark
+Print `valid` and the numbers of requests and messages, or `invalid`, the first
+wrong line and the cause:
+  Line         not a line of a trace, or not allowed here
+  Refused      the client may not ask or release
+  NotUnderWay  the message was never sent, or was already delivered or lost
+  Marks        the marks are not those of the step
+  Table        the lock table does not allow the mark
 
 Example: ra sim --trace < script.toml | ra check
 
-With --marks the text is a log of marks alone, a line for each request, grant
-and release of any lock service, with the number of a node, 1 to 64, a client, 0
-to 2^32 - 1, the name, the mode, and a number, 1 to 2^64 - 1, that is above each
-one granted on the name so far:
+With --marks, read a mark log: a line for each request, grant and release of any
+lock service. Each has a node (1 to 64), a client (0 to 2^32 - 1), a name, a
+mode and a number (1 to 2^64 - 1). The number of a request must be above every
+number granted for the name so far.
   request 1 1 r X 1
   enter 1 1 r X 1
   leave 1 1 r X 1
-It prints `valid`, and how many requests and grants there were, where a lock
-table allows each mark; or `invalid`, the first line that is wrong, and why:
-  Line        it is no such line
-  NodeBusy    a request, and its node waits or holds on the name
-  NotAbove    a request, and its number is not above each one granted on the
-              name
-  NotWaiting  a grant, and it was not requested, or was granted already
-  Held        a grant, and one that conflicts holds
-  Earlier     a grant, and one that conflicts waits with a lower number, or the
-              same at a lower node
+Print `valid` and the numbers of requests and grants if the lock table allows
+each mark, or `invalid`, the first wrong line and the cause:
+  Line        not a mark
+  NodeBusy    a request, but its node already waits for the name or holds it
+  NotAbove    a request, but a number granted for the name is as high or higher
+  NotWaiting  a grant, but it was never requested, or was already granted
+  Held        a grant, but a conflicting request holds the name
+  Earlier     a grant, but a conflicting request waits with a lower number, or
+              with the same number at a lower node
   NotHeld     a release of what is not held
 
 Example: ra check --marks < service.log
 
-Status 0: it is a run. Status 3: it is not. Status 2: the words are refused, or
-it has more than 16777216 bytes. Status 1: the input or the output failed.";
+Exit status:
+  0  valid
+  1  standard input or standard output failed
+  2  the command line was refused, or the input has more than 16777216 bytes
+  3  invalid";
 
-/// What is said of the command `draw` below its options.
+/// The help of the command `draw`, below its options.
 const DRAW_HELP: &str = "\
-A trace is read from standard input, as `ra sim --trace` prints it and `ra check
---help` says what it is. Its picture is one SVG file, which any browser shows: a
-lane for each node, time downwards, an arrow for each message from its sending
-to its delivery, a cross where one is lost, a loop where one is repeated, and
-beside the lanes bars for clients that wait and that are inside. Rest the
-pointer on a shape, and the browser says it in words.
+Read a trace from standard input, as `ra sim --trace` prints it and `ra check
+--help` describes it. Print its picture as one SVG file, which any browser
+shows. Each node has a lane, and time goes down. An arrow leads from where a
+message was sent to where it was delivered, a cross marks a message that was
+lost, and a loop one that was repeated. Bars beside the lanes are clients that
+wait and clients that hold. Rest the pointer on a shape to read what it means.
 
 Example: ra sim --trace < script.toml | ra draw > run.svg
 
-At most 4096 lines of the trace are drawn. Of a longer one --from and --to say
-which, both counted from 1 and both included. The lines before are followed and
-those after are checked, but not drawn.
+At most 4096 lines are drawn: of a longer trace, choose a part with --from and
+--to. The lines before it are followed and those after it are checked, but they
+are not drawn.
 
-Status 0: it is drawn. Status 3: the text is no trace, and its first wrong line
-is printed in place of the picture, as `ra check` prints it. Status 2: the words
-are refused, or it is TooLong, or it has more than 16777216 bytes. Status 1: the
-input or the output failed.";
+Exit status:
+  0  the trace was drawn
+  1  standard input or standard output failed
+  2  the command line was refused, the part to draw is TooLong, or the input has
+     more than 16777216 bytes
+  3  not a trace: its first wrong line is printed, as by `ra check`";
 
-/// What is said of the command `cluster` below its options.
+/// The help of the command `cluster`, below its options.
 const CLUSTER_HELP: &str = "\
-A script is read from standard input; `ra sim --help` says what it is. It has 1
-to 64 nodes and 1 to 64 clients, and its modes are
+Read a script from standard input, as `ra sim --help` describes it: 1 to 64
+nodes, and 1 to 64 clients that lock names in these modes:
   S    shared
   X    exclusive
   IS   intent shared
@@ -181,64 +183,67 @@ This one has two clients that want the same name:
 
 Example: ra cluster < script.toml
 
-Each node and each client has a thread of its own. What happens first is up to
-the threads, so the marks may come in another order, and with other numbers,
-each time. When the threads have ended, what the nodes wrote down is put
-together into one run of the cluster, whose marks and totals are printed.
+Each node and each client has a thread of its own. The threads decide what comes
+first, so the order of the marks and their numbers may differ from run to run.
+When all threads have ended, what the nodes recorded is put together into one
+run of the cluster, whose marks and totals are printed.
 
-Two conditions on the script are checked before any thread starts, since a
-client that waits in vain keeps its thread, and so the program, waiting for
-ever:
-  OutOfOrder  a client locks a name that is not above, byte by byte, each name
-              that it holds then. If one client locks b while it holds a, and
-              another locks a while it holds b, each waits for the other
-  Unreleased  a client holds a name at its end. Whoever asks for that name later
-              waits for a client that is gone
+A client that waits in vain would keep the program waiting forever. So two kinds
+of scripts are refused before any thread starts:
+  OutOfOrder  a client locks a name that does not sort, byte by byte, after
+              every name that it holds. If one client locks b while it holds a,
+              and another locks a while it holds b, each waits for the other
+  Unreleased  a client holds a name at its end, so a client that asks for it
+              later would wait for one that is gone
 
-Nothing bounds how long a run takes. `ra sim` takes any script, and says who
+Nothing bounds how long a run takes. `ra sim` takes any script, and tells who
 waits at the end.
 
-Status 0: each operation is done, and nothing waits, is queued, lost or under
-way. Status 1: the input or the output failed. Status 2: the words or the script
-are refused, or the run failed: Fault where a node was stopped, as where memory
-ran out or no thread could be started, and Settle, PlanUnmet, Lost or UnderWay
-where what the nodes wrote down is no run, or not that of the whole script.";
+Exit status:
+  0  all operations are done, and nothing waits, is queued, lost or under way
+  1  standard input or standard output failed
+  2  the command line or the script was refused, or the run failed: Fault if a
+     node was stopped, for example for lack of memory or threads; Settle,
+     PlanUnmet, Lost or UnderWay if the nodes did not record one run of the
+     whole script";
 
-/// What is said of the program below its commands.
+/// The help of the program, below its commands.
 const STATUS_HELP: &str = "\
 Example: ra sim < script.toml
 
-Status 0: done. Status 1: the input or the output failed. Status 2: refused, by
-one line with the word that says why. Status 3: a run that ended with something
-left to do, or a trace or a log that is not valid.";
+Exit status:
+  0  done
+  1  standard input or standard output failed
+  2  refused: standard output has the cause as one word
+  3  a run did not finish, or a trace or a mark log is not valid";
 
-/// Returns what is said of the command `answer`. Each of these texts has a function of its own, since what a function takes to prove
-/// grows with the square of the bytes of the texts that it names.
+/// Returns the help of the command `answer`. Each of these texts has a function of its own, since the cost of proving a
+/// function grows with the square of the bytes of the texts that it names.
 fn answer_help() -> &'static str {
     ANSWER_HELP
 }
 
-/// Returns what is said of the command `sim`.
+/// Returns the help of the command `sim`.
 fn sim_help() -> &'static str {
     SIM_HELP
 }
 
-/// Returns what is said of the command `cluster`.
+/// Returns the help of the command `cluster`.
 fn cluster_help() -> &'static str {
     CLUSTER_HELP
 }
 
-/// Returns what is said of the command `check`.
+/// Returns the help of the command `check`.
 fn check_help() -> &'static str {
     CHECK_HELP
 }
 
-/// Returns what is said of the command `draw`.
+/// Returns the help of the command `draw`.
 fn draw_help() -> &'static str {
     DRAW_HELP
 }
 
-/// Returns what is said of a command below its options.
+/// Returns the help of a command, below its options.
 pub fn help_on(kind: CommandKind) -> &'static str {
     match kind {
         CommandKind::Answer => answer_help(),
@@ -249,7 +254,7 @@ pub fn help_on(kind: CommandKind) -> &'static str {
     }
 }
 
-/// Returns what is said of the program below its commands.
+/// Returns the help of the program, below its commands.
 pub fn status_help() -> &'static str {
     STATUS_HELP
 }

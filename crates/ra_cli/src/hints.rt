@@ -1,5 +1,5 @@
-//! What is said to a person where nothing is refused, and one would wonder: of options that say nothing, of names that stay locked, and
-//! on a terminal of what is waited for.
+//! Hints for the user when nothing was refused but something may surprise: options that have no effect, names that stay
+//! locked, and, on a terminal, what the command waits for.
 use crate::command_line::{asks_for_help, has_word, text_of};
 use crate::notes::write_line;
 use crate::seen::Seen;
@@ -7,36 +7,36 @@ use ra_explain::script_end_note;
 use std::alloc::Global;
 use std::io::Write;
 
-/// An option that says something to some policies alone.
+/// An option that has an effect only under some policies.
 #[derive(Clone, Copy)]
 struct Limited {
     option: &'static str,
     policies: &'static [&'static str],
-    /// What is said where the policy is none of these.
+    /// What is said if the policy is not one of these.
     text: &'static str,
 }
 
-/// The options of `sim` that say something to some policies alone.
+/// The options of `sim` that have an effect only under some policies.
 const LIMITED: &[Limited] = &[
     Limited {
         option: "--seed",
         policies: &["seeded", "faulty"],
-        text: "--seed is ignored: a seed is for --policy seeded or faulty",
+        text: "--seed is ignored: only --policy seeded and faulty use it",
     },
     Limited {
         option: "--lose",
         policies: &["faulty"],
-        text: "--lose is ignored: messages are lost by chance under --policy faulty alone",
+        text: "--lose is ignored: only --policy faulty uses it",
     },
     Limited {
         option: "--repeat",
         policies: &["faulty"],
-        text: "--repeat is ignored: messages are repeated by chance under --policy faulty alone",
+        text: "--repeat is ignored: only --policy faulty uses it",
     },
     Limited {
         option: "--choices",
         policies: &["listed"],
-        text: "--choices is ignored: choices are for --policy listed",
+        text: "--choices is ignored: only --policy listed uses it",
     },
 ];
 
@@ -45,7 +45,7 @@ pub fn is_given(words: &[String], option: &str) -> bool {
     text_of(words, option).is_some()
 }
 
-/// Returns whether an option says something to a policy. It does not allocate.
+/// Returns whether an option has an effect under a policy. It does not allocate.
 fn is_for(limited: &Limited, policy: &str) -> bool {
     for &other in limited.policies {
         if other == policy {
@@ -55,8 +55,8 @@ fn is_for(limited: &Limited, policy: &str) -> bool {
     false
 }
 
-/// Writes a line for each of the options that is given and says nothing to the policy. That the writer fails is passed over. It does not
-/// allocate.
+/// Writes a line for each option that is given but has no effect under the policy. It does not allocate, and ignores a
+/// failure of the writer.
 fn write_limits<N: Write>(words: &[String], options: &[Limited], policy: &str, notes: &mut N) {
     for limited in options {
         if is_given(words, limited.option) && !is_for(limited, policy) {
@@ -65,22 +65,23 @@ fn write_limits<N: Write>(words: &[String], options: &[Limited], policy: &str, n
     }
 }
 
-/// Writes a line for each option of `sim` that is given and says nothing. That the writer fails is passed over. It does not allocate.
+/// Writes a line for each option of `sim` that is given but has no effect. It does not allocate, and ignores a failure
+/// of the writer.
 fn write_sim_hints<N: Write>(words: &[String], notes: &mut N) {
     let policy = text_of(words, "--policy").unwrap_or("oldest");
     write_limits(words, LIMITED, policy, notes);
     if policy == "listed" && text_of(words, "--choices").unwrap_or("").is_empty() {
         write_line(
             notes,
-            "--policy listed makes the choices that --choices lists, and there are none",
+            "--policy listed has nothing to do: --choices is missing or empty",
         );
     }
     if is_given(words, "--seeds") && is_given(words, "--seed") {
-        write_line(notes, "--seed is ignored: --seeds says which ones");
+        write_line(notes, "--seed is ignored: --seeds gives the seeds");
     }
 }
 
-/// Writes which names the script leaves locked, if it leaves some, unless memory runs out. That the writer fails is passed over.
+/// Writes which names the script leaves locked, if any, unless memory runs out. It ignores a failure of the writer.
 fn write_end<N: Write>(alloc: Global, seen: &Seen, notes: &mut N) {
     if let Some(script) = seen.bytes()
         && let Ok(Some(text)) = script_end_note(alloc, script)
@@ -89,7 +90,7 @@ fn write_end<N: Write>(alloc: Global, seen: &Seen, notes: &mut N) {
     }
 }
 
-/// Writes what there is to say of a command that was done, or ended with something left to do. That the writer fails is passed over.
+/// Writes the hints on a command that was done, or ended with something left to do. It ignores a failure of the writer.
 pub fn write_hints<N: Write>(
     alloc: Global,
     words: &[String],
@@ -108,27 +109,27 @@ pub fn write_hints<N: Write>(
     }
 }
 
-/// Returns what a command reads, or `None` where there is no such command. The command `check` may read marks.
+/// Returns what a command reads, or `None` if there is no such command. The command `check` may read marks.
 fn input_text(command: &str, reads_marks: bool) -> Option<&'static str> {
     match command {
         "answer" => Some(
-            "a frame is read from standard input: type its digits and Enter, and then Ctrl-D",
+            "reading a frame from standard input: type its digits and Enter, then Ctrl-D",
         ),
         "sim" | "cluster" => Some(
-            "a script is read from standard input: type it and then Ctrl-D, or name a file by < FILE",
+            "reading a script from standard input: type it and then Ctrl-D, or redirect a file with < FILE",
         ),
         "check" if reads_marks => Some(
-            "a log of marks is read from standard input: type it and then Ctrl-D, or name a file by < FILE",
+            "reading a mark log from standard input: type it and then Ctrl-D, or redirect a file with < FILE",
         ),
         "check" | "draw" => Some(
-            "a trace is read from standard input: type it and then Ctrl-D, or name a file by < FILE",
+            "reading a trace from standard input: type it and then Ctrl-D, or redirect a file with < FILE",
         ),
         _ => None,
     }
 }
 
-/// Writes to a person at a terminal what the command waits for, if it reads something. That the writer fails is passed over. It does not
-/// allocate.
+/// Tells the user at a terminal what the command waits for, if it reads something. It does not allocate, and ignores a
+/// failure of the writer.
 pub fn write_waiting_note<N: Write>(words: &[String], notes: &mut N) {
     if asks_for_help(words) {
         return;

@@ -1,4 +1,4 @@
-//! The program `ra` except for its standard input and output.
+//! The program `ra`, except for its standard input and output.
 #![tactic(auto)]
 
 mod answering;

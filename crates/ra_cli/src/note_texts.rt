@@ -1,176 +1,171 @@
-//! What is said to a person of each cause, where it is the same whatever the words and the input.
+//! The texts of notes that depend on the cause alone, and not on the words or the input.
 use ra_cluster::{ClusterError, Stop};
 use ra_frame::FrameError;
 use ra_schedule::DriveError;
 use ra_script::ScriptError;
 use ra_trace::{Cause, MarkCause};
 
-/// What is said where memory ran out.
-pub const NO_MEMORY: &str = "memory ran out";
+/// What is said if memory ran out.
+pub const NO_MEMORY: &str = "out of memory";
 
-/// What is said where the reader failed.
-pub const NO_INPUT: &str = "standard input could not be read";
+/// What is said if the reader failed.
+pub const NO_INPUT: &str = "cannot read standard input";
 
-/// What is said where the writer failed.
-pub const NO_OUTPUT: &str = "standard output could not be written";
+/// What is said if the writer failed.
+pub const NO_OUTPUT: &str = "cannot write to standard output";
 
-/// What is said where the writer failed as no space is left.
-pub const NO_SPACE: &str = "standard output could not be written: no space is left";
+/// What is said if the writer failed because no space is left.
+pub const NO_SPACE: &str = "cannot write to standard output: no space left on device";
 
-/// What is said where a word of the command line is no text.
-pub const NO_TEXT: &str = "a word of the command line is not UTF-8";
+/// What is said if a word of the command line is not a text.
+pub const NO_TEXT: &str = "a command-line argument is not valid UTF-8";
 
-/// What is said where no word of `--choices` stands for a choice of the run.
+/// What is said if `--choices` has no word for a choice of the run.
 pub const NO_WORD: &str =
-    "no word of --choices stands for a choice of the run: a message is repeated, or stands at a place of more than 9 digits";
+    "the choices of this run cannot be written: one repeats a message, or names a place of more than 9 digits";
 
-/// Returns what is said of bytes that are no frame.
+/// Returns what is said about bytes that are not a frame.
 pub fn frame_text(fault: FrameError) -> &'static str {
     match fault {
-        FrameError::Short => "the frame ends before its name does: bytes are missing",
-        FrameError::Version => "the version of the frame, its first byte, is neither 01 nor 02",
-        FrameError::Kind => {
-            "the kind of the frame, its second byte, is neither 01, a REQUEST, nor 02, a REPLY"
-        }
+        FrameError::Short => "the frame is incomplete: it ends before its name does",
+        FrameError::Version => "the frame's version (offset 0) must be 01 or 02",
+        FrameError::Kind => "the frame's kind (offset 1) must be 01 (REQUEST) or 02 (REPLY)",
         FrameError::From => {
-            "the sender of the frame is not 1 to 16 in version 1, or 1 to 64 in version 2"
+            "the frame's sender must be 1 to 16 in version 1, or 1 to 64 in version 2"
         }
         FrameError::To => {
-            "the receiver of the frame is not 1 to 16 in version 1, or 1 to 64 in version 2"
+            "the frame's receiver must be 1 to 16 in version 1, or 1 to 64 in version 2"
         }
-        FrameError::SameNode => "the sender of the frame is its receiver",
+        FrameError::SameNode => "the frame's sender and receiver are the same node",
         FrameError::Mode => {
-            "the mode of the frame is not a mode: a REQUEST has 00 or 01 in version 1, or 00 to 04 in version 2, and a REPLY 00"
+            "the frame's mode must be 00 or 01 in a version 1 REQUEST, 00 to 04 in a version 2 REQUEST, and 00 in a REPLY"
         }
-        FrameError::Seq => "the sequence number of the frame is 0: the first one is 1",
-        FrameError::Clock => "the clock of the frame is not 1 to 2^62",
-        FrameError::NameLength => "the length of the name of the frame is not 1 to 32",
+        FrameError::Seq => "the frame's sequence number is 0: must be at least 1",
+        FrameError::Clock => "the frame's event clock must be 1 to 2^62",
+        FrameError::NameLength => "the length of the frame's name must be 1 to 32",
         FrameError::NameByte => {
-            "a byte of the name of the frame is not one that names may have: these are A to Z, a to z, 0 to 9, _, - and ."
+            "the frame's name has a byte that is not allowed: names consist of A-Z, a-z, 0-9, _, - and ."
         }
-        FrameError::Trailing => "there are bytes after the name of the frame",
+        FrameError::Trailing => "the frame goes on after its name",
     }
 }
 
-/// Returns what is said of a text that is no script.
+/// Returns what is said about a text that is not a script.
 pub fn script_text(fault: ScriptError) -> &'static str {
     match fault {
-        ScriptError::Toml => "the script is not UTF-8, or no TOML document",
+        ScriptError::Toml => "the script is not valid UTF-8, or not valid TOML",
         ScriptError::Shape => {
-            "a key of the script is missing, unknown or of another type: it has nodes, an integer, and client, an array of tables, each with node, an integer, and ops, an array of strings"
+            "a key of the script is missing, unknown or of the wrong type: expected nodes (an integer) and client (an array of tables), each with node (an integer) and ops (an array of strings)"
         }
-        ScriptError::Nodes => "the script has not 1 to 64 nodes",
-        ScriptError::Clients => {
-            "the script has not 1 to 64 clients, or the node of one is not 1 to the number of nodes"
-        }
+        ScriptError::Nodes => "the script must have 1 to 64 nodes",
+        ScriptError::Clients => "the script must have 1 to 64 clients, each at one of its nodes",
         ScriptError::Op => {
-            "an operation of the script is not one: each is S, X, IS, IX or SIX to lock, or U to unlock, one space, and a name of 1 to 32 of A to Z, a to z, 0 to 9, _, - and ."
+            "the script has an invalid operation: expected S, X, IS, IX, SIX or U, a space and a name of 1 to 32 characters from A-Z, a-z, 0-9, _, - and ."
         }
-        ScriptError::NotHeld => "a client of the script unlocks a name that it does not hold then",
-        ScriptError::AlreadyHeld => "a client of the script locks a name that it holds already",
+        ScriptError::NotHeld => "a client of the script unlocks a name that it does not hold",
+        ScriptError::AlreadyHeld => "a client of the script locks a name that it already holds",
         ScriptError::Limit => {
-            "the script has more than 65536 bytes, or one of its clients more than 1024 operations"
+            "the script has more than 65536 bytes, or a client with more than 1024 operations"
         }
         ScriptError::Memory => NO_MEMORY,
     }
 }
 
-/// Returns what is said of a policy that can't go on.
+/// Returns what is said about a policy that can't go on.
 pub fn drive_text(fault: DriveError) -> &'static str {
     match fault {
         DriveError::TurnLimit => {
-            "a choice is left after 16777216 turns, which are the most that a run may have"
+            "the run is not over after 16777216 turns, the most that it may take"
         }
         DriveError::BadPlace => {
-            "a choice of --choices names a client that there is not, counted from 1, or a message that is not under way, counted from 0 in the order of sending"
+            "--choices names a client that does not exist (clients count from 1) or a message that is not under way (places count from 0, in the order of sending)"
         }
         DriveError::NotEnabled => {
-            "a choice of --choices names a client that can't go on then: it has nothing left to do, or waits"
+            "--choices names a client that cannot go on at that point: it waits, or has nothing left to do"
         }
         DriveError::Memory => NO_MEMORY,
     }
 }
 
-/// Returns what is said of threads that did not bring a script to its end.
+/// Returns what is said about threads that did not bring a script to its end.
 pub fn cluster_text(fault: ClusterError) -> &'static str {
     match fault {
         ClusterError::OutOfOrder => {
-            "a client of the script locks a name that is not above, byte by byte, each one that it holds then, so that clients could wait for each other for ever: let all lock names in this order, or see by ra sim what comes of it"
+            "a client of the script locks a name that does not sort after every name it holds, so clients could deadlock: lock names in ascending byte order, or run the script with ra sim"
         }
         ClusterError::Unreleased => {
-            "a client of the script holds a name at its end, so that whoever asks for it later would wait for ever: let it unlock the name, or see by ra sim what comes of it"
+            "a client of the script never unlocks a name, so others could wait for it forever: unlock the name, or run the script with ra sim"
         }
         ClusterError::Fault(stop) => stop_text(stop),
-        ClusterError::Settle => {
-            "what the nodes wrote down is no run of the cluster: this is a defect of ra"
-        }
+        ClusterError::Settle => "the nodes' books do not settle into a run: this is a bug in ra",
         ClusterError::PlanUnmet => {
-            "what became of the requests is not what the script says: this is a defect of ra"
+            "the clients did not do what the script says: this is a bug in ra"
         }
-        ClusterError::Lost => "a message was lost: this is a defect of ra",
+        ClusterError::Lost => "a message was lost: this is a bug in ra",
         ClusterError::UnderWay => {
-            "a message was still under way at the end: this is a defect of ra"
+            "a message was still under way at the end: this is a bug in ra"
         }
         ClusterError::Memory => NO_MEMORY,
     }
 }
 
-/// Returns what is said of the cause for which a node was stopped. Which node it was `run_cluster` does not tell: memory and threads are
-/// those of the whole process, so that which node runs out of them first is chance, and most other causes are defects of `ra`.
+/// Returns what is said about the cause for which a node was stopped. `run_cluster` does not tell which node it was.
+/// Memory and threads belong to the whole process, so it is chance which node runs out of them first, and most other
+/// causes are defects of `ra`.
 fn stop_text(stop: Stop) -> &'static str {
     match stop {
-        Stop::Memory => "a node was stopped, as memory ran out",
+        Stop::Memory => "a node was stopped: out of memory",
         Stop::Spawn => {
-            "a node was stopped, as a thread could not be started: there is one for each node and one for each client"
+            "a node was stopped: cannot start a thread (each node and each client needs one)"
         }
-        Stop::Clock => "a node was stopped, as its clock would pass 2^62",
-        Stop::Exhausted => "a node was stopped, as no number is left for a name",
-        Stop::Send => "a node was stopped, as a frame could not be sent: this is a defect of ra",
+        Stop::Clock => "a node was stopped: its event clock would pass 2^62",
+        Stop::Exhausted => "a node was stopped: no sequence number is left for a name",
+        Stop::Send => "a node was stopped: it could not send a frame; this is a bug in ra",
         Stop::Frame => {
-            "a node was stopped, as bytes that came are no frame: this is a defect of ra"
+            "a node was stopped: it received bytes that are not a frame; this is a bug in ra"
         }
         Stop::Refused => {
-            "a node was stopped, as it refused what it was asked: this is a defect of ra"
+            "a node was stopped: it refused what it was asked to do; this is a bug in ra"
         }
-        Stop::Gate => "a node was stopped by a gate: this is a defect of ra",
+        Stop::Gate => "a node was stopped by a gate; this is a bug in ra",
     }
 }
 
-/// Returns what is said of the first wrong line of a text that is no trace.
+/// Returns what is said about the first wrong line of a text that is not a trace.
 pub fn cause_text(cause: Cause) -> &'static str {
     match cause {
         Cause::Line => {
-            "it is no line of a trace, as ra check --help shows them, or stands where it may not; the last one is end, and each ends with a line feed alone"
+            "not a line that a trace may have here (see ra check --help); each line ends with a line feed alone, and the last line is end"
         }
         Cause::Refused => {
-            "the client may not ask or leave then: there is no such node, or it waits, is queued or holds already, or it leaves what it does not hold"
+            "the client may not ask or release here: the node does not exist, the client already waits, is queued or holds the name, it releases a name that it does not hold, or no number is left"
         }
         Cause::NotUnderWay =>
-            "this message is not under way: nobody sent it, or it was taken already",
+            "this message is not under way: it was never sent, or was already delivered or lost",
         Cause::Marks => {
-            "the marks of a step are not what comes of it: one is missing before this line, or this one does not belong there"
+            "these are not the marks of the step: one is missing before this line, or this one does not belong here"
         }
         Cause::Table => {
-            "a lock table does not allow this mark: an entry that conflicts holds the name, or asked before; or its own does not wait or hold, or its node waits or holds already, or its number is not above each one that was granted"
+            "the lock table does not allow this mark: a conflicting request holds the name or came earlier, its own request does not wait or hold, its node already waits or holds, or its number is not above every number granted"
         }
     }
 }
 
-/// Returns what is said of the first wrong line of a log that is no run of the lock table.
+/// Returns what is said about the first wrong line of a log that is not a run of the lock table.
 pub fn mark_cause_text(cause: MarkCause) -> &'static str {
     match cause {
         MarkCause::Line => {
-            "it is no line of a mark: each is request, enter or leave, and then NODE CLIENT NAME MODE SEQ, with one space between two and a line feed alone at the end"
+            "not a mark: expected request, enter or leave and then NODE CLIENT NAME MODE SEQ, separated by single spaces and ended by a line feed alone"
         }
-        MarkCause::NodeBusy => "the node of this request waits for the name or holds it already",
+        MarkCause::NodeBusy => "the node of this request already waits for the name or holds it",
         MarkCause::NotAbove => {
-            "the number of this request is not above each one that was granted on the name"
+            "the number of this request is not above every number granted for the name"
         }
-        MarkCause::NotWaiting => { "no such entry waits for the name" }
-        MarkCause::Held => "an entry that conflicts with this one holds the name",
+        MarkCause::NotWaiting => "no such request waits for the name",
+        MarkCause::Held => "a conflicting request holds the name",
         MarkCause::Earlier => {
-            "an entry that conflicts with this one waits for the name with a lower number, or with the same one at a lower node"
+            "a conflicting request waits for the name with a lower number, or with the same number at a lower node"
         }
-        MarkCause::NotHeld => "no such entry holds the name",
+        MarkCause::NotHeld => "no such request holds the name",
     }
 }

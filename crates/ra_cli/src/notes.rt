@@ -1,4 +1,4 @@
-//! What is said to a person of what came of a command: one line, which begins with `ra: `.
+//! The note that tells the user what came of a command: one line, which begins with `ra: `.
 use crate::command_line::text_of;
 use crate::error::RunScriptError;
 use crate::hints::write_hints;
@@ -20,8 +20,9 @@ use ra_world::write_out;
 use std::alloc::{AllocError, Global};
 use std::io::Write;
 
-/// Writes the note on what came of words and of what was read, unless memory runs out, and where nothing is refused a line for each
-/// option that says nothing. Of many seeds the last one that was tried is told. That the writer fails is passed over.
+/// Writes the note on what came of the words and the input, unless memory runs out. If nothing was refused, it adds a
+/// line for each option that has no effect. With many seeds, `last_seed` is the last one that was tried. It ignores a
+/// failure of the writer.
 pub fn write_notes<N: Write>(
     alloc: Global,
     words: &[String],
@@ -45,7 +46,7 @@ pub fn write_notes<N: Write>(
     }
 }
 
-/// Writes a line of a text. That the writer fails is passed over. It does not allocate.
+/// Writes a text as a line. It does not allocate, and ignores a failure of the writer.
 pub fn write_line<N: Write>(notes: &mut N, text: &str) {
     for part in ["ra: ", text, "\n"] {
         if write_out(notes, part.as_bytes()).is_err() {
@@ -54,7 +55,7 @@ pub fn write_line<N: Write>(notes: &mut N, text: &str) {
     }
 }
 
-/// Writes the note on words that are not there. That the writer fails is passed over. It does not allocate.
+/// Writes the note on words that could not be read. It does not allocate, and ignores a failure of the writer.
 pub fn write_words_note<N: Write>(fault: CommandFault, notes: &mut N) {
     let text = match fault {
         CommandFault::Usage => NO_TEXT,
@@ -63,8 +64,8 @@ pub fn write_words_note<N: Write>(fault: CommandFault, notes: &mut N) {
     write_line(notes, text);
 }
 
-/// Writes the note on a fault of what is printed to, if there was one. A pipe that nobody reads on is passed over, as it is usual, behind
-/// `head` as an example; and so is that the writer fails. It does not allocate.
+/// Writes the note on a fault of the output, if there was one. A pipe that is no longer read gets no note, since that
+/// is usual, for example with `| head`. It does not allocate, and ignores a failure of the writer.
 pub fn write_output_note<N: Write>(fault: Option<OutputFault>, notes: &mut N) {
     match fault {
         Some(OutputFault::Full) => write_line(notes, NO_SPACE),
@@ -73,12 +74,12 @@ pub fn write_output_note<N: Write>(fault: Option<OutputFault>, notes: &mut N) {
     }
 }
 
-/// Returns the line of a text.
+/// Returns a text as a line.
 fn line_of(alloc: Global, text: &str) -> Result<String, AllocError> {
     format!(in alloc; "ra: {text}\n")
 }
 
-/// Returns the note on a remark, by its place if something is said of that.
+/// Returns the note on a remark: what is said about its place, if anything, and otherwise its cause.
 fn note_of(
     alloc: Global,
     words: &[String],
@@ -91,17 +92,17 @@ fn note_of(
     }
 }
 
-/// Returns the note on the cause of a remark, which is empty where the writer failed: a remark does not say how.
+/// Returns the note on the cause of a remark. It is empty if the writer failed, since a remark does not say how.
 fn cause_note(alloc: Global, words: &[String], remark: &Remark) -> Result<String, AllocError> {
     match remark {
         Remark::Refused(refusal) => refusal_note(alloc, words, *refusal),
         Remark::Unfinished => line_of(
             alloc,
-            "the run ended with something left to do: an operation, or what waits, is queued or is under way",
+            "the run did not finish: an operation is left, or something waits, is queued or is under way",
         ),
         Remark::SomeUnfinished => line_of(
             alloc,
-            "the runs of some seeds ended with something left to do; --seed and --trace show one of them",
+            "the runs of some seeds did not finish: use --seed and --trace to see one of them",
         ),
         Remark::NoTrace { line, cause } => invalid_note(alloc, *line, cause_text(*cause)),
         Remark::NoLog { line, cause } => invalid_note(alloc, *line, mark_cause_text(*cause)),
@@ -126,7 +127,7 @@ fn refusal_note(alloc: Global, words: &[String], refusal: Refusal) -> Result<Str
     }
 }
 
-/// Returns the note on words that ask for nothing.
+/// Returns the note on words for which there is no task.
 fn command_note(alloc: Global, words: &[String], why: CommandFault) -> Result<String, AllocError> {
     match why {
         CommandFault::Usage => {
@@ -142,18 +143,14 @@ fn answer_note(alloc: Global, words: &[String], why: AnswerError) -> Result<Stri
     let node = text_of(words, "--node").unwrap_or("");
     let nodes = text_of(words, "--nodes").unwrap_or("");
     match why {
-        AnswerError::BadCount => {
-            format!(in alloc; "ra: there can't be {nodes} nodes: --nodes is 1 to 64\n")
-        }
+        AnswerError::BadCount => format!(in alloc; "ra: --nodes is {nodes}: must be 1 to 64\n"),
         AnswerError::BadNode => {
-            format!(in alloc; "ra: there is no node {node} among {nodes}: --node is 1 to {nodes}\n")
+            format!(in alloc; "ra: --node is {node}: must be 1 to {nodes}\n")
         }
-        AnswerError::WrongNode => {
-            format!(in alloc; "ra: the frame is for another node than {node}\n")
-        }
+        AnswerError::WrongNode => format!(in alloc; "ra: the frame is not for node {node}\n"),
         AnswerError::Stranger => {
             format!(in alloc;
-                "ra: the sender of the frame is node {node} itself, or none of the {nodes} nodes\n"
+                "ra: the frame's sender must be a node from 1 to {nodes} other than {node}\n"
             )
         }
         AnswerError::Write => Ok(String::new(alloc)),
@@ -161,19 +158,15 @@ fn answer_note(alloc: Global, words: &[String], why: AnswerError) -> Result<Stri
     }
 }
 
-/// Returns what is said of a frame that is not answered, where it is the same whatever the words.
+/// Returns what is said about a frame that is not answered, if that does not depend on the words.
 fn answer_text(why: AnswerError) -> &'static str {
     match why {
         AnswerError::Read => NO_INPUT,
-        AnswerError::Line => {
-            "standard input is not one line: there are more than 256 bytes before a line feed, or bytes after it"
-        }
-        AnswerError::Hex => {
-            "the line is no frame: it has an odd number of hexadecimal digits, or a byte that is none of them"
-        }
+        AnswerError::Line => "standard input must be a single line of at most 256 bytes",
+        AnswerError::Hex => "the line must be an even number of hexadecimal digits",
         AnswerError::Frame(fault) => frame_text(fault),
         AnswerError::ClockFull =>
-            "the clock of the frame is 2^62, so that there is none for an answer",
+            "the frame's event clock is 2^62, the greatest: no clock is left for an answer",
         AnswerError::Memory => NO_MEMORY,
         AnswerError::BadCount
         | AnswerError::BadNode
@@ -190,7 +183,7 @@ fn choices_note(alloc: Global, words: &[String], why: ChoicesError) -> Result<St
             let choices = text_of(words, "--choices").unwrap_or("");
             let word = first_no_choice(alloc, choices);
             format!(in alloc;
-                "ra: --choices: {word:?} is no choice: each is c, m or l and 1 to 9 digits, as c1, with no zeros before them, and one space between two\n"
+                "ra: --choices: {word:?} is not a choice: expected c, m or l and a number of 1 to 9 digits without leading zeros, with one space between choices\n"
             )
         }
         ChoicesError::Memory => line_of(alloc, NO_MEMORY),
@@ -202,7 +195,7 @@ fn is_choice(alloc: Global, word: &str) -> bool {
     !word.is_empty() && read_choices(alloc, word).is_ok()
 }
 
-/// Returns the first word of a text that is no choice, or an empty one.
+/// Returns the first word of a text that is not a choice, or an empty text if every word is one.
 fn first_no_choice(alloc: Global, text: &str) -> &str {
     for word in text.split(' ') {
         if !is_choice(alloc, word) {
@@ -243,7 +236,7 @@ fn draw_note(alloc: Global, why: DrawError) -> Result<String, AllocError> {
         DrawError::Limit => line_of(alloc, "standard input has more than 16777216 bytes"),
         DrawError::TooLong => line_of(
             alloc,
-            "more than 4096 lines of the trace would be drawn: --from and --to say which ones",
+            "the trace has more than 4096 lines to draw: choose a part with --from and --to",
         ),
         DrawError::Memory => line_of(alloc, NO_MEMORY),
         DrawError::Write => Ok(String::new(alloc)),

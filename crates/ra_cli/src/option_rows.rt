@@ -1,4 +1,4 @@
-//! The options of the commands, each a row of a table, so that they are all made by the same few lines.
+//! The options of the commands, each a row of a table, so that the same few lines make them all.
 use crate::command_rows::CommandKind;
 use clap::builder::ValueParser;
 use clap::{Arg, ArgAction, Command};
@@ -10,8 +10,8 @@ const POLICIES: &[&str] = &["oldest", "newest", "seeded", "faulty", "listed"];
 /// The words for the ends of runs.
 const ENDINGS: &[&str] = &["finished", "stuck"];
 
-/// An option of a command: what it is called and what help says of it, what it takes, whether it has to be given, and what it is where it
-/// is not given, which help may leave out.
+/// An option of a command: its name and help, what it takes, whether it is required, and its default, which help may
+/// leave out.
 #[derive(Clone, Copy)]
 pub struct OptionRow<'a> {
     name: &'a str,
@@ -57,13 +57,13 @@ const LONG: OptionRow = OptionRow {
 const ANSWER_OPTIONS: &[OptionRow] = &[
     OptionRow {
         name: "node",
-        help: "The number of the node that answers, 1 to that of --nodes",
+        help: "Answer as this node, 1 to the value of --nodes",
         is_required: true,
         ..SHORT
     },
     OptionRow {
         name: "nodes",
-        help: "How many nodes there are, 1 to 64",
+        help: "Set the number of nodes, 1 to 64",
         is_required: true,
         ..SHORT
     },
@@ -73,55 +73,55 @@ const ANSWER_OPTIONS: &[OptionRow] = &[
 const SIM_OPTIONS: &[OptionRow] = &[
     OptionRow {
         name: "policy",
-        help: "Who chooses what comes next",
+        help: "Choose each step by this policy",
         parser: ValueParser::Names(POLICIES),
         defaults: &["oldest"],
         ..TEXT
     },
     OptionRow {
         name: "seed",
-        help: "The seed of chance, 0 to 2^64 - 1",
+        help: "Set the random seed, 0 to 2^64 - 1",
         defaults: &["0"],
         ..LONG
     },
     OptionRow {
         name: "lose",
-        help: "How many of 1000 faulty loses, 0 to 1000",
+        help: "Lose 0 to 1000 of 1000 messages",
         defaults: &["0"],
         ..SHORT
     },
     OptionRow {
         name: "repeat",
-        help: "How many of 1000 it repeats, 0 to 400",
+        help: "Repeat 0 to 400 of 1000 messages",
         defaults: &["0"],
         ..SHORT
     },
     OptionRow {
         name: "choices",
-        help: "The choices of the policy listed, as below",
+        help: "Make these choices, under listed [default: none]",
         defaults: &[""],
         hides_default: true,
         ..TEXT
     },
     OptionRow {
         name: "seeds",
-        help: "Each of many seeds, as 1..1000: what came of them",
+        help: "Survey the seeds of a range, such as 1..1000",
         ..TEXT
     },
     OptionRow {
         name: "find",
-        help: "The first trace by --seeds that ends so, as stuck",
+        help: "With --seeds, trace the first finished or stuck run",
         parser: ValueParser::Names(ENDINGS),
         ..TEXT
     },
     OptionRow {
         name: "trace",
-        help: "Print the trace of the run",
+        help: "Print the trace in place of marks and totals",
         ..FLAG
     },
     OptionRow {
         name: "as-choices",
-        help: "Print the choices of the run",
+        help: "Print the choices in place of marks and totals",
         ..FLAG
     },
 ];
@@ -129,21 +129,21 @@ const SIM_OPTIONS: &[OptionRow] = &[
 /// The option of the command `check`.
 const CHECK_OPTIONS: &[OptionRow] = &[OptionRow {
     name: "marks",
-    help: "Check the log of any lock service, which has marks alone",
+    help: "Check the mark log of any lock service, not a trace",
     ..FLAG
 }];
 
-/// The options of the command `draw`: the lines with which the part of the trace begins and ends.
+/// The options of the command `draw`: the first and the last line of the part of the trace.
 const DRAW_OPTIONS: &[OptionRow] = &[
     OptionRow {
         name: "from",
-        help: "The first line to draw, counted from 1",
+        help: "Draw from this line on, counted from 1",
         defaults: &["1"],
         ..LONG
     },
     OptionRow {
         name: "to",
-        help: "The last line, counted from 1 [default: the last one]",
+        help: "Draw up to and including this line [default: the last]",
         defaults: &["18446744073709551615"],
         hides_default: true,
         ..LONG
@@ -161,7 +161,7 @@ pub fn options_of(kind: CommandKind) -> &'static [OptionRow<'static>] {
     }
 }
 
-/// Makes an option, with its name and what is said of it.
+/// Makes an option, with its name and its help.
 fn named<'a>(alloc: Global, row: &OptionRow<'a>) -> Arg<'a> {
     Arg::new(alloc, row.name)
         .long(row.name)
@@ -170,7 +170,8 @@ fn named<'a>(alloc: Global, row: &OptionRow<'a>) -> Arg<'a> {
         .hide_possible_values(true)
 }
 
-/// Makes an option. Where it takes one of some words, the text below the options lists them, and help leaves them out.
+/// Makes an option. If it takes one of several words, the text below the options lists them, and its own help leaves
+/// them out.
 fn option_of<'a>(alloc: Global, row: &OptionRow<'a>) -> Arg<'a> {
     named(alloc, row)
         .action(row.action)

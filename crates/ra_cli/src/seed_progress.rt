@@ -1,16 +1,16 @@
-//! What is said to a person while many seeds take long.
+//! What the user is told while many seeds take long.
 use crate::notes::write_line;
 use ra_schedule::{Figures, Observer, Outcome};
 use std::alloc::Global;
 use std::io::Write;
 
-/// The work after which a line is written, in turns: it takes some seconds, and there is no clock to ask.
+/// The work after which a line is written, in turns. It takes some seconds; there is no clock to measure them.
 const WORK_OF_A_LINE: u64 = 1 << 23;
 
-/// What a run takes besides its turns, in turns.
+/// The work of a run besides its turns, in turns.
 const WORK_OF_A_RUN: u64 = 16;
 
-/// What is known of the seeds that are done.
+/// What is known about the seeds that are done.
 #[derive(Drop)]
 pub struct SeedProgress<'a, N> {
     alloc: Global,
@@ -19,12 +19,12 @@ pub struct SeedProgress<'a, N> {
     work: u64,
     done: u64,
     finished: u64,
-    /// The last one.
+    /// The last seed that is done.
     last: Option<u64>,
 }
 
 impl<'a, N: Write> SeedProgress<'a, N> {
-    /// Makes that of no seeds. It does not allocate.
+    /// Makes the progress of no seeds. It does not allocate.
     pub fn new(alloc: Global, notes: &'a mut N) -> SeedProgress<'a, N> {
         SeedProgress {
             alloc,
@@ -36,16 +36,16 @@ impl<'a, N: Write> SeedProgress<'a, N> {
         }
     }
 
-    /// Returns the last seed that is done, if one is.
+    /// Returns the last seed that is done, if any.
     pub fn last(&self) -> Option<u64> {
         self.last
     }
 
-    /// Writes how far it is, unless memory runs out. That the writer fails is passed over.
+    /// Writes the progress so far, unless memory runs out. It ignores a failure of the writer.
     fn write(&mut self, seed: u64) {
         let SeedProgress { done, finished, .. } = self;
         let text = format!(in self.alloc;
-            "{done} seeds are done, up to {seed}; finished: {finished}"
+            "{done} seeds done, up to seed {seed}: {finished} finished"
         );
         if let Ok(text) = text {
             write_line(self.notes, text.as_str());

@@ -1,4 +1,4 @@
-//! What the parser says of words that are no command line, on one line.
+//! What the parser says about words that are not a command line, on one line.
 use crate::command_line::{format_of, policy_name};
 use crate::command_rows::command;
 use crate::hints::is_given;
@@ -6,20 +6,20 @@ use clap::error::ErrorKind;
 use clap::{ArgMatches, Command, Error as ParseError};
 use std::alloc::{AllocError, Global};
 
-/// What is said of faults that can't be.
+/// What is said about rates of faults that are out of range.
 const FAULTS_TEXT: &str =
-    "--lose and --repeat are at most 1000 together, and --repeat is at most 400; see ra sim --help";
+    "--repeat must be at most 400, and --lose and --repeat together at most 1000; see ra sim --help";
 
-/// What is said of seeds that are no range, or for which there is no chance.
+/// What is said about seeds that are not a range, or that the other options do not allow.
 const SEEDS_TEXT: &str =
-    "--seeds is A..B, as 1..1000, with --policy seeded or faulty and without --trace and --as-choices; see ra sim --help";
+    "--seeds must be A..B (A at most B), such as 1..1000, with --policy seeded or faulty and without --trace or --as-choices; see ra sim --help";
 
-/// What is said where an end is looked for among no seeds.
-const FIND_TEXT: &str = "--find looks for one of --seeds; see ra sim --help";
+/// What is said if an end is looked for without seeds.
+const FIND_TEXT: &str = "--find requires --seeds; see ra sim --help";
 
-/// What is said of choices that can't be printed.
+/// What is said about choices that can't be printed.
 const AS_CHOICES_TEXT: &str =
-    "--as-choices is without --trace, and with --policy faulty only where --repeat is 0; see ra sim --help";
+    "--as-choices cannot be used with --trace, nor with --policy faulty unless --repeat is 0; see ra sim --help";
 
 /// Returns whether a word is a command, each of which reads standard input.
 fn is_command(word: &str) -> bool {
@@ -32,7 +32,7 @@ fn command_named(words: &[String]) -> Option<&str> {
     if is_command(name) { Some(name) } else { None }
 }
 
-/// Returns the word that the parser did not expect, where it is no option.
+/// Returns the word that the parser did not expect, if it is not an option.
 fn unexpected_in(said: &str) -> Option<&str> {
     let (_, rest) = said.split_once("unexpected argument '")?;
     let (word, _) = rest.split_once("' found")?;
@@ -43,7 +43,7 @@ fn unexpected_in(said: &str) -> Option<&str> {
     }
 }
 
-/// Adds a text without what would end the line.
+/// Adds a text, with `?` in place of each control character, which could end the line.
 fn push_shown(text: &mut String, line: &str) -> Result<(), AllocError> {
     for letter in line.chars() {
         text.push(if letter.is_control() { '?' } else { letter })?;
@@ -62,7 +62,7 @@ fn push_line(text: &mut String, line: &str) -> Result<(), AllocError> {
     push_shown(text, shown)
 }
 
-/// Adds what the parser says, without the lines of the usage and what stands after them.
+/// Adds what the parser says, without the lines of the usage and what follows them.
 fn push_said(text: &mut String, said: &str) -> Result<(), AllocError> {
     let said = said.strip_prefix("error: ").unwrap_or(said);
     for line in said.lines() {
@@ -74,13 +74,13 @@ fn push_said(text: &mut String, said: &str) -> Result<(), AllocError> {
     Ok(())
 }
 
-/// Adds where more is said, and for a word that names a file how it is read.
+/// Adds where to read more and, if a word may name a file, how to read that file.
 fn push_advice(text: &mut String, words: &[String], said: &str) -> Result<(), AllocError> {
     let Some(name) = command_named(words) else {
         return text.push_str("; see ra --help");
     };
     if let Some(word) = unexpected_in(said) {
-        text.push_str("; a file is read as standard input: ra ")?;
+        text.push_str("; to read a file, run ra ")?;
         text.push_str(name)?;
         text.push_str(" < ")?;
         push_shown(text, word)?;
@@ -88,14 +88,14 @@ fn push_advice(text: &mut String, words: &[String], said: &str) -> Result<(), Al
     write!(text, "; see ra {name} --help")
 }
 
-/// Returns what is said of words for help that stand beside others, and where more is said.
+/// Returns what is said about help options that share a word with others, and where to read more.
 fn help_text(alloc: Global, words: &[String]) -> Result<String, AllocError> {
-    let mut text = String::from_str(alloc, "-h and -V stand for themselves")?;
+    let mut text = String::from_str(alloc, "-h and -V must be arguments of their own")?;
     push_advice(&mut text, words, "")?;
     Ok(text)
 }
 
-/// Returns what the parser says, and where more is said.
+/// Returns what the parser says, and where to read more.
 fn said_text(alloc: Global, words: &[String], said: &str) -> Result<String, AllocError> {
     let mut text = String::new(alloc);
     push_said(&mut text, said)?;
@@ -103,7 +103,7 @@ fn said_text(alloc: Global, words: &[String], said: &str) -> Result<String, Allo
     Ok(text)
 }
 
-/// Returns what the parser says of words by its error, and where more is said.
+/// Returns what the parser says about the words with its error, and where to read more.
 fn error_text(alloc: Global, words: &[String], error: &ParseError) -> Result<String, AllocError> {
     if matches!(
         error.kind(),
@@ -115,8 +115,8 @@ fn error_text(alloc: Global, words: &[String], error: &ParseError) -> Result<Str
     said_text(alloc, words, said.as_str())
 }
 
-/// Returns what is said of words of the command `sim` with which the parser finds nothing wrong. The causes are looked for in the order in
-/// which a task is made of them.
+/// Returns what is said about words of the command `sim` in which the parser finds nothing wrong. The causes are tried
+/// in the order in which a task is made from the words.
 fn unseen_text(words: &[String], sim: &ArgMatches) -> &'static str {
     let Some(policy) = policy_name(sim) else {
         return FAULTS_TEXT;
@@ -130,12 +130,12 @@ fn unseen_text(words: &[String], sim: &ArgMatches) -> &'static str {
     }
 }
 
-/// Returns what the parser says of words that are no command line of `ra`, with the nearest word where it knows one, and where more is
-/// said. The parser is asked again, so that the contract of `parse` knows nothing of notes.
+/// Returns what the parser says about words that are not a command line of `ra`, with the nearest word if it knows one,
+/// and where to read more. The parser is run again, so that the contract of `parse` need not mention notes.
 pub fn usage_text<'a>(alloc: Global, words: &'a [String]) -> Result<String, AllocError> {
     let command: Command<'a> = command(alloc)?;
     match command.try_get_matches_from(words) {
-        // The parser finds nothing wrong with them, so it is what it does not look at.
+        // The parser finds nothing wrong with the words, so the cause is something that it does not check.
         Ok(matches) => match matches.subcommand() {
             Some((_, given)) => String::from_str(alloc, unseen_text(words, given)),
             None => help_text(alloc, words),

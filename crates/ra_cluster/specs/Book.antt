@@ -13,7 +13,7 @@ use Rattle.ra_cluster.specs.declared.sent.Sent.{Sent}
 use Rattle.ra_cluster.specs.declared.stop.Stop.{Stop}
 use Rattle.ra_cluster.specs.History.{IsHistory, node_event, clock_after, clock_of, frames_at}
 
--- the node's number, how many nodes there are, the highest number that each resource begins with, the events so far, the
+-- the node's number, the number of nodes, the highest number with which each resource begins, the events so far, the
 -- frames that they sent, and the fault, if there is one
 pub record BookState : Type 0 where
   pub me : ℕ
@@ -32,7 +32,7 @@ opening_book me nodes start =
 abbrev pub LeadsTo : BookState → NodeState → Type 0
 LeadsTo book node = IsHistory book.me book.nodes book.start book.events book.sent node
 
--- what holds of every book: it is the history of a node that there is
+-- what holds of every book: it is the history of an existing node
 pub record HasHistory (book : BookState) : Type 0 where
   pub count : IsNodeNumber book.nodes
   pub member : (1 ≤ book.me) × (book.me ≤ book.nodes)
@@ -41,15 +41,15 @@ pub record HasHistory (book : BookState) : Type 0 where
 
 -- ---- An event
 
--- the clock that an event has that comes next
+-- the clock of an event of this kind that comes next
 abbrev pub next_clock : BookState → BookKind → ℕ
 next_clock book kind = clock_after (clock_of book.events) kind
 
--- a clock is left for it
+-- a clock is left for an event of this kind, since the next one is at most 2^62
 abbrev pub HasClock : BookState → BookKind → Type 0
 HasClock book kind = next_clock book kind ≤ 2 ^ 62
 
--- frames as they are sent, none of which is lost yet
+-- frames as they are sent, not yet lost
 abbrev pub as_sent : List Frame → List Sent
 as_sent frames = map (λ frame. record { frame = frame; lost = false }) frames
 
@@ -60,8 +60,8 @@ with_event book clock kind frames = record book {
   sent = book.sent ++ as_sent frames;
 }
 
--- one more event, by which the node posted these frames and marks: they are those of the event at the node to which the book
--- leads, and the frames have the clock of the event
+-- The book has one more event, in which the node posted these frames and marks. They are those of the event at the node
+-- to which the old book leads, and the frames have the clock of the event.
 pub record Adds (old : BookState) (kind : BookKind) (frames : List Frame) (marks : List Mark)
     (new : BookState) : Type 0 where
   pub before : NodeState
@@ -72,7 +72,7 @@ pub record Adds (old : BookState) (kind : BookKind) (frames : List Frame) (marks
   pub frames_are : frames ≡ frames_at (next_clock old kind) sends
   pub new_is : new ≡ with_event old (next_clock old kind) kind frames
 
--- the book has no fault, and of its node this holds
+-- the book has no fault, and this holds of its node
 pub record Runs (book : BookState) (P : NodeState → Type 0) : Type 0 where
   pub no_fault : book.fault ≡ None
   pub node : NodeState
@@ -95,7 +95,7 @@ pub record IsFirst (sent : List Sent) (frame : Frame) (lost : Bool) : Type 0 whe
   pub sent_is : sent ≡ prefix ++ record { frame = frame; lost = lost } ∷ suffix
   pub first : All (λ s. s.frame ≢ frame) prefix
 
--- the new list is the old one with the flag set of the first frame that is equal to this one
+-- the new list is the old one, except that the first frame that is equal to this one is now flagged as lost
 pub record Loses (old : List Sent) (frame : Frame) (new : List Sent) : Type 0 where
   pub was : IsFirst old frame false
   pub new_is : new ≡ was.prefix ++ record { frame = frame; lost = true } ∷ was.suffix

@@ -3,7 +3,7 @@ use Rattle.std.specs.Prelude.{◌≡◌, ℕ, List}
 use Rattle.ra_stamp.specs.declared.mode.Mode.{Mode}
 use Rattle.ra_cluster.specs.declared.grant.Grant.{Grant}
 
--- a grant of this name in this mode, to a client of this node
+-- a grant of this name in this mode, to this client of this node
 pub record IsGrantOf (node client : ℕ) (name : List ℕ) (mode : Mode) (grant : Grant) : Type 0 where
   pub node_is : grant.entry.stamp.node ≡ node
   pub client_is : grant.entry.client ≡ client

@@ -11,7 +11,7 @@ use Rattle.ra_cluster.specs.declared.event.BookKind.TheVariants.{Asked, Gave, Go
 use Rattle.ra_cluster.specs.declared.event.BookEvent.{BookEvent}
 use Rattle.ra_cluster.specs.declared.sent.Sent.{Sent}
 
--- what happened, as an event of the node: of a frame it is the message that counts
+-- what happened, as an event of the node: of a frame only the message counts
 abbrev pub node_event : BookKind → Event
 node_event (Asked client name mode) = Ask client name mode
 node_event (Gave client name) = Leave client name
@@ -19,14 +19,14 @@ node_event (Got frame) = Receive frame.message
 
 -- ---- The clock
 
--- the clock of an event that comes after this clock: one more, and where a frame comes one more than the greater of this
--- clock and the frame's
+-- the clock of an event that comes after this clock: one more, and for a frame one more than the greater of this clock
+-- and the frame's
 abbrev pub clock_after : ℕ → BookKind → ℕ
 clock_after clock (Asked client name mode) = clock + 1
 clock_after clock (Gave client name) = clock + 1
 clock_after clock (Got frame) = max clock frame.clock + 1
 
--- after this clock each event has the clock that comes after the one before it, and none passes 2^62
+-- after this clock each event has the clock that follows the one before it, and no clock is above 2^62
 abbrev pub AreClocked : ℕ → List BookEvent → Type 0
 AreClocked clock [] = Unit {0}
 AreClocked clock (event ∷ events) =
@@ -37,7 +37,7 @@ abbrev pub clock_from : ℕ → List BookEvent → ℕ
 clock_from clock [] = clock
 clock_from clock (event ∷ events) = clock_from event.clock events
 
--- the clock after the events of a node: it is 0 at first
+-- the clock after the events of a node, which is 0 at first
 abbrev pub clock_of : List BookEvent → ℕ
 clock_of events = clock_from 0 events
 
@@ -49,6 +49,7 @@ pub record Posting : Type 0 where
   pub sends : List Message
   pub marks : List Mark
 
+-- the same without its clock, as a happening at the node
 abbrev pub happening_of : Posting → Happening
 happening_of posting =
     record { event = node_event posting.event.kind; sends = posting.sends; marks = posting.marks }
@@ -64,9 +65,9 @@ frames_of (posting ∷ postings) = frames_at posting.event.clock posting.sends +
 
 -- ---- The history
 
--- Node me of n, whose numbers begin at start, has these events and sent these frames, each kept or lost, and it is this now:
--- the events lead to it from a node that had met nothing, and what they sent are the frames, each with the clock of its
--- event.
+-- Node me of n, whose numbers begin at start, has these events and has sent these frames, each kept or lost, and it is
+-- now this node. The events lead to it from a node that has met nothing. What they sent are the frames, each with the
+-- clock of its event.
 pub record IsHistory (me n start : ℕ) (events : List BookEvent) (sent : List Sent)
     (node : NodeState) : Type 0 where
   pub clocked : AreClocked 0 events

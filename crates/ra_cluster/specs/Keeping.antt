@@ -35,11 +35,13 @@ use Rattle.ra_cluster.specs.Book.{BookState, opening_book, LeadsTo, HasHistory, 
 
 -- ---- What is kept
 
+-- the book is of one of 1 to 64 nodes, and its events lead to this node
 pub record Keeps (book : BookState) (node : NodeState) : Type 0 where
   pub count : IsNodeNumber book.nodes
   pub member : (1 ≤ book.me) × (book.me ≤ book.nodes)
   pub leads : LeadsTo book node
 
+-- the book that the fields represent
 abbrev pub book_of : Inside → BookState
 book_of b = record {
   me = b.me;
@@ -50,35 +52,36 @@ book_of b = record {
   fault = b.fault;
 }
 
+-- what holds of the fields: the events lead to the node that is kept with them
 abbrev pub IsKept : Inside → Type 0
 IsKept b = Keeps (book_of b) b.node
 
 -- ---- One more event
 
--- a frame that comes is for the book's node, and fits
+-- if a frame comes, it is for the book's node, and fits
 abbrev pub IsForThisBook : BookState → BookKind → Type 0
 IsForThisBook book (Asked client name mode) = Unit {0}
 IsForThisBook book (Gave client name) = Unit {0}
 IsForThisBook book (Got frame) = IsForNode book.me book.nodes frame.message × Fits frame
 
--- an event of this kind comes next at a book: a clock is left for it, and this is the one
+-- an event of this kind comes next at a book: a clock is left for it, and this is that clock
 pub record ComesNext (book : BookState) (clock : ℕ) (kind : BookKind) : Type 0 where
   pub clock_is : clock ≡ next_clock book kind
   pub has_clock : HasClock book kind
   pub for_this_book : IsForThisBook book kind
 
--- how many messages a node sends at most where a message comes: none where it is a REPLY
+-- how many messages a node sends at most when this message comes: one for a REQUEST, and 0 for a REPLY
 abbrev pub answers_to : Message → ℕ
 answers_to (Request from to name mode seq) = 1
 answers_to (Reply from to name seq) = 0
 
--- how many a node of this many sends at most where this happens
+-- how many messages a node sends at most when this happens, in a cluster of this many nodes
 abbrev pub sends_by : ℕ → BookKind → ℕ
 sends_by nodes (Asked client name mode) = nodes
 sends_by nodes (Gave client name) = 2 * nodes
 sends_by nodes (Got frame) = answers_to frame.message
 
--- the event happened at the node, and stands after the events so far, and its frames after those so far
+-- the event happened at the node, follows the events so far, and its frames follow those so far
 pub record Happens (old new : NodeState) (events events' : List BookEvent) (sent sent' : List Sent) (event : BookEvent)
     (posted : Posted) : Type 0 where
   pub sends : List Message
@@ -87,14 +90,14 @@ pub record Happens (old new : NodeState) (events events' : List BookEvent) (sent
   pub sent_are : sent' ≡ sent ++ as_sent (frames_at event.clock sends)
   pub frames_are : posted.frames.items ≡ frames_at event.clock sends
 
--- there was no memory for it, and all is as before
+-- there was no memory for it, and everything is as before
 pub record Stays (old new : NodeState) (events events' : List BookEvent) (sent sent' : List Sent) (refused : BookError) : Type 0 where
   pub memory : refused ≡ Memory
   pub node_is : new ≡ old
   pub events_are : events' ≡ events
   pub sent_are : sent' ≡ sent
 
--- what a check answers before an event: what is said of what comes next, or a refusal that is not `Memory`
+-- what a check answers before an event: what holds of the next event, or a refusal other than `Memory`
 pub record IsChecked {T : Type 0} (book : BookState) (Next : T → Type 0) (answer : Result T BookError) : Type 0 where
   pub history : HasHistory book
   pub next : IfOk answer Next
@@ -102,7 +105,7 @@ pub record IsChecked {T : Type 0} (book : BookState) (Next : T → Type 0) (answ
 
 -- ---- Refusals
 
--- an ask is answered as `Book::ask` says, where `Memory` is the one other error
+-- an ask is answered as `Book::ask` says, with `Memory` as the only other error
 pub record AnswersAsk {T : Type 0} (book : BookState) (client : ℕ) (name : List ℕ) (mode : Mode) (answer : Result T BookError)
     : Type 0 where
   pub failed : IsErrOf answer Failed ↔ IsSome book.fault
@@ -114,7 +117,7 @@ pub record AnswersAsk {T : Type 0} (book : BookState) (client : ℕ) (name : Lis
   pub allowed : IsOkUnless answer Memory
       ↔ Runs book (λ node. MayAsk (resource_at node name) client × HasClock book (Asked client name mode))
 
--- a leave, as `Book::leave` says
+-- a leave is answered as `Book::leave` says
 pub record AnswersLeave {T : Type 0} (book : BookState) (client : ℕ) (name : List ℕ) (answer : Result T BookError) : Type 0 where
   pub failed : IsErrOf answer Failed ↔ IsSome book.fault
   pub not_held : IsErrOf answer NotHeld
@@ -124,7 +127,7 @@ pub record AnswersLeave {T : Type 0} (book : BookState) (client : ℕ) (name : L
   pub allowed : IsOkUnless answer Memory
       ↔ Runs book (λ node. ((entry : Entry) × Holds (resource_at node name) client entry) × HasClock book (Gave client name))
 
--- bytes that come, as `Book::receive` says
+-- bytes that come are answered as `Book::receive` says
 pub record AnswersReceive {T : Type 0} (book : BookState) (bytes : List ℕ) (answer : Result T BookError) : Type 0 where
   pub failed : IsErrOf answer Failed ↔ IsSome book.fault
   pub frame : (fault : FrameError) → IsErrOf answer (error.Frame fault) ↔ ((book.fault ≡ None) × (first_fault bytes ≡ Some fault))
@@ -136,7 +139,7 @@ pub record AnswersReceive {T : Type 0} (book : BookState) (bytes : List ℕ) (an
   pub allowed : IsOkUnless answer Memory
       ↔ Hears book bytes (λ f. IsForNode book.me book.nodes f.message × HasClock book (Got f))
 
--- the frame of bytes, which is for this one of this many nodes, and fits
+-- the bytes are the text of this frame, which is for this one of this many nodes, and fits
 pub record IsFrameFor (me nodes : ℕ) (bytes : List ℕ) (frame : Frame) : Type 0 where
   pub text : IsFrameText bytes frame
   pub for_it : IsForNode me nodes frame.message
@@ -155,7 +158,8 @@ NotHeard me nodes clock bytes Exhausted = ⊥
 NotHeard me nodes clock bytes NotHeld = ⊥
 NotHeard me nodes clock bytes Memory = ⊥
 
--- bytes are heard at this one of this many nodes, after this clock: as a frame for it and the clock after it, or not
+-- bytes are heard at this one of this many nodes, after this clock, as a frame for it with the clock after it; or they
+-- are not heard
 pub record IsHeard (me nodes clock : ℕ) (bytes : List ℕ) (answer : Result (Frame × ℕ) BookError) : Type 0 where
   pub heard : IfOk answer (λ h. IsFrameFor me nodes bytes h.0 × (h.1 ≡ clock_after clock (Got h.0)) × (h.1 ≤ 2 ^ 62))
   pub refused : IfErr answer (NotHeard me nodes clock bytes)
@@ -164,11 +168,11 @@ pub record IsHeard (me nodes clock : ℕ) (bytes : List ℕ) (answer : Result (F
 
 -- ---- A loss
 
--- no frame has a greater clock than one that stands after it
+-- no frame has a greater clock than a later one
 abbrev pub Ascends : List Sent → Type 0
 Ascends sent = IsNonDecreasingBy (λ s. s.frame.clock) sent
 
--- at this place stands the first of them that is equal to this one
+-- the first of the sent frames that is equal to this one is at this place, counted from 0
 pub record StandsFirst (sent : List Sent) (frame : Frame) (place : ℕ) : Type 0 where
   pub within : place < length sent
   pub is : (d : Sent) → (slice_index_or sent place d).frame ≡ frame
@@ -185,8 +189,8 @@ pub record IsFlagged (old : List Sent) (frame : Frame) (new : List Sent) (answer
 
 -- ---- The law
 
--- A book that keeps a history goes on keeping it at each event of its node, which sends few frames, all of which fit where
--- the frame that came does. Its frames ascend by clock.
+-- A book that keeps a history goes on keeping it at each event of its node. The event sends few frames, and they fit if
+-- the frame that came does. The book's frames ascend by clock.
 pub record KeptHistoriesGoOn : Type 0 where
   pub opened : (me n start : ℕ) → IsNodeNumber n → (1 ≤ me) × (me ≤ n) → Keeps (opening_book me n start) (opening_node me n start)
   pub event : (book : BookState) (old new : NodeState) (kind : BookKind) (sends : List Message) (marks : List Mark)

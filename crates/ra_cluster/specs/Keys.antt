@@ -1,5 +1,5 @@
--- Requests and messages as keys, by which they are looked up: their fields, the mode as a number. No public contract speaks
--- of it.
+-- Requests and messages as keys with which they are looked up: their fields, the mode as a number. No public contract
+-- speaks of them.
 use Rattle.std.specs.Prelude.{◌↔◌, ◌≢◌, ℕ, List, [], ◌∷◌, map, AllPairs, Contains}
 use Rattle.std.specs.BTreeSet.{BTreeSet}
 use Rattle.ra_stamp.specs.declared.mode.Mode.{Mode}
@@ -14,6 +14,7 @@ use Rattle.ra_cluster.specs.declared.keys.MessageKey.{MessageKey}
 use Rattle.ra_cluster.specs.declared.event.BookEvent.{BookEvent}
 use Rattle.ra_cluster.specs.Settled.{received_among}
 
+-- the number of a mode in a key, 1 to 5
 abbrev pub mode_number : Mode → ℕ
 mode_number Shared = 1
 mode_number Exclusive = 2
@@ -21,6 +22,7 @@ mode_number IntentShared = 3
 mode_number IntentExclusive = 4
 mode_number SharedIntentExclusive = 5
 
+-- the key of a request
 abbrev pub entry_key : Entry → EntryKey
 entry_key entry = record {
   seq = entry.stamp.seq;
@@ -30,7 +32,7 @@ entry_key entry = record {
   name = entry.name;
 }
 
--- a REPLY has no mode
+-- the key of a message, in which the mode of a REPLY is 0
 abbrev pub message_key : Message → MessageKey
 message_key (Request from to name mode seq) = record { seq = seq; from = from; to = to; mode = mode_number mode; name = name }
 message_key (Reply from to name seq) = record { seq = seq; from = from; to = to; mode = 0; name = name }
@@ -46,10 +48,10 @@ entered_in (Requested entry ∷ marks) = entered_in marks
 entered_in (Entered entry ∷ marks) = entry ∷ entered_in marks
 entered_in (Left entry ∷ marks) = entered_in marks
 
--- the messages that came by events, in order
+-- the messages that came in these events, in order
 abbrev pub messages_among : List BookEvent → List Message
 messages_among events = map (λ f. f.message) (received_among events)
 
--- the set has the keys of these messages, and no others, and no two of them are equal
+-- the set has the keys of these messages and no others, and no two of the messages are equal
 abbrev pub HasEach : BTreeSet MessageKey → List Message → Type 0
 HasEach set messages = HasKeys set (map (λ m. message_key m) messages) × AllPairs (λ a b. a ≢ b) messages

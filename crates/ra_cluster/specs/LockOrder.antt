@@ -1,4 +1,5 @@
--- Which scripts threads can do: those in which each client takes its names in ascending order, and gives them all back.
+-- Which scripts threads can run: those in which each client takes its names in ascending order, and gives them all
+-- back.
 use Rattle.std.specs.Prelude.{◌≡◌, ◌≢◌, ℕ, ◌≤◌, ◌<◌, List, take, Option, Some, slice_get}
 use Rattle.std.specs.Ordering.{nat_cmp}
 use Rattle.std.specs.Cmp.Lexicographic.{slice_cmp}
@@ -12,25 +13,25 @@ use Rattle.ra_schedule.specs.Script.{ScriptState, ScriptClient, client_at, IsHel
 abbrev pub IsBelow : List ℕ → List ℕ → Type 0
 IsBelow a b = slice_cmp nat_cmp a b ≡ Less
 
--- the operation at some place locks a name, and one that is held then is not below it
+-- some operation locks a name while a name is held that is not below it
 abbrev pub LocksOutOfOrder : List Op → Type 0
 LocksOutOfOrder ops = (place : ℕ) × (name : List ℕ) × (mode : Mode) × (held : List ℕ)
     × (slice_get ops place ≡ Some (Lock name mode)) × IsHeldAfter (take place ops) held
     × (IsBelow held name → ⊥)
 
--- a name is held after all operations
+-- some name is held after all operations
 abbrev pub EndsHolding : List Op → Type 0
 EndsHolding ops = (name : List ℕ) × IsHeldAfter ops name
 
--- there is this client, and of its operations this holds
+-- the client exists, and this holds of its operations
 abbrev pub IsOf : (List Op → Type 0) → ScriptState → ℕ → Type 0
 IsOf P script client = (c : ScriptClient) × (client_at script client ≡ Some c) × P c.ops
 
--- some client locks a name that is not above each name that it holds then
+-- some client locks a name while it holds one that is not below it, by bytes
 abbrev pub IsOutOfOrder : ScriptState → Type 0
 IsOutOfOrder script = (client : ℕ) × IsOf LocksOutOfOrder script client
 
--- some client holds a name at its end
+-- some client holds a name after all its operations
 abbrev pub IsUnreleased : ScriptState → Type 0
 IsUnreleased script = (client : ℕ) × IsOf EndsHolding script client
 
@@ -40,15 +41,15 @@ IsUnreleased script = (client : ℕ) × IsOf EndsHolding script client
 abbrev pub Locks : Option Op → List ℕ → Type 0
 Locks op name = (mode : Mode) × (op ≡ Some (Lock name mode))
 
--- the operation locks a name, and the held one is not below it
+-- the operation locks a name, and the held name is not below it
 abbrev pub LocksNotAbove : Op → List ℕ → Type 0
 LocksNotAbove op held = (name : List ℕ) × (mode : Mode) × (op ≡ Lock name mode) × (IsBelow held name → ⊥)
 
--- between these places a name is not unlocked
+-- from the first place on and before the second, a name is not unlocked
 abbrev pub IsKeptTo : List Op → ℕ → ℕ → List ℕ → Type 0
 IsKeptTo ops from place held = (k : ℕ) → from ≤ k → k < place → slice_get ops k ≢ Some (Unlock held)
 
--- from this place on, a name is locked that is not above the held one, which is not unlocked before
+-- from this place on, a name is locked while the held one, which is not unlocked before, is not below it
 abbrev pub LocksBelow : List Op → ℕ → List ℕ → Type 0
 LocksBelow ops from held = (place : ℕ) × (name : List ℕ) × (mode : Mode)
     × (from ≤ place) × (slice_get ops place ≡ Some (Lock name mode)) × IsKeptTo ops from place held

@@ -1,4 +1,4 @@
--- What comes of a script that threads did.
+-- What comes of a script that threads ran.
 use Rattle.std.specs.Prelude.{◌≡◌, ◌≢◌, ◌*◌, ◌-◌, List, [], ◌∷◌, All, AllPairs, map, length, Option, Some, None}
 use Rattle.ra_schedule.specs.Script.{ScriptState}
 use Rattle.ra_world.specs.declared.report.Report.{Report}
@@ -15,7 +15,7 @@ use Rattle.ra_cluster.specs.Book.{BookState}
 use Rattle.ra_cluster.specs.Plan.{MeetsPlan, IsQuietEnd, locks_of}
 use Rattle.ra_cluster.specs.Settled.{IsCluster, IsSettledOrder, IsSettledRun, Placed, IsGranted, BooksFit, settled_steps}
 
--- the fault, or the other one where there is none
+-- the first fault, or the other one if the first does not exist
 abbrev pub fault_or : Option Stop → Option Stop → Option Stop
 fault_or (Some stop) other = Some stop
 fault_or None other = other
@@ -31,14 +31,15 @@ pub record AreOf (script : ScriptState) (books : List BookState) : Type 0 where
   pub count : length books ≡ script.nodes
   pub start : All (λ b. b.start ≡ 0) books
 
--- they fit together, and what the clients were granted stands in them, each once
+-- the books fit together, and they have each grant of the clients, each once
 pub record AreSound (books : List BookState) (grants : List Grant) : Type 0 where
   pub fit : BooksFit books
   pub granted : All (λ g. IsGranted books g.entry) grants
   pub once : AllPairs (λ a b. a ≢ b) grants
 
--- What the books of a script's nodes settle into: the steps are those of these very books in the settled order, with their losses
--- after them, and the report is that of the run of these steps. As there is one settled order, there is one such outcome.
+-- What the books of a script's nodes settle into: the steps are those of these very books in the settled order, with
+-- their losses after them, and the report is that of the run of these steps. Since only one settled order exists, only
+-- one such outcome exists.
 pub record IsOutcome (script : ScriptState) (books : List BookState) (grants : List Grant) (settled : Settled) : Type 0 where
   pub are : AreOf script books
   pub sound : AreSound books grants
@@ -64,12 +65,12 @@ RefusesReport script report UnderWay =
     MeetsPlan script report.marks.items × (report.queued ≡ 0) × (report.lost ≡ 0) × (report.under_way ≢ 0)
 RefusesReport script report Memory = ⊥
 
--- the books settle, and the report of their run is refused so
+-- the books settle, and the report of their run is refused for this cause
 abbrev pub IsReported : ScriptState → List BookState → List Grant → ClusterError → Type 0
 IsReported script books grants fault = (settled : Settled) × IsOutcome script books grants settled × RefusesReport script settled.report fault
 
--- Why a script was not brought to its end, where no book has a fault. Memory may run out only once the books are those of the
--- script's nodes.
+-- Why a script was not brought to its end, if no book has a fault. Memory may run out only after the books were found
+-- to be those of the script's nodes.
 abbrev pub RefusesSound : ScriptState → List BookState → List Grant → ClusterError → Type 0
 RefusesSound script books grants OutOfOrder = ⊥
 RefusesSound script books grants Unreleased = ⊥
@@ -96,6 +97,6 @@ pub record IsDone (script : ScriptState) (settled : Settled) : Type 0 where
   pub requests : settled.report.requests ≡ locks_of script
   pub count : settled.report.sent ≡ 2 * (script.nodes - 1) * locks_of script
 
--- a refusal that comes once the script was looked at
+-- a refusal that can come only after the script was looked at
 abbrev pub IsOfThreads : ClusterError → Type 0
 IsOfThreads e = (e ≢ OutOfOrder) × (e ≢ Unreleased)

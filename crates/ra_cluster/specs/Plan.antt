@@ -1,4 +1,4 @@
--- What the marks of a run are to be where clients did the operations of a script.
+-- What the marks of a run are to be if clients did the operations of a script.
 use Rattle.std.specs.Prelude.{◌≡◌, ℕ, ◌+◌, ◌==◌, Bool, true, false, List, [], ◌∷◌, Option, Some, None, sum_by}
 use Rattle.std.specs.List.{filter}
 use Rattle.ra_stamp.specs.declared.entry.Entry.{Entry}
@@ -15,6 +15,7 @@ entry_of_mark (Requested entry) = entry
 entry_of_mark (Entered entry) = entry
 entry_of_mark (Left entry) = entry
 
+-- the client of the request that a mark is about
 abbrev pub client_of_mark : Mark → ℕ
 client_of_mark mark = (entry_of_mark mark).client
 
@@ -26,8 +27,8 @@ marks_of_client client marks = filter (λ mark. client_of_mark mark == client) m
 abbrev pub IsAt : ℕ → List ℕ → Entry → Type 0
 IsAt node name entry = (entry.stamp.node ≡ node) × (entry.name ≡ name)
 
--- A mark is the next one of an operation at a node: a lock is requested and then entered, and an unlock leaves. `requested`
--- says whether it is requested already.
+-- A mark is the next one of an operation at a node: a lock is requested and then entered, and an unlock leaves.
+-- `requested` says whether it is requested already.
 abbrev pub IsNext : ℕ → Op → Bool → Mark → Type 0
 IsNext node (Lock name mode) false (Requested entry) = IsAt node name entry × (entry.mode ≡ mode)
 IsNext node (Lock name mode) true (Entered entry) = IsAt node name entry × (entry.mode ≡ mode)
@@ -42,17 +43,18 @@ FollowsOps node (Lock name mode ∷ ops) (first ∷ second ∷ marks) =
 FollowsOps node (Unlock name ∷ ops) (first ∷ marks) = IsNext node (Unlock name) false first × FollowsOps node ops marks
 FollowsOps node ops marks = ⊥
 
--- there is this client, and the marks that name it are those of its operations
+-- the client exists, and the marks that name it are those of its operations
 abbrev pub IsFollowed : ScriptState → ℕ → List Mark → Type 0
 IsFollowed script client marks = (c : ScriptClient) × (client_at script client ≡ Some c)
     × FollowsOps c.node c.ops (marks_of_client client marks)
 
--- the marks that name a client that there is are those of its operations, and none names one that there is not
+-- if the client exists, these marks are those of its operations, and otherwise there are no marks
 abbrev pub MeetsPlanOf : Option ScriptClient → List Mark → Type 0
 MeetsPlanOf (Some c) marks = FollowsOps c.node c.ops marks
 MeetsPlanOf None marks = marks ≡ []
 
--- the plan is met
+-- the marks that name a client are those of its operations in order at its node, Requested and Entered for each lock
+-- and Left for each unlock; no mark names a client that does not exist
 abbrev pub MeetsPlan : ScriptState → List Mark → Type 0
 MeetsPlan script marks = (client : ℕ) → MeetsPlanOf (client_at script client) (marks_of_client client marks)
 
@@ -62,7 +64,7 @@ locks_in [] = 0
 locks_in (Lock name mode ∷ ops) = locks_in ops + 1
 locks_in (Unlock name ∷ ops) = locks_in ops
 
--- how many operations of all clients are
+-- how many operations of all clients are locks
 abbrev pub locks_of : ScriptState → ℕ
 locks_of script = sum_by (λ c. locks_in c.ops) script.clients
 
@@ -72,7 +74,7 @@ is_request (Requested entry) = true
 is_request (Entered entry) = false
 is_request (Left entry) = false
 
--- nobody is queued, and no message is lost or under way
+-- no client is queued, and no message is lost or under way
 pub record IsQuietEnd (report : Report) : Type 0 where
   pub queued : report.queued ≡ 0
   pub lost : report.lost ≡ 0

@@ -4,6 +4,7 @@ use Rattle.ra_node.specs.declared.error.AskError.TheVariants as ask
 use Rattle.ra_cluster.specs.declared.error.BookError.{BookError}
 use Rattle.ra_cluster.specs.declared.error.BookError.TheVariants.{Busy, Exhausted, Memory}
 
+-- the refusal of a book's ask that a refusal of its node's ask becomes
 abbrev pub refusal_of_ask : AskError → BookError
 refusal_of_ask ask.Busy = Busy
 refusal_of_ask ask.Exhausted = Exhausted

@@ -41,7 +41,7 @@ pub record Placed : Type 0 where
   pub node : ℕ
   pub event : BookEvent
 
--- one comes before the other: its clock is less, or the clocks are equal and its node is
+-- one event comes before the other: its clock is less, or the clocks are equal and its node is less
 abbrev pub IsBefore : Placed → Placed → Type 0
 IsBefore a b = (a.event.clock < b.event.clock) ⊎ ((a.event.clock ≡ b.event.clock) × (a.node < b.node))
 
@@ -49,8 +49,9 @@ IsBefore a b = (a.event.clock < b.event.clock) ⊎ ((a.event.clock ≡ b.event.c
 abbrev pub events_of : ℕ → List Placed → List BookEvent
 events_of i placed = map (λ p. p.event) (filter (λ p. p.node == i) placed)
 
--- All events of all books in one list, and no others: those of each node are its book's, in their order, and the list is
--- sorted by clock and then by node. As the clocks of each book rise, no two are equal, and there is one such list.
+-- All events of all books in one list, and no others: those of each node are its book's, in their order, and the list
+-- is sorted by clock and then by node. As the clocks of each book rise, no two events are equal, and only one such list
+-- exists.
 pub record IsSettledOrder (books : List BookState) (placed : List Placed) : Type 0 where
   pub each : All (λ b. events_of b.me placed ≡ b.events) books
   pub no_others : All (λ p. (1 ≤ p.node) × (p.node ≤ length books)) placed
@@ -64,6 +65,7 @@ step_at node (Asked client name mode) = Ask node client name mode
 step_at node (Gave client name) = Leave node client name
 step_at node (Got frame) = Deliver frame.message
 
+-- the steps of the cluster that these events are, in order
 abbrev pub steps_of : List Placed → List Step
 steps_of placed = map (λ p. step_at p.node p.event.kind) placed
 
@@ -71,16 +73,16 @@ steps_of placed = map (λ p. step_at p.node p.event.kind) placed
 abbrev pub lost_among : List Sent → List Message
 lost_among sent = map (λ s. s.frame.message) (filter (λ s. s.lost) sent)
 
--- those of all books, by node
+-- the lost messages of all books, by node and in order of sending
 abbrev pub all_lost : List BookState → List Message
 all_lost books = flat_map (λ b. lost_among b.sent) books
 
--- the steps of all events in the settled order, and then the losses
+-- the steps of all events in the settled order, and then the losses of all lost messages
 abbrev pub settled_steps : List BookState → List Placed → List Step
 settled_steps books placed = steps_of placed ++ map (λ m. Lose m) (all_lost books)
 
--- A run of the cluster whose steps on each node are its book's events, in their order, whose losses are of the message of each
--- frame that is flagged lost, each once, and of no other, and of whose steps none is a repeat.
+-- A run of the cluster whose steps at each node are its book's events, in their order. Its losses are of the message of
+-- each frame that is flagged lost, each once, and of no other. No step is a repeat.
 pub record IsSettledRun (books : List BookState) (moves : List Move) : Type 0 where
   pub run : IsRun (length books) (start_of books) moves
   pub events : All (λ b. map (λ h. h.event) (happened_at b.me moves) ≡ map (λ e. node_event e.kind) b.events) books
@@ -89,6 +91,7 @@ pub record IsSettledRun (books : List BookState) (moves : List Move) : Type 0 wh
 
 -- ---- Grants
 
+-- the marks of these events, in order
 abbrev pub marks_in : List Posting → List Mark
 marks_in postings = flat_map (λ p. p.marks) postings
 
@@ -100,7 +103,7 @@ HasMark book mark = (node : NodeState) × (leads : LeadsTo book node) × Contain
 abbrev pub IsGranted : List BookState → Entry → Type 0
 IsGranted books entry = Any (λ b. (b.me ≡ entry.stamp.node) × HasMark b (Entered entry)) books
 
--- two of a list, at different places, are equal
+-- two items of a list, at different places, are equal
 pub record Repeats {X : Type 0} (xs : List X) : Type 0 where
   pub first : ℕ
   pub second : ℕ
@@ -112,24 +115,26 @@ pub record Repeats {X : Type 0} (xs : List X) : Type 0 where
 
 -- ---- Why books do not settle
 
--- the frames that came by events, in order
+-- the frame that came, if one did
 abbrev pub frames_in : BookKind → List Frame
 frames_in (Asked client name mode) = []
 frames_in (Gave client name) = []
 frames_in (Got frame) = frame ∷ []
 
+-- the frames that came in these events, in order
 abbrev pub received_among : List BookEvent → List Frame
 received_among events = flat_map (λ e. frames_in e.kind) events
 
+-- the frames that came at all nodes, by node and in order
 abbrev pub all_received : List BookState → List Frame
 all_received books = flat_map (λ b. received_among b.events) books
 
--- its sender sent this frame, with this clock and message, and it is not flagged lost
+-- the sender's book has this frame, with this clock and message, and it is not flagged lost
 abbrev pub WasSent : List BookState → Frame → Type 0
 WasSent books frame =
     Any (λ b. (b.me ≡ from_of frame.message) × Contains b.sent (record { frame = frame; lost = false })) books
 
--- a frame came that was not sent
+-- a frame came that was not sent, or that is flagged lost
 abbrev pub HasUnsent : List BookState → Type 0
 HasUnsent books = Any (λ f. WasSent books f → ⊥) (all_received books)
 

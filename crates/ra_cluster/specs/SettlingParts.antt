@@ -1,4 +1,4 @@
--- What settling books says, and of its parts. No public contract speaks of it.
+-- What settling books says, and each of its parts. No public contract speaks of it.
 use Rattle.std.specs.Prelude.{◌≡◌, ◌≢◌, ◌↔◌, List, map, length, All, AllPairs, Contains}
 use Rattle.std.specs.List.{Any}
 use Rattle.ra_stamp.specs.declared.entry.Entry.{Entry}
@@ -18,20 +18,24 @@ use Rattle.ra_cluster.specs.Settled.{IsCluster, IsSettledOrder, IsSettledRun, Pl
 
 -- ---- The laws
 
+-- each frame in a book is from the book's node
 abbrev pub FramesAreFromTheirNodes : Type 0
 FramesAreFromTheirNodes = (book : BookState) → HasHistory book → All (λ s. from_of s.frame.message ≡ book.me) book.sent
 
+-- a run whose steps are those of books in the settled order, and then their losses, is a settled run of these books
 abbrev pub StepsMakeSettledRuns : Type 0
 StepsMakeSettledRuns = (books : List BookState) (placed : List Placed) (moves : List Move)
     → IsCluster books → All HasHistory books → IsSettledOrder books placed
     → IsRun (length books) (start_of books) moves
     → map (λ move. move.step) moves ≡ settled_steps books placed → IsSettledRun books moves
 
+-- the steps of books that fit together, in the settled order, and then their losses are a run
 abbrev pub FittingBooksSettle : Type 0
 FittingBooksSettle = (books : List BookState) (placed : List Placed)
     → IsCluster books → All HasHistory books → IsSettledOrder books placed
     → BooksFit books → WorldRun (length books) (start_of books) (settled_steps books placed)
 
+-- an entry has an Entered mark in a settled run of books exactly if the books say that it was granted
 abbrev pub GrantsAreInTheBooks : Type 0
 GrantsAreInTheBooks = (books : List BookState) (moves : List Move) (entry : Entry)
     → IsCluster books → All HasHistory books → IsSettledRun books moves
@@ -55,7 +59,7 @@ RefusesGrants grants marks GrantMissing = Any (λ g. Contains marks (Entered g.e
 RefusesGrants grants marks GrantTwice = Repeats grants × All (λ g. Contains marks (Entered g.entry)) grants
 RefusesGrants grants marks Memory = Unit {0}
 
--- why grants are refused that are all different or not
+-- why grants are refused, as far as it depends on two of them being equal
 abbrev pub RefusesRepeats : List Grant → SettleError → Type 0
 RefusesRepeats grants NotSent = ⊥
 RefusesRepeats grants Twice = ⊥
@@ -63,7 +67,8 @@ RefusesRepeats grants GrantMissing = ⊥
 RefusesRepeats grants GrantTwice = Repeats grants
 RefusesRepeats grants Memory = Unit {0}
 
--- books are settled: the steps are theirs in the settled order and then the losses, and the report is that of a settled run
+-- the books are settled: the steps are theirs in the settled order and then the losses, and the report is that of a
+-- settled run
 pub record SettlesBooks (books : List BookState) (settled : Settled) : Type 0 where
   pub histories : All HasHistory books
   pub placed : List Placed
@@ -75,14 +80,14 @@ pub record SettlesBooks (books : List BookState) (settled : Settled) : Type 0 wh
   pub reports : Reports (length books) (start_of books) moves settled.report
   pub main : MainTheorem (length books) settled.report
 
--- books are settled with grants
+-- the books are settled, with these grants
 pub record Settles (books : List BookState) (grants : List Grant) (settled : Settled) : Type 0 where
   pub books_are : SettlesBooks books settled
   pub fit : BooksFit books
   pub granted : All (λ g. IsGranted books g.entry) grants
   pub once : AllPairs (λ a b. a ≢ b) grants
 
--- why they are not
+-- why books and grants do not settle
 abbrev pub Refuses : List BookState → List Grant → SettleError → Type 0
 Refuses books grants NotSent = HasUnsent books
 Refuses books grants Twice = HasTwice books × (HasUnsent books → ⊥)

@@ -7,7 +7,8 @@ use Rattle.ra_cluster.specs.declared.site.SiteError.TheVariants.{Refused, Stoppe
 use Rattle.ra_cluster.specs.declared.stop.Stop.{Stop}
 use Rattle.ra_cluster.specs.declared.stop.Stop.TheVariants as stop
 
--- none where the book has a fault already; a refusal that no thread of a cluster should meet is Refused
+-- The cause for which all nodes are stopped after a book's refusal, or None if the book has a fault already. A refusal
+-- that no thread of a cluster should meet is Refused.
 abbrev pub stop_after_refusal : BookError → Option Stop
 stop_after_refusal book.Failed = None
 stop_after_refusal (book.Frame fault) = Some stop.Frame
@@ -19,7 +20,7 @@ stop_after_refusal book.Stranger = Some stop.Refused
 stop_after_refusal book.ClockFull = Some stop.Clock
 stop_after_refusal book.Memory = Some stop.Memory
 
--- a site that is stopped stops nobody else
+-- the cause for which all nodes are stopped after this refusal, or None if the site's node was stopped before
 abbrev pub stop_of : SiteError → Option Stop
 stop_of (Refused refusal) = stop_after_refusal refusal
 stop_of (Stopped cause) = None

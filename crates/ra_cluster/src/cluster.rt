@@ -23,14 +23,14 @@ use thiserror::Error;
 #[derive(Clone, Copy, Debug, PartialEq, Eq, Error)]
 #[error("{:?}", self)]
 pub enum ClusterError {
-    /// A client locks a name that is not above each name that it holds then.
+    /// A client locks a name that is not above every name that it then holds.
     OutOfOrder,
     /// A client holds a name at its end.
     Unreleased,
     /// A node was stopped, for this cause.
     #[error("Fault")]
     Fault(Stop),
-    /// What the nodes wrote down is no run of the cluster, or not one in which each grant was given, and once.
+    /// The nodes did not record a run of the cluster, or not one in which each grant was given exactly once.
     Settle,
     /// What became of the clients' requests is not what the script says.
     PlanUnmet,
@@ -52,22 +52,24 @@ impl From<Memory> for ClusterError {
     }
 }
 
-/// Runs a script by threads: one for each node and one for each client, whose operations it does one after the other at the
-/// client's site. Once the threads of the clients have ended, the post is closed; once those of the nodes have ended, the books
-/// settle. The numbers begin at 0. Where it is Ok, nobody waits or is queued, no message was lost or repeated or is under way, there are
-/// as many requests as locks in the script, and with N nodes 2(N-1) times as many messages.
+/// Runs a script by threads: one for each node and one for each client. A client's thread does the client's operations
+/// one after the other, at the client's site. Once the clients' threads have ended, the post is closed; once the nodes'
+/// threads have ended, the books settle. The numbers begin at 0. If the result is Ok, nobody waits or is queued, and no
+/// message was lost or repeated or is under way. There are as many requests as locks in the script, and with N nodes
+/// 2(N-1) times as many messages.
 ///
-/// Nothing bounds how long the threads wait. Each client takes its names in ascending order and holds none at its end, since
-/// clients that take names in different orders can wait for each other for ever.
+/// Nothing bounds how long the threads wait. Each client has to take its names in ascending order and to hold none at
+/// its end, since clients that take names in different orders can wait for each other forever.
 ///
-/// The cost is that of [`run_threads`], of [`settle_script`], and before them that of looking, for each lock of a client, through its
-/// operations up to the unlock.
+/// The cost is that of [`run_threads`] and [`settle_script`]. Before them, for each lock of a client, the client's
+/// operations are searched up to the unlock.
 ///
 /// # Errors
 ///
 /// The first that holds, except that `Memory` may come before any but the first two:
 ///
-/// 1. `OutOfOrder`: a client locks a name that is not above, by bytes, each name that it holds then. No thread was started.
+/// 1. `OutOfOrder`: a client locks a name that is not above, by bytes, every name that it then holds. No thread was
+///    started.
 /// 2. `Unreleased`: a client holds a name at its end. No thread was started.
 /// 3. `Fault`: a node was stopped, with the cause at the lowest such node.
 /// 4. `Settle`: the books do not settle, or not with what the clients were granted.
@@ -84,7 +86,7 @@ pub fn run_cluster<R: Threads + Wait + Sync, G: Gate>(
     ensures out_of_order { IsErrOf result ClusterError.OutOfOrder ↔ IsOutOfOrder script.now }
     ensures unreleased { IsErrOf result ClusterError.Unreleased
         ↔ ((IsOutOfOrder script.now → ⊥) × IsUnreleased script.now) }
-    // The report is that of a run of the steps at the script's nodes, from numbers that begin at 0.
+    // The report is that of a run of the steps at the script's nodes, with numbers that begin at 0.
     ensures run { IfOk result (λ settled. (moves : List Move)
         × (map (λ move. move.step) moves ≡ settled.steps.items)
         × IsRun script.now.nodes 0 moves × Reports script.now.nodes 0 moves settled.report) }
@@ -92,7 +94,8 @@ pub fn run_cluster<R: Threads + Wait + Sync, G: Gate>(
     ensures plan { IfOk result (λ settled. MeetsPlan script.now settled.report.marks.items) }
     ensures ended { IfOk result (λ settled. IsQuietEnd settled.report) }
     ensures unrepeated { IfOk result (λ settled. settled.report.repeated ≡ 0) }
-    // Nobody waits, each lock of the script was requested, and two messages to or from each other node were sent for each.
+    // No request waits, each lock of the script was requested, and in all two messages were sent for each lock and
+    // other node.
     ensures none_waits { IfOk result (λ settled. settled.report.waiting ≡ 0) }
     ensures requests { IfOk result (λ settled. settled.report.requests ≡ locks_of script.now) }
     ensures count { IfOk result (λ settled. settled.report.sent
@@ -102,7 +105,7 @@ pub fn run_cluster<R: Threads + Wait + Sync, G: Gate>(
     run_in_order(rt, alloc, script, gate)
 }
 
-/// Runs a script that threads can do, and settles the books.
+/// Runs a script that threads can run, and settles the books.
 ///
 /// # Errors
 ///
@@ -140,7 +143,7 @@ fn run_at<R: Threads + Wait + Sync, G: Gate>(
     sites: &[Site],
     gate: &G,
 ) -> Result<Vec<Grant>, Memory> {
-    // The nodes of a script are 1 to 64, so only `Memory` can come.
+    // A script has 1 to 64 nodes, so only `Memory` can come.
     let Ok((post, inboxes)) = Post::new(alloc, script.nodes()) else {
         return Err(Memory);
     };

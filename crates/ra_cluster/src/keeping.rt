@@ -42,11 +42,12 @@ pub fn clock_after(clock: u64, kind: &BookKind) -> Result<u64, BookError>
     }
 }
 
-/// Makes an event happen at a node, one of this many, and keeps it after the events so far, and its frames after those so far.
+/// Makes an event happen at a node, one of this many. It keeps the event after those so far, and its frames after those
+/// so far.
 ///
 /// # Errors
 ///
-/// `Memory`, where the node takes the event: all is as before.
+/// `Memory`, if the node takes the event: everything is as before.
 pub fn add(
     alloc: Global,
     nodes: u16,
@@ -80,18 +81,18 @@ fn most_sends(nodes: u16, kind: &BookKind) -> u64
     }
 }
 
-/// Returns how many messages a node sends at most where this one comes.
+/// Returns how many messages a node sends at most when this one comes.
 fn answers_to(message: &Message) -> u64
     ensures { result ≡ spec.answers_to message.now }
 {
     match message {
         Message::Request { .. } => 1,
-        // What a REPLY does is to let a client enter.
+        // A REPLY can only let a client enter.
         Message::Reply { .. } => 0,
     }
 }
 
-/// Makes an event happen at a node. Returns `None` where the node refuses it, and then is as before.
+/// Makes an event happen at a node. Returns `None` if the node refuses it; the node is then as before.
 fn happen(alloc: Global, node: &mut Node, kind: &BookKind) -> Option<Outcome>
     ensures { MatchOption result (node.new ≡ node.old)
         (λ outcome. NodeEvent node.old (node_event kind.now) outcome.sends.items outcome.marks.items node.new) }
@@ -103,7 +104,7 @@ fn happen(alloc: Global, node: &mut Node, kind: &BookKind) -> Option<Outcome>
     }
 }
 
-/// Makes room for one more event that sends at most this many messages. The list is for the frames that it posts.
+/// Makes room for one more event that sends at most this many messages. Returns a list for the frames that it posts.
 fn make_room(
     alloc: Global,
     events: &mut Events,
@@ -123,7 +124,7 @@ fn make_room(
     Ok(frames)
 }
 
-/// Keeps an event and the frames in which its messages go out, for which there is room, and returns what it posts.
+/// Keeps an event and the frames that carry its messages, and returns what it posts. There must be room for them.
 fn keep(
     events: &mut Events,
     sent: &mut Vec<Sent>,
@@ -148,7 +149,7 @@ fn keep(
     Posted { frames, marks }
 }
 
-/// Puts the frames in which messages go out at this clock into a list that has room for them.
+/// Puts the frames that carry messages at this clock into a list that has room for them.
 fn put_frames(frames: &mut Frames, clock: u64, sends: &[Message])
     requires { length sends.now ≤ frames.old.spare }
     ensures { frames.new.items ≡ frames.old.items ++ frames_at clock sends.now }
@@ -170,7 +171,7 @@ fn put_sent(sent: &mut Vec<Sent>, frames: &[Frame])
     }
 }
 
-/// Flags the sent frame that is equal to this one as lost; were there equal ones, the first.
+/// Flags the sent frame that is equal to this one as lost, or the first such frame if there were several.
 ///
 /// # Errors
 ///
@@ -192,8 +193,8 @@ pub fn flag_lost(sent: &mut [Sent], frame: &Frame) -> Result<(), MarkLostError>
     Ok(())
 }
 
-/// A book that keeps a history goes on keeping it at each event of its node, which sends few frames, all of which fit where
-/// the frame that came does. Its frames ascend by clock.
+/// A book that keeps a history still keeps one after each event of its node. The event sends few frames, all of which
+/// fit if the frame that came does. The frames ascend by clock.
 pub fn kept_histories_go_on()
     ensures { KeptHistoriesGoOn }
 {

@@ -1,4 +1,4 @@
-//! What is true of histories, for the crates above: each function does nothing, and its contract is the law.
+//! What is true of histories, for the crates above. Each function does nothing, and its contract is the law.
 ghost use Rattle.std.specs.Prelude.{◌≡◌, ◌≤◌, ◌^◌, ◌++◌, ◌∷◌, [], ℕ, List, map};
 ghost use Rattle.ra_stamp.specs.declared.entry.Mark.{Mark};
 ghost use Rattle.ra_stamp.specs.declared.message.Message.{Message};
@@ -12,8 +12,8 @@ ghost use Rattle.ra_cluster.specs.Book.{as_sent};
 
 use ra_node::{events_are_determined, events_go_on};
 
-/// A node that has met nothing has the history in which nothing happened. A history goes on with each event of its node for
-/// which a clock is left; what the event sends is sent after the frames so far.
+/// A node that has met nothing has the empty history. A history goes on with each event of its node for which a clock
+/// is left; what the event sends comes after the frames so far.
 pub fn histories_go_on()
     ensures opening { (me n start : ℕ) → IsHistory me n start [] [] (opening_node me n start) }
     ensures event { (me n start : ℕ) (events : List BookEvent) (sent : List Sent) (old new : NodeState)
@@ -33,7 +33,7 @@ pub fn histories_go_on()
     events_go_on();
 }
 
-/// The events of a node decide what each of them sent and marked, the node after them, and so the frames.
+/// The events of a node determine what each of them sent and marked, the node after them, and so the frames.
 pub fn histories_are_determined()
     ensures postings { (me n start : ℕ) (events : List BookEvent) (sent sent' : List Sent) (a b : NodeState)
         → (left : IsHistory me n start events sent a) → (right : IsHistory me n start events sent' b)

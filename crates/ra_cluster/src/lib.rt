@@ -1,19 +1,20 @@
-//! Nodes that run on threads. A node's book has the node, its event clock, what happened at it, and what it sent. Threads share
-//! the book under the lock of a site, and the frames between the sites go by a post. The books of all nodes settle into one run of
-//! the cluster.
+//! Nodes that run on threads. A node's book has the node, its event clock, what happened at it, and what it sent.
+//! Threads share the book under the lock of a site, and a post carries the frames between the sites. The books of all
+//! nodes settle into one run of the cluster.
 //!
 //! The event clock is that of L. Lamport, CACM 21(7), 1978.
 //!
 //! # What a service does
 //!
 //! - It makes a [`Cluster`], and starts a thread for each node, in [`Cluster::pump`].
-//! - Its own threads lock and unlock names by [`Cluster::with_lock`], or by [`Cluster::lock`] and [`Cluster::unlock`], and end where a
-//!   node is stopped.
-//! - At the end it closes the post, joins the threads of the nodes, closes the cluster, and [`settle`] shows the run.
+//! - Its own threads lock and unlock names with [`Cluster::with_lock`], or with [`Cluster::lock`] and
+//!   [`Cluster::unlock`], and end if a node is stopped.
+//! - At the end it closes the post, joins the threads of the nodes and closes the cluster, and [`settle`] shows the
+//!   run.
 //!
-//! The shortest program that does so stands in docs/EMBEDDING.md, with each line said, and how it is done with a [`Site`] for each node
-//! and the [`Post`] apart. [`run_cluster`] does all of it for a script; [`run_threads`] and [`settle_script`] are two parts of it, for
-//! whoever makes the sites.
+//! docs/EMBEDDING.md explains the shortest such program line by line, and also how to use a [`Site`] for each node and
+//! the [`Post`] by themselves. [`run_cluster`] does all of it for a script; [`run_threads`] and [`settle_script`] are
+//! its two halves, for a caller that makes the sites.
 #![tactic(auto)]
 
 mod book;

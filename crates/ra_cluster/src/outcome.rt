@@ -1,4 +1,4 @@
-//! What comes of a script that threads did.
+//! What comes of a script that threads ran.
 ghost use Rattle.std.specs.Prelude.{◌≡◌, ◌≢◌, ◌⊎◌, ◌↔◌, ◌-◌, ◌*◌, All, Some, None, IsTrue, IsErrOf, IfOk, IfErr, MatchResult};
 ghost use Rattle.ra_cluster.specs.Plan.{MeetsPlan, IsQuietEnd, locks_of};
 ghost use Rattle.ra_cluster.specs.Outcome as spec;
@@ -10,39 +10,40 @@ use ra_schedule::Script;
 use ra_world::Report;
 use std::alloc::Global;
 
-/// Settles the books of the nodes that did a script, with what its clients were granted, and checks that the script was brought
-/// to its end. Then nobody waits or is queued, no message was lost or is under way, there are as many requests as locks in the
-/// script, and with N nodes 2(N-1) times as many messages. The cost is that of `settle` plus, for each client, linear
-/// in the number of marks.
+/// Settles the books of the nodes that ran a script, with what its clients were granted, and checks that the script was
+/// brought to its end. If so, nobody waits or is queued, and no message was lost or is under way. There are as many
+/// requests as locks in the script, and with N nodes 2(N-1) times as many messages. The cost is that of `settle` plus,
+/// for each client, time linear in the number of marks.
 ///
 /// # Errors
 ///
 /// The first that holds, except that `Memory` may come before any but the first two:
 ///
 /// 1. `Fault`: a node was stopped, with the cause in the first such book.
-/// 2. `Settle`: the books are not those of the script's nodes with numbers that begin at 0, in order.
+/// 2. `Settle`: the books are not those of the script's nodes, in order, with numbers that begin at 0.
 /// 3. `Settle`: they do not settle, or not with what the clients were granted.
 /// 4. `PlanUnmet`: the marks of a client are not those of its operations in order, or a client is queued.
 /// 5. `Lost`: a message was lost.
 /// 6. `UnderWay`: a message is under way.
-/// 7. `Memory`: there was none to settle the books.
+/// 7. `Memory`: memory ran out while the books were settled.
 pub fn settle_script(
     alloc: Global,
     script: &Script,
     books: &[Book],
     grants: &[Grant],
 ) -> Result<Settled, ClusterError>
-    // The report is that of the one run into which these very books settle, with each grant in it, and once.
+    // The report is that of the one run into which these very books settle, with each grant in it exactly once.
     ensures outcome { IfOk result (IsOutcome script.now books.now grants.now) }
     ensures plan { IfOk result (λ settled. MeetsPlan script.now settled.report.marks.items) }
     ensures ended { IfOk result (λ settled. IsQuietEnd settled.report) }
-    // Nobody waits, each lock of the script was requested, and two messages to or from each other node were sent for each.
+    // No request waits, each lock of the script was requested, and in all two messages were sent for each lock and
+    // other node.
     ensures none_waits { IfOk result (λ settled. settled.report.waiting ≡ 0) }
     ensures requests { IfOk result (λ settled. settled.report.requests ≡ locks_of script.now) }
     ensures count { IfOk result (λ settled. settled.report.sent
         ≡ 2 * (script.now.nodes - 1) * locks_of script.now) }
     ensures fault { (stop : Stop) → IsErrOf result (ClusterError.Fault stop) ↔ (spec.first_fault books.now ≡ Some stop) }
-    // Where no node was stopped, each refusal comes where its cause stands.
+    // If no node was stopped, each refusal comes only if its cause applies.
     ensures refused { spec.first_fault books.now ≡ None → IfErr result (RefusesSound script.now books.now grants.now) }
     ensures in_order { IsErrOf result ClusterError.OutOfOrder → ⊥ }
     ensures released { IsErrOf result ClusterError.Unreleased → ⊥ }
@@ -53,7 +54,7 @@ pub fn settle_script(
     settle_sound(alloc, script, books, grants)
 }
 
-/// Settles books of which none has a fault, and checks that the script was brought to its end.
+/// Settles books without faults, and checks that the script was brought to its end.
 ///
 /// # Errors
 ///
@@ -78,7 +79,7 @@ fn settle_sound(
     Ok(settled)
 }
 
-/// Returns what is answered where books do not settle.
+/// Returns the refusal of a script whose books do not settle.
 fn refusal_of(refused: SettleError) -> ClusterError
     ensures { ((result ≡ ClusterError.Memory) × (refused ≡ SettleError.Memory))
         ⊎ ((result ≡ ClusterError.Settle) × (refused ≢ SettleError.Memory)) }

@@ -1,4 +1,4 @@
-//! What is true of the books of a cluster and of settled runs: each function does nothing, and its contract is the law.
+//! What is true of the books of a cluster and of settled runs. Each function does nothing, and its contract is the law.
 ghost use Rattle.ra_cluster.specs.SettlingParts.{FramesAreFromTheirNodes, StepsMakeSettledRuns, FittingBooksSettle, GrantsAreInTheBooks};
 
 use crate::histories_are_determined;
@@ -8,7 +8,7 @@ use ra_world::{
     prefixes_of_runs_are_runs, steps_that_fit_together_are_runs,
 };
 
-/// What a book sent is from its node.
+/// All that a book sent is from its node.
 pub fn frames_of_books_are_from_their_nodes()
     ensures { FramesAreFromTheirNodes }
 {
@@ -16,13 +16,13 @@ pub fn frames_of_books_are_from_their_nodes()
     events_leave_other_names();
 }
 
-/// A run of the events in the settled order, and then the losses, is a settled run.
+/// A run of the events in the settled order, followed by the losses, is a settled run.
 pub fn settled_steps_make_settled_runs()
     ensures { StepsMakeSettledRuns }
 {}
 
-/// Books settle, where each frame that came was sent and is not flagged lost, and no message came twice: the events in the
-/// settled order, and then the losses, are a run.
+/// Books settle if each frame that came was sent and is not flagged lost, and no message came twice: the events in the
+/// settled order, followed by the losses, are a run.
 pub fn books_that_fit_together_settle()
     ensures { FittingBooksSettle }
 {

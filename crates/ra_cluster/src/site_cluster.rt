@@ -14,40 +14,42 @@ use std::marker::Model;
 use std::sync::Wait;
 use thiserror::Error;
 
-/// Why a call of a cluster did not do what it is for.
+/// Why a call of a cluster failed.
 #[derive(Clone, Copy, Debug, PartialEq, Eq, Error)]
 #[error("{:?}", self)]
 pub enum CallError {
     /// The cluster has no node with this number.
     NoNode,
-    /// The call of the node's site did not.
+    /// The call of the node's site failed.
     #[error(transparent)]
     Site(SiteError),
 }
 
-/// What a client did while it held a name, and how it gave the name back.
+/// What a client did while it held a name, and whether it gave the name back.
 #[derive(Debug, Drop)]
 pub struct Held<T> {
     /// The grant of the name.
     pub grant: Grant,
-    /// What was done with it.
+    /// What the closure returned.
     pub value: T,
-    /// Whether the name was given back. Where it was not, the client holds it still.
+    /// Whether the name was given back. If not, the client still holds it.
     pub unlocked: Result<(), SiteError>,
 }
 
-/// The nodes of a cluster that run on the threads of one process: the sites of nodes 1 to n, all from one start, the post between
-/// them with its inboxes, and the gate that watches. Threads share it. Contracts see how many nodes there are, and the start.
+/// The nodes of a cluster that run on the threads of one process: the sites of nodes 1 to n with one start, the post
+/// between them with its inboxes, and the gate that is asked before each step. Threads share it. Contracts see the
+/// number of nodes and the start.
 ///
-/// Each node needs a thread in [`Cluster::pump`] while clients lock and unlock names. At the end [`Cluster::close_post`] ends these
-/// threads, and [`Cluster::close`] gives the books, which [`settle`](crate::settle) takes as they are.
+/// Each node needs a thread in [`Cluster::pump`] while clients lock and unlock names. At the end
+/// [`Cluster::close_post`] ends these threads, and [`Cluster::close`] returns the books, which
+/// [`settle`](crate::settle) takes as they are.
 #[derive(Drop)]
 pub struct Cluster<G> {
     start: u64,
     sites: Vec<Site>,
     post: Post,
     inboxes: Vec<Inbox>,
-    /// None yet, and room for one of each node, so that a cluster can be closed where there is no memory.
+    /// Empty, with room for the book of each node, so that a cluster can be closed without allocating.
     books: Vec<Book>,
     gate: G,
 }
@@ -67,8 +69,8 @@ impl<G> Model for Cluster<G> {
 }
 
 impl<G: Gate + Drop> Cluster<G> {
-    /// Makes a cluster of this many nodes, in which nothing has happened yet. The highest number of each resource begins at
-    /// `start`, 0 to 2^64-1. The cost is linear in the number of nodes.
+    /// Makes a cluster of this many nodes, in which nothing has happened yet. The highest number of each resource
+    /// begins at `start`, 0 to 2^64-1. The cost is linear in the number of nodes.
     ///
     /// # Errors
     ///
@@ -80,7 +82,7 @@ impl<G: Gate + Drop> Cluster<G> {
         ensures nodes { IfOk result (λ cluster. cluster.nodes ≡ nodes) }
         ensures start { IfOk result (λ cluster. cluster.start ≡ start) }
         ensures bad_count { IsErrOf result NewPostError.BadCount ↔ (IsNodeNumber nodes → ⊥) }
-        // Memory is the one other error.
+        // Memory is the only other error.
         ensures allowed { IsOkUnless result NewPostError.Memory ↔ IsNodeNumber nodes }
     {
         let (post, inboxes) = Post::new(alloc, nodes)?;
@@ -106,7 +108,8 @@ impl<G: Gate + Drop> Cluster<G> {
         self.sites.len() as u16
     }
 
-    /// Returns the site of a node, whose readers tell how it stands, or `None` where there is no such node. It does not allocate.
+    /// Returns the site of a node, whose readers tell its state, or `None` if there is no such node. It does not
+    /// allocate.
     pub fn site(&self, node: NodeId) -> Option<&Site>
         ensures found { IfSome result (λ site. site.now ≡ node) }
         ensures absent { IsNone result ↔ self.now.nodes < node }
@@ -175,13 +178,14 @@ impl<G: Gate + Drop> Cluster<G> {
         }
     }
 
-    /// Locks a name as [`Cluster::lock`] does, has this done while the client holds it, and then unlocks it, whatever was done. Where
-    /// the unlock is refused the client holds the name still: [`Cluster::unlock`] can be called again, and unless that
-    /// succeeds the cluster has to be stopped, or the others wait for ever.
+    /// Locks a name as [`Cluster::lock`] does, calls the closure while the client holds it, and then unlocks it,
+    /// whatever the closure returned. If the unlock is refused the client still holds the name. Then
+    /// [`Cluster::unlock`] can be called again; unless that succeeds the cluster has to be stopped, or other clients
+    /// wait forever.
     ///
     /// # Errors
     ///
-    /// Those of [`Cluster::lock`]. Nothing was done.
+    /// Those of [`Cluster::lock`]. The closure was not called.
     pub fn with_lock<R: Wait, T, F: FnOnce(Grant) -> T + Drop>(
         &self,
         rt: &R,
@@ -216,8 +220,8 @@ impl<G: Gate + Drop> Cluster<G> {
         })
     }
 
-    /// Hands a node each frame that comes for it, until the post is closed, as [`Site::pump`] does. It returns at once where there is
-    /// no such node.
+    /// Hands a node each frame that comes for it, until the post is closed, as [`Site::pump`] does. It returns at once
+    /// if there is no such node.
     pub fn pump<R: Wait>(&self, rt: &R, alloc: Global, node: NodeId) {
         let Some(inbox) = self.inboxes.get(usize::from(node.get()) - 1) else {
             return;
@@ -234,18 +238,19 @@ impl<G: Gate + Drop> Cluster<G> {
         }
     }
 
-    /// Stops each node for this cause, in turn from node 1 up, as [`Site::stop`] does. The cost is linear in the number of nodes.
+    /// Stops each node for this cause, from node 1 up, as [`Site::stop`] does. The cost is linear in the number of
+    /// nodes.
     pub fn stop<R: Wait>(&self, rt: &R, stop: Stop) {
         stop_all(rt, self.sites.as_slice(), stop);
     }
 
-    /// Closes the post, on which the threads in [`Cluster::pump`] end, as [`Post::close`] does.
+    /// Closes the post, so that the threads in [`Cluster::pump`] end, as [`Post::close`] does.
     pub fn close_post<R: Wait>(&self, rt: &R) {
         self.post.close(rt);
     }
 
-    /// Gives up the cluster, and returns the books of its nodes in their order. They are a cluster, as [`settle`](crate::settle)
-    /// requires. It does not allocate. The cost is linear in the number of nodes.
+    /// Consumes the cluster, and returns the books of its nodes in their order. They are a cluster, as
+    /// [`settle`](crate::settle) requires. It does not allocate. The cost is linear in the number of nodes.
     pub fn close(self, alloc: Global) -> Vec<Book>
         ensures cluster { IsCluster result.items }
         ensures count { vec_len result ≡ self.nodes }

@@ -12,29 +12,30 @@ use Rattle.ra_draw.specs.declared.error.DrawError.TheVariants.{Read, Memory}
 use Rattle.ra_draw.specs.declared.part.Part.{Part}
 use Rattle.ra_draw.specs.Lines.{line_count, lines_between}
 
--- the refusal of a fault of reading
+-- the refusal that a fault of reading becomes
 abbrev pub of_read : ReadFault → DrawError
 of_read read.Read = Read
 of_read read.Memory = Memory
 
--- one element of SVG, and a line feed after it
+-- the text is one element of SVG, and a line feed after it; what the element contains is not said
 abbrev pub IsPicture : List ℕ → Type 0
 IsPicture text = (inner : List ℕ) × (text ≡ codes "<svg xmlns=\"http://www.w3.org/2000/svg\"" ++ inner ++ codes "</svg>\n")
 
--- the most lines that are drawn
+-- the most lines that are drawn: 4,096
 abbrev pub line_limit : ℕ
 line_limit = 4096
 
--- how many lines of the text stand in the part
+-- how many lines of the text are in the part
 abbrev pub drawn_lines : Part → List ℕ → ℕ
 drawn_lines part text = lines_between part.from part.to (line_count text)
 
--- the input was read to its end, and is not too long
+-- the input was read to its end, and has at most 16,777,216 bytes
 pub record IsInput (old new : Option (List ℕ)) (input : List ℕ) : Type 0 where
   pub reads : Reads old new 16777217 input
   pub at_most : length input ≤ 16777216
 
--- what is drawn where this is the verdict on the input: a picture, where it is the trace of a run
+-- what is drawn if this is the verdict on the input: a picture of at most 4,096 lines if it is a trace, and otherwise
+-- nothing
 abbrev pub Draws : Part → List ℕ → (before after : Option (List ℕ)) → Verdict → Type 0
 Draws part input before after (Valid requests messages) =
     (drawn_lines part input ≤ line_limit) × (picture : List ℕ) × IsPicture picture × Appends before after picture

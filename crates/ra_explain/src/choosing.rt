@@ -7,7 +7,7 @@ use ra_script::{ChoicesError, read_choices};
 use ra_stamp::Memory;
 use std::alloc::Global;
 
-/// Returns the policy of so many of the first choices.
+/// Returns the policy of the first `count` choices.
 fn first_of(alloc: Global, note: &mut Note, choices: &Choices, count: u64) -> Policy {
     let mut first = Choices::new(alloc);
     for place in 0..count {
@@ -19,8 +19,8 @@ fn first_of(alloc: Global, note: &mut Note, choices: &Choices, count: u64) -> Po
     Policy::Listed(first)
 }
 
-/// Returns how many of the first choices can be made. The script is run as often as their number can be halved: to follow the choices step
-/// by step would be the driver written twice.
+/// Returns how many of the first choices can be made. It searches by halves, so the number of runs of the script is
+/// logarithmic in the number of choices. To follow the choices step by step would be to write the driver twice.
 fn makeable(alloc: Global, note: &mut Note, script: &Script, choices: &Choices) -> u64 {
     let (mut low, mut high) = (0, choices.len());
     for _turn in 0..u64::BITS {
@@ -55,11 +55,11 @@ fn push_client(note: &mut Note, ending: &RunEnd<'_>, client: u32) {
     if client >= 1 && client <= clients {
         note.client(client);
         ending.standing(client).push(note);
-        note.push(" then");
+        note.push(" at that point");
     } else if clients == 1 {
-        note.push("the script has client 1 alone");
+        note.push("the script has only client 1");
     } else {
-        note.push("the script has the clients 1 to ");
+        note.push("the script has clients 1 to ");
         note.number(u64::from(clients));
     }
 }
@@ -67,18 +67,18 @@ fn push_client(note: &mut Note, ending: &RunEnd<'_>, client: u32) {
 /// Adds how many messages are under way, and which places they have.
 fn push_messages(note: &mut Note, count: u64) {
     match count {
-        0 => note.push("no message is under way then"),
-        1 => note.push("one message is under way then, at place 0"),
+        0 => note.push("no message is under way at that point"),
+        1 => note.push("one message is under way at that point, at place 0"),
         _ => {
             note.number(count);
-            note.push(" messages are under way then, at the places 0 to ");
+            note.push(" messages are under way at that point, at places 0 to ");
             note.number(count - 1);
             note.push(" in the order of sending");
         }
     }
 }
 
-/// Adds why a choice can't be made where a run ends so.
+/// Adds why a choice can't be made after a run that ends so.
 fn push_cause(note: &mut Note, ending: &RunEnd<'_>, choice: Choice) {
     match choice {
         Choice::Client(client) => push_client(note, ending, client),
@@ -98,7 +98,7 @@ fn push_choice_at(alloc: Global, note: &mut Note, script: &Script, choices: &Cho
     note.number(place.saturating_add(1));
     note.push(" of --choices, ");
     push_choice(note, choice);
-    note.push(", can't be made: ");
+    note.push(", is not possible: ");
     let policy = first_of(alloc, note, choices, place);
     if let Some(summary) = run_of(alloc, note, script, &policy) {
         let ending = RunEnd::new(alloc, note, script, &policy, &summary.report);
@@ -106,7 +106,7 @@ fn push_choice_at(alloc: Global, note: &mut Note, script: &Script, choices: &Cho
     }
 }
 
-/// Adds what is said of the choices of a text.
+/// Adds what is said about the choices of a text.
 fn push_choices(alloc: Global, note: &mut Note, script: &Script, choices: &str) {
     match read_choices(alloc, choices) {
         Ok(choices) => {
@@ -117,8 +117,9 @@ fn push_choices(alloc: Global, note: &mut Note, script: &Script, choices: &str) 
     }
 }
 
-/// Returns what is said of the first of these choices, as `--choices` has them, that can't be made in the script of a text; or `None` where
-/// there is none. It costs as much as some runs of the script: as often as the number of the choices can be halved.
+/// Returns what is said about the first of these choices, written as for `--choices`, that can't be made in the script
+/// of a text, or `None` if there is no such choice. The cost is that of some runs of the script: their number is
+/// logarithmic in the number of choices.
 ///
 /// # Errors
 ///

@@ -17,9 +17,9 @@ fn push_mark(alloc: Global, note: &mut Note, mark: &Mark) {
     }
 }
 
-/// Adds which mark is due at the line with the number `line` of a trace, or that none is. Where that is not known it is `other`: it is known
-/// where the text begins with the first line and ends with that one, and memory does not run out. The cost is linear in the text, and that
-/// of the steps in it.
+/// Adds which mark is due at the line with the number `line` of a trace, or that no mark is due. If that is not known,
+/// it adds `other`. It is known if the text begins with the first line and ends with that one, and memory does not run
+/// out. The cost is linear in the text, plus that of the steps in it.
 pub fn push_due(alloc: Global, note: &mut Note, line: u64, text: &[u8], other: &str) {
     let Some(course) = Course::at_line(alloc, note, line, text) else {
         note.push(other);
@@ -27,10 +27,10 @@ pub fn push_due(alloc: Global, note: &mut Note, line: u64, text: &[u8], other: &
     };
     match course.due() {
         Some(mark) => {
-            note.push("the mark ");
+            note.push("expected the mark ");
             push_mark(alloc, note, &mark);
-            note.push(" is due here");
+            note.push(" here");
         }
-        None => note.push("no mark is due here"),
+        None => note.push("expected no mark here"),
     }
 }

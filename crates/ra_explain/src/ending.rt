@@ -6,10 +6,11 @@ use ra_schedule::Script;
 use ra_stamp::Memory;
 use std::alloc::Global;
 
-/// The most clients of which something is said, and the most names of each.
+/// The most clients that a note names, and the most names of each.
 const MOST: u64 = 4;
 
-/// Adds the names that a client holds at its end, after so many other clients, and returns of how many there is something to say then.
+/// Adds the names that a client holds at its end, after this many other clients that hold names. Returns how many
+/// clients hold names so far.
 fn push_kept(alloc: Global, note: &mut Note, script: &Script, client: u32, clients: u64) -> u64 {
     let held = held_at_end(alloc, note, script, client);
     let mut names = 0;
@@ -25,7 +26,7 @@ fn push_kept(alloc: Global, note: &mut Note, script: &Script, client: u32, clien
     clients.saturating_add(names.min(1))
 }
 
-/// Adds a name that a client holds, after so many other clients, and so many other names of this one.
+/// Adds a name that a client holds, after this many other clients and this many other names of this one.
 fn push_lock(note: &mut Note, client: u32, lock: &Lock, clients: u64, names: u64) {
     if names > 0 {
         note.push(", ");
@@ -33,7 +34,7 @@ fn push_lock(note: &mut Note, client: u32, lock: &Lock, clients: u64, names: u64
         note.push(if clients > 0 {
             "; "
         } else {
-            "the run is finished, with names still locked: "
+            "the run finished with names still locked: "
         });
         note.client(client);
         note.push(" holds ");
@@ -51,8 +52,9 @@ fn push_holders(alloc: Global, note: &mut Note, script: &Script) {
     note.push_more("; and ", clients, MOST);
 }
 
-/// Returns which names the clients of the script of a text hold at their ends; or `None` where they hold none. It is meant for a run that
-/// is finished. The cost is linear in the text, and the number of a client's operations times that of the names that it holds at once.
+/// Returns which names the clients of the script of a text hold at their ends, or `None` if they hold none. It is meant
+/// for a finished run. The cost is linear in the text, plus, for each client, the number of its operations times the
+/// number of names that it holds at once.
 ///
 /// # Errors
 ///

@@ -1,4 +1,4 @@
-//! Where in a line of digits the fault of a frame stands.
+//! Where the fault of a frame is in its line of digits.
 use crate::digits::{byte_at, no_name_byte, part};
 use crate::frame_field::{Field, fields_of, place_of};
 use crate::hexadecimal::first_line;
@@ -7,10 +7,10 @@ use ra_frame::FrameError;
 use ra_stamp::Memory;
 use std::alloc::Global;
 
-/// What may stand in a name.
-const NAME: &str = "names have A to Z, a to z, 0 to 9, _, - and .";
+/// What a name may contain.
+const NAME: &str = "names consist of A-Z, a-z, 0-9, _, - and .";
 
-/// Returns the name of a frame as a field, which stands after the last of the others, its length.
+/// Returns the name of a frame as a field. It follows the last of the other fields, its length.
 fn name_field(digits: &[u8], fields: &[Field]) -> Field {
     let place = match fields.last() {
         Some(length) => length.place,
@@ -24,22 +24,22 @@ fn name_field(digits: &[u8], fields: &[Field]) -> Field {
     }
 }
 
-/// Adds a field and where its bytes stand.
+/// Adds a field and the offsets of its bytes.
 pub fn push_field(note: &mut Note, field: &Field) {
     note.push(field.name);
     let last = field.place.saturating_add(field.width).saturating_sub(1);
     if field.place < last {
-        note.push(", bytes ");
+        note.push(" at offsets ");
         note.number(field.place as u64);
         note.push(" to ");
     } else {
-        note.push(", byte ");
+        note.push(" at offset ");
     }
     note.number(last as u64);
-    note.push(" counted from 0, ");
+    note.push(" ");
 }
 
-/// Adds what stands in a field, and after a joint what may.
+/// Adds what a field contains and, after a joint, what it may contain.
 fn push_range(note: &mut Note, digits: &[u8], field: &Field, joint: &str, range: &str) {
     push_field(note, field);
     note.push("is ");
@@ -48,7 +48,7 @@ fn push_range(note: &mut Note, digits: &[u8], field: &Field, joint: &str, range:
     note.push(range);
 }
 
-/// Returns the first field of which a byte is missing, or the name.
+/// Returns the first field that is incomplete, or the name if all before it are complete.
 fn short_field(digits: &[u8], fields: &[Field]) -> Field {
     for field in fields {
         if part(digits, field.place, field.width).len() < field.width.saturating_mul(2) {
@@ -58,22 +58,23 @@ fn short_field(digits: &[u8], fields: &[Field]) -> Field {
     name_field(digits, fields)
 }
 
-/// Adds a field at which a frame ends, in these words, and how many bytes that has.
+/// Adds the field at which a frame ends, this text, and the number of bytes in the frame.
 fn push_end(note: &mut Note, digits: &[u8], field: &Field, text: &str) {
     push_field(note, field);
     note.push(text);
-    note.number((digits.len() / 2) as u64);
-    note.push(" bytes");
+    let bytes = (digits.len() / 2) as u64;
+    note.number(bytes);
+    note.push(if bytes == 1 { " byte" } else { " bytes" });
 }
 
-/// Adds which byte of a name is none that names have.
+/// Adds which byte of a name is not allowed in names.
 fn push_name_byte(note: &mut Note, digits: &[u8], name: &Field) {
     let place = no_name_byte(digits, name.place, name.width);
     push_range(
         note,
         digits,
         &Field {
-            name: "a byte of the name",
+            name: "the name byte",
             place,
             width: 1,
             range: NAME,
@@ -83,12 +84,12 @@ fn push_name_byte(note: &mut Note, digits: &[u8], name: &Field) {
     );
 }
 
-/// Adds what is said of a fault before the name.
+/// Adds the description of a fault before the name.
 fn push_field_fault(note: &mut Note, digits: &[u8], fields: &[Field], fault: FrameError) {
     if let Some(field) = fields.get(place_of(fault)) {
         let (joint, range) = match fault {
             FrameError::SameNode => (
-                ", and so is the sender: ",
+                ", the same as the sender: ",
                 "a node sends no message to itself",
             ),
             _ => (": ", field.range),
@@ -97,7 +98,7 @@ fn push_field_fault(note: &mut Note, digits: &[u8], fields: &[Field], fault: Fra
     }
 }
 
-/// Adds what is said of the fault of a frame.
+/// Adds the description of a frame's fault.
 fn push_fault(note: &mut Note, digits: &[u8], fault: FrameError) {
     let fields = fields_of(byte_at(digits, 0) == 1);
     match fault {
@@ -105,21 +106,22 @@ fn push_fault(note: &mut Note, digits: &[u8], fault: FrameError) {
             note,
             digits,
             &short_field(digits, fields),
-            "is not all there: the frame has ",
+            "is missing or incomplete: the frame has ",
         ),
         FrameError::NameByte => push_name_byte(note, digits, &name_field(digits, fields)),
         FrameError::Trailing => push_end(
             note,
             digits,
             &name_field(digits, fields),
-            "is the end of the frame, which has ",
+            "is the last field, but the frame has ",
         ),
         fault => push_field_fault(note, digits, fields, fault),
     }
 }
 
-/// Returns what is said of the fault of the frame whose hexadecimal digits an input has, in one line with a line feed after it or none: which
-/// field it is, where its bytes stand, what they are, and what may stand there; or `None` where there is nothing more to say.
+/// Returns a note on the fault of a frame. The input has the frame's hexadecimal digits in one line, with or without a
+/// line feed. The note says which field it is, where its bytes are, what they are, and what is allowed there. Returns
+/// `None` if there is nothing more to say.
 ///
 /// # Errors
 ///

@@ -1,4 +1,4 @@
-//! Where the fields of a frame stand, and what may stand in them.
+//! Where the fields of a frame are, and what they may contain.
 use ra_frame::FrameError;
 
 /// A field of a frame.
@@ -9,36 +9,36 @@ pub struct Field {
     pub place: usize,
     /// How many bytes it has.
     pub width: usize,
-    /// What may stand in it.
+    /// What it may contain.
     pub range: &'static str,
 }
 
-/// What may stand for a version.
-const VERSION: &str = "it is 01 or 02";
+/// What a version must be.
+const VERSION: &str = "must be 01 or 02";
 
-/// What may stand for a kind.
-const KIND: &str = "it is 01, a REQUEST, or 02, a REPLY";
+/// What a kind must be.
+const KIND: &str = "must be 01 (REQUEST) or 02 (REPLY)";
 
-/// What may stand for a node in version 1.
-const NODE_1: &str = "in version 1 it is 01 to 10, the nodes 1 to 16";
+/// What a node must be in version 1.
+const NODE_1: &str = "must be 01 to 10 (nodes 1 to 16) in version 1";
 
-/// What may stand for a node in version 2.
-const NODE_2: &str = "it is 0001 to 0040, the nodes 1 to 64";
+/// What a node must be in version 2.
+const NODE_2: &str = "must be 0001 to 0040 (nodes 1 to 64)";
 
-/// What may stand for a mode in version 1.
-const MODE_1: &str = "in version 1 it is 00 or 01 in a REQUEST, and 00 in a REPLY";
+/// What a mode must be in version 1.
+const MODE_1: &str = "must be 00 or 01 in a REQUEST, and 00 in a REPLY, in version 1";
 
-/// What may stand for a mode in version 2.
-const MODE_2: &str = "it is 00 to 04 in a REQUEST, and 00 in a REPLY";
+/// What a mode must be in version 2.
+const MODE_2: &str = "must be 00 to 04 in a REQUEST, and 00 in a REPLY";
 
-/// What may stand for a sequence number.
-const SEQ: &str = "the first one is 1";
+/// What a sequence number must be.
+const SEQ: &str = "must be at least 1";
 
-/// What may stand for a clock.
-const CLOCK: &str = "it is 1 to 2^62, which is 4000000000000000";
+/// What a clock must be.
+const CLOCK: &str = "must be 1 to 2^62 (4000000000000000)";
 
-/// What may stand for the length of a name.
-const LENGTH: &str = "it is 01 to 20, which are 1 to 32 bytes";
+/// What the length of a name must be.
+const LENGTH: &str = "must be 01 to 20 (1 to 32 bytes)";
 
 /// The fields of version 1 before the name.
 const FIELDS_1: &[Field] = &[
@@ -144,12 +144,12 @@ const FIELDS_2: &[Field] = &[
     },
 ];
 
-/// Returns the fields before the name of a frame whose version is 1 or another one.
+/// Returns the fields before the name in a frame of version 1, or of any other version.
 pub fn fields_of(is_version_1: bool) -> &'static [Field] {
     if is_version_1 { FIELDS_1 } else { FIELDS_2 }
 }
 
-/// Returns the place among the fields of the one at which a fault is, or how many they are where it is at none of them.
+/// Returns the index of the field that has the fault, or the number of fields if none of them has it.
 pub fn place_of(fault: FrameError) -> usize {
     match fault {
         FrameError::Version => 0,

@@ -1,4 +1,4 @@
-//! Why an input is no line of hexadecimal digits.
+//! Why an input is not a line of hexadecimal digits.
 use crate::note::Note;
 use ra_stamp::Memory;
 use std::alloc::Global;
@@ -6,7 +6,7 @@ use std::alloc::Global;
 /// The most bytes that a line may have, without its line feed.
 const MAX_LINE: usize = 256;
 
-/// Returns the first line of an input, without its line feed, and whether nothing stands after that.
+/// Returns the first line of an input, without its line feed, and whether nothing follows it.
 pub fn first_line(input: &[u8]) -> (&[u8], bool) {
     for (place, byte) in input.iter().enumerate() {
         if *byte == b'\n' {
@@ -16,7 +16,7 @@ pub fn first_line(input: &[u8]) -> (&[u8], bool) {
     (input, true)
 }
 
-/// Returns the first byte that is no hexadecimal digit, and its place, or `None`.
+/// Returns the place and the value of the first byte that is not a hexadecimal digit, or `None`.
 fn no_digit(line: &[u8]) -> Option<(usize, u8)> {
     for (place, byte) in line.iter().enumerate() {
         if !byte.is_ascii_hexdigit() {
@@ -26,19 +26,19 @@ fn no_digit(line: &[u8]) -> Option<(usize, u8)> {
     None
 }
 
-/// Adds which byte of a line is no hexadecimal digit.
+/// Adds which byte of a line is not a hexadecimal digit.
 fn push_no_digit(note: &mut Note, place: usize, byte: u8) {
-    note.push("byte ");
+    note.push("not a hexadecimal digit at offset ");
     note.number(place as u64);
-    note.push(" of the line, counted from 0, is no hexadecimal digit: it is ");
+    note.push(" of the line: ");
     match byte {
         b'\r' => note.push(
-            "a carriage return, and the line ends with a line feed alone, or with none",
+            "a carriage return (end the line with a line feed alone, or with nothing)",
         ),
         b'\t' => note.push("a tab"),
         b' '..=b'~' => note.quoted(&[byte]),
         _ => {
-            note.push("the value ");
+            note.push("the byte value ");
             note.number(u64::from(byte));
         }
     }
@@ -51,12 +51,13 @@ fn push_fault(note: &mut Note, line: &[u8]) {
     } else if line.len() % 2 == 1 {
         note.push("the line has ");
         note.number(line.len() as u64);
-        note.push(" hexadecimal digits, an odd number: each byte of a frame has two");
+        note.push(" hexadecimal digits, an odd number: each byte of a frame takes two");
     }
 }
 
-/// Returns what is said of an input that is no line of an even number of hexadecimal digits: which byte is none, how many there are, or what
-/// stands after the line; or `None` where nothing is found. Its first 258 bytes are enough.
+/// Returns a note on an input that is not a line with an even number of hexadecimal digits. It says which byte is not a
+/// digit, how many digits there are, or that more input follows the line. Returns `None` if nothing is found. The first
+/// 258 bytes of the input are enough.
 ///
 /// # Errors
 ///
@@ -65,11 +66,11 @@ pub fn digits_note(alloc: Global, input: &[u8]) -> Result<Option<String>, Memory
     let mut note = Note::new(alloc);
     let (line, is_alone) = first_line(input);
     if line.len() > MAX_LINE {
-        note.push("the line has more than 256 bytes, and a frame has at most 56, in 112 digits");
+        note.push("the line has more than 256 bytes: a frame has at most 56 bytes, or 112 digits");
     } else if !is_alone {
-        note.push("something stands after the first line, which has ");
+        note.push("there is more input after the first line, whose length is ");
         note.number(line.len() as u64);
-        note.push(" bytes: one frame is read at a time");
+        note.push(": only one frame is read at a time");
     } else {
         push_fault(&mut note, line);
     }

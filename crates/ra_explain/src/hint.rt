@@ -1,44 +1,43 @@
-//! What a line looks like that belongs elsewhere.
+//! Hints about lines that belong elsewhere.
 
-/// What is said of lines that begin so.
+/// The text for lines that begin with a prefix.
 #[derive(Clone, Copy)]
 pub struct Hint {
     prefix: &'static str,
     text: &'static str,
 }
 
-/// What is said of a text that begins with a mark of its encoding.
-const ENCODED: &str = "the text begins with a byte order mark, and it may not";
+/// The hint for a text that begins with a byte order mark.
+const ENCODED: &str = "the text begins with a byte order mark, which is not allowed";
 
-/// What is said of the line of a script.
+/// The hint for a line of a script.
 const SCRIPT: &str = "this looks like a script, which ra sim and ra cluster read";
 
-/// What is said of the line of a report.
+/// The hint for a line of a report.
 const REPORT: &str =
-    "this looks like what ra sim prints without --trace: ra check --marks reads its marks, without the six totals";
+    "this looks like the output of ra sim without --trace: ra check --marks reads its marks, without the six totals";
 
-/// What is said of the line of a survey.
+/// The hint for a line of a survey.
 const SURVEY: &str =
-    "this looks like what ra sim prints with --seeds: --seed and --trace print the trace of one";
+    "this looks like the output of ra sim --seeds: use --seed and --trace to print the trace of one seed";
 
-/// What is said of the line of a refusal.
-const REFUSAL: &str = "this looks like the refusal of the command that was to print the text";
+/// The hint for a refusal.
+const REFUSAL: &str = "this looks like a refusal by the command that should have printed the text";
 
-/// What is said of the line of a trace in a mark log.
+/// The hint for a line of a trace in a mark log.
 const TRACE: &str = "this looks like a trace, which ra check reads without --marks";
 
-/// What is said of the totals of a report in a mark log.
-const TOTALS: &str =
-    "this looks like the six totals that a report has after its marks, and that a mark log has not";
+/// The hint for the totals of a report in a mark log.
+const TOTALS: &str = "this looks like the six totals of a report, which a mark log does not have";
 
-/// What is said of the first line of a trace.
+/// The hint for a first line that begins with `trace`.
 const FIRST: &str =
-    "a trace begins with trace, its version, 1 or 2, the number of its nodes, at most 16 in version 1 and 64 in version 2, and the number that each name begins with";
+    "expected trace VERSION NODES START: version 1 or 2, at most 16 nodes in version 1 and 64 in version 2, and the number that each name begins with";
 
-/// What is said of a message without its kind.
-const KINDS: &str = "after deliver, lose and repeat stands request or reply";
+/// The hint for a message without its kind.
+const KINDS: &str = "expected request or reply after deliver, lose or repeat";
 
-/// The hints at the first line of a trace.
+/// The hints for the first line of a trace.
 pub const AT_FIRST: &[Hint] = &[
     Hint {
         prefix: "\u{feff}",
@@ -82,7 +81,7 @@ pub const AT_FIRST: &[Hint] = &[
     },
 ];
 
-/// The hints at a line of a mark log.
+/// The hints for a line of a mark log.
 pub const AT_MARKS: &[Hint] = &[
     Hint {
         prefix: "\u{feff}",
@@ -118,7 +117,7 @@ pub const AT_MARKS: &[Hint] = &[
     },
 ];
 
-/// The hints at a later line of a trace.
+/// The hints for a later line of a trace.
 pub const AT_LATER: &[Hint] = &[
     Hint {
         prefix: "deliver ",
@@ -134,7 +133,7 @@ pub const AT_LATER: &[Hint] = &[
     },
 ];
 
-/// Returns what is said of a line that begins as one of these, or `None`.
+/// Returns the text of the first hint whose prefix the line begins with, or `None`.
 pub fn hint_at(hints: &[Hint], line: &[u8]) -> Option<&'static str> {
     for hint in hints {
         if line.starts_with(hint.prefix.as_bytes()) {

@@ -1,5 +1,5 @@
-//! What is said to a person of an input, after the fact: where in it the cause stands, and what would be right there. No clause speaks of
-//! what is said.
+//! Explains to a person why an input was refused: where in it the cause is, and what would be right there. No clause
+//! covers the wording of an explanation.
 #![tactic(auto)]
 
 mod before;

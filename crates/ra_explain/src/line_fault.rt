@@ -1,11 +1,11 @@
-//! Which field of a line of a trace or of a mark log is wrong, and what may stand there.
+//! Which field of a line of a trace or mark log is wrong, and what it may contain.
 use crate::line_field::LineField;
 use crate::line_form::{LineForm, form_of};
 use crate::note::Note;
 use ra_trace::Version;
 use std::alloc::Global;
 
-/// Returns the next field, behind its space, and what stands behind it, or `None` where there is none.
+/// Returns the next field, without the space before it, and what follows it, or `None` if no field is left.
 fn next_field(rest: &[u8]) -> Option<(&[u8], &[u8])> {
     let (_, fields) = rest.split_first()?;
     for (place, byte) in fields.iter().enumerate() {
@@ -16,15 +16,15 @@ fn next_field(rest: &[u8]) -> Option<(&[u8], &[u8])> {
     Some((fields, &fields[fields.len()..]))
 }
 
-/// Adds what stands in a field, and what may.
+/// Adds what a field contains and what it must be.
 fn push_wrong(note: &mut Note, field: LineField, text: &[u8], version: Option<Version>) {
     note.push(field.name());
     if text.is_empty() {
-        note.push(" is empty, and one space stands before each field: it is ");
+        note.push(" is empty (a single space separates fields): must be ");
     } else {
         note.push(" is ");
         note.quoted(text);
-        note.push(": it is ");
+        note.push(": must be ");
     }
     note.push(field.range(version));
 }
@@ -32,11 +32,11 @@ fn push_wrong(note: &mut Note, field: LineField, text: &[u8], version: Option<Ve
 /// Adds that a field is missing.
 fn push_missing(note: &mut Note, form: &LineForm, field: LineField) {
     note.push(field.name());
-    note.push(" is missing: the line is ");
+    note.push(" is missing: expected ");
     form.push(note);
 }
 
-/// Adds what is wrong in a field, and returns whether something is.
+/// Adds what is wrong with a field, and returns whether anything is.
 fn push_field(
     alloc: Global,
     note: &mut Note,
@@ -51,7 +51,7 @@ fn push_field(
     !is_right
 }
 
-/// Adds what is wrong behind the words of a line of this form, and returns whether something is.
+/// Adds what is wrong after the words of a line of this form, and returns whether anything is.
 fn push_behind_words(
     alloc: Global,
     note: &mut Note,
@@ -71,14 +71,15 @@ fn push_behind_words(
         rest = behind;
     }
     if !rest.is_empty() {
-        note.push("more stands in the line than ");
+        note.push("too many fields: expected ");
         form.push(note);
     }
     !rest.is_empty()
 }
 
-/// Adds which field of a line is wrong in this version, and what may stand there, and returns whether one is. The words of the line are those
-/// of one of these forms, or nothing is added. Where the version is not known, what is right in version 2 is right.
+/// Adds which field of a line is wrong in this version and what it may contain, and returns whether one is. Adds
+/// nothing unless the words of the line are those of one of these forms. If the version is not known, fields are
+/// checked as in version 2.
 pub fn push_line_fault(
     alloc: Global,
     note: &mut Note,

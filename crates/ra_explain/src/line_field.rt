@@ -1,4 +1,4 @@
-//! The fields of the lines of traces and of mark logs, and what may stand in them.
+//! The fields of the lines of traces and mark logs, and what they may contain.
 use crate::note::Note;
 use ra_trace::{Line, Version};
 use std::alloc::Global;
@@ -18,7 +18,7 @@ pub enum LineField {
 }
 
 impl LineField {
-    /// Returns what it is called.
+    /// Returns its name.
     pub fn name(self) -> &'static str {
         match self {
             LineField::Nodes => "NODES",
@@ -33,7 +33,7 @@ impl LineField {
         }
     }
 
-    /// Returns what may stand in it in this version, or in either where it is not known.
+    /// Returns what it may contain in this version, or in each version if the version is not known.
     pub fn range(self, version: Option<Version>) -> &'static str {
         match version {
             Some(Version::One) => self.range_in_version_1(),
@@ -42,43 +42,43 @@ impl LineField {
         }
     }
 
-    /// Returns what may stand in it in version 2.
+    /// Returns what it may contain in version 2.
     fn range_in_version_2(self) -> &'static str {
         match self {
             LineField::Nodes | LineField::Node | LineField::From | LineField::To => {
-                "1 to 64, with no zeros before it"
+                "1 to 64, without leading zeros"
             }
-            LineField::Client => "0 to 4294967295, with no zeros before it",
-            LineField::Name => "1 to 32 of A to Z, a to z, 0 to 9, _, - and .",
+            LineField::Client => "0 to 4294967295, without leading zeros",
+            LineField::Name => "1 to 32 characters from A-Z, a-z, 0-9, _, - and .",
             LineField::Mode => "S, X, IS, IX or SIX",
-            LineField::Seq => "1 to 18446744073709551615, with no zeros before it",
-            LineField::Start => "0 to 18446744073709551615, with no zeros before it",
+            LineField::Seq => "1 to 18446744073709551615, without leading zeros",
+            LineField::Start => "0 to 18446744073709551615, without leading zeros",
         }
     }
 
-    /// Returns what may stand in it in version 1.
+    /// Returns what it may contain in version 1.
     fn range_in_version_1(self) -> &'static str {
         match self {
             LineField::Nodes | LineField::Node | LineField::From | LineField::To => {
-                "1 to 16 in version 1, with no zeros before it"
+                "1 to 16 in version 1, without leading zeros"
             }
             LineField::Mode => "S or X in version 1",
             field => field.range_in_version_2(),
         }
     }
 
-    /// Returns what may stand in it in each version.
+    /// Returns what it may contain in each version.
     fn range_in_either(self) -> &'static str {
         match self {
             LineField::Nodes | LineField::Node | LineField::From | LineField::To => {
-                "1 to 16 in version 1, and to 64 in version 2, with no zeros before it"
+                "1 to 16 in version 1, or 1 to 64 in version 2, without leading zeros"
             }
-            LineField::Mode => "S or X in version 1, and IS, IX or SIX in version 2, too",
+            LineField::Mode => "S or X in version 1, or S, X, IS, IX or SIX in version 2",
             field => field.range_in_version_2(),
         }
     }
 
-    /// Returns between which texts it stands in a line that is right.
+    /// Returns the texts before and after it in a correct line.
     fn around(self) -> (&'static str, &'static str) {
         match self {
             LineField::Nodes => ("trace 2 ", " 0"),
@@ -91,8 +91,8 @@ impl LineField {
         }
     }
 
-    /// Returns whether this may stand in it in this version, or in version 2 where it is not known, as a line is read where all else is right.
-    /// Where memory runs out the note keeps that.
+    /// Returns whether the field may be this text in this version, or in version 2 if the version is not known. To find
+    /// out, it parses a line in which everything else is right. If memory runs out, the note records it.
     pub fn may_be(
         self,
         alloc: Global,
@@ -113,7 +113,7 @@ impl LineField {
     }
 }
 
-/// Returns whether what stands in a line is in the ranges of a version.
+/// Returns whether the fields of a line are in the ranges of a version.
 fn allows(version: Version, line: &Line) -> bool {
     match line {
         Line::First { nodes, .. } => version.has_node(*nodes),

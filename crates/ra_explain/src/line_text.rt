@@ -1,4 +1,4 @@
-//! What is said of a line that is none of a trace or of a mark log, or that stands where it may not.
+//! The texts for lines that do not belong in a trace or mark log, or that are out of place.
 use crate::hint::{AT_FIRST, AT_LATER, AT_MARKS, hint_at};
 use crate::line_fault::push_line_fault;
 use crate::line_form::{FIRST_FORMS, MARK_FORMS, STEP_FORMS, form_of};
@@ -7,55 +7,55 @@ use crate::tail::Tail;
 use ra_trace::Version;
 use std::alloc::Global;
 
-/// How many bytes are read of a line that has no line feed.
+/// How many bytes of a line without a line feed are read.
 const MAX_LINE: usize = 128;
 
-/// What is said of a later line that begins with none of the words of a trace.
+/// The text for a later line that does not begin with any of the words of a trace.
 const WORDS: &str =
-    "a line after the first one of a trace begins with ask, release, deliver, lose, repeat, request, enter or leave, and the last one is end";
+    "expected a line that begins with ask, release, deliver, lose, repeat, request, enter or leave, or the last line, end";
 
-/// What is said of a line that is not the first one of a trace.
+/// The text for the first line of a text that is not a trace.
 const NOT_FIRST: &str =
-    "the first line of a trace is trace 2 NODES START, or trace 1 NODES START in version 1";
+    "expected trace 2 NODES START, or trace 1 NODES START in version 1, as the first line of a trace";
 
-/// What is said of a first line that stands again.
-const FIRST_AGAIN: &str = "only the first line of a trace begins with trace";
+/// The text for a first line that occurs again.
+const FIRST_AGAIN: &str = "only the first line of a trace may begin with trace";
 
-/// What is said of a repeat in version 1.
+/// The text for a repeat in version 1.
 const NO_REPEATS: &str = "version 1 has no repeats";
 
-/// Returns what is said of a line whose line feed was not read.
+/// Returns the text for a line whose line feed was not read.
 fn unended_text(line: &[u8]) -> &'static str {
     if line.is_empty() {
-        "the text ends before this line, and the last line of a trace is end"
+        "the text ends before this line, but the last line of a trace must be end"
     } else if line.len() < MAX_LINE {
-        "the text ends in this line, before a line feed"
+        "the text ends in this line, without a line feed"
     } else {
-        "this line has no line feed among its first 128 bytes"
+        "this line has no line feed in its first 128 bytes"
     }
 }
 
-/// Returns what is said of a line that does not end as lines do, or `None`.
+/// Returns the text for a line that does not end as lines must, or `None`.
 fn end_text(tail: &Tail<'_>) -> Option<&'static str> {
     if !tail.has_feed {
         Some(unended_text(tail.line))
     } else if let [.., b'\r'] = tail.line {
         Some(
-            "this line ends with a carriage return before its line feed, and each line ends with a line feed alone",
+            "this line ends with a carriage return and a line feed, but each line must end with a line feed alone",
         )
     } else {
         None
     }
 }
 
-/// Adds what is said of a first line that begins no trace.
+/// Adds the text for a first line that does not begin a trace.
 fn push_first_line(alloc: Global, note: &mut Note, text: &[u8]) {
     if !push_line_fault(alloc, note, FIRST_FORMS, text, version_of(text)) {
         note.push(hint_at(AT_FIRST, text).unwrap_or(NOT_FIRST));
     }
 }
 
-/// Returns the version that the first line of a text names, or `None` where it names none.
+/// Returns the version that the first line of a text names, or `None` if it does not name one.
 pub fn version_of(text: &[u8]) -> Option<Version> {
     if text.starts_with(b"trace 1 ") {
         Some(Version::One)
@@ -66,7 +66,7 @@ pub fn version_of(text: &[u8]) -> Option<Version> {
     }
 }
 
-/// Returns why a line may not stand behind the first one of a trace of this version, whatever its fields, or `None`.
+/// Returns why a line may not follow the first line of a trace of this version, whatever its fields, or `None`.
 fn misplaced_text(text: &[u8], version: Option<Version>) -> Option<&'static str> {
     if form_of(FIRST_FORMS, text).is_some() {
         Some(FIRST_AGAIN)
@@ -77,7 +77,7 @@ fn misplaced_text(text: &[u8], version: Option<Version>) -> Option<&'static str>
     }
 }
 
-/// Adds what is said of a line of a trace behind the first one. Where nothing is found it is `other`.
+/// Adds the text for a later line of a trace, or `other` if nothing is found.
 fn push_later_line(
     alloc: Global,
     note: &mut Note,
@@ -96,8 +96,8 @@ fn push_later_line(
     }
 }
 
-/// Adds what is said of a line that is none of a trace of this version, or that stands where it may not. Where nothing is found it is
-/// `other`.
+/// Adds the text for a line that does not belong in a trace of this version or is out of place, or `other` if
+/// nothing is found.
 pub fn push_trace_text(
     alloc: Global,
     note: &mut Note,
@@ -107,7 +107,7 @@ pub fn push_trace_text(
     other: &str,
 ) {
     if tail.is_after_end {
-        note.push("this stands after end, which is the last line of a trace");
+        note.push("nothing may follow end, the last line of a trace");
     } else if let Some(text) = end_text(tail) {
         note.push(text);
     } else if line == 1 {
@@ -117,7 +117,7 @@ pub fn push_trace_text(
     }
 }
 
-/// Adds what is said of a line that is no mark. Where nothing is found it is `other`.
+/// Adds the text for a line that is not a mark, or `other` if nothing is found.
 pub fn push_mark_text(alloc: Global, note: &mut Note, tail: &Tail<'_>, other: &str) {
     if let Some(text) = end_text(tail) {
         note.push(text);

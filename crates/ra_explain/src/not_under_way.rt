@@ -2,7 +2,7 @@
 use crate::lines::{is_one_line, next_line};
 use crate::note::Note;
 
-/// Returns the message of a line by which one is taken, or `None` for another line.
+/// Returns the message that a line delivers or loses, or `None` for any other line.
 fn taken_in(line: &[u8]) -> Option<&[u8]> {
     match line.strip_prefix(b"deliver ") {
         Some(message) => Some(message),
@@ -10,7 +10,7 @@ fn taken_in(line: &[u8]) -> Option<&[u8]> {
     }
 }
 
-/// Returns the message of a line by which one is taken or repeated, or `None` for another line.
+/// Returns the message that a line delivers, loses or repeats, or `None` for any other line.
 fn message_in(line: &[u8]) -> Option<&[u8]> {
     match taken_in(line) {
         Some(message) => Some(message),
@@ -18,8 +18,8 @@ fn message_in(line: &[u8]) -> Option<&[u8]> {
     }
 }
 
-/// Returns the last line before the one with the number `line` in which a message is taken, or 0 where it is in none; or `None` where the text
-/// does not begin with the first line and end with that one.
+/// Returns the last line before line `line` that delivers or loses a message, or 0 if there is no such line. Returns
+/// `None` unless the text begins with the first line and ends with line `line`.
 fn last_taken(line: u64, text: &[u8], message: &[u8]) -> Option<u64> {
     let mut taken = 0;
     let mut rest = text;
@@ -33,19 +33,18 @@ fn last_taken(line: u64, text: &[u8], message: &[u8]) -> Option<u64> {
     if is_one_line(rest) { Some(taken) } else { None }
 }
 
-/// Adds why the message that is to be taken or repeated in the line with the number `line` of a trace is not under way. Where that is not
-/// known it is `other`: it is known where the text begins with the first line and ends with that one. The cost is linear in the text.
+/// Adds why the message that line `line` of a trace delivers, loses or repeats is not under way, or `other` if that is
+/// not known. It is known if the text begins with the first line and ends with line `line`. The cost is linear in the
+/// text.
 pub fn push_not_under_way(note: &mut Note, line: u64, text: &[u8], shown: &[u8], other: &str) {
     let Some(message) = message_in(shown) else {
         note.push(other);
         return;
     };
     match last_taken(line, text, message) {
-        Some(0) => note.push("this message is not under way: nobody sent it"),
+        Some(0) => note.push("this message is not under way: it was never sent"),
         Some(taken) => {
-            note.push(
-                "this message is not under way: it was taken already, the last time in line ",
-            );
+            note.push("this message is not under way: it was last delivered or lost in line ");
             note.number(taken);
         }
         None => note.push(other),

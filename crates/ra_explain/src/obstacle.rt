@@ -7,7 +7,7 @@ use ra_stamp::{Entry, Mark};
 use ra_trace::MarkCause;
 use std::alloc::Global;
 
-/// Returns whether a claim is why a lock table does not allow the mark of an entry, for this cause.
+/// Returns whether this claim is why a lock table does not allow the mark of an entry, given the cause.
 fn is_in_the_way(claim: &Claim, entry: &Entry, cause: MarkCause) -> bool {
     match cause {
         MarkCause::NodeBusy => claim.entry.stamp.node == entry.stamp.node,
@@ -17,7 +17,7 @@ fn is_in_the_way(claim: &Claim, entry: &Entry, cause: MarkCause) -> bool {
     }
 }
 
-/// Returns the first claim that is in the way, if one is.
+/// Returns the first claim that is in the way, if there is one.
 fn first_in_the_way(claims: &[Claim], entry: &Entry, cause: MarkCause) -> Option<Claim> {
     for claim in claims {
         if is_in_the_way(claim, entry, cause) {
@@ -45,8 +45,8 @@ fn is_waiting(claims: &[Claim], entry: &Entry) -> bool {
     }
 }
 
-/// Returns why a lock table does not allow a mark after those before it, which it does not. The causes are looked for in the order of a mark
-/// log's.
+/// Returns why a lock table does not allow a mark after those before it. The mark must be one that it does not allow.
+/// Causes are looked for in the same order as for a mark log.
 fn cause_of(mark: &Mark, claims: &[Claim]) -> MarkCause {
     match mark {
         Mark::Requested(entry) => {
@@ -69,28 +69,29 @@ fn cause_of(mark: &Mark, claims: &[Claim]) -> MarkCause {
     }
 }
 
-/// Returns what is said of a cause in a trace. Of who is in the way it is said who it is.
+/// Returns the text for a cause in a trace. For `Held` and `Earlier` it is empty: the claim in the way is named.
 fn cause_text(cause: MarkCause) -> &'static str {
     match cause {
-        MarkCause::NodeBusy => ": its node waits for the name or holds it already",
-        MarkCause::NotAbove => ": its number is not above each one that was granted on the name",
-        MarkCause::NotWaiting => ": no such entry waits for the name",
-        MarkCause::NotHeld => ": no such entry holds the name",
+        MarkCause::NodeBusy => ": its node already waits for the name or holds it",
+        MarkCause::NotAbove => ": its number is not above every number granted for the name",
+        MarkCause::NotWaiting => ": no such request waits for the name",
+        MarkCause::NotHeld => ": no such request holds the name",
         MarkCause::Line | MarkCause::Held | MarkCause::Earlier => "",
     }
 }
 
-/// Adds who is in the way.
+/// Adds the claim that is in the way.
 fn push_claim(note: &mut Note, claim: &Claim) {
     note.push(": ");
     note.client(claim.entry.client);
     note.push(" at node ");
     note.number(u64::from(claim.entry.stamp.node.get()));
     note.push(if claim.holds {
-        " holds it"
+        " has held "
     } else {
-        " asked for it"
+        " asked for "
     });
+    note.name(&claim.entry.name);
     note.mode(claim.entry.mode);
     note.push(if claim.holds {
         " since line "
@@ -100,7 +101,7 @@ fn push_claim(note: &mut Note, claim: &Claim) {
     note.number(claim.since);
 }
 
-/// Adds which number a request has to exceed.
+/// Adds the number that a request must exceed.
 fn push_granted(note: &mut Note, before: &Before) {
     note.push(": ");
     note.number(before.granted);
@@ -108,21 +109,22 @@ fn push_granted(note: &mut Note, before: &Before) {
     note.number(before.granted_at);
 }
 
-/// Adds what became of an entry that does not wait, or does not hold, where it should: it holds or waits, was given back, or never asked.
+/// Adds what became of an entry that should wait or hold and does not: it already holds, still waits, was released, or
+/// was never requested.
 fn push_fate(note: &mut Note, line: u64, text: &[u8], entry: &Entry, before: &Before) {
     if let Some(claim) = claim_of(&before.claims, entry) {
         note.push(if claim.holds {
             ": it was granted in line "
         } else {
-            ": it waits since line "
+            ": it has waited since line "
         });
         note.number(claim.since);
         return;
     }
     match last_line_with(line, text, &Mark::Left(*entry)) {
-        0 => note.push(": it was not requested"),
+        0 => note.push(": it was never requested"),
         left => {
-            note.push(": it was given back in line ");
+            note.push(": it was released in line ");
             note.number(left);
         }
     }
@@ -149,7 +151,7 @@ fn push_details(
     }
 }
 
-/// Adds why a mark is wrong, which is `other` in a mark log, and what is in its way.
+/// Adds why a mark is wrong (in a mark log, `other`) and what is in its way.
 fn push_mark_fault(
     note: &mut Note,
     line: u64,
@@ -166,7 +168,7 @@ fn push_mark_fault(
         }
         LineCause::Trace(_) => {
             let why = cause_of(mark, &before.claims);
-            note.push("a lock table does not allow this mark");
+            note.push("the lock table does not allow this mark");
             note.push(cause_text(why));
             why
         }
@@ -174,8 +176,8 @@ fn push_mark_fault(
     push_details(note, line, text, entry_of(mark), before, why);
 }
 
-/// Adds why the mark that is the line with the number `line` is wrong, and what is in its way. Where that is not known it is `other`: it is
-/// known where the text begins with its first line and ends with that one.
+/// Adds why the mark in line `line` is wrong and what is in its way, or `other` if that is not known. It is known if
+/// the text begins with its first line and ends with line `line`.
 pub fn push_obstacle(
     alloc: Global,
     note: &mut Note,

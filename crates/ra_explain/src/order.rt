@@ -1,4 +1,4 @@
-//! Where a script is none that threads may run.
+//! Why threads may not run a script, and where in the script the reason is.
 use crate::held::{Held, Lock, held_at_end};
 use crate::note::Note;
 use crate::script::script_in;
@@ -6,8 +6,8 @@ use ra_schedule::{Op, Script};
 use ra_stamp::Memory;
 use std::alloc::Global;
 
-/// Returns the first lock of a client whose name is not above each one that it holds then, and of these the first that is not below it.
-/// Where memory runs out the note keeps that.
+/// Returns the first operation of a client that locks a name while it holds that name or a greater one, and the first
+/// name held that is not below the locked one. If memory runs out, the note records it.
 fn out_of_order(
     alloc: Global,
     note: &mut Note,
@@ -34,38 +34,38 @@ fn push_operation(note: &mut Note, client: u32, place: u64) {
     note.number(place.saturating_add(1));
 }
 
-/// Adds where a client locks a name that is not above each one that it holds then, and returns whether it does.
+/// Adds where a client locks a name while it holds that name or a greater one, and returns whether it does.
 fn says_order(alloc: Global, note: &mut Note, script: &Script, client: u32) -> bool {
     let Some((lock, held)) = out_of_order(alloc, note, script, client) else {
         return false;
     };
     push_operation(note, client, lock.place);
-    note.push(": it locks ");
+    note.push(": locks ");
     note.name(&lock.name);
-    note.push(" while it holds ");
+    note.push(" while holding ");
     note.name(&held.name);
     note.push(
-        ", which is not below it, byte by byte, so that clients could wait for each other for ever: let all lock names in ascending order, or see by ra sim what comes of it",
+        ", which does not sort before it, so clients could deadlock: lock names in ascending byte order, or run the script with ra sim",
     );
     true
 }
 
-/// Adds which name a client holds at its end, and returns whether it holds one.
+/// Adds which name a client still holds at its end, and returns whether it holds one.
 fn says_kept(alloc: Global, note: &mut Note, script: &Script, client: u32) -> bool {
     let held = held_at_end(alloc, note, script, client);
     let Some(lock) = held.locks.first() else {
         return false;
     };
     push_operation(note, client, lock.place);
-    note.push(": it locks ");
+    note.push(": locks ");
     note.name(&lock.name);
     note.push(
-        ", and never unlocks it, so that whoever asks for it later would wait for ever: let it unlock the name, or see by ra sim what comes of it",
+        " and never unlocks it, so others could wait for it forever: unlock the name, or run the script with ra sim",
     );
     true
 }
 
-/// Adds what is wrong with the order of the names that the clients of a script lock, and returns whether something is.
+/// Adds what is wrong with the order in which the clients of a script lock names, and returns whether anything is.
 fn says_any_order(alloc: Global, note: &mut Note, script: &Script) -> bool {
     for place in 0..script.clients() {
         if says_order(alloc, note, script, place + 1) {
@@ -75,7 +75,7 @@ fn says_any_order(alloc: Global, note: &mut Note, script: &Script) -> bool {
     false
 }
 
-/// Adds which name the first client holds at its end that holds one.
+/// Adds which name is still held at the end by the first client that holds one.
 fn push_any_kept(alloc: Global, note: &mut Note, script: &Script) {
     for place in 0..script.clients() {
         if says_kept(alloc, note, script, place + 1) {
@@ -84,9 +84,10 @@ fn push_any_kept(alloc: Global, note: &mut Note, script: &Script) {
     }
 }
 
-/// Returns what is said of the first operation of the script of a text that locks a name which is not above each one that its client holds
-/// then, or else of the first one whose name its client never unlocks; or `None` where there is neither. The cost is the number of a
-/// client's operations times that of the names that it holds at once.
+/// Returns a note on the first operation in a script that locks a name while its client holds that name or a greater
+/// one. If no operation does, the note is on the first operation that locks a name its client never unlocks. Returns
+/// `None` if there is neither. The cost is the number of a client's operations times the number of names that it holds
+/// at once.
 ///
 /// # Errors
 ///

@@ -8,7 +8,7 @@ use ra_trace::Line;
 use ra_world::{NodeRefusal, Step, StepError};
 use std::alloc::Global;
 
-/// What a client wants of its node.
+/// What a client wants from its node.
 #[derive(Clone, Copy)]
 struct Wish {
     node: NodeId,
@@ -16,7 +16,7 @@ struct Wish {
     name: Name,
 }
 
-/// Returns what the client of a step wants, or `None` where it is no client's.
+/// Returns what the client of a step wants, or `None` if the step is not a client's.
 fn wish_of(step: &Step) -> Option<Wish> {
     match step {
         Step::Ask {
@@ -34,7 +34,7 @@ fn wish_of(step: &Step) -> Option<Wish> {
     }
 }
 
-/// Returns the step that a text without its line feed is, if it is one.
+/// Returns the step in a line without its line feed, if the line is a step.
 fn step_in(text: &[u8]) -> Option<Step> {
     match &Line::parse(text) {
         Some(Line::Stepped(step)) => Some(*step),
@@ -75,21 +75,21 @@ impl Wish {
     fn push_busy(&self, note: &mut Note, claim: &Option<Claim>) {
         note.client(self.client);
         note.push(match claim {
-            Some(claim) if claim.holds => " holds ",
-            Some(_) => " waits for ",
+            Some(claim) if claim.holds => " has held ",
+            Some(_) => " has waited for ",
             None => " is queued for ",
         });
         self.push_place(note, claim);
-        note.push(", and may not ask for it again");
+        note.push(" and may not ask for it again");
     }
 
     /// Adds why the client may not leave: it does not hold.
     fn push_not_held(&self, note: &mut Note, claim: &Option<Claim>) {
         note.client(self.client);
         if claim.is_some() {
-            note.push(" waits for ");
+            note.push(" has waited for ");
             self.push_place(note, claim);
-            note.push(", and does not hold it");
+            note.push(" and does not hold it");
         } else {
             note.push(" does not hold ");
             self.push_place(note, claim);
@@ -100,15 +100,15 @@ impl Wish {
     fn push_no_node(&self, note: &mut Note, nodes: u16) {
         note.push("there is no node ");
         note.number(u64::from(self.node.get()));
-        note.push(": the nodes of the trace are 1 to ");
+        note.push(": the highest node of the trace is ");
         note.number(u64::from(nodes));
     }
 
     /// Adds that no number is left for the name.
     fn push_exhausted(&self, note: &mut Note) {
-        note.push("no number is left for ");
+        note.push("no sequence number is left for ");
         note.name(&self.name);
-        note.push(": the last one is 18446744073709551615");
+        note.push(": the greatest is 18446744073709551615");
     }
 
     /// Adds why the node refuses it.
@@ -121,7 +121,7 @@ impl Wish {
     }
 }
 
-/// Returns what a client wants, why it is refused, and how many nodes there are, where that is known.
+/// Returns what a client wants, why it is refused, and how many nodes there are, if that is known.
 fn refusal_of(
     alloc: Global,
     note: &mut Note,
@@ -136,7 +136,7 @@ fn refusal_of(
     Some((wish, why, course.nodes))
 }
 
-/// Returns the claim of a client before the line with the number `line`, if it has one.
+/// Returns the claim of a client before line `line`, if it has one.
 fn claim_before(
     alloc: Global,
     note: &mut Note,
@@ -150,9 +150,9 @@ fn claim_before(
     }
 }
 
-/// Adds why the step that is the line with the number `line` of a trace is refused. Where that is not known it is `other`: it is known where
-/// the text begins with the first line and ends with that one. Where memory runs out the note keeps that. The cost is that of the steps
-/// before it, and the number of lines times that of the requests that wait and hold at once.
+/// Adds why the step in line `line` of a trace is refused, or `other` if that is not known. It is known if the text
+/// begins with the first line and ends with line `line`. If memory runs out, the note records it. The cost is that of
+/// the steps before it, plus the number of lines times the number of requests that wait and hold at once.
 pub fn push_refused(
     alloc: Global,
     note: &mut Note,
@@ -173,7 +173,7 @@ pub fn push_refused(
         }
         // No step of a client takes a message.
         StepError::NotUnderWay => note.push(other),
-        // A step that is refused needs no memory, so this one is made where there is some.
+        // A refused step needs no memory, so this step would be made if there were enough.
         StepError::Memory => note.refuse_if(true),
     }
 }

@@ -1,4 +1,4 @@
-//! Where the clients of a script stand when a run of it ends.
+//! The states of the clients of a script when a run of it ends.
 use crate::claim::{Claim, claims_after};
 use crate::note::Note;
 use ra_schedule::{Choice, Choices, Op, Policy, Script};
@@ -12,25 +12,25 @@ pub struct RunEnd<'a> {
     pub script: &'a Script,
     pub policy: &'a Policy,
     pub report: &'a Report,
-    /// What waits and holds then.
+    /// The requests that wait and hold then.
     pub claims: Vec<Claim>,
 }
 
-/// Where a client stands.
+/// The state of a client.
 #[derive(Clone, Copy)]
 pub enum Standing {
     /// It has done all its operations.
     Done,
     /// Its request waits.
     Waits(Entry),
-    /// It asked, and is queued behind another client of its node.
+    /// It asked, and is queued after another client of its node.
     Queued { name: Name, mode: Mode },
     /// It has not begun its operation with this number, counted from 1.
     Idle(u64),
 }
 
 impl Standing {
-    /// Adds where the client stands.
+    /// Adds the state of the client.
     pub fn push(&self, note: &mut Note) {
         match self {
             Standing::Done => note.push(" has done all its operations"),
@@ -40,19 +40,19 @@ impl Standing {
                 note.mode(entry.mode);
             }
             Standing::Queued { name, mode } => {
-                note.push(" queues for ");
+                note.push(" is queued for ");
                 note.name(name);
                 note.mode(*mode);
             }
             Standing::Idle(op) => {
-                note.push(" has not begun its operation ");
+                note.push(" has not begun operation ");
                 note.number(*op);
             }
         }
     }
 }
 
-/// Returns how many operations of a client are done by these marks.
+/// Returns how many operations of a client these marks complete.
 fn done_by(marks: &[Mark], client: u32) -> u64 {
     let mut done = 0;
     for mark in marks {
@@ -76,7 +76,7 @@ fn begun_by(choices: &Choices, client: u32) -> u64 {
     begun
 }
 
-/// Returns the request of a client that waits, if one does.
+/// Returns the waiting request of a client, if it has one.
 fn waiting_of(claims: &[Claim], client: u32) -> Option<Entry> {
     for claim in claims {
         if claim.entry.client == client && !claim.holds {
@@ -87,7 +87,8 @@ fn waiting_of(claims: &[Claim], client: u32) -> Option<Entry> {
 }
 
 impl<'a> RunEnd<'a> {
-    /// Returns the end of a run of a script by a policy, of which this is the report. Where memory ran out the note keeps that.
+    /// Returns the end of a run of a script by a policy, given the report of that run. If memory ran out, the note
+    /// records it.
     pub fn new(
         alloc: Global,
         note: &mut Note,
@@ -103,8 +104,8 @@ impl<'a> RunEnd<'a> {
         }
     }
 
-    /// Returns whether a client has begun more operations than so many. Where the choices are not listed, each client goes on as long as
-    /// it can.
+    /// Returns whether a client has begun more than `done` operations. If the choices are not listed, each client goes
+    /// on as long as it can.
     fn has_begun(&self, client: u32, done: u64) -> bool {
         match self.policy {
             Policy::Listed(choices) => begun_by(choices, client) > done,
@@ -112,7 +113,7 @@ impl<'a> RunEnd<'a> {
         }
     }
 
-    /// Returns where a client stands.
+    /// Returns the state of a client.
     pub fn standing(&self, client: u32) -> Standing {
         let done = done_by(self.report.marks.as_slice(), client);
         let Some(op) = self.script.op(client, done) else {

@@ -1,4 +1,4 @@
-//! Which field of a frame is why a node does not answer it.
+//! Which field of a frame is the reason that a node does not answer it.
 use crate::digits::{byte_at, part};
 use crate::frame::push_field;
 use crate::frame_field::{Field, fields_of, place_of};
@@ -13,14 +13,14 @@ use std::alloc::Global;
 pub enum Unanswered {
     /// It is for another node.
     WrongNode,
-    /// Its sender is none of the nodes.
+    /// Its sender is not one of the nodes.
     Stranger,
     /// There is no clock above its own.
     ClockFull,
 }
 
 impl Unanswered {
-    /// Returns the fault that a frame would have in the field that is why.
+    /// Returns the fault that a frame would have in the field that is the reason.
     fn fault(self) -> FrameError {
         match self {
             Unanswered::WrongNode => FrameError::To,
@@ -41,15 +41,15 @@ fn node_in(digits: &[u8], field: &Field) -> u64 {
     node
 }
 
-/// Adds what is said of the node that a field names.
+/// Adds a text and the node that a field names.
 fn push_node(note: &mut Note, text: &str, digits: &[u8], field: &Field) {
     note.push(text);
     note.number(node_in(digits, field));
 }
 
-/// Returns why a node does not answer the frame whose hexadecimal digits an input has: which field it is, where its bytes stand, what they
-/// are, and which node or clock they name, beside what would be right; or `None` where there is nothing more to say. `node` and `nodes` are
-/// the node and how many there are, as texts.
+/// Returns a note on why a node does not answer the frame in an input of hexadecimal digits. It says which field is the
+/// reason, where its bytes are, what they are, which node or clock they name, and what would be right. Returns `None`
+/// if there is nothing more to say. `node` is the node and `nodes` is the number of nodes, both as texts.
 ///
 /// # Errors
 ///
@@ -71,17 +71,18 @@ pub fn unanswered_note(
         match why {
             Unanswered::WrongNode => {
                 push_node(&mut note, ": the frame is for node ", digits, field);
-                note.push(", and this is node ");
+                note.push(", but --node is ");
                 note.push(node);
             }
-            // It is not from this node: a frame from the node that it is for has a fault, and one for another node is not answered.
+            // The sender is not this node: a frame from its own receiver is faulty, and one for another node is not
+            // answered.
             Unanswered::Stranger => {
                 push_node(&mut note, ": the frame is from node ", digits, field);
-                note.push(", and the nodes are 1 to ");
+                note.push(", but --nodes is ");
                 note.push(nodes);
             }
             Unanswered::ClockFull => {
-                note.push(", the last clock: there is none above it for an answer");
+                note.push(", the greatest: no clock is left for an answer");
             }
         }
     }

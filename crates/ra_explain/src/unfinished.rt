@@ -1,4 +1,4 @@
-//! Who waits for whom at the end of a run.
+//! Which clients wait for which others at the end of a run.
 use crate::claim::Claim;
 use crate::note::Note;
 use crate::script::{run_of, script_in};
@@ -8,20 +8,20 @@ use ra_stamp::{Entry, Memory, Name, NodeId};
 use ra_world::Report;
 use std::alloc::Global;
 
-/// The most clients of which something is said.
+/// The most clients that are described.
 const MAX_CLIENTS: u64 = 4;
 
-/// The most requests that are named as those in the way of one.
+/// The most requests that are named as blocking one request.
 const MAX_BLOCKERS: u64 = 3;
 
-/// Returns what is said of messages where no client keeps a request out: it wants for one of them.
+/// Returns the text for a request that no client blocks: it lacks a message that was lost or is under way.
 fn want_text(report: &Report) -> &'static str {
     if report.under_way == 0 {
-        "no client keeps it out, but a message was lost"
+        "no client blocks it, but a message was lost"
     } else if report.lost == 0 {
-        "no client keeps it out, but a message is under way"
+        "no client blocks it, but a message is under way"
     } else {
-        "no client keeps it out, but a message was lost or is under way"
+        "no client blocks it, but a message was lost or is under way"
     }
 }
 
@@ -30,16 +30,16 @@ fn push_blocker(note: &mut Note, ending: &RunEnd<'_>, claim: &Claim) {
     note.client(claim.entry.client);
     if claim.holds {
         if let Standing::Done = ending.standing(claim.entry.client) {
-            note.push(", which has done all,");
+            note.push(", which has finished,");
         }
         note.push(" holds it");
     } else {
-        note.push(" asked before");
+        note.push(" asked earlier");
     }
     note.mode(claim.entry.mode);
 }
 
-/// Adds what keeps a request out.
+/// Adds what blocks a request.
 fn push_blockers(note: &mut Note, ending: &RunEnd<'_>, entry: &Entry) {
     let mut count = 0;
     for claim in &ending.claims {
@@ -59,7 +59,7 @@ fn push_blockers(note: &mut Note, ending: &RunEnd<'_>, entry: &Entry) {
     }
 }
 
-/// Returns the request of a node for a name that waits or holds, if one does.
+/// Returns the request of a node that waits for or holds a name, if there is one.
 fn first_at(claims: &[Claim], node: NodeId, name: &Name) -> Option<Claim> {
     for claim in claims {
         if claim.entry.stamp.node == node && claim.entry.name == *name {
@@ -69,12 +69,12 @@ fn first_at(claims: &[Claim], node: NodeId, name: &Name) -> Option<Claim> {
     None
 }
 
-/// Adds behind whom a client of this node queues for a name.
+/// Adds the client that is ahead of the clients of this node queued for a name.
 fn push_first(note: &mut Note, claims: &[Claim], node: NodeId, name: &Name) {
     let Some(first) = first_at(claims, node, name) else {
         return;
     };
-    note.push(" behind ");
+    note.push(" after ");
     note.client(first.entry.client);
     note.push(if first.holds {
         ", which holds it"
@@ -84,7 +84,7 @@ fn push_first(note: &mut Note, claims: &[Claim], node: NodeId, name: &Name) {
     note.mode(first.entry.mode);
 }
 
-/// Adds where a client stands that has something left to do.
+/// Adds the state of a client that has something left to do.
 fn push_standing(note: &mut Note, ending: &RunEnd<'_>, client: u32, standing: &Standing) {
     let Some(node) = ending.script.node_of(client) else {
         return;
@@ -102,7 +102,7 @@ fn push_standing(note: &mut Note, ending: &RunEnd<'_>, client: u32, standing: &S
 
 /// Adds what is left to do at the end of a run.
 fn push_ending(note: &mut Note, ending: &RunEnd<'_>) {
-    note.push("the run ended with something left to do: ");
+    note.push("the run did not finish: ");
     let mut count = 0;
     for place in 0..ending.script.clients() {
         let client = place + 1;
@@ -118,11 +118,11 @@ fn push_ending(note: &mut Note, ending: &RunEnd<'_>) {
     }
     note.push_more("; and ", count, MAX_CLIENTS);
     if count == 0 {
-        note.push("each client has done all its operations, and messages are under way");
+        note.push("all operations are done, but messages are under way");
     }
 }
 
-/// Adds what is left to do where a script is driven by a policy.
+/// Adds what is left to do when a policy has driven a script.
 fn push_run(alloc: Global, note: &mut Note, script: &Script, policy: &Policy) {
     let Some(summary) = run_of(alloc, note, script, policy) else {
         return;
@@ -133,8 +133,9 @@ fn push_run(alloc: Global, note: &mut Note, script: &Script, policy: &Policy) {
     }
 }
 
-/// Returns what is left to do where the script of a text is driven by a policy: of each client that waits or is queued, for what, and who is
-/// in its way; or `None` where the run is finished or refused. It costs as much as the run.
+/// Returns a note on what is left to do when a policy has driven the script in a text. For each client that waits or is
+/// queued, the note says for what, and who is in its way. Returns `None` if the run is finished or refused. It costs as
+/// much as the run.
 ///
 /// # Errors
 ///

@@ -1,4 +1,4 @@
--- The checks in the groups in which they are made, and what holds where all pass. No public contract speaks of it.
+-- The checks in the groups in which they are made, and what holds if all of them pass. No public contract speaks of it.
 use Rattle.std.specs.Prelude.{◌≡◌, ◌⊎◌, ℕ, ◌+◌, ◌^◌, ◌≤◌, true, List, length, take, drop, slice_index, slice_range}
 use Rattle.std.specs.List.{list_all}
 use Rattle.ra_stamp.specs.Name.{is_name_byte}
@@ -6,25 +6,28 @@ use Rattle.ra_frame.specs.declared.format.Format.{Format}
 use Rattle.ra_frame.specs.Format.{version_byte, to_place, mode_place, greatest_node}
 use Rattle.ra_frame.specs.Faults.{Check, checks_of, node_at, number_at, greatest_mode_of}
 
--- those of the kind and the two nodes, of the mode and the two numbers, and of the name
+-- the checks of the kind and the two nodes
 abbrev pub head_checks : Format → List ℕ → List Check
 head_checks format bytes = take 4 (checks_of format bytes)
 
+-- the checks of the mode, the sequence number and the clock
 abbrev pub numbers_checks : Format → List ℕ → List Check
 numbers_checks format bytes = take 3 (drop 4 (checks_of format bytes))
 
+-- the checks of the name, and that nothing follows it
 abbrev pub name_checks : Format → List ℕ → List Check
 name_checks format bytes = drop 7 (checks_of format bytes)
 
--- the clock and the name of bytes of a version
+-- the clock in the bytes, at its place in this version
 abbrev pub clock_in : Format → List ℕ → ℕ
 clock_in format bytes = number_at bytes (mode_place format + 9)
 
+-- the name in the bytes, at its place in this version, as long as the byte before it says
 abbrev pub name_in : Format → List ℕ → List ℕ
 name_in format bytes =
     let name = mode_place format + 18 in slice_range bytes name (name + slice_index bytes (mode_place format + 17))
 
--- what holds of bytes of a version that have no fault
+-- what holds of bytes of a version that pass all checks
 pub record IsChecked (format : Format) (bytes : List ℕ) : Type 0 where
   pub long : length bytes ≡ mode_place format + 18 + slice_index bytes (mode_place format + 17)
   pub version : slice_index bytes 0 ≡ version_byte format

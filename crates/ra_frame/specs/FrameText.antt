@@ -1,4 +1,4 @@
--- Which bytes stand for which frame, in each version of the format.
+-- Which bytes represent which frame, in each version of the format.
 use Rattle.std.specs.Prelude.{◌≡◌, ℕ, ◌<◌, ◌≤◌, ◌^◌, List, ◌∷◌, ◌++◌, length}
 use Rattle.std.specs.Int.{w64, to_be_bytes}
 use Rattle.ra_stamp.specs.declared.mode.Mode.{Mode}
@@ -20,8 +20,8 @@ mode_byte IntentShared = 2
 mode_byte IntentExclusive = 3
 mode_byte SharedIntentExclusive = 4
 
--- The bytes have these fields, in this order, each in the range that it has in this version, and nothing after the name. The
--- sequence number and the clock are eight bytes, the highest first, and the name stands after its length.
+-- The bytes have these fields in this order, each in its range in this version, and nothing after the name. The
+-- sequence number and the clock are eight bytes each, highest first, and the name follows its length.
 pub record HasFields (format : Format) (bytes : List ℕ) (kind from to mode seq clock : ℕ) (name : List ℕ) : Type 0 where
   pub from_range : (1 ≤ from) × (from ≤ greatest_node format)
   pub to_range : (1 ≤ to) × (to ≤ greatest_node format)
@@ -33,8 +33,8 @@ pub record HasFields (format : Format) (bytes : List ℕ) (kind from to mode seq
   pub spelled : bytes ≡ version_byte format ∷ kind ∷ (node_bytes format from ++ (node_bytes format to ++ mode
       ∷ (to_be_bytes w64 seq ++ (to_be_bytes w64 clock ++ length name ∷ name))))
 
--- the bytes stand for a message that is sent at a clock: the kind is 1 for a REQUEST and 2 for a REPLY, and the
--- mode of a REPLY is 0
+-- the bytes represent a message that is sent at a clock: the kind is 1 for a REQUEST and 2 for a REPLY, and the mode of
+-- a REPLY is 0
 abbrev pub IsMessageText : Format → List ℕ → ℕ → Message → Type 0
 IsMessageText format bytes clock (Request from to name mode seq) =
     HasFields format bytes 1 from to (mode_byte mode) seq clock name

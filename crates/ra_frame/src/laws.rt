@@ -5,14 +5,14 @@ ghost use Rattle.ra_frame.specs.declared.frame.Frame.{Frame};
 ghost use Rattle.ra_frame.specs.FrameText.{IsFrameText, IsFrameTextOf, IsWrittenText};
 ghost use Rattle.ra_frame.specs.Faults.{first_fault};
 
-/// No two texts of one version stand for one frame.
+/// No two texts of one version are the same frame.
 pub fn one_spelling()
     ensures { (format : Format) (a b : List ℕ) (frame : Frame) → IsFrameTextOf format a frame → IsFrameTextOf format b frame → a ≡ b }
 {}
 
-/// What is written may be read, and what is read may be written: a text of either version has no fault and stands for one frame, and
-/// that frame has a text in version 2, which is the one that is written. Bytes with no fault are the text of a frame, whose one text
-/// in their version they are.
+/// What is written may be read, and what is read may be written. A text of either version has no fault and is one
+/// frame, and that frame has a text in version 2, which is the one that is written. Bytes without a fault are the text
+/// of a frame, and its only text in their version.
 pub fn round_trip()
     ensures no_fault { (bytes : List ℕ) (frame : Frame) → IsFrameText bytes frame → first_fault bytes ≡ None }
     ensures one_frame { (bytes : List ℕ) (a b : Frame) → IsFrameText bytes a → IsFrameText bytes b → a ≡ b }

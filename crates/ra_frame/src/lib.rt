@@ -1,4 +1,5 @@
-//! Frames: messages with the clock at which they are sent, as bytes. Both versions of the format are read, and the second is written.
+//! Frames: messages as bytes, with the clock at which they are sent. Both versions of the format are read, and version
+//! 2 is written.
 #![tactic(auto)]
 
 mod decoding;

@@ -1,4 +1,4 @@
--- What those who carry a node's messages and marks know of them.
+-- What a host that carries a node's messages and marks knows of them.
 use Rattle.std.specs.Prelude.{◌≡◌, ℕ, ◌*◌, ◌≤◌, List, [], ◌∷◌}
 use Rattle.ra_stamp.specs.declared.entry.Entry.{Entry}
 use Rattle.ra_stamp.specs.declared.entry.Mark.{Mark}
@@ -12,7 +12,7 @@ use Rattle.ra_node.specs.Resource.Use.{Nobody, WaitsBy, HoldsBy}
 use Rattle.ra_node.specs.Events.{Event}
 use Rattle.ra_node.specs.Events.Event.{Ask, Leave, Receive}
 
--- a message that a node sends about a resource: it is from this node, and for another one
+-- a message that a node sends about a name: it is from this node, and for another one
 pub record IsSend (me nodes : ℕ) (name : List ℕ) (message : Message) : Type 0 where
   pub from : from_of message ≡ me
   pub to : IsOtherNode me nodes (to_of message)
@@ -24,35 +24,36 @@ entry_in (Requested e) = e
 entry_in (Entered e) = e
 entry_in (Left e) = e
 
--- a mark of a node about a resource: its request is of this node, for this resource, and has a number
+-- a mark of a node about a name: its request is of this node, for this name, and has a number, 1 or more
 pub record IsMark (me : ℕ) (name : List ℕ) (mark : Mark) : Type 0 where
   pub node_is : (entry_in mark).stamp.node ≡ me
   pub name_is : (entry_in mark).name ≡ name
   pub numbered : 1 ≤ (entry_in mark).stamp.seq
 
--- what an event sends at most, at one of this many nodes
+-- how many messages an event sends at most, in a cluster of this many nodes
 abbrev pub sends_at_most : ℕ → Event → ℕ
 sends_at_most nodes (Ask client name mode) = nodes
 sends_at_most nodes (Leave client name) = 2 * nodes
 sends_at_most nodes (Receive message) = 1
 
--- how many marks it makes at most
+-- how many marks an event makes at most
 abbrev pub marks_at_most : Event → ℕ
 marks_at_most (Ask client name mode) = 2
 marks_at_most (Leave client name) = 3
 marks_at_most (Receive message) = 1
 
--- how many REPLYs a message has a node send at most, and how many requests it lets enter: it is answered, or it answers
+-- how many REPLYs a node sends at most when this message comes: one if it is a REQUEST
 abbrev pub replies_at_most : Message → ℕ
 replies_at_most (Request from to name mode seq) = 1
 replies_at_most (Reply from to name seq) = 0
 
+-- how many requests this message lets enter at most: one if it is a REPLY
 abbrev pub entries_at_most : Message → ℕ
 entries_at_most (Request from to name mode seq) = 0
 entries_at_most (Reply from to name seq) = 1
 
--- the marks lead from one use of a resource to another: a node has at most one request on a name at a time, which waits
--- once it is made, is granted once it enters, and is gone once it leaves
+-- The marks lead from one use of a resource to another. A node has at most one request on a name at a time: it waits
+-- after it is made, is granted when it enters, and is gone when it leaves.
 abbrev pub MarksLead : Use → List Mark → Use → Type 0
 MarksLead before [] after = after ≡ before
 MarksLead before (Requested e ∷ marks) after = (before ≡ Nobody) × MarksLead (WaitsBy e) marks after

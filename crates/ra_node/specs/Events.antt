@@ -1,4 +1,4 @@
--- The events of a node. Each is a turn at one resource, and the other resources stay.
+-- The events of a node. Each is a turn at one resource, and leaves the other resources as they were.
 use Rattle.std.specs.Prelude.{◌≡◌, ℕ, List, [], ◌∷◌, All}
 use Rattle.ra_stamp.specs.declared.entry.Mark.{Mark}
 use Rattle.ra_stamp.specs.declared.message.Message.{Message}
@@ -16,14 +16,14 @@ pub record AskEvent (old : NodeState) (client : ℕ) (name : List ℕ) (mode : M
   pub turn : AskTurn (resource_at old name) client mode sends marks resource
   pub new_is : new ≡ with_resource old name resource
 
--- a client leaves it
+-- a client leaves the resource of this name
 pub record LeaveEvent (old : NodeState) (client : ℕ) (name : List ℕ) (sends : List Message)
     (marks : List Mark) (new : NodeState) : Type 0 where
   pub resource : Resource
   pub turn : LeaveTurn (resource_at old name) client sends marks resource
   pub new_is : new ≡ with_resource old name resource
 
--- a message about it comes
+-- a message comes, about the resource that it names
 pub record ReceiveEvent (old : NodeState) (message : Message) (sends : List Message) (marks : List Mark)
     (new : NodeState) : Type 0 where
   pub resource : Resource
@@ -36,12 +36,13 @@ pub data Event : Type 0 where
   Leave : (client : ℕ) → (name : List ℕ) → Event
   Receive : (message : Message) → Event
 
--- the resource that an event is about
+-- the name that an event is about
 abbrev pub name_of_event : Event → List ℕ
 name_of_event (Ask client name mode) = name
 name_of_event (Leave client name) = name
 name_of_event (Receive message) = name_of message
 
+-- the event leads from the old node to the new one, with these messages and marks
 abbrev pub NodeEvent : NodeState → Event → List Message → List Mark → NodeState → Type 0
 NodeEvent old (Ask client name mode) sends marks new = AskEvent old client name mode sends marks new
 NodeEvent old (Leave client name) sends marks new = LeaveEvent old client name sends marks new
@@ -53,7 +54,7 @@ IsForThisNode n (Ask client name mode) = Unit {0}
 IsForThisNode n (Leave client name) = Unit {0}
 IsForThisNode n (Receive message) = IsForNode n.me n.nodes message
 
--- some event of this kind is possible
+-- the event can happen at this node, whatever is sent and marked
 abbrev pub AllowsEvent : NodeState → Event → Type 0
 AllowsEvent old event = (sends : List Message) × (marks : List Mark) × (new : NodeState)
     × NodeEvent old event sends marks new
@@ -64,11 +65,11 @@ pub record Happening : Type 0 where
   pub sends : List Message
   pub marks : List Mark
 
--- each of these events is one of this node
+-- the event of each of these happenings is one of this node
 abbrev pub AreForThisNode : NodeState → List Happening → Type 0
 AreForThisNode n happened = All (λ h. IsForThisNode n h.event) happened
 
--- from one state of a node to another by these events, in order
+-- these happenings lead from the old node to the new one, in order
 abbrev pub NodeEvents : NodeState → List Happening → NodeState → Type 0
 NodeEvents old [] new = new ≡ old
 NodeEvents old (h ∷ hs) new = (next : NodeState) × NodeEvent old h.event h.sends h.marks next

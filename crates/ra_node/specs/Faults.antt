@@ -11,16 +11,18 @@ use Rattle.ra_node.specs.declared.error.LeaveError.{LeaveError}
 use Rattle.ra_node.specs.declared.error.LeaveError.TheVariants as leaving
 use Rattle.ra_node.specs.Resource.{Resource, Holds}
 
+-- the refusal of an ask that a refusal of the automaton's request becomes
 abbrev pub ask_error_of : RequestError → AskError
 ask_error_of request.NotIdle = asking.Busy
 ask_error_of request.Exhausted = asking.Exhausted
 ask_error_of request.Memory = asking.Memory
 
+-- the refusal of a leave that a refusal of the automaton's leave becomes
 abbrev pub leave_error_of : LeaveRefusal → LeaveError
 leave_error_of leave.NotHeld = leaving.NotHeld
 leave_error_of leave.Memory = leaving.Memory
 
--- a client does not leave where it does not hold, or where it does and memory runs out
+-- a client does not leave if it does not hold, or if it does and memory runs out
 abbrev pub IsLeaveRefusal : Resource → ℕ → LeaveError → Type 0
 IsLeaveRefusal r client leaving.NotHeld = (entry : Entry) → Holds r client entry → ⊥
 IsLeaveRefusal r client leaving.Memory = (entry : Entry) × Holds r client entry

@@ -5,7 +5,7 @@ use Rattle.ra_automaton.specs.Steps.{LeaveAndRequestStep}
 use Rattle.ra_node.specs.declared.queued_client.Queued.{Queued}
 use Rattle.ra_node.specs.Resource.{Resource}
 
--- the automaton leaves and asks for the first client of the queue, which is then the current one
+-- the automaton leaves, and requests for the first client of the queue, which is then the current one
 pub record IsHandedOver (old : Resource) (next : Queued) (sends : List Message) (entered : Bool) (new : Resource)
     : Type 0 where
   pub step : LeaveAndRequestStep old.state next.mode sends entered new.state

@@ -7,8 +7,8 @@ use Rattle.std.specs.FinMap as map
 use Rattle.ra_stamp.specs.NodeId.{IsNodeNumber}
 use Rattle.ra_node.specs.Resource.{Resource, unmet, waiting_at, IsConsistentResource}
 
--- the node's number, how many nodes there are, the highest number that each resource starts with, and the resources
--- that a client or a message was about
+-- the node's number, how many nodes there are, the highest number with which each resource starts, and the resources
+-- that a client or a message has been about
 pub record NodeState : Type 0 where
   pub me : ℕ
   pub nodes : ℕ
@@ -19,22 +19,24 @@ pub record NodeState : Type 0 where
 abbrev pub opening_node : ℕ → ℕ → ℕ → NodeState
 opening_node me nodes start = record { me = me; nodes = nodes; start = start; resources = map.empty }
 
--- a name that is not among them stands for a resource that is idle, with the highest number at its start and no queue
+-- the resource of a name; one that is not in the map is idle, with the start value as its highest number, and has no
+-- queue
 abbrev pub resource_at : NodeState → List ℕ → Resource
 resource_at n name = unwrap_or (map.get n.resources name) (unmet n.me n.nodes name n.start)
 
--- the node with another resource of this name
+-- the node with this resource under this name
 abbrev pub with_resource : NodeState → List ℕ → Resource → NodeState
 with_resource n name r = record n { resources = map.insert n.resources name r }
 
--- how many requests wait for their replies, and how many clients are queued, over all names
+-- how many requests wait for their REPLYs, over all names
 abbrev pub waiting_count : NodeState → ℕ
 waiting_count n = sum_by (λ e. waiting_at e.1) (map.entries n.resources)
 
+-- how many clients are queued, over all names
 abbrev pub queued_count : NodeState → ℕ
 queued_count n = sum_by (λ e. length e.1.queue) (map.entries n.resources)
 
--- what holds of every node
+-- what holds of every node: there are 1 to 64 nodes, it is one of them, and each of its resources is consistent
 pub record IsConsistentNode (n : NodeState) : Type 0 where
   pub count : IsNodeNumber n.nodes
   pub member : (1 ≤ n.me) × (n.me ≤ n.nodes)

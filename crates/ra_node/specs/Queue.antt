@@ -7,10 +7,10 @@ use Rattle.ra_node.specs.declared.queued_client.Queued.{Queued}
 abbrev pub AreApart : List Queued → Type 0
 AreApart queue = AllPairs (λ a b. a ≢ b) (map (λ queued. queued.client) queue)
 
--- these are the clients that are queued
+-- the known clients are those that are queued
 abbrev pub AreClients : List ℕ → List Queued → Type 0
 AreClients known queue = (client : ℕ) → list_any (nat_eq client) known ≡ list_any (λ queued. nat_eq client queued.client) queue
 
--- no client is known, or all those that are queued and no other
+-- no client is known, or exactly those that are queued
 abbrev pub IsKnown : List ℕ → List Queued → Type 0
 IsKnown known queue = known ≢ [] → AreClients known queue

@@ -9,14 +9,14 @@ use Rattle.ra_automaton.specs.State.{State, IsConsistent, opening}
 use Rattle.ra_automaton.specs.Steps.{greatest_number}
 use Rattle.ra_node.specs.declared.queued_client.Queued.{Queued}
 
--- the automaton's state, the current client, whose request waits or is granted, and the clients that queue, the first
--- one next
+-- the automaton's state, the current client if there is one, whose request waits or is granted, and the queued clients,
+-- the next one first
 pub record Resource : Type 0 where
   pub state : State
   pub client : Option ℕ
   pub queue : List Queued
 
--- a resource that no client and no message was about yet
+-- a resource that no client and no message has been about yet
 abbrev pub unmet : ℕ → ℕ → List ℕ → ℕ → Resource
 unmet me nodes name start = record { state = opening me nodes name start; client = None; queue = [] }
 
@@ -30,48 +30,51 @@ pub data Use : Type 0 where
   WaitsBy : (entry : Entry) → Use
   HoldsBy : (entry : Entry) → Use
 
+-- the use of a resource, by the phase of its automaton and its current client
 abbrev pub use_in : State → Phase → Option ℕ → Use
 use_in s phase None = Nobody
 use_in s Idle (Some client) = Nobody
 use_in s (Waiting seq mode) (Some client) = WaitsBy (entry_of s.me s.name seq client mode)
 use_in s (Inside seq mode) (Some client) = HoldsBy (entry_of s.me s.name seq client mode)
 
--- what they make of it now
+-- what the node's clients make of this resource now
 abbrev pub use_of : Resource → Use
 use_of r = use_in r.state r.state.phase r.client
 
+-- the request of a use, if it is granted
 abbrev pub held_entry : Use → Option Entry
 held_entry Nobody = None
 held_entry (WaitsBy e) = None
 held_entry (HoldsBy e) = Some e
 
--- the request that is granted here
+-- the request that is granted at this resource, if there is one
 abbrev pub holder_of : Resource → Option Entry
 holder_of r = held_entry (use_of r)
 
--- the client holds the resource, by this request
+-- the client holds the resource, with this request
 pub record Holds (r : Resource) (client : ℕ) (entry : Entry) : Type 0 where
   pub granted : holder_of r ≡ Some entry
   pub client_is : entry.client ≡ client
 
--- the clients that stand at a resource: the current one, and those that queue
+-- the clients of a resource: the current one, and those that are queued
 abbrev pub clients_of : Resource → List ℕ
 clients_of r = option_to_list r.client ++ map (λ q. q.client) r.queue
 
--- a client stands here: it waits, is queued or holds
+-- the client is one of them: it waits, is queued or holds
 abbrev pub IsBusy : Resource → ℕ → Type 0
 IsBusy r client = Contains (clients_of r) client
 
+-- how many requests wait in this phase, 0 or 1
 abbrev pub waiting_in : Phase → ℕ
 waiting_in Idle = 0
 waiting_in (Waiting seq mode) = 1
 waiting_in (Inside seq mode) = 0
 
--- how many requests wait here for their replies: one at most
+-- how many requests wait at this resource for their REPLYs, 0 or 1
 abbrev pub waiting_at : Resource → ℕ
 waiting_at r = waiting_in r.state.phase
 
--- while the node is idle there is no current client, and else there is one
+-- a current client exists exactly if the node is not idle
 abbrev pub ClientFits : Phase → Option ℕ → Type 0
 ClientFits Idle client = client ≡ None
 ClientFits (Waiting seq mode) client = IsSome client
@@ -85,9 +88,9 @@ pub record IsConsistentResource (me nodes : ℕ) (name : List ℕ) (start : ℕ)
   pub name_is : r.state.name ≡ name
   pub from_start : start ≤ r.state.highest
   pub client_fits : ClientFits r.state.phase r.client
-  -- no client stands here twice
+  -- no client is in here twice
   pub once : AllPairs (λ a b. a ≢ b) (clients_of r)
-  -- clients queue at an idle node only where no number is left
+  -- clients are queued at an idle node only if no number is left
   pub queue_stays : r.state.phase ≡ Idle → r.queue ≢ [] → greatest_number ≤ r.state.highest
 
 -- a resource is stored as its fields

@@ -29,7 +29,7 @@ pub record MayAsk (r : Resource) (client : ℕ) : Type 0 where
   pub not_busy : IsBusy r client → ⊥
   pub number_left : r.state.highest < greatest_number
 
--- where the node is idle its request is made at once
+-- if the node is idle, its request is made at once
 pub record AsksAtOnce (old : Resource) (client : ℕ) (mode : Mode) (sends : List Message) (marks : List Mark)
     (new : Resource) : Type 0 where
   pub entered : Bool
@@ -38,7 +38,7 @@ pub record AsksAtOnce (old : Resource) (client : ℕ) (mode : Mode) (sends : Lis
   pub client_is : new.client ≡ Some client
   pub queue_is : new.queue ≡ old.queue
 
--- otherwise the client queues behind all others
+-- otherwise the client is queued after all others
 pub record QueuesUp (old : Resource) (client : ℕ) (mode : Mode) (sends : List Message) (marks : List Mark)
     (new : Resource) : Type 0 where
   pub in_use : old.state.phase ≢ Idle
@@ -46,6 +46,7 @@ pub record QueuesUp (old : Resource) (client : ℕ) (mode : Mode) (sends : List 
   pub marks_are : marks ≡ []
   pub new_is : new ≡ record old { queue = old.queue ++ record { client = client; mode = mode } ∷ [] }
 
+-- a client that may ask makes its request at once if the node is idle, and otherwise is queued
 abbrev pub AskTurn : Resource → ℕ → Mode → List Message → List Mark → Resource → Type 0
 AskTurn old client mode sends marks new =
     MayAsk old client × (AsksAtOnce old client mode sends marks new
@@ -53,7 +54,7 @@ AskTurn old client mode sends marks new =
 
 -- ---- The client that holds leaves.
 
--- its request is given back, each deferred REPLY goes out, and nobody uses the resource
+-- its request is released, each deferred REPLY goes out, and no client uses the resource
 pub record Leaves (old : Resource) (client : ℕ) (entry : Entry) (sends : List Message)
     (new : Resource) : Type 0 where
   pub holds : Holds old client entry
@@ -61,7 +62,7 @@ pub record Leaves (old : Resource) (client : ℕ) (entry : Entry) (sends : List 
   pub client_is : new.client ≡ None
   pub queue_is : new.queue ≡ old.queue
 
--- no client queues, or no number is left for it: nobody is next
+-- if no client is queued, or no number is left, no client is next
 pub record LeavesToNobody (old : Resource) (client : ℕ) (sends : List Message) (marks : List Mark)
     (new : Resource) : Type 0 where
   pub entry : Entry
@@ -69,7 +70,8 @@ pub record LeavesToNobody (old : Resource) (client : ℕ) (sends : List Message)
   pub nobody : (old.queue ≡ []) ⊎ (greatest_number ≤ old.state.highest)
   pub marks_are : marks ≡ Left entry ∷ []
 
--- the first client of the queue, once it is out of it, asks in the same event: the REPLYs come before its REQUESTs
+-- otherwise the first client of the queue leaves the queue and asks in the same event; the REPLYs go out before its
+-- REQUESTs
 pub record LeavesToNext (old : Resource) (client : ℕ) (sends : List Message) (marks : List Mark)
     (new : Resource) : Type 0 where
   pub entry : Entry
@@ -86,17 +88,19 @@ pub record LeavesToNext (old : Resource) (client : ℕ) (sends : List Message) (
   pub sends_are : sends ≡ replies ++ requests
   pub marks_are : marks ≡ Left entry ∷ asked
 
+-- the client leaves; if another is queued and a number is left, the first of the queue asks in the same event
 abbrev pub LeaveTurn : Resource → ℕ → List Message → List Mark → Resource → Type 0
 LeaveTurn old client sends marks new =
     LeavesToNobody old client sends marks new ⊎ LeavesToNext old client sends marks new
 
 -- ---- A message comes.
 
--- the mark of a request that a message lets enter
+-- the mark of the request that a message lets enter, or no mark
 abbrev pub EntersBy : Bool → Resource → List Mark → Type 0
 EntersBy false new marks = marks ≡ []
 EntersBy true new marks = (entry : Entry) × (holder_of new ≡ Some entry) × (marks ≡ Entered entry ∷ [])
 
+-- the automaton takes the message, and the current client may enter; the current client and the queue stay
 pub record ReceiveTurn (old : Resource) (message : Message) (sends : List Message) (marks : List Mark)
     (new : Resource) : Type 0 where
   pub entered : Bool

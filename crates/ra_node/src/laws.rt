@@ -1,4 +1,4 @@
-//! What is true of the events of a node, for the crates above: each function does nothing, and its contract is the law.
+//! What is true of the events of a node, for the crates above. Each function does nothing, and its contract is the law.
 ghost use Rattle.std.specs.Prelude.{◌≡◌, ◌≢◌, ◌≤◌, ◌*◌, ◌++◌, ◌∷◌, ◌↔◌, [], ℕ, List, All, length};
 ghost use Rattle.std.specs.FinMap as map;
 ghost use Rattle.ra_stamp.specs.declared.entry.Entry.{Entry};
@@ -15,7 +15,7 @@ ghost use Rattle.ra_node.specs.Carried.{IsSend, IsMark, MarksLead, sends_at_most
 
 use ra_automaton::steps_keep_a_state_consistent;
 
-/// An event about one name leaves all other names, and who the node is.
+/// An event about one name leaves all other names, and the identity of the node, as they were.
 pub fn events_leave_other_names()
     ensures entry { (old new : NodeState) (event : Event) (sends : List Message) (marks : List Mark)
         (other : List ℕ)
@@ -30,11 +30,11 @@ pub fn events_leave_other_names()
         → (new.me ≡ old.me) × (new.nodes ≡ old.nodes) × (new.start ≡ old.start) }
 {}
 
-/// A node that has met nothing is consistent, and each event of a node leads from a consistent node to one. What the
-/// event sends goes from this node to another one, and has a number, if the message that came has one: what is sent at a
-/// message has the number of that message. Its marks are of this node. Both are about the event's name, and they are few,
-/// so a caller can make room for them before the event. The marks lead from one use of the name to the next, so that a
-/// node has at most one request on a name.
+/// A node that has met nothing is consistent, and each event of a node leads from a consistent node to a consistent
+/// one. What an event sends goes from this node to another one, and has a number if the message that came has one: a
+/// message is answered with its own number. The marks are of this node. Both are about the event's name, and they are
+/// few, so that a caller can make room for them before the event. The marks lead from one use of the name to the next,
+/// so a node has at most one request on a name.
 pub fn events_keep_a_node_consistent()
     ensures opening { (me nodes start : ℕ) → IsNodeNumber nodes → (1 ≤ me) × (me ≤ nodes)
         → IsConsistentNode (opening_node me nodes start) }
@@ -73,8 +73,9 @@ pub fn events_keep_a_node_consistent()
     steps_keep_a_state_consistent();
 }
 
-/// Events of a node, one after the other, lead from a consistent node to one, and so do those of a node that had met
-/// nothing. Who the node is stays. That each is for this node may be said of the node as it was first.
+/// Events of a node, one after the other, lead from a consistent node to a consistent one, and so do those of a node
+/// that had met nothing. The node's identity does not change. Whether each event is for this node may be judged by the
+/// node as it was at first.
 pub fn histories_keep_a_node_consistent()
     ensures consistent { (old new : NodeState) (happened : List Happening)
         → IsConsistentNode old → AreForThisNode old happened → NodeEvents old happened new
@@ -88,7 +89,7 @@ pub fn histories_keep_a_node_consistent()
     events_keep_a_node_consistent();
 }
 
-/// A node's state and an event decide what is sent, what is marked and the state after it.
+/// A node's state and an event determine what is sent, what is marked, and the state after it.
 pub fn events_are_determined()
     ensures event { (old a b : NodeState) (event : Event)
         (sends sends' : List Message) (marks marks' : List Mark)
@@ -98,9 +99,9 @@ pub fn events_are_determined()
         → NodeEvents old happened a → NodeEvents old happened b → a ≡ b }
 {}
 
-/// Which events there are at a consistent node: a client may ask where it neither waits, nor is queued, nor holds, and a
-/// number is left; it may leave where it holds; and a message may come at any time. That it is for this node is another
-/// matter, of which `IsForThisNode` speaks.
+/// Which events are possible at a consistent node. A client may ask if it neither waits, nor is queued, nor holds, and
+/// a number is left. It may leave if it holds. A message may come at any time; `IsForThisNode` says whether it is for
+/// this node.
 pub fn events_exist_where_they_are_allowed()
     ensures ask { (old : NodeState) (client : ℕ) (name : List ℕ) (mode : Mode) → IsConsistentNode old
         → AllowsEvent old (Event.Ask client name mode) ↔ MayAsk (resource_at old name) client }
@@ -111,7 +112,7 @@ pub fn events_exist_where_they_are_allowed()
         → IsConsistentNode old → AllowsEvent old (Event.Receive message) }
 {}
 
-/// Events go on one by one, and each part of a list of events is a list of events.
+/// Lists of events can be extended by one event, and each part of a list of events is a list of events.
 pub fn events_go_on()
     ensures step { (happened : List Happening) (event : Event) (sends : List Message) (marks : List Mark)
         (a b c : NodeState)

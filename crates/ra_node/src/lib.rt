@@ -1,14 +1,15 @@
-//! A node with many resources, and the clients of the node that queue for them. An event goes in, and the messages that
-//! it sends and the marks that it makes come out; nothing is read or written.
+//! A node with many resources, and the clients of the node that queue for them. An event goes in, and its messages and
+//! marks come out; nothing is read or written.
 //!
 //! # What a host does
 //!
-//! The program around a node, its host, knows the clients and the network.
+//! The program around a node is its host, which knows the clients and the network.
 //!
-//! - It makes each node once, with [`Node::new`], and all nodes with the same count of nodes and the same start.
+//! - It makes each node once, with [`Node::new`], and gives each a number of its own, and all the same count of nodes
+//!   and the same start.
 //! - For a client it calls [`Node::ask`] or [`Node::leave`], and for a message [`Node::receive`].
-//! - It sends each of the messages that the [`Outcome`] has, to the node that the message is for.
-//! - It heeds the marks of the outcome. A client has the lock from its mark Entered until it leaves, and the mark may
+//! - It sends each message of the [`Outcome`] to the node that the message is for.
+//! - It follows the marks of the outcome. A client has the lock from its mark Entered until it leaves. The mark may
 //!   come with its own ask, with a message, or with the leave of another client of the node.
 //!
 //! ```text
@@ -18,7 +19,7 @@
 //! let outcome = node.ask(alloc, client, name, Mode::Exclusive)?;
 //! // A message comes.
 //! let outcome = node.receive(alloc, &message)?;
-//! // The client has had the lock, and leaves.
+//! // The client had the lock, and leaves.
 //! let outcome = node.leave(alloc, client, name)?;
 //!
 //! // After each of them:
@@ -34,13 +35,13 @@
 //!
 //! # What a host owes
 //!
-//! The network may reorder messages, lose them and bring them again. A lost message can leave requests waiting for ever, and
-//! neither it nor one that comes again ever lets two clients in together that exclude each other. Nothing is promised of a
-//! message that is changed or invented, nor of a node that comes back with an empty state.
+//! The network may reorder messages, lose them, and deliver them more than once. A lost message can leave requests
+//! waiting forever. Neither a lost message nor a repeated one ever lets in two conflicting clients. Nothing is promised
+//! if a message is changed or invented, or if a node comes back with an empty state.
 //!
-//! A node has no event clock: where the frames of its messages carry one, as those of `ra_frame` do, the host keeps it.
+//! A node has no event clock. If the frames of its messages carry one, as those of `ra_frame` do, the host keeps it.
 //!
-//! Each refusal leaves the node as it was. Where there was no memory nothing has changed, and the call can be made again.
+//! Each refusal leaves the node as it was. After a refusal for lack of memory the call can be made again.
 #![tactic(auto)]
 
 mod error;

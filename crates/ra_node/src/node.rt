@@ -13,28 +13,29 @@ use std::marker::Model;
 
 /// A node: many resources by their names, and the node's clients. Contracts see the map from names to resources.
 ///
-/// A client is any number, which means nothing to another node. A name that a client asked for or a message was about is
-/// kept for ever, since the highest number that the node has met on it must never fall.
+/// A client is any number, which means nothing to another node. A node keeps every name that a client asked for or a
+/// message was about, since the highest number that it has met on a name must never fall.
 ///
-/// Each call about a name finds it by a hash, in expected constant time however many names the node has met, and takes besides
-/// that what it says. The first call about a name may move all of them into a larger table, which is constant on average. The
-/// hash is a fixed one: among names that someone picked so that they collide, each look-up is linear in their number. A client
-/// is found in a long queue by such a hash, too, and among few clients by looking at each.
+/// Each call finds its name by a hash, in expected constant time however many names the node has met. The comment of a
+/// call gives its other costs. The first call about a name may move all names into a larger table, which is constant on
+/// average. The hash is fixed: if somebody picks names that collide, each look-up is linear in their number. A client
+/// in a long queue is also found by such a hash; in a short queue each client is looked at.
 ///
-/// [`events_keep_a_node_consistent`](crate::events_keep_a_node_consistent) says more of what `ask`, `leave` and `receive`
-/// send and mark: to whom, with which numbers, how much at most, and that a node has at most one request on a name.
+/// [`events_keep_a_node_consistent`](crate::events_keep_a_node_consistent) says more of what `ask`, `leave` and
+/// `receive` send and mark: to which nodes, with which numbers, how much at most, and that a node has at most one
+/// request on a name.
 #[derive(Drop)]
 pub struct Node {
     me: NodeId,
     nodes: u16,
     start: u64,
-    /// One for each name that a client or a message was about, in the order in which they were met.
+    /// One for each name that the node has met, in the order in which it met them.
     slots: IndexMap<Name, Slot>,
-    /// How many requests wait for their replies, over all names. A `u64` has room for them, since a node has at most one
+    /// How many requests wait for their REPLYs, over all names. It fits in a `u64`, since a node has at most one
     /// waiting request on a name, and memory for fewer than 2^64 names.
     waiting: u64,
     /// How many clients are queued, over all names. Each of fewer than 2^64 names can have a queue of nearly as many
-    /// clients, so only a `u128` surely has room for their sum.
+    /// clients, so only a `u128` is sure to hold their sum.
     queued: u128,
 }
 
@@ -53,7 +54,7 @@ impl Model for Node {
     ghost invariant = { IsKept };
 }
 
-/// Makes the slot of a name that no client and no message was about yet, and room for it.
+/// Makes the slot of a name that the node has not met yet, and room for it.
 ///
 /// # Errors
 ///
@@ -75,7 +76,7 @@ fn first_slot(
     Slot::new(alloc, me, nodes, name, start)
 }
 
-/// Puts in the slot of a name, for which there is room.
+/// Inserts the slot of a name, for which there is room.
 fn put(slots: &mut IndexMap<Name, Slot>, name: Name, slot: Slot)
     requires { 1 ≤ spare slots.old }
     ensures { Finds slots.old.entries slots.new.entries name slot }
@@ -83,7 +84,7 @@ fn put(slots: &mut IndexMap<Name, Slot>, name: Name, slot: Slot)
     let_go(slots.insert(name, slot).unwrap());
 }
 
-/// Lets a slot go, if there is one. All that a slot owns is given back here, and in no other function.
+/// Drops a slot, if there is one. All that a slot owns is freed here, and in no other function.
 fn let_go(_slot: Option<Slot>) {}
 
 impl Node {
@@ -97,8 +98,8 @@ impl Node {
     ghost use Rattle.ra_node.specs.Events.{AskEvent, LeaveEvent, ReceiveEvent};
     ghost use Rattle.ra_node.specs.Memory.{BringsNothing};
 
-    /// Makes node `me` of `nodes`, which has met nothing yet. The highest number of each resource begins at `start`, 0 to
-    /// 2^64-1, which is to be the same at all nodes. It does not allocate until the first name comes.
+    /// Makes node `me` of `nodes`, which has met nothing yet. The highest number of each resource begins at `start`, 0
+    /// to 2^64-1, which must be the same at all nodes. It does not allocate until the first name comes.
     ///
     /// # Errors
     ///
@@ -129,15 +130,15 @@ impl Node {
         })
     }
 
-    /// Asks for a name for a client. Where no client of this node uses the name the request is made: a REQUEST to each
-    /// other node, and the mark Requested, with the mark Entered after it where there is no other node. Else the client
-    /// queues, and nothing is sent or marked. The cost is linear in the number of nodes, too, and for the client that queues
-    /// amortized constant on average. Where there was no memory to know the clients of a long queue, it is linear in the length
-    /// of the name's queue, too.
+    /// Asks for a name for a client. If no client of this node uses the name, the request is made: a REQUEST to each
+    /// other node, and the mark Requested, followed by the mark Entered if there is no other node. Otherwise the client
+    /// queues, and nothing is sent or marked. The cost is linear in the number of nodes, and for a client that queues
+    /// amortized constant on average. If there was no memory to index the clients of a long queue, it is also linear in
+    /// the length of the name's queue.
     ///
     /// # Errors
     ///
-    /// The first that holds, after which the node is as before:
+    /// The first that holds, and the node is as before:
     ///
     /// 1. `Busy`: the client waits, is queued or holds on that name here.
     /// 2. `Exhausted`: the highest number of the name is 2^64-1.
@@ -156,12 +157,12 @@ impl Node {
         ensures exhausted { IsErrOf result AskError.Exhausted
             ↔ ((IsBusy (resource_at self.old name) client → ⊥)
             × ((resource_at self.old name).state.highest ≡ greatest_number)) }
-        // Memory is the one other error.
+        // Memory is the only other error.
         ensures allowed { IsOkUnless result AskError.Memory ↔ MayAsk (resource_at self.old name) client }
         ensures err { OnErr result (self.new ≡ self.old) }
     {
         self.may_ask(client, &name)?;
-        // The totals have room: there are fewer than 2^64 names.
+        // The totals have room, since there are fewer than 2^64 names.
         prove!(self.slots.len() < usize::MAX);
         match self.slots.get_mut(&name) {
             Some(slot) => {
@@ -176,14 +177,14 @@ impl Node {
         }
     }
 
-    /// Leaves a name for the client that holds it, and asks for the first client of the name's queue in the same event,
-    /// unless the highest number of the name is 2^64-1. The deferred REPLYs come before its REQUESTs. The marks are Left,
-    /// then Requested where a client asks, then Entered where there is no other node. The cost is linear in the number of
-    /// nodes, too.
+    /// Leaves a name for the client that holds it. Then, in the same event, it asks for the first client in the name's
+    /// queue, unless the highest number of the name is 2^64-1. The deferred REPLYs come before its REQUESTs. The marks
+    /// are Left, then Requested if a client asks, then Entered if there is no other node. The cost is linear in the
+    /// number of nodes.
     ///
     /// # Errors
     ///
-    /// The first that holds, after which the node is as before:
+    /// The first that holds, and the node is as before:
     ///
     /// 1. `NotHeld`: the client does not hold the name here.
     /// 2. `Memory`: nothing has changed, and the call can be made again.
@@ -193,12 +194,12 @@ impl Node {
         ensures consistent { IsConsistentNode self.new }
         ensures not_held { IsErrOf result LeaveError.NotHeld
             ↔ ((entry : Entry) → Holds (resource_at self.old name) client entry → ⊥) }
-        // Memory is the one other error.
+        // Memory is the only other error.
         ensures allowed { IsOkUnless result LeaveError.Memory
             ↔ ((entry : Entry) × Holds (resource_at self.old name) client entry) }
         ensures err { OnErr result (self.new ≡ self.old) }
     {
-        // The totals have room: there are fewer than 2^64 names.
+        // The totals have room, since there are fewer than 2^64 names.
         prove!(self.slots.len() < usize::MAX);
         let Some(slot) = self.slots.get_mut(&name) else {
             return Err(LeaveError::NotHeld);
@@ -211,19 +212,19 @@ impl Node {
         outcome
     }
 
-    /// Takes a message from another node. By the last REPLY that it awaits the node's request enters, with the mark
-    /// Entered. A REPLY that is not awaited is a stray, which is taken and changes nothing except that its name counts as met:
-    /// so a node and an event decide the node after it.
-    /// The cost is constant, too, and linear in the number of nodes where the name was not met before.
+    /// Takes a message from another node. With the last REPLY that it awaits, the node's request enters, with the mark
+    /// Entered. A REPLY that is not awaited is a stray: it is taken and changes nothing, except that its name counts as
+    /// met. So a node and an event determine the node after it. The cost is constant, and linear in the number of nodes
+    /// if the name was not met before.
     ///
     /// # Errors
     ///
-    /// The first that holds, after which the node is as before:
+    /// The first that holds, and the node is as before:
     ///
     /// 1. `WrongNode`: the message is for another node.
     /// 2. `Stranger`: its sender is this node or above the number of nodes.
-    /// 3. `Memory`: nothing has changed, and the call can be made again. It comes only for a message by which something is sent or
-    ///    marked, or that is the first about its name.
+    /// 3. `Memory`: nothing has changed, and the call can be made again. It comes only if the message makes the node
+    ///    send or mark something, or is the first about its name.
     #[inline(always)]
     pub fn receive(&mut self, alloc: Global, message: &Message) -> Result<Outcome, ReceiveError>
         ensures ok { IfOk result (λ outcome.
@@ -233,11 +234,11 @@ impl Node {
         ensures stranger { IsErrOf result ReceiveError.Stranger
             ↔ ((to_of message.now ≡ self.old.me)
             × ((from_of message.now ≡ self.old.me) ⊎ (self.old.nodes < from_of message.now))) }
-        // Memory is the one other error.
+        // Memory is the only other error.
         ensures allowed { IsOkUnless result ReceiveError.Memory
             ↔ IsForNode self.old.me self.old.nodes message.now }
         ensures err { OnErr result (self.new ≡ self.old) }
-        // Only the name of a message can need room where it brings nothing, and only the first message about it.
+        // If a message brings nothing, only its name can need room, and only if it is the first message about it.
         ensures memory_only_to_bring { IsErrOf result ReceiveError.Memory → BringsNothing self.old message.now
             → map.get self.old.resources (name_of message.now) ≡ None }
     {
@@ -248,7 +249,7 @@ impl Node {
         if sender == self.me || sender.get() > self.nodes {
             return Err(ReceiveError::Stranger);
         }
-        // The total has room: there are fewer than 2^64 names.
+        // The total has room, since there are fewer than 2^64 names.
         prove!(self.slots.len() < usize::MAX);
         match self.slots.get_mut(&message.name()) {
             Some(slot) => {
@@ -262,9 +263,9 @@ impl Node {
         }
     }
 
-    /// Returns whether nothing is sent and nothing is marked by a message that comes for this node from another one, as by a
-    /// REQUEST whose REPLY is deferred, and by a REPLY that is not the last one awaited. It does not allocate. The cost is constant.
-    /// Who keeps what a node sends and marks can ask it before anything changes.
+    /// Returns whether a message for this node from another one makes it send nothing and mark nothing. Examples are a
+    /// REQUEST whose REPLY is deferred, and a REPLY that is not the last one awaited. A caller that keeps what a node
+    /// sends and marks can ask this before anything changes. It does not allocate. The cost is constant.
     pub fn brings_nothing(&self, message: &Message) -> bool
         ensures value { IsTrue result ↔ BringsNothing self.now message.now }
         ensures consistent { IsConsistentNode self.now }
@@ -278,9 +279,9 @@ impl Node {
         }
     }
 
-    /// Returns whether a client may ask for a name now, as `ask` would answer, unless memory runs out. It does not allocate. The cost
-    /// is constant on average, too, and linear in the length of the name's queue where there was no memory to know the
-    /// clients of a long one.
+    /// Returns whether a client may ask for a name now, as `ask` would answer, unless memory runs out. It does not
+    /// allocate. The cost is constant on average, and linear in the length of the name's queue if there was no memory
+    /// to index the clients of a long one.
     ///
     /// # Errors
     ///
@@ -324,7 +325,7 @@ impl Node {
         }
     }
 
-    /// Returns how many requests of this node wait for their replies, over all names. It does not allocate. The cost is
+    /// Returns how many requests of this node wait for their REPLYs, over all names. It does not allocate. The cost is
     /// constant.
     pub fn waiting(&self) -> u64
         ensures value { result ≡ waiting_count self.now }
@@ -341,7 +342,7 @@ impl Node {
         self.queued
     }
 
-    /// Returns the slot of a name, or `None` where no client and no message was about it yet.
+    /// Returns the slot of a name, or `None` if the node has not met it yet.
     fn slot_of(&self, name: &Name) -> Option<&Slot>
         ensures found { IfSome result (λ slot. slot.now ≡ resource_at self.now name.now) }
         ensures absent { IsNone result
@@ -351,7 +352,7 @@ impl Node {
         self.slots.get(name)
     }
 
-    /// Asks for a client, which may ask, for a name that no client and no message was about yet.
+    /// Asks for a name that the node has not met yet, for a client that may ask.
     ///
     /// # Errors
     ///
@@ -382,7 +383,7 @@ impl Node {
                 return Err(fault);
             }
         };
-        // The totals have room: there are fewer than 2^64 names.
+        // The totals have room, since there are fewer than 2^64 names.
         prove!(self.slots.len() < usize::MAX);
         self.waiting += slot.waiting();
         self.queued += slot.queued() as u128;
@@ -390,7 +391,7 @@ impl Node {
         Ok(outcome)
     }
 
-    /// Takes a message for this node about a name that no client and no message was about yet.
+    /// Takes a message for this node about a name that the node has not met yet.
     ///
     /// # Errors
     ///
@@ -416,7 +417,7 @@ impl Node {
                 return Err(fault);
             }
         };
-        // No request waits at it and no client is queued, so that the totals stay.
+        // No request waits in this slot and no client is queued, so the totals stay.
         put(slots, name, slot);
         Ok(outcome)
     }

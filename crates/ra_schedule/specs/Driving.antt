@@ -17,8 +17,8 @@ use Rattle.ra_schedule.specs.Schedule.{steps_of, StandsFor, Picks, IsBadPlace, I
 use Rattle.ra_schedule.specs.Progress.{Tracks, AreStuck, recorded}
 use Rattle.ra_schedule.specs.PolicyState.{AreDraws, generator_at, generator_in, words_drawn}
 
--- the cluster has come so far with the script, whoever chose: this is how its clients stand, and what chance knows of them where it
--- chooses
+-- the cluster has come this far with the script, by whatever choices; this is the progress of its clients, and what
+-- chance knows of them if it chooses
 pub record IsDriven (script : ScriptState) (world : WorldState) (driver : Driver) : Type 0 where
   pub nodes : IsNodeNumber script.nodes
   pub run : IsRun script.nodes 0 world.moves
@@ -27,7 +27,7 @@ pub record IsDriven (script : ScriptState) (world : WorldState) (driver : Driver
   pub draws : IfSome driver.draws (AreDraws script world.moves)
   pub steps : driver.steps.items ≡ recorded driver.records world.moves
 
--- the policy has come so far with the script, and its generator has given the words that were drawn
+-- the policy has come this far with the script, and its generator has given the words that were drawn
 pub record IsReady (script : ScriptState) (policy : Policy) (world : WorldState) (driver : Driver) : Type 0 where
   pub driven : IsDriven script world driver
   pub follows : Follows script policy world.moves
@@ -40,14 +40,14 @@ pub record IsAtEnd (script : ScriptState) (policy : Policy) (world : WorldState)
   pub ends : Ends script policy world.moves
   pub steps : driver.steps.items ≡ recorded driver.records world.moves
 
--- what the choice stands for was done
+-- the step of the choice was made
 pub record HasMade (script : ScriptState) (choice : Choice) (world : WorldState) (driver : Driver) (next : WorldState) (new : Driver) : Type 0 where
   pub driven : IsDriven script next new
   pub drawn : generator_in new.draws ≡ generator_in driver.draws
   pub records : new.records ≡ driver.records
   pub made : (move : Move) × StandsFor script world.moves choice move.step × (next.moves ≡ world.moves ++ move ∷ [])
 
--- after a turn that went on there is one more move, and after one that did not no choice is left
+-- after a turn that went on there is one more move; after any other turn no choice is left
 abbrev pub AfterTurn : ScriptState → Policy → WorldState → Driver → WorldState → Driver → Bool → Type 0
 AfterTurn script policy world driver next new true = (length next.moves ≡ length world.moves + 1) × (new.records ≡ driver.records)
     × IsReady script policy next new
@@ -58,12 +58,12 @@ abbrev pub HasFault : ScriptState → List Move → Choice → DriveError → Ty
 HasFault script moves choice fault =
     ((fault ≡ BadPlace) × IsBadPlace script moves choice) ⊎ ((fault ≡ NotEnabled) × IsNotEnabled script moves choice)
 
--- this is the step that a choice stands for, or its fault
+-- this is the step of a choice, or its fault
 pub record IsMeaning (script : ScriptState) (moves : List Move) (choice : Choice) (meaning : Result Step DriveError) : Type 0 where
   pub ok : IfOk meaning (StandsFor script moves choice)
   pub err : IfErr meaning (HasFault script moves choice)
 
--- memory that runs out keeps a choice from being made, or a fault of its own
+-- a choice cannot be made for lack of memory, or because of a fault of its own
 abbrev pub CannotBeMade : ScriptState → List Move → Choice → DriveError → Type 0
 CannotBeMade script moves choice fault = (fault ≡ Memory) ⊎ HasFault script moves choice fault
 
@@ -75,24 +75,26 @@ IsRefused script policy moves fault = (choice : Choice) × Picks script policy m
 abbrev pub MayGoOn : ScriptState → Policy → List Move → Type 0
 MayGoOn script policy moves = (choice : Choice) × (step : Step) × Picks script policy moves choice × StandsFor script moves choice step
 
--- the policy has come so far, a turn is left, and its choice can be made: what keeps it from going on is no refusal
+-- the policy has come this far, a turn is left, and its choice can be made, so what keeps it from going on is not a
+-- fault of the choice
 pub record IsHeldUp (script : ScriptState) (policy : Policy) (limit : ℕ) (moves : List Move) : Type 0 where
   pub follows : Follows script policy moves
   pub within : length moves < limit
   pub goes_on : MayGoOn script policy moves
 
--- where memory may run out: before the first turn, at a turn whose choice can be made, or for the report, where no choice is left
+-- when memory may run out: before the first turn, at a turn whose choice can be made, or for the report if no choice is
+-- left
 abbrev pub MayNeedMemory : ScriptState → Policy → ℕ → List Move → Type 0
 MayNeedMemory script policy limit moves = (moves ≡ []) ⊎ IsHeldUp script policy limit moves
     ⊎ (Follows script policy moves × Ends script policy moves × (length moves ≤ limit))
 
--- memory that runs out stops the policy, or a cause that stands
+-- the policy stops for lack of memory, or for a cause that applies
 abbrev pub IsStopped : ScriptState → Policy → ℕ → DriveError → Type 0
 IsStopped script policy limit fault = (fault ≡ Memory)
     ⊎ ((moves : List Move) × Follows script policy moves × Stops script policy limit moves fault)
 
--- what public contracts promise of refusals: one other than `Memory` comes where its cause stands, and where one stands nothing else
--- is answered
+-- what public contracts promise of refusals: one other than `Memory` comes only if its cause applies, and if a cause
+-- applies, the answer is its refusal or `Memory`
 pub record Answers {X : Type 0} (script : ScriptState) (policy : Policy) (limit : ℕ) (result : Result X DriveError) : Type 0 where
   pub refused : (cause : DriveError) → cause ≢ Memory → IsErrOf result cause
       → (moves : List Move) × Follows script policy moves × Stops script policy limit moves cause

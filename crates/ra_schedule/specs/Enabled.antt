@@ -1,4 +1,5 @@
--- Which clients are enabled, as the driver keeps it from turn to turn where the choice is random. No public contract speaks of it.
+-- Which clients are enabled, as the driver keeps it from turn to turn if the choice is random. No public contract
+-- speaks of it.
 use Rattle.std.specs.Prelude.{◌≡◌, ◌≢◌, ◌↔◌, ℕ, ◌+◌, ◌-◌, ◌<◌, Bool, List, [], ◌∷◌, length, slice_index_or, Option, Some, None, option_map, IsTrue, All, Contains, if◌then◌else◌}
 use Rattle.ra_stamp.specs.declared.entry.Mark.{Mark}
 use Rattle.ra_stamp.specs.Message.{to_of}
@@ -17,7 +18,7 @@ pub record AreFlags (script : ScriptState) (moves : List Move) (flags : List Boo
   pub length_is : length flags ≡ length script.clients
   pub each : (k : ℕ) (d : Bool) → k < length flags → IsFlag script moves (k + 1) (slice_index_or flags k d)
 
--- the numbers of those whose flag is set, where the first flag is that of this number
+-- the numbers of those whose flag is set, if the first flag is that of this number
 abbrev pub numbers_from : ℕ → List Bool → List ℕ
 numbers_from n [] = []
 numbers_from n (flag ∷ flags) = if flag then n ∷ numbers_from (n + 1) flags else numbers_from (n + 1) flags
@@ -34,12 +35,12 @@ node_at (Deliver message) = Some (to_of message)
 node_at (Lose message) = None
 node_at (Repeat message) = None
 
--- for each node, in the order of their numbers, its clients
+-- each client is in the roster of its node; the rosters are in the order of the nodes' numbers
 abbrev pub AreRosters : ScriptState → List (List ℕ) → Type 0
 AreRosters script rosters = (client node : ℕ) (d : List ℕ) → node_of script client ≡ Some node
     → Contains (slice_index_or rosters (node - 1) d) client
 
--- the flags of all clients but those at the node of a step and those that entered by its marks
+-- the flags are right for all clients but those at the node of a step and those that entered by its marks
 abbrev pub AreFlagsElsewhere : Step → List Mark → ScriptState → List Move → List Bool → Type 0
 AreFlagsElsewhere step marks script moves flags = (k : ℕ) (d : Bool) → k < length flags → node_of script (k + 1) ≢ node_at step
     → All (λ mark. Enters (k + 1) mark → ⊥) marks → IsFlag script moves (k + 1) (slice_index_or flags k d)

@@ -1,4 +1,4 @@
--- The first seed by which a script comes to an end that is looked for.
+-- The first seed that brings a script to a given end.
 use Rattle.std.specs.Prelude.{◌≡◌, ℕ, ◌+◌, ◌≤◌, ◌<◌, Bool, true, false, Option, Some, None}
 use Rattle.ra_schedule.specs.declared.choice.Policy.{Policy}
 use Rattle.ra_schedule.specs.declared.finding.Ending.{Ending}
@@ -8,21 +8,21 @@ use Rattle.ra_schedule.specs.Faults.{FaultRates}
 use Rattle.ra_schedule.specs.Script.{ScriptState}
 use Rattle.ra_schedule.specs.Survey.{chance, is_finished, is_stuck, IsOutcome}
 
--- whether this came of a run that comes to such an end
+-- whether a run with this outcome came to this end
 abbrev pub is_end : Ending → Outcome → Bool
 is_end Finished outcome = is_finished outcome
 is_end Stuck outcome = is_stuck outcome
 
--- whether a script comes to such an end under a policy, within so many turns
+-- whether a script comes to this end under a policy, within this many turns
 abbrev pub EndsSo : ScriptState → Policy → ℕ → Ending → Bool → Type 0
 EndsSo script policy limit ending holds = (outcome : Outcome) × IsOutcome script policy limit outcome × (is_end ending outcome ≡ holds)
 
--- it does so by no seed from the first on that is before this one
+-- no seed from the first one on and before this one brings the script to this end
 abbrev pub NoneBefore : ScriptState → Option FaultRates → (limit : ℕ) → Ending → (first seed : ℕ) → Type 0
 NoneBefore script faults limit ending first seed =
     (other : ℕ) → first ≤ other → other < seed → EndsSo script (chance faults other) limit ending false
 
--- the least seed from the first to the last, both of them included, by which it does so, if there is one
+-- the least seed from the first to the last, both included, that brings the script to this end, or None if no seed does
 abbrev pub IsFirstSeed : ScriptState → Option FaultRates → (limit : ℕ) → Ending → (first last : ℕ) → Option ℕ → Type 0
 IsFirstSeed script faults limit ending first last None = NoneBefore script faults limit ending first (last + 1)
 IsFirstSeed script faults limit ending first last (Some seed) = (first ≤ seed) × (seed ≤ last)

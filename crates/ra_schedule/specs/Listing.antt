@@ -1,4 +1,4 @@
--- Choices that make a run again.
+-- Choices that reproduce a run.
 use Rattle.std.specs.Prelude.{List}
 use Rattle.ra_stamp.specs.Sequence.{Listed as Listing}
 use Rattle.ra_world.specs.Traffic.{Move}
@@ -7,6 +7,6 @@ use Rattle.ra_schedule.specs.declared.choice.Policy.TheVariants.{Listed}
 use Rattle.ra_schedule.specs.Script.{ScriptState}
 use Rattle.ra_schedule.specs.Schedule.{Follows, Ends}
 
--- these choices, one after the other, make these moves, and then none is left
+-- these choices, one after the other, make these moves, and then no choice is left
 abbrev pub AreChoicesOf : ScriptState → Listing Choice → List Move → Type 0
 AreChoicesOf script choices moves = Follows script (Listed choices) moves × Ends script (Listed choices) moves

@@ -14,7 +14,7 @@ use Rattle.ra_schedule.specs.Schedule.{steps_of, words_by}
 use Rattle.ra_schedule.specs.Seeds.{generator_after}
 use Rattle.ra_schedule.specs.Enabled.{AreFlags, AreFlagsElsewhere, AreRosters, numbers_from}
 
--- the generator of a policy once it has given so many words, where the policy has one
+-- the generator of a policy after it has given this many words, if the policy has one
 abbrev pub generator_at : Policy → ℕ → Option Lcg
 generator_at Oldest words = None
 generator_at Newest words = None
@@ -45,24 +45,25 @@ words_for (Seeded seed) choice = 1
 words_for (Faulty seed faults) choice = words_of choice
 words_for (Listed choices) choice = 0
 
--- a word names a client or a message, and faults befall what was named
+-- a choice that a word names, before a fault befalls it: a client, or a message to deliver
 abbrev pub IsWithoutFault : Choice → Type 0
 IsWithoutFault (Client client) = Unit {0}
 IsWithoutFault (Message place) = Unit {0}
 IsWithoutFault (Lost place) = ⊥
 IsWithoutFault (Repeated place) = ⊥
 
--- the generator that chance chooses by, where it does
+-- the generator with which chance chooses, if it does
 abbrev pub generator_in : Option Draws → Option Lcg
 generator_in draws = option_map (λ d. d.generator) draws
 
--- chance knows the clients of each node, and who is enabled after these moves
+-- chance knows the clients of each node, and which are enabled after these moves
 pub record AreDraws (script : ScriptState) (moves : List Move) (draws : Draws) : Type 0 where
   pub rosters : AreRosters script draws.rosters.items
   pub flags : AreFlags script moves draws.enabled.flags.items
   pub count : draws.enabled.count ≡ length (numbers_from 1 draws.enabled.flags.items)
 
--- the same, except that it has not looked yet at the clients at the node of a step and at those that entered by its marks
+-- the same, except that chance has not looked yet at the clients at the node of a step and at those that entered by its
+-- marks
 pub record AreDrawsElsewhere (step : Step) (marks : List Mark) (script : ScriptState) (moves : List Move) (draws : Draws) : Type 0 where
   pub rosters : AreRosters script draws.rosters.items
   pub alike : length draws.enabled.flags.items ≡ length script.clients

@@ -1,4 +1,4 @@
--- How the driver keeps where the clients stand. No public contract speaks of it.
+-- How the driver keeps the progress of the clients. No public contract speaks of it.
 use Rattle.std.specs.Prelude.{◌≡◌, ◌⊎◌, ◌↔◌, ℕ, ◌+◌, ◌^◌, ◌<◌, Bool, true, false, List, [], length, slice_index_or, Some, None, option_map, IsTrue, All}
 use Rattle.ra_stamp.specs.declared.entry.Mark.{Mark}
 use Rattle.ra_world.specs.declared.step.Step.{Step}
@@ -8,12 +8,12 @@ use Rattle.ra_schedule.specs.declared.progress.Progress.{Progress}
 use Rattle.ra_schedule.specs.Script.{ScriptState, client_at, op_at}
 use Rattle.ra_schedule.specs.Schedule.{steps_of, steps_in, steps_by, Asks, IsWaiting, Enters}
 
--- this is where a client stands after these moves
+-- this is the progress of a client after these moves
 pub record IsProgress (client : ℕ) (moves : List Move) (progress : Progress) : Type 0 where
   pub done : progress.done ≡ steps_by client (steps_of moves)
   pub waiting : IsTrue progress.waiting ↔ IsWaiting client moves
 
--- the world has come so far with the script, and this is where its clients stand
+-- the world has come this far with the script, and this is the progress of its clients
 pub record Tracks (script : ScriptState) (world : WorldState) (clients : List Progress) : Type 0 where
   pub count : world.count ≡ script.nodes
   pub start : world.start ≡ 0
@@ -21,25 +21,25 @@ pub record Tracks (script : ScriptState) (world : WorldState) (clients : List Pr
   pub each : (k : ℕ) (d : Progress) → k < length clients
       → IsProgress (k + 1) world.moves (slice_index_or clients k d)
 
--- a step moves its client on, and one that asks waits from then on
+-- a step moves its client on, and a client that asks waits from then on
 pub record IsAfterStep (client : ℕ) (step : Step) (old new : Progress) : Type 0 where
   pub done : new.done ≡ old.done + steps_in client step
   pub waiting : IsTrue new.waiting ↔ (Asks client step ⊎ IsTrue old.waiting)
 
--- a client waits on after these marks where it waited and none of them says that it entered
+-- after these marks a client still waits exactly if it waited before and no mark says that it entered
 pub record IsAfterMarks (client : ℕ) (marks : List Mark) (old new : Progress) : Type 0 where
   pub done : new.done ≡ old.done
   pub waiting : IsTrue new.waiting ↔ (IsTrue old.waiting × All (λ mark. Enters client mark → ⊥) marks)
 
--- for each client, by its number from 1, how it stood before and how it stands now
+-- this relation holds for each client, by its number from 1, between its old progress and its new one
 abbrev pub OfEach : (ℕ → Progress → Progress → Type 0) → List Progress → List Progress → Type 0
 OfEach R old new = (k : ℕ) (d : Progress) → k < length old → R (k + 1) (slice_index_or old k d) (slice_index_or new k d)
 
--- no client has done so many operations that one more would not count
+-- each client's number of operations can still go up by one
 abbrev pub AreCountable : List Progress → Type 0
 AreCountable list = All (λ progress. progress.done + 1 < 2 ^ 64) list
 
--- where a client stands after one more move
+-- the progress of a client after one more move
 abbrev pub IsProgressAfter : Move → ℕ → Progress → Progress → Type 0
 IsProgressAfter move client old new = (between : Progress) × IsAfterStep client move.step old between
     × IsAfterMarks client move.marks between new
@@ -53,7 +53,7 @@ AreDone script clients = (k : ℕ) (d : Progress) → k < length clients
 abbrev pub IsStuck : ScriptState → ℕ → Progress → Type 0
 IsStuck script client progress = IsTrue progress.waiting ⊎ (op_at script client progress.done ≡ None)
 
--- so does each client before this place, counted from 0
+-- each client before this place, counted from 0, waits or has nothing left to do
 abbrev pub AreStuck : ScriptState → List Progress → ℕ → Type 0
 AreStuck script clients first = (k : ℕ) (d : Progress) → k < first → k < length clients
     → IsStuck script (k + 1) (slice_index_or clients k d)
@@ -62,7 +62,7 @@ AreStuck script clients first = (k : ℕ) (d : Progress) → k < first → k < l
 abbrev pub NoneEnters : ℕ → List Mark → Type 0
 NoneEnters first marks = (k : ℕ) → k < first → All (λ mark. Enters (k + 1) mark → ⊥) marks
 
--- the steps that are recorded of these moves: all, or none
+-- the steps that are recorded of these moves: all of them, or no steps
 abbrev pub recorded : Bool → List Move → List Step
 recorded true moves = steps_of moves
 recorded false moves = []

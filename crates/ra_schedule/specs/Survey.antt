@@ -17,12 +17,13 @@ use Rattle.ra_schedule.specs.Faults.{FaultRates}
 use Rattle.ra_schedule.specs.Script.{ScriptState}
 use Rattle.ra_schedule.specs.Schedule.{steps_of, Follows, Ends, Stops, IsFinished}
 
--- chance by a seed, with faults or without
+-- the policy of chance by this seed, with faults or without
 abbrev pub chance : Option FaultRates → ℕ → Policy
 chance None seed = Seeded seed
 chance (Some faults) seed = Faulty seed faults
 
--- the policy was followed to its end, within the limit; so many turns were made, so many messages sent, and the run is finished, or not
+-- the policy was followed to its end within the limit; these are the turns made and messages sent, and whether the run
+-- is finished
 pub record HasEnded (script : ScriptState) (policy : Policy) (limit : ℕ) (figures : Figures) (finished : Bool) : Type 0 where
   pub moves : List Move
   pub follows : Follows script policy moves
@@ -34,58 +35,62 @@ pub record HasEnded (script : ScriptState) (policy : Policy) (limit : ℕ) (figu
   pub turns : figures.turns ≡ length moves
   pub messages : figures.messages ≡ report.sent
 
--- what came of a script under a policy, within so many turns
+-- what came of a script under a policy, within this many turns: finished, stuck, or a choice left at the limit
 abbrev pub IsOutcome : ScriptState → Policy → ℕ → Outcome → Type 0
 IsOutcome script policy limit (Finished figures) = HasEnded script policy limit figures true
 IsOutcome script policy limit (Stuck figures) = HasEnded script policy limit figures false
 IsOutcome script policy limit Limit = (moves : List Move) × Follows script policy moves × Stops script policy limit moves TurnLimit
 
--- what came of it under each seed, from this one on
+-- what came of a script under each seed, from this one on
 abbrev pub AreOutcomes : ScriptState → Option FaultRates → (limit first : ℕ) → List Outcome → Type 0
 AreOutcomes script faults limit first outcomes = (place : ℕ) (outcome : Outcome) → slice_get outcomes place ≡ Some outcome
     → IsOutcome script (chance faults (first + place)) limit outcome
 
 -- ---- Counted
 
+-- whether the run ended and is finished
 abbrev pub is_finished : Outcome → Bool
 is_finished (Finished figures) = true
 is_finished (Stuck figures) = false
 is_finished Limit = false
 
+-- whether the run ended and is not finished
 abbrev pub is_stuck : Outcome → Bool
 is_stuck (Finished figures) = false
 is_stuck (Stuck figures) = true
 is_stuck Limit = false
 
+-- whether a choice was left at the limit of turns
 abbrev pub is_limit : Outcome → Bool
 is_limit (Finished figures) = false
 is_limit (Stuck figures) = false
 is_limit Limit = true
 
--- the figures of a run that came to an end
+-- the figures of a run, if it came to an end
 abbrev pub figures_of : Outcome → List Figures
 figures_of (Finished figures) = figures ∷ []
 figures_of (Stuck figures) = figures ∷ []
 figures_of Limit = []
 
--- how many turns were made, and messages sent, in the runs that came to an end
+-- how many turns were made, in each run that came to an end
 abbrev pub turns_of : List Outcome → List ℕ
 turns_of outcomes = map (λ figures. figures.turns) (flat_map figures_of outcomes)
 
+-- how many messages were sent, in each run that came to an end
 abbrev pub messages_of : List Outcome → List ℕ
 messages_of outcomes = map (λ figures. figures.messages) (flat_map figures_of outcomes)
 
--- how many of the seeds from this one on came to such an end, and the first of them
+-- how many of the seeds from this one on came to such an end, and the first of them, if any did
 abbrev pub tally_of : (Outcome → Bool) → ℕ → List Outcome → Option Tally
 tally_of test first outcomes =
     option_map (λ seed. record { seeds = length (filter test outcomes); first = seed }) (position_from test first outcomes)
 
--- one more seed, after those that were counted
+-- the tally with one more seed, after those that were counted
 abbrev pub tally_with : Option Tally → ℕ → Tally
 tally_with None seed = record { seeds = 1; first = seed }
 tally_with (Some tally) seed = record tally { seeds = tally.seeds + 1 }
 
--- the least and the most of these numbers, where there are any
+-- the least and the most of these numbers, if there are any
 abbrev pub IsLeastAndMost : List ℕ → Option Spread → Type 0
 IsLeastAndMost numbers None = numbers ≡ []
 IsLeastAndMost numbers (Some spread) = Contains numbers spread.least × Contains numbers spread.most
@@ -99,7 +104,7 @@ pub record Tallies (first : ℕ) (outcomes : List Outcome) (survey : Survey) : T
   pub turns : IsLeastAndMost (turns_of outcomes) survey.turns
   pub messages : IsLeastAndMost (messages_of outcomes) survey.messages
 
--- the survey of a script under chance, with faults or without, by each seed from the first to the last, both of them included
+-- the survey of a script under chance, with faults or without, by each seed from the first to the last, both included
 pub record IsSurvey (script : ScriptState) (faults : Option FaultRates) (limit first last : ℕ) (survey : Survey) : Type 0 where
   pub outcomes : List Outcome
   pub each : AreOutcomes script faults limit first outcomes

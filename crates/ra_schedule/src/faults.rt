@@ -6,8 +6,9 @@ ghost use Rattle.ra_schedule.specs.declared.choice.Choice.{Choice};
 use crate::Choice;
 use std::marker::Model;
 
-/// Of each thousand messages that chance takes, how many are lost and how many repeated, on average: no more than 1,000 together, and
-/// at most 400 repeated, so that what is under way runs empty. Contracts see the two numbers.
+/// How many of each thousand messages that chance takes are lost, and how many are repeated, on average. Together they
+/// are at most 1,000. At most 400 are repeated, so that on average copies do not multiply without end. Contracts see
+/// the two numbers.
 #[derive(Clone, Copy, Debug)]
 pub struct Faults {
     lose: u16,
@@ -27,14 +28,14 @@ impl Model for Faults {
 }
 
 impl Faults {
-    /// How many messages the two numbers are of.
+    /// How many messages the two numbers refer to.
     pub const MAX: u16 = 1000;
 
     /// How many of them may be repeated.
     pub const MAX_REPEAT: u16 = 400;
 
-    /// Returns the faults with these numbers, or `None` where they are more than 1,000 together, or more than 400 are repeats. It does
-    /// not allocate. They are looked at here, and once, so that `drive` has no refusal more.
+    /// Returns the faults with these numbers, or `None` if they are more than 1,000 together, or more than 400 are
+    /// repeats. It does not allocate. The numbers are checked here, once, so `drive` needs no refusal for them.
     pub fn new(lose: u16, repeat: u16) -> Option<Faults>
         ensures valid { IsSome result ↔ AreFaults (record { lose = lose; repeat = repeat }) }
         ensures value { IfSome result (λ faults. faults ≡ record { lose = lose; repeat = repeat }) }
@@ -46,7 +47,7 @@ impl Faults {
         }
     }
 
-    /// Returns what becomes of the message at this place by a word.
+    /// Returns what becomes of the message at this place, as a random word decides.
     pub(crate) fn befall(self, word: u64, place: u64) -> Choice
         ensures { result ≡ with_fault self word (Choice.Message place) }
     {

@@ -1,4 +1,4 @@
-//! What is true of every schedule: a function does nothing, and its contract is the law.
+//! What is true of every schedule. Each function does nothing, and its contract is the law.
 ghost use Rattle.std.specs.Prelude.{◌≡◌, [], List};
 ghost use Rattle.ra_stamp.specs.NodeId.{IsNodeNumber};
 ghost use Rattle.ra_world.specs.Traffic.{Move, repeated_by};
@@ -23,7 +23,7 @@ pub fn schedules_rest_on_runs()
     steps_elsewhere_leave_a_node();
 }
 
-/// A policy leads through a script in one way: two lists of moves that follow it to its end are one.
+/// A policy leads through a script in one way: two lists of moves that follow it to its end are equal.
 pub fn policies_lead_to_one_run()
     ensures { (script : ScriptState) (policy : Policy) (a b : List Move) → IsNodeNumber script.nodes
         → Follows script policy a → Ends script policy a → Follows script policy b → Ends script policy b
@@ -32,8 +32,8 @@ pub fn policies_lead_to_one_run()
     schedules_rest_on_runs();
 }
 
-/// A policy repeats a message only by faults of which some are repeats, or where it lists one. So what a report says of runs in which
-/// nothing was repeated holds of each that `drive` and `summarize` return by another policy.
+/// A policy repeats a message only if it has faults with some repeats, or lists one. So what a report says of runs
+/// without repeats is true of each run that `drive` and `summarize` return under any other policy.
 pub fn policies_repeat_no_message()
     ensures { (script : ScriptState) (policy : Policy) (moves : List Move) → RepeatsNothing policy → Follows script policy moves
         → repeated_by moves ≡ [] }

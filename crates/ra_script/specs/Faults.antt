@@ -1,4 +1,4 @@
--- Refusals.
+-- Which refusal becomes which.
 use Rattle.std.specs.Prelude.{◌≡◌, ◌⊎◌, Result, Err}
 use Rattle.ra_schedule.specs.declared.error.NewScriptError.{NewScriptError}
 use Rattle.ra_schedule.specs.declared.error.NewScriptError.TheVariants as new
@@ -17,17 +17,17 @@ use Rattle.ra_script.specs.declared.error.ChoicesError.TheVariants as choices
 use Rattle.ra_script.specs.declared.error.PerformError.{PerformError}
 use Rattle.ra_script.specs.declared.error.PerformError.TheVariants as perform
 
--- of a script with no client yet
+-- the refusal of a script that has no client yet
 abbrev pub of_new : NewScriptError → ScriptError
 of_new new.Nodes = fault.Nodes
 of_new new.Memory = fault.Memory
 
--- of a client
+-- the refusal of a client
 abbrev pub of_client : AddClientError → ScriptError
 of_client client.Clients = fault.Clients
 of_client client.Memory = fault.Memory
 
--- of an operation
+-- the refusal of an operation
 abbrev pub of_op : AddOpError → ScriptError
 of_op op.Clients = fault.Clients
 of_op op.Limit = fault.Limit
@@ -35,16 +35,16 @@ of_op op.NotHeld = fault.NotHeld
 of_op op.AlreadyHeld = fault.AlreadyHeld
 of_op op.Memory = fault.Memory
 
--- a refusal that an outcome calls for, or that comes since memory ran out
+-- the refusal that an outcome calls for, or `Memory`, which may come instead
 abbrev pub IsRefusal : {T : Type 0} → Result T ScriptError → ScriptError → Type 0
 IsRefusal outcome why = (outcome ≡ Err why) ⊎ (why ≡ fault.Memory)
 
--- of an input that was not read
+-- the refusal of an input that was not read
 abbrev pub of_read : ReadFault → PerformError
 of_read read.Read = perform.Read
 of_read read.Memory = perform.Memory
 
--- of a text that is no script
+-- the refusal of a text that is not a script
 abbrev pub of_script : ScriptError → PerformError
 of_script fault.Toml = perform.Script fault.Toml
 of_script fault.Shape = perform.Script fault.Shape
@@ -56,14 +56,14 @@ of_script fault.AlreadyHeld = perform.Script fault.AlreadyHeld
 of_script fault.Limit = perform.Script fault.Limit
 of_script fault.Memory = perform.Memory
 
--- of a policy that could not go on
+-- the refusal of a policy that could not go on
 abbrev pub of_drive : DriveError → PerformError
 of_drive drive.TurnLimit = perform.Drive drive.TurnLimit
 of_drive drive.BadPlace = perform.Drive drive.BadPlace
 of_drive drive.NotEnabled = perform.Drive drive.NotEnabled
 of_drive drive.Memory = perform.Memory
 
--- of choices that cannot be written
+-- the refusal of choices that cannot be written
 abbrev pub of_choices : ChoicesError → PerformError
 of_choices choices.Choice = perform.Choice
 of_choices choices.Memory = perform.Memory

@@ -1,4 +1,4 @@
--- The trace of the first run of a script that comes to an end that is looked for.
+-- The trace of the first run of a script that comes to a given end.
 use Rattle.std.specs.Prelude.{◌≡◌, ℕ, List, Bool, Option, Some, None, Ok}
 use Rattle.ra_schedule.specs.declared.finding.Ending.{Ending}
 use Rattle.ra_schedule.specs.Faults.{FaultRates}
@@ -8,7 +8,8 @@ use Rattle.ra_schedule.specs.Survey.{chance}
 use Rattle.ra_script.specs.Performed.{IsTraced, turn_limit}
 use Rattle.ra_script.specs.ScriptText.{script_of}
 
--- the text is the trace by the least of these seeds by which the script of the input comes to such an end, and says whether that run is finished
+-- the text is the trace by the least of these seeds that brings the script of the input to this end; `finished` says
+-- whether that run is finished
 pub record IsFirstTrace (faults : Option FaultRates) (ending : Ending) (first last : ℕ) (input text : List ℕ) (finished : Bool) : Type 0 where
   pub script : ScriptState
   pub script_is : script_of input ≡ Ok script
@@ -16,7 +17,7 @@ pub record IsFirstTrace (faults : Option FaultRates) (ending : Ending) (first la
   pub seed_is : IsFirstSeed script faults turn_limit ending first last (Some seed)
   pub traced : IsTraced (chance faults seed) input text finished
 
--- the script of the input comes to such an end by none of these seeds
+-- none of these seeds brings the script of the input to this end
 pub record NoneEndsSo (faults : Option FaultRates) (ending : Ending) (first last : ℕ) (input : List ℕ) : Type 0 where
   pub script : ScriptState
   pub script_is : script_of input ≡ Ok script

@@ -16,7 +16,7 @@ written_client client = record { node = pos client.node; ops = map spelling clie
 abbrev pub written : ScriptState → Document
 written script = record { nodes = pos script.nodes; clients = map written_client script.clients }
 
--- each operation of the client has a name
+-- each operation of the client has a valid name
 abbrev pub IsNamed : ScriptClient → Type 0
 IsNamed client = All (λ op. IsName (name_in op)) client.ops
 

@@ -8,15 +8,15 @@ use Rattle.ra_schedule.specs.declared.script.Op.{Op}
 use Rattle.ra_schedule.specs.declared.script.Op.TheVariants.{Lock, Unlock}
 use Rattle.ra_world.specs.Lines.{mode_word}
 
--- the bytes are a name
+-- whether the bytes are a name
 abbrev pub is_name : List ℕ → Bool
 is_name bytes = (nat_le 1 (length bytes) && nat_le (length bytes) 32) && list_all is_name_byte bytes
 
--- the name that the bytes are
+-- the name that the bytes are, if they are one
 abbrev pub name_of : List ℕ → Option (List ℕ)
 name_of bytes = if is_name bytes then Some bytes else None
 
--- what a word and a name say: the word of a mode locks it in that mode, and `U` unlocks it
+-- the operation of a word and a name: the word of a mode locks the name in that mode, and `U` unlocks it
 abbrev pub op_with : List ℕ → List ℕ → Option Op
 op_with word name =
     if bytes_eq word (codes "X") then Some (Lock name Exclusive)
@@ -27,12 +27,12 @@ op_with word name =
     else if bytes_eq word (codes "U") then Some (Unlock name)
     else None
 
--- what stands before and after the first space
+-- the text before the first space and the text after it, if there is a space
 abbrev pub cut : List ℕ → Option (List ℕ × List ℕ)
 cut [] = None
 cut (b ∷ bs) = if b == 32 then Some ([], bs) else option_map (λ parts. (b ∷ parts.0, parts.1)) (cut bs)
 
--- the operation of the word before the first space and the name after it
+-- the operation that a text spells, with the word before the first space and the name after it
 abbrev pub op_of : List ℕ → Option Op
 op_of text = option_and_then (λ parts. option_and_then (op_with parts.0) (name_of parts.1)) (cut text)
 

@@ -20,11 +20,11 @@ use Rattle.ra_script.specs.declared.error.PerformError.{PerformError}
 use Rattle.ra_script.specs.declared.error.PerformError.TheVariants as fault
 use Rattle.ra_script.specs.ScriptText.{script_of}
 
--- the most turns that a script may take
+-- the most turns that a script may take: 16,777,216
 abbrev pub turn_limit : ℕ
 turn_limit = 16777216
 
--- a line of the words of choices, which are those of these moves
+-- the output is one line, the words of choices that make these moves again
 pub record SaysChoices (script : ScriptState) (moves : List Move) (output : List ℕ) : Type 0 where
   pub choices : Listing Choice
   pub are : AreChoicesOf script choices moves
@@ -32,14 +32,14 @@ pub record SaysChoices (script : ScriptState) (moves : List Move) (output : List
   pub lists : Lists text choices.items
   pub line : output ≡ text ++ codes "\n"
 
--- the output says this of a run of a script: the lines of its report, or its trace, or its choices
+-- what the output says of a run of a script: the lines of its report, its trace, or its choices
 abbrev pub Says : Format → ScriptState → List Move → Report → List ℕ → Type 0
 Says Lines script moves report output = output ≡ report_text report
 Says Trace script moves report output = IsTrace script.nodes 0 moves output
 Says Choices script moves report output = SaysChoices script moves output
 
--- The input is the text of a script. The policy was followed through it to its end, and the output says in this format what came
--- of it. For the report of this run the main theorem holds.
+-- The output says in this format what came of the script that the input is, under this policy, which was followed to
+-- its end. The main theorem holds of the report of this run.
 pub record IsPerformedAs (format : Format) (policy : Policy) (input output : List ℕ) (finished : Bool) : Type 0 where
   pub script : ScriptState
   pub script_is : script_of input ≡ Ok script
@@ -53,15 +53,15 @@ pub record IsPerformedAs (format : Format) (policy : Policy) (input output : Lis
   pub finished_is : IsTrue finished ↔ IsFinished script (steps_of moves) report
   pub says : Says format script moves report output
 
--- the output is the lines of the report
+-- the same, and the output is the lines of the report
 abbrev pub IsPerformed : Policy → List ℕ → List ℕ → Bool → Type 0
 IsPerformed policy input output finished = IsPerformedAs Lines policy input output finished
 
--- the output is the trace
+-- the same, and the output is the trace
 abbrev pub IsTraced : Policy → List ℕ → List ℕ → Bool → Type 0
 IsTraced policy input output finished = IsPerformedAs Trace policy input output finished
 
--- some choices make a run again that the policy made, and no word stands for one of them
+-- some choices make the policy's run again, and one of them cannot be written
 pub record HasNoWords (policy : Policy) (input : List ℕ) : Type 0 where
   pub script : ScriptState
   pub script_is : script_of input ≡ Ok script
@@ -72,14 +72,14 @@ pub record HasNoWords (policy : Policy) (input : List ℕ) : Type 0 where
   pub are : AreChoicesOf script choices moves
   pub wordless : All HasText choices.items → ⊥
 
--- the choices cannot be written, where they are to be
+-- choices are to be written, and one of them cannot be
 abbrev pub Unwritten : Format → Policy → List ℕ → Type 0
 Unwritten Lines policy input = ⊥
 Unwritten Trace policy input = ⊥
 Unwritten Choices policy input = HasNoWords policy input
 
--- where each refusal may come: its cause stands. `Memory` and faults of the reader and the writer come from outside, but
--- the writer fails only where there is something to write.
+-- when each refusal may come: its cause applies. `Memory` and faults of the reader and the writer come from outside,
+-- but the writer fails only if there is something to write.
 abbrev pub RefusesAs : Format → Policy → List ℕ → PerformError → Type 0
 RefusesAs format policy input fault.Read = Unit {0}
 RefusesAs format policy input (fault.Script why) = (why ≢ script_fault.Memory) × (script_of input ≡ Err why)
@@ -90,5 +90,6 @@ RefusesAs format policy input fault.Memory = Unit {0}
 RefusesAs format policy input fault.Write = (output : List ℕ) × (finished : Bool)
     × IsPerformedAs format policy input output finished × (output ≢ [])
 
+-- when each refusal of `perform` may come, which writes the lines of the report
 abbrev pub Refuses : Policy → List ℕ → PerformError → Type 0
 Refuses policy input why = RefusesAs Lines policy input why

@@ -1,4 +1,4 @@
-//! Why a text is not a script, said to a person on one line. No clause speaks of what is said.
+//! Explains to a person, on one line, why a text is not a script. No clause covers what is said.
 use crate::ScriptError;
 use crate::document::{ClientRef, DocumentRef, document_of};
 use crate::note::Note;
@@ -9,10 +9,10 @@ use ra_stamp::{Memory, NodeId};
 use std::alloc::Global;
 use toml::Table;
 
-/// Says what the parser says of a text that is no TOML document.
+/// Repeats what the parser says of a text that is not a TOML document.
 fn say_toml(alloc: Global, note: &mut Note, text: &str, fault: &toml::de::Error) {
     note.refuse_if(fault.is_memory());
-    note.push("the script is no TOML document: ");
+    note.push("the script is not valid TOML: ");
     match format!(in alloc; "{fault}") {
         Ok(said) => note.push_lines(said.trim_end()),
         Err(_) => note.refuse_if(true),
@@ -22,18 +22,18 @@ fn say_toml(alloc: Global, note: &mut Note, text: &str, fault: &toml::de::Error)
     }
 }
 
-/// Returns what is said of an operation that is refused.
+/// Returns what is said of a refused operation.
 fn op_text(fault: ScriptError) -> &'static str {
     match fault {
-        ScriptError::NotHeld => ": the client does not hold the name then",
-        ScriptError::AlreadyHeld => ": the client holds the name already",
+        ScriptError::NotHeld => ": the client does not hold this name",
+        ScriptError::AlreadyHeld => ": the client already holds this name",
         _ => {
-            ": it is no operation: each is S, X, IS, IX or SIX to lock, or U to unlock, one space, and a name of 1 to 32 of A to Z, a to z, 0 to 9, _, - and ."
+            ": not an operation: expected S, X, IS, IX, SIX or U, a space and a name of 1 to 32 characters from A-Z, a-z, 0-9, _, - and ."
         }
     }
 }
 
-/// Says of an operation of a client that it is refused.
+/// Says that an operation of a client is refused, and why.
 fn say_refused(note: &mut Note, client: usize, place: usize, op: &str, fault: ScriptError) {
     note.refuse_if(fault == ScriptError::Memory);
     note.push_number("client ", client, ", operation ");
@@ -42,7 +42,7 @@ fn say_refused(note: &mut Note, client: usize, place: usize, op: &str, fault: Sc
     note.push(op_text(fault));
 }
 
-/// Says which operation of the last client is refused first, where one is.
+/// Says which operation of the last client is the first to be refused, if there is one.
 fn say_ops(note: &mut Note, script: &mut Script, client: usize, ops: &[&str]) {
     for (place, &op) in ops.iter().enumerate() {
         if let Err(fault) = add_op(script, op) {
@@ -52,19 +52,19 @@ fn say_ops(note: &mut Note, script: &mut Script, client: usize, ops: &[&str]) {
     }
 }
 
-/// Says what is refused of a client with this number, where something is. The client goes into the script.
+/// Says what is wrong with the client that has this number, if anything is. The client goes into the script.
 fn say_client(alloc: Global, note: &mut Note, script: &mut Script, client: usize, ops: &[&str]) {
     let count = ops.len();
     if count > Script::MAX_OPS {
         note.push_number("client ", client, " has ");
-        note.push_number("", count, " operations: it may have 1024");
+        note.push_number("", count, " operations: at most 1024 are allowed");
         return;
     }
     note.refuse_if(script.add_client(alloc, 1).is_err());
     say_ops(note, script, client, ops);
 }
 
-/// Says what is refused of the first client of which something is, where there is one. The clients go into the script.
+/// Says what is wrong with the first client that has a fault, if there is one. The clients go into the script.
 fn say_clients(alloc: Global, note: &mut Note, script: &mut Script, clients: &[ClientRef<'_>]) {
     for (place, client) in clients.iter().enumerate() {
         say_client(alloc, note, script, place + 1, &client.ops);
@@ -74,19 +74,19 @@ fn say_clients(alloc: Global, note: &mut Note, script: &mut Script, clients: &[C
     }
 }
 
-/// Says of the first client whose node there is not that there is none, where there is such a client.
+/// Says which client is the first whose node does not exist, if there is one.
 fn say_node(note: &mut Note, nodes: u16, clients: &[ClientRef<'_>]) {
     for (place, client) in clients.iter().enumerate() {
         if client.node_up_to(nodes).is_none() {
-            note.push_number("client ", place + 1, ": there is no node ");
-            note.push_number("", client.node, ": node is 1 to ");
-            note.push_number("", nodes, ", as nodes says");
+            note.push_number("client ", place + 1, ": node is ");
+            note.push_number("", client.node, ": must be 1 to ");
+            note.push_number("", nodes, ", the value of nodes");
             return;
         }
     }
 }
 
-/// Says what is wrong with the clients of a document, where something is.
+/// Says what is wrong with the clients of a document, if anything is.
 fn say_all_clients(alloc: Global, note: &mut Note, nodes: u16, clients: &[ClientRef<'_>]) {
     say_node(note, nodes, clients);
     if !note.is_empty() {
@@ -98,25 +98,21 @@ fn say_all_clients(alloc: Global, note: &mut Note, nodes: u16, clients: &[Client
     }
 }
 
-/// Says what is wrong with a document that has the shape of a script, where something is.
+/// Says what is wrong with a document that has the shape of a script, if anything is.
 fn say_document(alloc: Global, note: &mut Note, document: &DocumentRef<'_>) {
     let Some(nodes) = document.nodes_up_to(NodeId::MAX) else {
-        note.push_number(
-            "there can't be ",
-            document.nodes,
-            " nodes: nodes is 1 to 64",
-        );
+        note.push_number("nodes is ", document.nodes, ": must be 1 to 64");
         return;
     };
     let count = document.clients.len();
     if count == 0 || count > Script::MAX_CLIENTS {
-        note.push_number("there can't be ", count, " clients: there are 1 to 64");
+        note.push_number("the number of clients is ", count, ": must be 1 to 64");
         return;
     }
     say_all_clients(alloc, note, nodes, &document.clients);
 }
 
-/// Says what is wrong with a document, where something is.
+/// Says what is wrong with a document, if anything is.
 fn say_tree(alloc: Global, note: &mut Note, tree: &Table) {
     match document_of(alloc, tree) {
         Ok(document) => say_document(alloc, note, &document),
@@ -127,7 +123,7 @@ fn say_tree(alloc: Global, note: &mut Note, tree: &Table) {
     }
 }
 
-/// Says what is wrong with a text that is UTF-8 and not too long, where something is.
+/// Says what is wrong with a text that is UTF-8 and not too long, if anything is.
 fn say_text(alloc: Global, note: &mut Note, text: &str) {
     match toml::table_from_str(alloc, text) {
         Ok(tree) => say_tree(alloc, note, &tree),
@@ -135,7 +131,7 @@ fn say_text(alloc: Global, note: &mut Note, text: &str) {
     }
 }
 
-/// Returns the line and the column, in bytes, of what stands behind these, each counted from 1.
+/// Returns the line and the column, in bytes, of what follows these bytes. Both are counted from 1.
 fn place_behind(text: &[u8]) -> (usize, usize) {
     let (mut line, mut column): (usize, usize) = (1, 1);
     for byte in text {
@@ -149,25 +145,25 @@ fn place_behind(text: &[u8]) -> (usize, usize) {
     (line, column)
 }
 
-/// Says what is wrong with bytes that are not too many, where something is.
+/// Says what is wrong with bytes within the limit, if anything is.
 fn say_bytes(alloc: Global, note: &mut Note, text: &[u8]) {
     match str::from_utf8(text) {
         Ok(text) => say_text(alloc, note, text),
         Err(fault) => {
             let (line, column) = place_behind(text.get(..fault.valid_up_to()).unwrap_or(b""));
-            note.push_number("the script is not UTF-8 at line ", line, "");
-            note.push_number(", column ", column, " in bytes: a script has to be UTF-8");
+            note.push_number("the script is not valid UTF-8 at line ", line, "");
+            note.push_number(", column ", column, " (counted in bytes)");
         }
     }
 }
 
-/// Returns what is said to a person of a text that is no script, on one line without its end: what is wrong, where, and what would be
-/// right; or `None` where nothing is found, as of a script. It is looked for in the order of [`read_script`](crate::read_script), and
-/// costs as much.
+/// Explains to a person why a text is not a script, on one line without its end: what is wrong, where, and what would
+/// be right. Returns `None` if nothing is found, for example if the text is a script. It checks in the order of
+/// [`read_script`](crate::read_script), and costs as much.
 ///
 /// # Errors
 ///
-/// `Memory`: there is none for it.
+/// `Memory`: there is no room for it.
 pub fn explain_script(alloc: Global, text: &[u8]) -> Result<Option<String>, Memory> {
     let mut note = Note::new(alloc);
     if text.len() > MAX_TEXT {

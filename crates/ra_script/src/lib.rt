@@ -1,5 +1,5 @@
-//! The texts of scripts and of lists of choices, and a script performed from its text to the lines of its report, to its trace or to its
-//! choices, or by many seeds to the first trace that ends as is sought.
+//! The texts of scripts and of lists of choices. A script is performed from its text to the lines of its report, to its
+//! trace or to its choices. It can also be performed by many seeds, up to the first trace that ends as wanted.
 #![tactic(auto)]
 
 mod choices;

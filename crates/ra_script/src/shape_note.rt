@@ -1,4 +1,4 @@
-//! Why a document has not the shape of a script, said to a person. No clause speaks of what is said.
+//! Explains to a person why a document does not have the shape of a script. No clause covers what is said.
 use crate::ScriptError;
 use crate::document::{array_at, client_of, integer_at};
 use crate::note::Note;
@@ -7,12 +7,12 @@ use toml::value::Array;
 use toml::{Table, Value};
 
 /// What a script has.
-const SCRIPT: &str = "a script has nodes, an integer, and client, an array of tables";
+const SCRIPT: &str = "a script has nodes (an integer) and client (an array of tables)";
 
 /// What the table of a client has.
-const CLIENT: &str = "a client has node, an integer, and ops, an array of strings";
+const CLIENT: &str = "a client has node (an integer) and ops (an array of strings)";
 
-/// Returns the first key of a table that is none of two, if there is one. It does not allocate.
+/// Returns the first key of a table that is neither of these two, if there is one. It does not allocate.
 fn unknown_key<'a>(table: &'a Table, first: &str, second: &str) -> Option<&'a str> {
     for key in table.keys() {
         let key = key.as_str();
@@ -23,18 +23,18 @@ fn unknown_key<'a>(table: &'a Table, first: &str, second: &str) -> Option<&'a st
     None
 }
 
-/// Says that a key is missing, or its value of another type, and what the table has.
+/// Says that a key is missing or its value has the wrong type, and what such a table has.
 fn say_wanting(note: &mut Note, table: &Table, key: &str, known: &str) {
     note.push(key);
     note.push(if table.get(key).is_some() {
-        " is of another type: "
+        " has the wrong type: "
     } else {
         " is missing: "
     });
     note.push(known);
 }
 
-/// Says what is wrong with a table that is to have an integer and an array, or returns the array where nothing is.
+/// Says what is wrong with a table that must have an integer and an array, or returns the array if nothing is wrong.
 fn array_in<'a>(
     note: &mut Note,
     table: &'a Table,
@@ -43,9 +43,9 @@ fn array_in<'a>(
     known: &str,
 ) -> Option<&'a Array> {
     if let Some(key) = unknown_key(table, integer, array) {
-        note.push("the key ");
+        note.push("unknown key ");
         note.push_shown(key);
-        note.push(" is unknown: ");
+        note.push(": ");
         note.push(known);
         return None;
     }
@@ -60,11 +60,11 @@ fn array_in<'a>(
     found
 }
 
-/// Says which operation is no string, where one is none.
+/// Says which operation is the first that is not a string, if there is one.
 fn say_ops(note: &mut Note, ops: &Array) {
     for (place, op) in ops.iter().enumerate() {
         if op.as_str().is_none() {
-            note.push_number("operation ", place + 1, " is no string: ");
+            note.push_number("operation ", place + 1, " is not a string: ");
             note.push(CLIENT);
             return;
         }
@@ -78,12 +78,12 @@ fn say_client(note: &mut Note, client: &Value) {
             say_ops(note, ops);
         }
     } else {
-        note.push("it is no table: ");
+        note.push("not a table: ");
         note.push(CLIENT);
     }
 }
 
-/// Says what is wrong with the shape of the first client of which something is, where there is one.
+/// Says what is wrong with the first client of the wrong shape, if there is one.
 fn say_clients(alloc: Global, note: &mut Note, clients: &Array) {
     for (place, client) in clients.iter().enumerate() {
         if let Err(fault) = client_of(alloc, client) {
@@ -95,7 +95,7 @@ fn say_clients(alloc: Global, note: &mut Note, clients: &Array) {
     }
 }
 
-/// Says what is wrong with the shape of a document, where something is. It is looked for first in the document, and then client by
+/// Says what is wrong with the shape of a document, if anything is. It checks the document first, and then client by
 /// client.
 pub fn say_shape(alloc: Global, note: &mut Note, tree: &Table) {
     if let Some(clients) = array_in(note, tree, "nodes", "client", SCRIPT) {

@@ -4,8 +4,9 @@ use Rattle.ra_stamp.specs.declared.mode.Mode.{Mode}
 use Rattle.ra_stamp.specs.declared.mode.Mode.TheVariants.{Shared, Exclusive}
 use Rattle.ra_stamp.specs.declared.mode.Mode.TheVariants.{IntentShared, IntentExclusive, SharedIntentExclusive}
 
--- Whether two modes can be held at once: the table of J. N. Gray, R. A. Lorie, G. R. Putzolu and I. L. Traiger, Granularity of locks and
--- degrees of consistency in a shared data base (1976), row by row. It is kept shut, so that only proofs about the table go through its pairs.
+-- Whether two modes can be held at once: nine of the 25 pairs can. This is the table of J. N. Gray, R. A. Lorie, G. R.
+-- Putzolu and I. L. Traiger, Granularity of locks and degrees of consistency in a shared data base (1976), row by row.
+-- It is unfolded only on demand, so that only proofs about the table go through its pairs.
 unfoldable pub compatible : Mode → Mode → Bool
 compatible IntentShared IntentShared = true
 compatible IntentShared IntentExclusive = true
@@ -33,10 +34,10 @@ compatible Exclusive Shared = false
 compatible Exclusive SharedIntentExclusive = false
 compatible Exclusive Exclusive = false
 
--- two modes conflict: they cannot be held at once
+-- two modes conflict if they cannot be held at once
 abbrev pub conflicts : Mode → Mode → Bool
 conflicts a b = not (compatible a b)
 
--- the same, as a fact
+-- the same as a fact
 abbrev pub Conflict : Mode → Mode → Type 0
 Conflict a b = IsTrue (conflicts a b)

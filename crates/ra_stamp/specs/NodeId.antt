@@ -1,6 +1,6 @@
--- Which numbers nodes have.
+-- Which numbers nodes may have.
 use Rattle.std.specs.Prelude.{ℕ, ◌≤◌}
 
--- nodes are numbered from 1, and there are at most 64
+-- nodes are numbered from 1 to at most 64
 abbrev pub IsNodeNumber : ℕ → Type 0
 IsNodeNumber number = (1 ≤ number) × (number ≤ 64)

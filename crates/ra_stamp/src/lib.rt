@@ -1,5 +1,4 @@
-//! The values that the whole project speaks of: node numbers, stamps, modes, names, messages, marks, and lists
-//! of them.
+//! The values that the whole project speaks of: node numbers, stamps, modes, names, messages, marks, and lists of them.
 #![tactic(auto)]
 
 mod entry;

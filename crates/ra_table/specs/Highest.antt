@@ -11,16 +11,17 @@ highest_on name [] = None
 highest_on name (e ∷ es) =
     if bytes_eq e.name name then Some (max e.stamp.seq (unwrap_or (highest_on name es) 0)) else highest_on name es
 
--- there is a highest number, and it is this one or a greater one
+-- a highest number exists, and is at least this one
 abbrev pub Reaches : Option ℕ → ℕ → Type 0
 Reaches None number = ⊥
 Reaches (Some highest) number = number ≤ highest
 
--- a look-up of any name finds the highest number of these entries on it, and none where there are none
+-- a look-up of any name finds the highest number of these entries on it, or nothing if no entry is on it
 abbrev pub AreHighest : List (List ℕ × ℕ) → List Entry → Type 0
 AreHighest numbers entries = (name : List ℕ) → lookup (bytes_eq name) numbers ≡ highest_on name entries
 
--- what holds of each table: of its entries that hold, of those that were granted, and of the highest numbers it keeps
+-- what holds of each table: no two entries hold in conflict, and the numbers are the highest that were granted on each
+-- name
 pub record IsKept (holding granted : List Entry) (numbers : List (List ℕ × ℕ)) : Type 0 where
   pub conflict_free : IsConflictFree holding
   pub are_highest : AreHighest numbers granted

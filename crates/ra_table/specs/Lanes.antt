@@ -6,11 +6,12 @@ use Rattle.std.specs.Str.{bytes_eq}
 use Rattle.ra_stamp.specs.declared.entry.Entry.{Entry}
 use Rattle.ra_table.specs.declared.lanes.Lane.{Lane}
 
--- who waits and who holds, on whatever name
+-- the entries that wait and those that hold, on all names
 pub record Standing : Type 0 where
   pub waiting : List Entry
   pub holding : List Entry
 
+-- no entry waits or holds
 abbrev pub nobody : Standing
 nobody = record { waiting = []; holding = [] }
 
@@ -18,31 +19,33 @@ nobody = record { waiting = []; holding = [] }
 abbrev pub on_name : List ℕ → List Entry → List Entry
 on_name name entries = filter (λ x. bytes_eq name x.name) entries
 
--- the entry stands in the list at this place
+-- the entry is at this place of the list, counted from 0
 abbrev pub StandsAt : List Entry → ℕ → Entry → Type 0
 StandsAt entries place e = (place < length entries) × (slice_index_or entries place e ≡ e)
 
 module _ {X : Type 0} (part : X → List Entry) where
-  -- these parts of all lanes, one after the other
+  -- this part of all lanes, one after the other
   abbrev pub joined : List (List ℕ × X) → List Entry
   joined [] = []
   joined (lane ∷ lanes) = part lane.1 ++ joined lanes
 
-  -- in this part of each lane are entries on its name alone
+  -- each entry in this part of a lane is on the name of the lane
   abbrev pub AreOnTheirNames : List (List ℕ × X) → Type 0
   AreOnTheirNames lanes = AllByRecursion (λ lane. All (λ x. x.name ≡ lane.0) (part lane.1)) lanes
 
+-- the entries that wait in a lane
 abbrev pub waiting_of : Lane → List Entry
 waiting_of lane = lane.waiting.items
 
+-- the entries that hold in a lane
 abbrev pub holding_of : Lane → List Entry
 holding_of lane = lane.holding.items
 
--- who waits and holds in these lanes
+-- the entries that wait and hold in these lanes
 abbrev pub standing_in : List (List ℕ × Lane) → Standing
 standing_in lanes = record { waiting = joined waiting_of lanes; holding = joined holding_of lanes }
 
--- no name has two lanes, and each entry is in that of its name
+-- no name has two lanes, and each entry is in the lane of its name
 pub record IsSorted (lanes : List (List ℕ × Lane)) : Type 0 where
   pub distinct : IsDistinct bytes_eq (keys_of lanes)
   pub waiting : AreOnTheirNames waiting_of lanes

@@ -13,11 +13,11 @@ IsConflictFree entries = AllPairs (λ a b. ¬ Excludes a b) entries
 abbrev pub AllowsMark : LockTable → Mark → Type 0
 AllowsMark table mark = (next : LockTable) × TableStep table mark next
 
--- at this place, counted from 0, the marks have this one
+-- this mark is at this place of the marks, counted from 0
 abbrev pub IsAt : List Mark → ℕ → Mark → Type 0
 IsAt marks place mark = slice_get marks place ≡ Some mark
 
--- the entry was requested and has not entered since
+-- the entry was requested, and has not entered since
 pub record WaitsSince (marks : List Mark) (e : Entry) : Type 0 where
   pub requested : ℕ
   pub was_requested : IsAt marks requested (Requested e)
@@ -32,7 +32,7 @@ pub record HoldsSince (marks : List Mark) (e : Entry) : Type 0 where
   pub was_entered : IsAt marks entered (Entered e)
   pub not_left : (k : ℕ) → entered < k → IsAt marks k (Left e) → ⊥
 
--- the same entries wait, hold and were granted, and as many of them, in whatever order
+-- in both tables the same entries, and equally many, wait, hold and were granted, in whatever order
 pub record SameEntries (a b : LockTable) : Type 0 where
   pub waiting : (e : Entry) → Contains a.waiting e ↔ Contains b.waiting e
   pub holding : (e : Entry) → Contains a.holding e ↔ Contains b.holding e

@@ -1,5 +1,5 @@
-//! What is true of every run of the lock table, for the crates above: each function does nothing, and its
-//! contract is the law.
+//! What is true of every run of the lock table, for the crates above. Each function does nothing, and its contract is
+//! the law.
 ghost use Rattle.std.specs.Prelude.{◌≡◌, ◌<◌, ◌++◌, ◌∷◌, ◌↔◌, [], ℕ, List, Contains};
 ghost use Rattle.ra_stamp.specs.declared.entry.Entry.{Entry};
 ghost use Rattle.ra_stamp.specs.declared.entry.Mark.{Mark};
@@ -38,18 +38,19 @@ pub fn holders_were_requested_and_entered_and_have_not_left()
         → Contains table.holding e ↔ HoldsSince marks e }
 {}
 
-/// An entry was granted exactly where it entered.
+/// An entry was granted exactly if it entered.
 pub fn granted_entries_have_entered()
     ensures { (marks : List Mark) (table : LockTable) (e : Entry) → TableRun marks table
         → Contains table.granted e ↔ ((j : ℕ) × IsAt marks j (Mark.Entered e)) }
 {}
 
-/// The marks of a run decide who waits, holds and was granted, and how many, except for the order of the lists.
+/// The marks of a run determine which entries wait, hold and were granted, and how many, except for the order of the
+/// lists.
 pub fn tables_of_one_run_have_the_same_entries()
     ensures { (marks : List Mark) (a b : LockTable) → TableRun marks a → TableRun marks b → SameEntries a b }
 {}
 
-/// A table allows a mark exactly where the request may be made, where the entry may be granted, or where it holds.
+/// A table allows a mark exactly if the request may be made, the entry may be granted, or the entry holds.
 pub fn steps_exist_where_they_are_allowed()
     ensures request { (table : LockTable) (e : Entry)
         → AllowsMark table (Mark.Requested e) ↔ MayRequest table e }
@@ -59,7 +60,7 @@ pub fn steps_exist_where_they_are_allowed()
         → AllowsMark table (Mark.Left e) ↔ Contains table.holding e }
 {}
 
-/// Runs start at the empty table and go on step by step, and each part of a run is one.
+/// Runs start at the empty table and continue step by step, and they can be joined and split.
 pub fn runs_go_on_by_steps()
     ensures empty { TableRun [] empty_table }
     ensures step { (marks : List Mark) (mark : Mark) (table next : LockTable) → TableRun marks table
@@ -68,7 +69,7 @@ pub fn runs_go_on_by_steps()
         → TableSteps a (prefix ++ rest) c }
     ensures splits { (prefix rest : List Mark) (a c : LockTable) → TableSteps a (prefix ++ rest) c
         → (b : LockTable) × TableSteps a prefix b × TableSteps b rest c }
-    // A run goes on with a mark exactly where the table at its end allows it.
+    // A run goes on with a mark exactly if the table at its end allows it.
     ensures next { (marks : List Mark) (mark : Mark) (table : LockTable) → TableRun marks table
         → AllowsMark table mark ↔ ((next : LockTable) × TableRun (marks ++ mark ∷ []) next) }
 {}

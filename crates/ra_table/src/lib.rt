@@ -1,5 +1,5 @@
-//! The lock table: what a user of the cluster believes in. Entries wait, hold and have been granted; it knows
-//! no messages, replies, deferrals or queues.
+//! The lock table, which is what a user of the cluster believes in. Entries wait, hold, and have been granted. It knows
+//! no messages, REPLYs, deferrals or queues.
 #![tactic(auto)]
 
 mod error;

@@ -14,13 +14,13 @@ use Rattle.ra_trace.specs.TraceText.{IsTraceIn, line_text, trace_lines}
 use Rattle.ra_trace.specs.Reading.{AreRight, Judges, Answers}
 use Rattle.ra_trace.specs.Checking.{StandsBehind, Takes, Refuses, Allows}
 
--- these lines were taken, and the text may still have so many bytes
+-- these lines were taken, and the text may still have this many bytes
 pub record IsBehind (limit left : ℕ) (old now : Option (List ℕ)) (prefix : List Line) : Type 0 where
   pub taken : Consumes old now (flat_map line_text prefix)
   pub room : length (flat_map line_text prefix) + left ≡ limit
   pub right : AreRight prefix
 
--- the lines so far are right, the last one is not among them, and the checker stands after them
+-- the lines so far are right, the last line is not among them, and the checker has taken them
 pub record IsAlong (limit left : ℕ) (old now : Option (List ℕ)) (checker : Checker) (number : ℕ) : Type 0 where
   pub prefix : List Line
   pub behind : IsBehind limit left old now prefix
@@ -35,7 +35,7 @@ pub record IsDone (limit left : ℕ) (old now : Option (List ℕ)) (checker : Ch
   pub trace : IsTraceIn checker.version checker.world.count checker.world.start checker.world.moves (flat_map line_text prefix)
   pub lines : prefix ≡ trace_lines checker.version checker.world.count checker.world.start checker.world.moves
 
--- what comes of the first line: the checker stands after it, or it is wrong, or a fault came
+-- what comes of the first line: the checker has taken it, or the line is wrong, or a fault came
 abbrev pub Opens : ℕ → Option (List ℕ) → Option (List ℕ) → List ℕ → Result (Option Checker) TraceError → Type 0
 Opens limit old new bytes (Ok (Some checker)) = IsAlong limit (limit - length bytes) old new checker 2
 Opens limit old new bytes (Ok None) = Judges limit old new (Invalid 1 cause.Line)
@@ -48,14 +48,15 @@ Judged checker given after (Ok Last) = (given ≡ line.Last) × Takes checker gi
 Judged checker given after (Ok (Wrong why)) = Refuses checker given why
 Judged checker given after (Err fault) = (fault ≡ Memory) × Allows checker given
 
--- what comes of the line of this number: the checker stands after it, or the trace is over, or the line is wrong, or a fault came
+-- what comes of the line with this number: the checker has taken it, or the trace is over, or the line is wrong, or a
+-- fault came
 abbrev pub Turns : ℕ → ℕ → Option (List ℕ) → Option (List ℕ) → Checker → ℕ → List ℕ → Result Next TraceError → Type 0
 Turns limit left old new after number bytes (Ok Right) = IsAlong limit (left - length bytes) old new after (number + 1)
 Turns limit left old new after number bytes (Ok Last) = IsDone limit (left - length bytes) old new after (number + 1)
 Turns limit left old new after number bytes (Ok (Wrong why)) = Judges limit old new (Invalid number why)
 Turns limit left old new after number bytes (Err fault) = Answers limit old new (Err fault)
 
--- a line that is right has some bytes, and no more than the text may still have
+-- a line that is right has at least one byte, and no more than the text may still have
 abbrev pub SomeTaken : ℕ → List ℕ → Next → Type 0
 SomeTaken left bytes Right = (1 ≤ length bytes) × (length bytes ≤ left)
 SomeTaken left bytes Last = (1 ≤ length bytes) × (length bytes ≤ left)

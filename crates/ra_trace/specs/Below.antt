@@ -1,4 +1,4 @@
--- What the crates below say of runs and of the lock table, as far as traces rest on it.
+-- What the crates below say of runs and of the lock table, as far as traces depend on it.
 use Rattle.std.specs.Prelude.{◌≡◌, ◌↔◌, ℕ, List, [], ◌∷◌, ◌++◌, map}
 use Rattle.ra_stamp.specs.NodeId.{IsNodeNumber}
 use Rattle.ra_stamp.specs.declared.entry.Mark.{Mark}
@@ -7,6 +7,7 @@ use Rattle.ra_table.specs.Laws.{AllowsMark}
 use Rattle.ra_world.specs.Traffic.{Move}
 use Rattle.ra_world.specs.Run.{IsRun, marks_of}
 
+-- the laws of runs and of the lock table on which the laws of traces depend
 pub record LawsBelow : Type 0 where
   -- of runs
   pub none : (n start : ℕ) → IsRun n start []

@@ -1,4 +1,4 @@
--- Where a checker stands after the lines that it took. No public contract speaks of it.
+-- Which lines a checker has taken. No public contract speaks of it.
 use Rattle.std.specs.Prelude.{◌≡◌, ℕ, List, [], ◌∷◌, ◌++◌, Option, Some, None, Result, Ok, Err, drop}
 use Rattle.ra_stamp.specs.declared.entry.Mark.{Mark}
 use Rattle.ra_table.specs.Table.{empty_table, TableRun}
@@ -18,7 +18,8 @@ use Rattle.ra_trace.specs.Reading.{HasBegun}
 abbrev pub due_of : Checker → List Mark
 due_of checker = drop checker.come checker.marks.items
 
--- the lines are a prefix of a trace, the world has made its steps, and the lock table its marks
+-- the checker has taken these lines: they are a prefix of a trace, the world has made its steps, and the lock table its
+-- marks
 pub record StandsBehind (checker : Checker) (lines : List Line) : Type 0 where
   pub prefix : IsTracePrefix checker.version checker.world.count checker.world.start checker.world.moves (due_of checker) lines
   pub table : TableRun (marks_in lines) checker.table
@@ -31,22 +32,22 @@ pub record IsOpening (version : Version) (nodes start : ℕ) (checker : Checker)
   pub table_is : checker.table ≡ empty_table
   pub none : due_of checker ≡ []
 
--- after this line the checker stands where it was right
+-- a checker that had taken some lines has then taken this one, too, if it is readable
 pub record TakesOn (old : Checker) (line : Line) (new : Checker) : Type 0 where
   pub on : (lines : List Line) → IsReadable line → StandsBehind old lines → StandsBehind new (lines ++ line ∷ [])
 
--- a line that is right is the next one of the prefix, or the last one where no mark is due
+-- a line that is right is the next one of the prefix, or the last one if no mark is due
 abbrev pub Takes : Checker → Line → Checker → Type 0
 Takes old (First version nodes start) new = ⊥
 Takes old (Stepped step) new = TakesOn old (Stepped step) new
 Takes old (Marked mark) new = TakesOn old (Marked mark) new
 Takes old Last new = (new ≡ old) × (due_of old ≡ [])
 
--- the line is wrong for this cause, after any lines after which the checker may stand
+-- the line is wrong for this cause, after any lines that the checker may have taken
 pub record Refuses (checker : Checker) (line : Line) (why : Cause) : Type 0 where
   pub wrong : (lines : List Line) (text rest : List ℕ) → StandsBehind checker lines → BeginsReadable text line rest → IsWrong lines text why
 
--- the line is right after any lines after which the checker may stand, whether or not there is memory for it
+-- the line is right after any lines that the checker may have taken, whether or not there is memory for it
 pub record Allows (checker : Checker) (line : Line) : Type 0 where
   pub right : (lines : List Line) → IsReadable line → StandsBehind checker lines → HasBegun (lines ++ line ∷ [])
 

@@ -1,6 +1,6 @@
--- How a line is read: at a word or two that say which one it is, and then field by field, in the ranges of version 2. Whether the
--- version of the trace allows it is asked then. It is what the code computes; the contracts of `next_line` and of `Checker::take` say
--- what it comes to.
+-- How a line is read: by a word or two that tell its form, and then field by field, in the ranges of version 2. Whether
+-- the version of the trace allows the line is checked afterwards. This is what the code computes; the contracts of
+-- `next_line` and of `Checker::take` say what it comes to.
 use Rattle.std.specs.Prelude.{ℕ, ◌≡◌, ◌<◌, ◌^◌, ◌-◌, Bool, not, ◌&&◌, ◌||◌, ◌==◌, nat_le, if◌then◌else◌, List, [], ◌∷◌, ◌++◌, length, slice_index, Option, Some, None, option_map, option_and_then, codes}
 use Rattle.std.specs.Char.{is_ascii_digit}
 use Rattle.std.specs.List.{list_all}
@@ -29,35 +29,42 @@ use Rattle.ra_trace.specs.declared.version.Version.TheVariants.{One, Two}
 use Rattle.ra_trace.specs.Version.{last_node, has_mode, has_repeats, IsNodeIn}
 use Rattle.ra_trace.specs.TraceText.{line_text, IsMarkLine, IsStepLine}
 
--- digits, of which the first of two or more is not `0`
+-- whether these are digits, one or more, without leading zeros
 abbrev pub is_decimal : List ℕ → Bool
 is_decimal digits =
     (nat_le 1 (length digits) && list_all is_ascii_digit digits) && (length digits == 1 || not (slice_index digits 0 == 48))
 
--- a decimal whose number is within these two
+-- the number of a decimal, if it is within these bounds, both included
 abbrev pub number_within : ℕ → ℕ → List ℕ → Option ℕ
 number_within low high digits =
     if is_decimal digits && (nat_le low (digits_value 10 digits) && nat_le (digits_value 10 digits) high)
     then Some (digits_value 10 digits) else None
 
+-- the number of a node, 1 to 64
 abbrev pub node_of : List ℕ → Option ℕ
 node_of = number_within 1 64
 
+-- the number of a client, 0 to 2^32-1
 abbrev pub client_of : List ℕ → Option ℕ
 client_of = number_within 0 (2 ^ 32 - 1)
 
+-- the start value, 0 to 2^64-1
 abbrev pub start_of : List ℕ → Option ℕ
 start_of = number_within 0 (2 ^ 64 - 1)
 
+-- the number of a request, 1 to 2^64-1
 abbrev pub seq_of : List ℕ → Option ℕ
 seq_of = number_within 1 (2 ^ 64 - 1)
 
+-- whether the bytes are a name
 abbrev pub is_name : List ℕ → Bool
 is_name bytes = nat_le 1 (length bytes) && (nat_le (length bytes) 32 && list_all is_name_byte bytes)
 
+-- the name that the bytes are, if they are one
 abbrev pub name_of : List ℕ → Option (List ℕ)
 name_of bytes = if is_name bytes then Some bytes else None
 
+-- the mode that a word names, if it names one
 abbrev pub mode_of : List ℕ → Option Mode
 mode_of word =
     if bytes_eq word (codes "X") then Some Exclusive
@@ -67,44 +74,50 @@ mode_of word =
     else if bytes_eq word (codes "SIX") then Some SharedIntentExclusive
     else None
 
--- what stands before and after the first such byte
+-- the text before the first byte of this value and the text after it, if there is one
 abbrev pub cut : ℕ → List ℕ → Option (List ℕ × List ℕ)
 cut byte [] = None
 cut byte (b ∷ bs) = if b == byte then Some ([], bs) else option_map (λ parts. (b ∷ parts.0, parts.1)) (cut byte bs)
 
--- what stands after these bytes, where the text begins with them
+-- the text after these bytes, if it begins with them
 abbrev pub behind : List ℕ → List ℕ → Option (List ℕ)
 behind [] text = Some text
 behind (w ∷ words) [] = None
 behind (w ∷ words) (b ∷ text) = if w == b then behind words text else None
 
--- the field before the first space, and what stands after it
+-- the field before the first space, and the text after it
 abbrev pub before : {A : Type 0} → (List ℕ → Option A) → List ℕ → Option (A × List ℕ)
 before read text = option_and_then (λ parts. option_map (λ field. (field, parts.1)) (read parts.0)) (cut 32 text)
 
--- the field before the first space, and the others after it
+-- the field before the first space, and the other fields, after it
 abbrev pub fields : {A B : Type 0} → (List ℕ → Option A) → (List ℕ → Option B) → List ℕ → Option (A × B)
 fields read others text = option_and_then (λ prefix. option_map (λ rest. (prefix.0, rest)) (others prefix.1)) (before read text)
 
+-- the first line of a trace, after the words that name its version: the number of nodes and the start value
 abbrev pub first_in : Version → List ℕ → Option Line
 first_in version text = option_map (λ f. First version f.0 f.1) (fields node_of start_of text)
 
+-- the step of a client that asks: node, client, name and mode
 abbrev pub ask_in : List ℕ → Option Step
 ask_in text =
     option_map (λ f. Ask f.0 f.1.0 f.1.1.0 f.1.1.1) (fields node_of (fields client_of (fields name_of mode_of)) text)
 
+-- the step of a client that leaves: node, client and name
 abbrev pub leave_in : List ℕ → Option Step
 leave_in text = option_map (λ f. Leave f.0 f.1.0 f.1.1) (fields node_of (fields client_of name_of) text)
 
+-- a REQUEST: sender, receiver, name, mode and number
 abbrev pub request_in : List ℕ → Option Message
 request_in text =
     option_map (λ f. Request f.0 f.1.0 f.1.1.0 f.1.1.1.0 f.1.1.1.1)
     (fields node_of (fields node_of (fields name_of (fields mode_of seq_of))) text)
 
+-- a REPLY: sender, receiver, name and number
 abbrev pub reply_in : List ℕ → Option Message
 reply_in text =
     option_map (λ f. Reply f.0 f.1.0 f.1.1.0 f.1.1.1) (fields node_of (fields node_of (fields name_of seq_of)) text)
 
+-- the request of a mark: node, client, name, mode and number
 abbrev pub entry_in : List ℕ → Option Entry
 entry_in text =
     option_map (λ f. record {
@@ -114,22 +127,24 @@ entry_in text =
       mode = f.1.1.1.0;
     }) (fields node_of (fields client_of (fields name_of (fields mode_of seq_of))) text)
 
+-- the last line, which has nothing after its word
 abbrev pub last_in : List ℕ → Option Line
 last_in [] = Some Last
 last_in (b ∷ text) = None
 
--- what becomes of a message, and of a request
+-- the line of a message that is delivered, lost or repeated
 abbrev pub sent_line : Way → Message → Line
 sent_line Delivered message = Stepped (Deliver message)
 sent_line Lost message = Stepped (Lose message)
 sent_line Repeated message = Stepped (Repeat message)
 
+-- the line of a request that is made, enters or leaves
 abbrev pub entry_line : Change → Entry → Line
 entry_line change.Requested entry = Marked (Requested entry)
 entry_line change.Entered entry = Marked (Entered entry)
 entry_line change.Left entry = Marked (Left entry)
 
--- how what stands after the first words of such a line is read
+-- how the rest of a line of this kind is read, after its first words
 abbrev pub read_as : Kind → List ℕ → Option Line
 read_as (kind.First version) = first_in version
 read_as kind.Ask = λ rest. option_map Stepped (ask_in rest)
@@ -139,7 +154,7 @@ read_as (kind.Reply way) = λ rest. option_map (sent_line way) (reply_in rest)
 read_as (kind.Mark change) = λ rest. option_map (entry_line change) (entry_in rest)
 read_as kind.Last = last_in
 
--- a form of lines: how they begin, and how the rest is read
+-- a form of lines: the words that begin them, and how the rest is read
 pub record Form : Type 0 where
   pub words : List ℕ
   pub read : List ℕ → Option Line
@@ -162,45 +177,51 @@ forms =
     record { words = codes "leave "; read = λ rest. option_map (λ entry. Marked (Left entry)) (entry_in rest) } ∷
     record { words = codes "end"; read = last_in } ∷ []
 
+-- what the rest is read as, if the text began with the words of a form, and otherwise the other line
 abbrev pub line_at : Option (List ℕ) → (List ℕ → Option Line) → Option Line → Option Line
 line_at None read other = other
 line_at (Some rest) read other = read rest
 
--- the line of the first form that the text begins like
+-- the line of the first form whose words begin the text
 abbrev pub line_by : List Form → List ℕ → Option Line
 line_by [] text = None
 line_by (form ∷ others) text = line_at (behind form.words text) form.read (line_by others text)
 
+-- the line that the text is read as, if it is one
 abbrev pub line_in : List ℕ → Option Line
 line_in text = line_by forms text
 
--- what is read as a line, whether or not its version allows it
+-- the line can be read: its fields are in the ranges of version 2, whether or not the version of its trace allows it
 abbrev pub IsReadable : Line → Type 0
 IsReadable (First version nodes start) = IsNodeIn Two nodes × (start < 2 ^ 64)
 IsReadable (Stepped step) = IsStepLine Two step
 IsReadable (Marked mark) = IsMarkLine Two mark
 IsReadable Last = Unit {0}
 
--- the text begins with such a line, and this stands after it
+-- the text begins with such a line, and this is what follows
 abbrev pub BeginsReadable : List ℕ → Line → List ℕ → Type 0
 BeginsReadable text line rest = IsReadable line × (text ≡ line_text line ++ rest)
 
--- whether a version allows what was read
+-- whether the number of a node is at most the greatest of a version
 abbrev pub has_node : Version → ℕ → Bool
 has_node version node = nat_le node (last_node version)
 
+-- whether a version allows a request: its node and its mode
 abbrev pub allows_entry : Version → Entry → Bool
 allows_entry version entry = has_node version entry.stamp.node && has_mode version entry.mode
 
+-- whether a version allows a mark: the node and the mode of its request
 abbrev pub allows_mark : Version → Mark → Bool
 allows_mark version (Requested entry) = allows_entry version entry
 allows_mark version (Entered entry) = allows_entry version entry
 allows_mark version (Left entry) = allows_entry version entry
 
+-- whether a version allows a message: its two nodes, and the mode of a REQUEST
 abbrev pub allows_message : Version → Message → Bool
 allows_message version (Request from to name mode seq) = (has_node version from && has_node version to) && has_mode version mode
 allows_message version (Reply from to name seq) = has_node version from && has_node version to
 
+-- whether a version allows a step: its nodes and its mode, and repeats if it is one
 abbrev pub allows_step : Version → Step → Bool
 allows_step version (Ask node client name mode) = has_node version node && has_mode version mode
 allows_step version (Leave node client name) = has_node version node

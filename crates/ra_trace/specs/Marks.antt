@@ -1,5 +1,6 @@
--- Mark logs: what a lock service wrote down, a line for each request, grant and release, as traces of version 2 have the lines of marks;
--- and what is said of such a text: that the marks are a run of the lock table, or which line is the first wrong one and why.
+-- Mark logs: what a lock service wrote down, a line for each request, grant and release, as traces of version 2 have
+-- the lines of marks. The verdict on such a text is that the marks are a run of the lock table, or which line is the
+-- first wrong one and why.
 use Rattle.std.specs.Prelude.{◌≡◌, ◌≢◌, ◌⊎◌, ℕ, ◌+◌, List, [], ◌∷◌, ◌++◌, All, Contains, flat_map, length}
 use Rattle.ra_stamp.specs.declared.entry.Mark.{Mark}
 use Rattle.ra_stamp.specs.declared.entry.Mark.TheVariants.{Requested, Entered, Left}
@@ -31,7 +32,7 @@ grants_in (Requested e ∷ marks) = grants_in marks
 grants_in (Entered e ∷ marks) = grants_in marks + 1
 grants_in (Left e ∷ marks) = grants_in marks
 
--- the text begins with the line of a mark, each field in its range, and this stands after it
+-- the text begins with the line of a mark, each field in its range, and this is what follows
 abbrev pub BeginsWithMark : List ℕ → Mark → List ℕ → Type 0
 BeginsWithMark text mark rest = IsMarkLine Two mark × (text ≡ mark_line mark ++ rest)
 
@@ -46,16 +47,16 @@ TableRefuses table (Entered e) why =
     ⊎ ((why ≡ cause.Earlier) × Contains table.waiting e × (IsHeld table e → ⊥) × HasEarlier table e)
 TableRefuses table (Left e) why = (why ≡ cause.NotHeld) × (Contains table.holding e → ⊥)
 
--- why the text is wrong that stands after these marks, a run of the lock table: it begins with the line of no mark, or with a mark that
--- the table after them refuses
+-- why the text after these marks, which are a run of the lock table, is wrong: it does not begin with the line of a
+-- mark, or it begins with a mark that the table after them refuses
 abbrev pub IsWrongMark : List Mark → List ℕ → MarkCause → Type 0
 IsWrongMark marks text why =
     ((why ≡ cause.Line) × (text ≢ []) × ((mark : Mark) (rest : List ℕ) → BeginsWithMark text mark rest → ⊥))
     ⊎ ((table : LockTable) × TableRun marks table × (mark : Mark) × (rest : List ℕ) × BeginsWithMark text mark rest
     × TableRefuses table mark why)
 
--- the text is the lines of a run of the lock table, with so many requests and grants; or this line of it, counted from 1, is the first
--- wrong one
+-- the text is the lines of a run of the lock table, with this many requests and grants; or this line of it, counted
+-- from 1, is the first wrong one
 abbrev pub IsMarksVerdict : List ℕ → MarksVerdict → Type 0
 IsMarksVerdict text (Valid requests grants) =
     (marks : List Mark) × IsMarkRun marks × (text ≡ marks_text marks) × (requests ≡ requests_in marks) × (grants ≡ grants_in marks)

@@ -20,7 +20,7 @@ use Rattle.ra_trace.specs.TraceText.{IsMarkLine}
 use Rattle.ra_trace.specs.Marks.{marks_text, grants_in, TableRefuses}
 use Rattle.ra_trace.specs.MarksReading.{JudgesMarks, AnswersMarks}
 
--- what the lock table says of its runs, as far as mark logs rest on it
+-- the laws of the lock table on which mark logs depend
 pub record TableLaws : Type 0 where
   pub empty : TableRun [] empty_table
   pub splits : (prefix rest : List Mark) (a c : LockTable) → TableSteps a (prefix ++ rest) c
@@ -31,7 +31,7 @@ pub record TableLaws : Type 0 where
       → AllowsMark table mark ↔ ((next : LockTable) × TableRun (marks ++ mark ∷ []) next)
   pub same : (marks : List Mark) (a b : LockTable) → TableRun marks a → TableRun marks b → SameEntries a b
 
--- what a lock table answers to a mark: that its step was made, or why it refuses it
+-- what a lock table answers to a mark: that its step was made, or why the table refuses it
 abbrev pub TriesMark : LockTable → Mark → LockTable → Result (Option MarkCause) TraceError → Type 0
 TriesMark old mark new (Ok None) = TableStep old mark new
 TriesMark old mark new (Ok (Some why)) = TableRefuses old mark why
@@ -49,14 +49,14 @@ pub record TakesMark (old : Log) (mark : Mark) (new : Log) : Type 0 where
   pub requests_is : new.requests ≡ old.requests + requests_in (mark ∷ [])
   pub grants_is : new.grants ≡ old.grants + grants_in (mark ∷ [])
 
--- the log stands after these marks
+-- the log has taken these marks
 pub record IsLogOf (log : Log) (marks : List Mark) : Type 0 where
   pub lines : All (IsMarkLine Two) marks
   pub run : TableRun marks log.table
   pub requests_is : log.requests ≡ requests_in marks
   pub grants_is : log.grants ≡ grants_in marks
 
--- the lines of these marks were taken, and the text may still have so many bytes
+-- the lines of these marks were taken, and the text may still have this many bytes
 pub record IsAlongMarks (limit left : ℕ) (old now : Option (List ℕ)) (log : Log) (number : ℕ) : Type 0 where
   pub marks : List Mark
   pub taken : Consumes old now (marks_text marks)
@@ -64,41 +64,42 @@ pub record IsAlongMarks (limit left : ℕ) (old now : Option (List ℕ)) (log : 
   pub number_is : number ≡ length marks + 1
   pub behind : IsLogOf log marks
 
--- what is said of a mark
+-- how a mark is judged
 abbrev pub JudgedMark : Log → Mark → Log → Result NextMark TraceError → Type 0
 JudgedMark old mark new (Ok Right) = TakesMark old mark new
 JudgedMark old mark new (Ok End) = ⊥
 JudgedMark old mark new (Ok (Wrong why)) = TableRefuses old.table mark why
 JudgedMark old mark new (Err fault) = (fault ≡ Memory) × AllowsMark old.table mark
 
--- that a line is wrong which is not one of a mark
+-- a line that is not a mark is wrong
 abbrev pub JudgedOther : Result NextMark TraceError → Type 0
 JudgedOther (Ok Right) = ⊥
 JudgedOther (Ok End) = ⊥
 JudgedOther (Ok (Wrong why)) = why ≡ cause.Line
 JudgedOther (Err fault) = ⊥
 
--- what is said of a line
+-- how a line is judged
 abbrev pub JudgedLine : Log → Line → Log → Result NextMark TraceError → Type 0
 JudgedLine old (line.First version nodes start) new result = JudgedOther result
 JudgedLine old (line.Stepped step) new result = JudgedOther result
 JudgedLine old (line.Marked mark) new result = JudgedMark old mark new result
 JudgedLine old line.Last new result = JudgedOther result
 
--- what bytes are that are no line: the text is at its end, or they are a wrong line
+-- what comes of bytes that are not a line: the text is at its end, or they are a wrong line
 abbrev pub IsMissing : List ℕ → NextMark → Type 0
 IsMissing bytes Right = ⊥
 IsMissing bytes End = bytes ≡ []
 IsMissing bytes (Wrong why) = (why ≡ cause.Line) × (bytes ≢ [])
 
--- what comes of the line of this number: the log stands after it, or there is none, or it is wrong, or a fault came
+-- what comes of the line with this number: the log has taken it, or the text is at its end, or the line is wrong, or a
+-- fault occurred
 abbrev pub TurnsMarks : ℕ → ℕ → Option (List ℕ) → Option (List ℕ) → Log → ℕ → List ℕ → Result NextMark TraceError → Type 0
 TurnsMarks limit left old new after number bytes (Ok Right) = IsAlongMarks limit (left - length bytes) old new after (number + 1)
 TurnsMarks limit left old new after number bytes (Ok End) = JudgesMarks limit old new (Valid after.requests after.grants)
 TurnsMarks limit left old new after number bytes (Ok (Wrong why)) = JudgesMarks limit old new (Invalid number why)
 TurnsMarks limit left old new after number bytes (Err fault) = AnswersMarks limit old new (Err fault)
 
--- a line of a mark has some bytes, and no more than the text may still have
+-- a line of a mark has at least one byte, and no more than the text may still have
 abbrev pub SomeMarkTaken : ℕ → List ℕ → NextMark → Type 0
 SomeMarkTaken left bytes Right = (1 ≤ length bytes) × (length bytes ≤ left)
 SomeMarkTaken left bytes End = Unit {0}

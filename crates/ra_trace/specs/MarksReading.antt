@@ -1,5 +1,5 @@
--- How far a checker reads a mark log: the lines of a run of the lock table, and of what stands after them no more than shows that the
--- next line is over.
+-- How far a checker reads a mark log: the lines of a run of the lock table, and of what follows them no more than shows
+-- that the next line is over.
 use Rattle.std.specs.Prelude.{◌≡◌, ◌⊎◌, ℕ, ◌+◌, ◌≤◌, List, [], ◌∷◌, ◌++◌, Option, Result, Ok, Err, length}
 use Rattle.std.specs.Io.KnownBytes.{Consumes, IsAtEnd}
 use Rattle.ra_stamp.specs.declared.entry.Mark.{Mark}
@@ -23,7 +23,7 @@ abbrev pub ShowsMarks : List Mark → List ℕ → MarksVerdict → Type 0
 ShowsMarks marks rest (Valid requests grants) = (rest ≡ []) × (requests ≡ requests_in marks) × (grants ≡ grants_in marks)
 ShowsMarks marks rest (Invalid line why) = (line ≡ length marks + 1) × IsWrongMark marks rest why
 
--- A verdict on what was read. It comes when a line is over, or where the input is at its end.
+-- a verdict on what was read; it comes when a line is over, or when the input is at its end
 abbrev pub JudgesMarks : ℕ → Option (List ℕ) → Option (List ℕ) → MarksVerdict → Type 0
 JudgesMarks limit old new verdict =
     (marks : List Mark) × (rest : List ℕ) × HasReadMarks limit old new marks rest
@@ -33,18 +33,18 @@ JudgesMarks limit old new verdict =
 abbrev pub ReadsOnMarks : ℕ → Option (List ℕ) → Option (List ℕ) → Type 0
 ReadsOnMarks limit old new = (marks : List Mark) × (rest : List ℕ) × HasReadMarks limit old new marks rest × IsOpenLine rest
 
--- nor was one reached within the limit, and one more byte came
+-- no verdict was reached within the limit, and one more byte came
 abbrev pub PassesMarksLimit : ℕ → Option (List ℕ) → Option (List ℕ) → Type 0
 PassesMarksLimit limit old new =
     (marks : List Mark) × (rest : List ℕ) × (byte : ℕ) × HasReadMarks (limit + 1) old new marks (rest ++ byte ∷ [])
     × (length (marks_text marks ++ rest) ≡ limit) × IsOpenLine rest
 
--- no verdict was reached: what was read are the lines of a run of the lock table and nothing else
+-- no verdict was reached: what was read are the lines of a run of the lock table, and nothing after them
 abbrev pub StopsBehindMarks : ℕ → Option (List ℕ) → Option (List ℕ) → Type 0
 StopsBehindMarks limit old new =
     (marks : List Mark) × IsMarkRun marks × Consumes old new (marks_text marks) × (length (marks_text marks) ≤ limit)
 
--- what each answer says
+-- what each answer says of what was read
 abbrev pub AnswersMarks : ℕ → Option (List ℕ) → Option (List ℕ) → Result MarksVerdict TraceError → Type 0
 AnswersMarks limit old new (Ok verdict) = JudgesMarks limit old new verdict
 AnswersMarks limit old new (Err Read) = ReadsOnMarks limit old new

@@ -1,4 +1,4 @@
--- What is read of the next line. Of it public contracts speak only of when a line is over.
+-- What is read of the next line. Public contracts state no more than when a line is over.
 use Rattle.std.specs.Prelude.{◌≡◌, ◌≢◌, ◌⊎◌, ℕ, ◌≤◌, Bool, true, false, List, [], ◌∷◌, ◌++◌, All, Option, Some, None, Result, Ok, Err, length, take}
 use Rattle.std.specs.Io.KnownBytes.{Consumes, IsAtEnd}
 use Rattle.ra_world.specs.Quiet.{requests_in}
@@ -16,13 +16,13 @@ use Rattle.ra_trace.specs.declared.reading.LineEnd.TheVariants.{Feed, Length, In
 use Rattle.ra_trace.specs.Forms.{BeginsReadable}
 use Rattle.ra_trace.specs.Reading.{IsOpenLine}
 
--- the bytes end so
+-- the bytes end like this: with a line feed, with the 128th byte and no line feed, or with the input
 abbrev pub EndsSo : LineEnd → List ℕ → Option (List ℕ) → Type 0
 EndsSo Feed bytes new = (before : List ℕ) × IsOpenLine before × (bytes ≡ before ++ 10 ∷ [])
 EndsSo Length bytes new = All (λ byte. byte ≢ 10) bytes × (length bytes ≡ 128)
 EndsSo Input bytes new = IsOpenLine bytes × IsAtEnd new
 
--- these bytes were taken, of as many as the text may still have
+-- these bytes were taken, at most as many as the text may still have
 abbrev pub TakesBytes : ℕ → Option (List ℕ) → Option (List ℕ) → List ℕ → Type 0
 TakesBytes left old new bytes = Consumes old new bytes × (length bytes ≤ left)
 
@@ -38,16 +38,16 @@ abbrev pub ReadsLine : ℕ → Option (List ℕ) → Option (List ℕ) → List 
 ReadsLine left old new bytes (Ok end) = TakesBytes left old new bytes × EndsSo end bytes new
 ReadsLine left old new bytes (Err fault) = FailsWithin left old new bytes fault
 
--- these bytes end with the one line feed among them, or there is none
+-- these bytes end with the only line feed among them, or have no line feed
 abbrev pub EndsPart : List ℕ → Bool → Type 0
 EndsPart part true = (before : List ℕ) × All (λ byte. byte ≢ 10) before × (part ≡ before ++ 10 ∷ [])
 EndsPart part false = All (λ byte. byte ≢ 10) part
 
--- so many of these bytes belong to one line, and no more than may be
+-- this many of these bytes belong to one line, and no more than allowed
 abbrev pub IsPart : ℕ → List ℕ → ℕ → Bool → Type 0
 IsPart most shown count is_over = (count ≤ length shown) × (count ≤ most) × EndsPart (take count shown) is_over
 
--- so many bytes were taken, and stand after those from before
+-- this many bytes were taken, and follow those from before
 abbrev pub TakesPart : ℕ → Option (List ℕ) → Option (List ℕ) → List ℕ → List ℕ → Result (ℕ × Bool) TraceError → Type 0
 TakesPart most old new before bytes (Ok taken) =
     (part : List ℕ) × (bytes ≡ before ++ part) × (length part ≡ taken.0) × (taken.0 ≤ most) × Consumes old new part × EndsPart part taken.1
@@ -55,30 +55,30 @@ TakesPart most old new before bytes (Err Read) = (bytes ≡ before) × Consumes 
 TakesPart most old new before bytes (Err Limit) = ⊥
 TakesPart most old new before bytes (Err Memory) = ⊥
 
--- these bytes of a line were taken so far: it goes on, or that is all of it
+-- these bytes of a line were taken so far: the line goes on, or it is over, or a fault occurred
 abbrev pub GoesOn : ℕ → Option (List ℕ) → Option (List ℕ) → List ℕ → Result (Option LineEnd) TraceError → Type 0
 GoesOn left old new bytes (Ok None) = TakesBytes left old new bytes × IsOpenLine bytes
 GoesOn left old new bytes (Ok (Some end)) = ReadsLine left old new bytes (Ok end)
 GoesOn left old new bytes (Err fault) = ReadsLine left old new bytes (Err fault)
 
--- one byte with which a line is over
+-- the line is over with its last byte, which is its line feed or its 128th byte
 abbrev pub IsOverLine : List ℕ → Type 0
 IsOverLine bytes =
     (before : List ℕ) × (byte : ℕ) × IsOpenLine before × (bytes ≡ before ++ byte ∷ []) × ((byte ≡ 10) ⊎ (length bytes ≡ 128))
 
--- no line begins them, and none will whatever comes after them
+-- the bytes do not begin with a line, and will not, whatever follows them
 abbrev pub HasNone : List ℕ → Option (List ℕ) → Type 0
 HasNone bytes new =
     ((line : Line) (rest : List ℕ) → BeginsReadable bytes line rest → ⊥) × (IsOverLine bytes ⊎ (IsOpenLine bytes × IsAtEnd new))
 
--- which line it is, or that it is not one
+-- which line these bytes are, or that they are not one
 abbrev pub ReadsNext : ℕ → Option (List ℕ) → Option (List ℕ) → List ℕ → Result (Option Line) TraceError → Type 0
 ReadsNext left old new bytes (Ok (Some line)) = TakesBytes left old new bytes × BeginsReadable bytes line [] × EndsSo Feed bytes new
 ReadsNext left old new bytes (Ok None) = TakesBytes left old new bytes × HasNone bytes new
 ReadsNext left old new bytes (Err fault) = FailsWithin left old new bytes fault
 
--- What stands after the last line of a trace whose run the checker knows: nothing, or one byte, with which the line of this number
--- would begin.
+-- What follows the last line of a trace whose run the checker knows: nothing, or one byte, which would begin the line
+-- of this number.
 abbrev pub EndsText : ℕ → Option (List ℕ) → Option (List ℕ) → Checker → ℕ → Result Verdict TraceError → Type 0
 EndsText left old new checker number (Ok (Valid requests messages)) =
     Consumes old new [] × IsAtEnd new × (requests ≡ requests_in (marks_of checker.world.moves)) × (messages ≡ length (sent_by checker.world.moves))

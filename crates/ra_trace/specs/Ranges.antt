@@ -1,5 +1,5 @@
--- What the types of messages, entries, marks and steps say of the ranges of their fields in what is written: all except that numbers are 1
--- or more.
+-- What the types of messages, entries, marks and steps say of the ranges of their fields in what is written: everything
+-- but that numbers are 1 or more.
 use Rattle.std.specs.Prelude.{◌≤◌}
 use Rattle.ra_stamp.specs.Message.{seq_of}
 use Rattle.ra_stamp.specs.declared.entry.Entry.{Entry}
@@ -11,17 +11,21 @@ use Rattle.ra_world.specs.declared.step.Step.TheVariants.{Ask, Leave, Deliver, L
 use Rattle.ra_trace.specs.declared.version.Version.TheVariants.{Two}
 use Rattle.ra_trace.specs.TraceText.{IsEntryLine, IsMessageLine, IsStepLine}
 
+-- if the request's number is 1 or more, each of its fields is in its range in version 2
 abbrev pub EntryFits : Entry → Type 0
 EntryFits entry = 1 ≤ entry.stamp.seq → IsEntryLine Two entry
 
+-- if the number of the mark's request is 1 or more, each field of the mark is in its range in version 2
 abbrev pub MarkFits : Mark → Type 0
 MarkFits (Requested entry) = EntryFits entry
 MarkFits (Entered entry) = EntryFits entry
 MarkFits (Left entry) = EntryFits entry
 
+-- if the message's number is 1 or more, each of its fields is in its range in version 2
 abbrev pub MessageFits : Message → Type 0
 MessageFits message = 1 ≤ seq_of message → IsMessageLine Two message
 
+-- each field of the step is in its range in version 2, for a message's step if the message's number is 1 or more
 abbrev pub StepFits : Step → Type 0
 StepFits (Ask node client name mode) = IsStepLine Two (Ask node client name mode)
 StepFits (Leave node client name) = IsStepLine Two (Leave node client name)

@@ -1,4 +1,5 @@
--- How far a checker reads: whole lines that are right, and of what stands after them no more than shows that the next line is over.
+-- How far a checker reads: whole lines that are right, and of what follows them no more than shows that the next line
+-- is over.
 use Rattle.std.specs.Prelude.{◌≡◌, ◌≢◌, ◌⊎◌, ℕ, ◌+◌, ◌<◌, ◌≤◌, List, [], ◌∷◌, ◌++◌, All, Option, Result, Ok, Err, flat_map, length}
 use Rattle.std.specs.Io.KnownBytes.{Consumes, IsAtEnd}
 use Rattle.ra_stamp.specs.declared.entry.Mark.{Mark}
@@ -26,16 +27,16 @@ HasBegun prefix = (version : Version) × (n start : ℕ) × (moves : List Move) 
 abbrev pub AreRight : List Line → Type 0
 AreRight prefix = (prefix ≡ []) ⊎ HasBegun prefix ⊎ IsWhole prefix
 
--- bytes of a line that is not over: none of them is a line feed, and there are fewer than 128
+-- bytes of a line that is not over: no line feed is among them, and there are fewer than 128
 abbrev pub IsOpenLine : List ℕ → Type 0
 IsOpenLine bytes = All (λ byte. byte ≢ 10) bytes × (length bytes < 128)
 
--- after these lines, these bytes do not end a line, and nothing stands after the last one
+-- after these lines, these bytes do not end a line, and nothing follows the last line
 abbrev pub IsOpen : List Line → List ℕ → Type 0
 IsOpen prefix rest = IsOpenLine rest × (IsWhole prefix → rest ≡ [])
 
--- with its last byte what stands after these lines is over, and not before: with its line feed, with its 128th byte, or with the
--- first byte after the last line
+-- what follows these lines is over with its last byte, and not before: with its line feed, with its 128th byte, or with
+-- the first byte after the last line
 abbrev pub IsOver : List Line → List ℕ → Type 0
 IsOver prefix rest =
     (before : List ℕ) × (byte : ℕ) × IsOpen prefix before × (rest ≡ before ++ byte ∷ [])
@@ -52,7 +53,7 @@ abbrev pub Shows : List Line → List ℕ → Verdict → Type 0
 Shows prefix rest (Valid requests messages) = (rest ≡ []) × IsVerdict (flat_map line_text prefix) (Valid requests messages)
 Shows prefix rest (Invalid line why) = (line ≡ length prefix + 1) × IsWrong prefix rest why
 
--- A verdict on what was read. It comes when a line is over, or where the input is at its end.
+-- a verdict on what was read; it comes when a line is over, or when the input is at its end
 abbrev pub Judges : ℕ → Option (List ℕ) → Option (List ℕ) → Verdict → Type 0
 Judges limit old new verdict =
     (prefix : List Line) × (rest : List ℕ) × HasRead limit old new prefix rest
@@ -62,18 +63,19 @@ Judges limit old new verdict =
 abbrev pub ReadsOn : ℕ → Option (List ℕ) → Option (List ℕ) → Type 0
 ReadsOn limit old new = (prefix : List Line) × (rest : List ℕ) × HasRead limit old new prefix rest × IsOpen prefix rest
 
--- nor was one reached within the limit, and one more byte came
+-- no verdict was reached within the limit, and one more byte came
 abbrev pub PassesLimit : ℕ → Option (List ℕ) → Option (List ℕ) → Type 0
 PassesLimit limit old new =
     (prefix : List Line) × (rest : List ℕ) × (byte : ℕ) × HasRead (limit + 1) old new prefix (rest ++ byte ∷ [])
     × (length (flat_map line_text prefix ++ rest) ≡ limit) × IsOpen prefix rest
 
--- no verdict was reached: what was read are whole lines that are right, the first of a trace at least, and not the last
+-- no verdict was reached: what was read are whole lines that are right, the first line of a trace at least, and not the
+-- last
 abbrev pub StopsBehind : ℕ → Option (List ℕ) → Option (List ℕ) → Type 0
 StopsBehind limit old new =
     (prefix : List Line) × HasBegun prefix × Consumes old new (flat_map line_text prefix) × (length (flat_map line_text prefix) ≤ limit)
 
--- what each answer says
+-- what each answer says of what was read
 abbrev pub Answers : ℕ → Option (List ℕ) → Option (List ℕ) → Result Verdict TraceError → Type 0
 Answers limit old new (Ok verdict) = Judges limit old new verdict
 Answers limit old new (Err Read) = ReadsOn limit old new

@@ -1,5 +1,5 @@
--- Traces: a run, written down line by line, in one of two versions. A line is words with one space between two, and a line feed at
--- its end. Numbers are decimal, with no leading zero.
+-- Traces: a run, written down line by line, in one of two versions. A line is words with one space between two, and a
+-- line feed at its end. Numbers are decimal, without leading zeros.
 use Rattle.std.specs.Prelude.{◌≡◌, ℕ, ◌<◌, ◌≤◌, ◌^◌, List, ◌∷◌, [], ◌++◌, All, codes, decimal, map, flat_map}
 use Rattle.ra_stamp.specs.Name.{IsName}
 use Rattle.ra_stamp.specs.NodeId.{IsNodeNumber}
@@ -19,7 +19,7 @@ use Rattle.ra_trace.specs.declared.version.Version.{Version}
 use Rattle.ra_trace.specs.declared.version.Version.TheVariants.{Two}
 use Rattle.ra_trace.specs.Version.{version_word, IsNodeIn, IsModeIn, MayRepeat}
 
--- kind, sender, receiver, name, of a REQUEST the mode, and number
+-- the fields of a message: kind, sender, receiver, name, for a REQUEST the mode, and number
 abbrev pub message_fields : Message → List ℕ
 message_fields (Request from to name mode seq) =
     field (codes "request") ++ field (decimal from) ++ field (decimal to) ++ field name ++ field (mode_word mode)
@@ -27,6 +27,7 @@ message_fields (Request from to name mode seq) =
 message_fields (Reply from to name seq) =
     field (codes "reply") ++ field (decimal from) ++ field (decimal to) ++ field name ++ field (decimal seq)
 
+-- the line of a step: its word, and then the fields of the client's step or of the message
 abbrev pub step_line : Step → List ℕ
 step_line (Ask node client name mode) =
     codes "ask" ++ field (decimal node) ++ field (decimal client) ++ field name ++ field (mode_word mode) ++ codes "\n"
@@ -36,7 +37,8 @@ step_line (Deliver message) = codes "deliver" ++ message_fields message ++ codes
 step_line (Lose message) = codes "lose" ++ message_fields message ++ codes "\n"
 step_line (Repeat message) = codes "repeat" ++ message_fields message ++ codes "\n"
 
--- the first line says the version, how many nodes there are, and the number that each resource begins with
+-- a line as it is written; the first one says the version, how many nodes there are, and the number with which each
+-- resource begins
 abbrev pub line_text : Line → List ℕ
 line_text (First version nodes start) =
     codes "trace" ++ field (version_word version) ++ field (decimal nodes) ++ field (decimal start) ++ codes "\n"
@@ -44,28 +46,32 @@ line_text (Stepped step) = step_line step
 line_text (Marked mark) = mark_line mark
 line_text Last = codes "end\n"
 
--- the ranges of numbers, and what names are
+-- the number of a client is below 2^32
 abbrev pub IsClientNumber : ℕ → Type 0
 IsClientNumber client = client < 2 ^ 32
 
+-- the number of a request is 1 to 2^64-1
 abbrev pub IsSeq : ℕ → Type 0
 IsSeq seq = (1 ≤ seq) × (seq < 2 ^ 64)
 
--- what each line may be in a version
+-- each field of a request is in its range in this version
 abbrev pub IsEntryLine : Version → Entry → Type 0
 IsEntryLine version entry =
     IsNodeIn version entry.stamp.node × IsClientNumber entry.client × IsName entry.name × IsModeIn version entry.mode × IsSeq entry.stamp.seq
 
+-- each field of a mark is in its range in this version
 abbrev pub IsMarkLine : Version → Mark → Type 0
 IsMarkLine version (Requested entry) = IsEntryLine version entry
 IsMarkLine version (Entered entry) = IsEntryLine version entry
 IsMarkLine version (Left entry) = IsEntryLine version entry
 
+-- each field of a message is in its range in this version
 abbrev pub IsMessageLine : Version → Message → Type 0
 IsMessageLine version (Request from to name mode seq) =
     IsNodeIn version from × IsNodeIn version to × IsName name × IsModeIn version mode × IsSeq seq
 IsMessageLine version (Reply from to name seq) = IsNodeIn version from × IsNodeIn version to × IsName name × IsSeq seq
 
+-- each field of a step is in its range in this version, and only version 2 has a repeat
 abbrev pub IsStepLine : Version → Step → Type 0
 IsStepLine version (Ask node client name mode) = IsNodeIn version node × IsClientNumber client × IsName name × IsModeIn version mode
 IsStepLine version (Leave node client name) = IsNodeIn version node × IsClientNumber client × IsName name
@@ -80,15 +86,15 @@ IsLine version (Stepped step) = IsStepLine version step
 IsLine version (Marked mark) = IsMarkLine version mark
 IsLine version Last = Unit {0}
 
--- a step, and its marks in order
+-- the lines of a step and of its marks, in order
 abbrev pub move_lines : Move → List Line
 move_lines move = Stepped move.step ∷ map Marked move.marks
 
--- all lines: the first, those of each move in order, and the last
+-- all lines of a trace: the first, those of each move in order, and the last
 abbrev pub trace_lines : Version → ℕ → ℕ → List Move → List Line
 trace_lines version n start moves = First version n start ∷ flat_map move_lines moves ++ Last ∷ []
 
--- the one text in this version of a number of nodes, a start value and a list of moves
+-- the only text in this version for this many nodes, this start value and these moves
 abbrev pub trace_text : Version → ℕ → ℕ → List Move → List ℕ
 trace_text version n start moves = flat_map line_text (trace_lines version n start moves)
 
@@ -99,10 +105,11 @@ pub record IsTraceIn (version : Version) (n start : ℕ) (moves : List Move) (te
   pub lines : All (IsLine version) (trace_lines version n start moves)
   pub text_is : text ≡ trace_text version n start moves
 
--- Traces of each version are read, and in version 2 they are written: the text is the trace that is written of these moves.
+-- The text is the trace in version 2 of these moves. Traces of each version are read, and this is the one that is
+-- written.
 abbrev pub IsTrace : ℕ → ℕ → List Move → List ℕ → Type 0
 IsTrace n start moves text = IsTraceIn Two n start moves text
 
--- the text begins with a line of this version, and this stands after it
+-- the text begins with a line of this version, and this is what follows
 abbrev pub BeginsWith : Version → List ℕ → Line → List ℕ → Type 0
 BeginsWith version text line rest = IsLine version line × (text ≡ line_text line ++ rest)

@@ -1,6 +1,6 @@
--- What a checker says of a text: that it is the trace of a run, or which line is the first wrong one and why. It goes line by
--- line. After each line it knows the version, which the first line named, the run so far, and which marks of the last step have not
--- come yet.
+-- What a checker says of a text: that it is the trace of a run, or which line is the first wrong one and why. It goes
+-- line by line. After each line it knows the version that the first line named, the run so far, and which marks of the
+-- last step have not come yet.
 use Rattle.std.specs.Prelude.{◌≡◌, ◌≢◌, ◌⊎◌, ℕ, ◌+◌, List, [], ◌∷◌, ◌++◌, All, map, flat_map, length}
 use Rattle.ra_stamp.specs.NodeId.{IsNodeNumber}
 use Rattle.ra_stamp.specs.declared.entry.Mark.{Mark}
@@ -19,28 +19,30 @@ use Rattle.ra_trace.specs.declared.verdict.Verdict.TheVariants.{Valid, Invalid}
 use Rattle.ra_trace.specs.declared.version.Version.{Version}
 use Rattle.ra_trace.specs.TraceText.{IsLine, IsTraceIn, line_text, move_lines, trace_lines, BeginsWith}
 
--- the lines so far are those in this version of these moves, a run, except for the marks of the last one that are still due
+-- the lines so far are those of these moves in this version, except for the marks of the last move that are still due;
+-- the moves are a run
 pub record IsTracePrefix (version : Version) (n start : ℕ) (moves : List Move) (due : List Mark) (lines : List Line) : Type 0 where
   pub count : IsNodeNumber n
   pub run : IsRun n start moves
   pub each : All (IsLine version) lines
   pub lines_are : lines ++ map Marked due ≡ First version n start ∷ flat_map move_lines moves
 
--- the marks that stand in these lines, in order
+-- the mark of a line, if it has one
 abbrev pub marks_in_line : Line → List Mark
 marks_in_line (First version nodes start) = []
 marks_in_line (Stepped step) = []
 marks_in_line (Marked mark) = mark ∷ []
 marks_in_line Last = []
 
+-- the marks in these lines, in order
 abbrev pub marks_in : List Line → List Mark
 marks_in lines = flat_map marks_in_line lines
 
--- the lock table allows the mark after these
+-- the lock table allows this mark after these
 abbrev pub TableGoesOn : List Mark → Mark → Type 0
 TableGoesOn marks mark = (table : LockTable) × TableRun (marks ++ mark ∷ []) table
 
--- a step of a client, and one of a message
+-- the step is that of a client that asks or leaves
 abbrev pub IsOfClient : Step → Type 0
 IsOfClient (Ask node client name mode) = Unit {0}
 IsOfClient (Leave node client name) = Unit {0}
@@ -48,6 +50,7 @@ IsOfClient (Deliver message) = ⊥
 IsOfClient (Lose message) = ⊥
 IsOfClient (Repeat message) = ⊥
 
+-- the step is that of a message that is delivered, lost or repeated
 abbrev pub IsOfMessage : Step → Type 0
 IsOfMessage (Ask node client name mode) = ⊥
 IsOfMessage (Leave node client name) = ⊥
@@ -62,8 +65,9 @@ IsFirst (Stepped step) = ⊥
 IsFirst (Marked mark) = ⊥
 IsFirst Last = ⊥
 
--- After these lines no line may stand that begins the text: the first line is no first one of any version, or after it none of its
--- version begins the text but the first, which may not stand again, or something is left behind the last.
+-- After these lines, the text begins with no line that may come next. Either no lines came yet, and the text begins
+-- with no first line of any version. Or it begins with no line of the trace's version but the first, which may not come
+-- again. Or the trace is complete, and something follows its last line.
 abbrev pub HasNoLine : List Line → List ℕ → Type 0
 HasNoLine prefix text =
     ((prefix ≡ []) × ((version : Version) (line : Line) (rest : List ℕ) → BeginsWith version text line rest → IsFirst line → ⊥))
@@ -72,14 +76,14 @@ HasNoLine prefix text =
     ⊎ ((version : Version) × (n start : ℕ) × (moves : List Move) × IsTraceIn version n start moves (flat_map line_text prefix)
     × (prefix ≡ trace_lines version n start moves) × (text ≢ []))
 
--- after these marks, of which these are still due, the line is not the mark that comes next
+-- after these marks, with `due` still to come, the line is not the mark that comes next
 abbrev pub IsUndue : List Mark → List Mark → Line → Type 0
 IsUndue marks due (First version nodes start) = ⊥
 IsUndue marks due (Stepped step) = due ≢ []
 IsUndue marks due (Marked mark) = TableGoesOn marks mark × ((others : List Mark) → due ≢ mark ∷ others)
 IsUndue marks due Last = due ≢ []
 
--- why the line that comes next in the text is wrong, after these lines, which are not
+-- why the line that comes next in the text is wrong, after these lines, which are right
 abbrev pub IsWrong : List Line → List ℕ → Cause → Type 0
 IsWrong prefix text cause.Line = HasNoLine prefix text
 -- the lock table refuses the mark
@@ -87,7 +91,7 @@ IsWrong prefix text cause.Table =
     (version : Version) × (n start : ℕ) × (moves : List Move) × (due : List Mark) × IsTracePrefix version n start moves due prefix
     × (mark : Mark) × (rest : List ℕ) × BeginsWith version text (Marked mark) rest
     × (TableGoesOn (marks_in prefix) mark → ⊥)
--- the lock table allows the mark, but it is not the next one that is due; or one is due, and what comes is no mark
+-- the lock table allows the mark, but it is not the next one that is due; or one is due, and the line is not a mark
 IsWrong prefix text cause.Marks =
     (version : Version) × (n start : ℕ) × (moves : List Move) × (due : List Mark) × IsTracePrefix version n start moves due prefix
     × (line : Line) × (rest : List ℕ) × BeginsWith version text line rest
@@ -102,7 +106,8 @@ IsWrong prefix text cause.NotUnderWay =
     × (step : Step) × (rest : List ℕ) × BeginsWith version text (Stepped step) rest
     × IsOfMessage step × (GoesOn n start moves step → ⊥)
 
--- the text is the trace of a run, with so many requests and messages; or this line of it, counted from 1, is the first wrong one
+-- the text is the trace of a run, with this many requests and messages; or this line of it, counted from 1, is the
+-- first wrong one
 abbrev pub IsVerdict : List ℕ → Verdict → Type 0
 IsVerdict text (Valid requests messages) =
     (version : Version) × (n start : ℕ) × (moves : List Move) × IsTraceIn version n start moves text

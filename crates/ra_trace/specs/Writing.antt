@@ -14,14 +14,15 @@ use Rattle.ra_trace.specs.declared.version.Version.TheVariants.{Two}
 use Rattle.ra_trace.specs.Ranges.{StepFits, MarkFits}
 use Rattle.ra_trace.specs.TraceText.{line_text, move_lines, IsTrace}
 
+-- the step of the move fits, and so does each of its marks
 abbrev pub MoveFits : Move → Type 0
 MoveFits move = StepFits move.step × All MarkFits move.marks
 
--- all lines but the last
+-- the text of all lines but the last
 abbrev pub prefix_text : ℕ → ℕ → List Move → List ℕ
 prefix_text n start moves = line_text (First Two n start) ++ flat_map line_text (flat_map move_lines moves)
 
--- the world of these nodes has made these steps and no others, and the text is that of its moves, except for the last line
+-- the world of these nodes has made these steps and no others, and the text is that of its moves without the last line
 pub record HasTraced (n start : ℕ) (steps : List Step) (world : WorldState) (text : List ℕ) : Type 0 where
   pub number : IsNodeNumber n
   pub count : world.count ≡ n
@@ -37,7 +38,7 @@ pub record IsOpened (n start : ℕ) (world : WorldState) : Type 0 where
   pub is : world ≡ record { count = n; start = start; moves = [] }
   pub run : IsRun world.count world.start world.moves
 
--- the world was made, or there is none of this many nodes
+-- the world was made, or it was not, since it cannot have this many nodes, or for lack of memory
 abbrev pub Opens : ℕ → ℕ → Result WorldState WriteTraceError → Type 0
 Opens n start (Ok world) = IsOpened n start world
 Opens n start (Err (Run run.BadCount)) = IsNodeNumber n → ⊥
@@ -54,12 +55,12 @@ StopsIn n start steps (Run run.Memory) = ⊥
 StopsIn n start steps Memory = Unit {0}
 StopsIn n start steps Write = ⊥
 
--- these steps were made and written, of all these, or one of them was refused
+-- the steps `made` were made and written; or no more were made, since one of all `steps` was refused or memory ran out
 abbrev pub Traces : ℕ → ℕ → List Step → List Step → WorldState → List ℕ → Result (Unit {0}) WriteTraceError → Type 0
 Traces n start made steps world text (Ok done) = HasTraced n start made world text
 Traces n start made steps world text (Err fault) = StopsIn n start steps fault
 
--- the trace of these steps was written, or one of them was refused
+-- the trace of these steps was written; or no more were made, since one of them was refused or memory ran out
 abbrev pub Written : ℕ → ℕ → List Step → List ℕ → Result (Unit {0}) WriteTraceError → Type 0
 Written n start steps text (Ok done) = (moves : List Move) × (map (λ (move : Move). move.step) moves ≡ steps) × IsTrace n start moves text
 Written n start steps text (Err fault) = StopsIn n start steps fault

@@ -1,4 +1,4 @@
-//! What is true of every trace and of every text of one: a function does nothing, and its contract is the law.
+//! What is true of every trace and of every text of one. Each function does nothing, and its contract is the law.
 ghost use Rattle.std.specs.Prelude.{◌≡◌, ℕ, List, All, map};
 ghost use Rattle.ra_world.specs.Traffic.{Move};
 ghost use Rattle.ra_trace.specs.declared.verdict.Verdict.{Verdict};
@@ -27,15 +27,15 @@ pub fn traces_rest_on_runs()
     runs_go_on_where_steps_are_allowed();
 }
 
-/// No text has two verdicts: it is the trace of one run, or one line is the first wrong one, for one cause.
+/// No text has two verdicts: it is the trace of a run, or one line is the first wrong one, for one cause.
 pub fn each_text_has_one_verdict()
     ensures { (text : List ℕ) (a b : Verdict) → IsVerdict text a → IsVerdict text b → a ≡ b }
 {
     traces_rest_on_runs();
 }
 
-/// No two lists of moves whose fields are in the ranges of a version have one text, whether they are runs or not: it tells the version,
-/// how many nodes there are, the number that each resource begins with, each step and its marks.
+/// No two lists of moves, with fields in the ranges of a version, have the same text, whether they are runs or not. The
+/// text tells the version, the number of nodes, the number that each resource begins with, each step and its marks.
 pub fn texts_tell_their_steps()
     ensures { (version second : Version) (n m start other : ℕ) (moves others : List Move)
         → All (IsLine version) (trace_lines version n start moves) → All (IsLine second) (trace_lines second m other others)
@@ -45,8 +45,8 @@ pub fn texts_tell_their_steps()
         × (map (λ move. move.marks) moves ≡ map (λ move. move.marks) others) }
 {}
 
-/// No text is the trace of two runs, nor of one in two versions: it tells the version, how many nodes there are, the number that each
-/// resource begins with, each step and what came of it.
+/// No text is the trace of two runs, or of one run in two versions. It tells the version, the number of nodes, the
+/// number that each resource begins with, each step and what came of it.
 pub fn traces_tell_their_runs()
     ensures { (version second : Version) (n m start other : ℕ) (moves others : List Move) (text : List ℕ)
         → IsTraceIn version n start moves text → IsTraceIn second m other others text

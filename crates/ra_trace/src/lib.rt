@@ -1,5 +1,5 @@
-//! Traces: a run of the cluster written down line by line, and a checker that says of any text whether it is one. And logs of marks
-//! alone, by which any lock service is checked against the lock table.
+//! Traces: a run of the cluster written down line by line, and a checker that tells of any text whether it is one. The
+//! checker also takes logs of marks alone, so that any lock service is checked against the lock table.
 #![tactic(auto)]
 
 mod buffered;

@@ -9,7 +9,7 @@ use std::alloc::Global;
 use std::process::Abort;
 use test_support::FailingWriter;
 
-/// A message of number 1 on `r`, or of the next number, of a writer where it is a REQUEST: its sender and its receiver.
+/// A message on `r` with number 1, or with the next number: its sender and its receiver. A REQUEST is a writer's.
 #[derive(Clone, Copy)]
 pub enum Wire {
     Requests(u16, u16),
@@ -34,7 +34,7 @@ pub enum Act {
     Repeat(Wire),
 }
 
-/// Returns the message, or `None` where a number is that of no node.
+/// Returns the message, or `None` if a number is not that of a node.
 fn message(wire: Wire) -> Option<Message> {
     let (from, to, seq) = match wire {
         Requests(from, to) | Replies(from, to) => (from, to, 1),
@@ -61,7 +61,7 @@ fn message(wire: Wire) -> Option<Message> {
     }
 }
 
-/// Returns the step by which a client asks, or `None` where there is no such node.
+/// Returns the step in which a client asks, or `None` if there is no such node.
 fn ask(node: u16, client: u32, name: Name, mode: Mode) -> Option<Step> {
     match NodeId::new(node) {
         Some(node) => Some(Step::Ask {
@@ -74,7 +74,7 @@ fn ask(node: u16, client: u32, name: Name, mode: Mode) -> Option<Step> {
     }
 }
 
-/// Returns the step by which a client leaves `r`, or `None` where there is no such node.
+/// Returns the step in which a client leaves `r`, or `None` if there is no such node.
 fn leave(node: u16, client: u32) -> Option<Step> {
     match NodeId::new(node) {
         Some(node) => Some(Step::Leave {
@@ -86,7 +86,7 @@ fn leave(node: u16, client: u32) -> Option<Step> {
     }
 }
 
-/// Returns the step by which a message is delivered, or `None` where there is no such message.
+/// Returns the step in which a message is delivered, or `None` if there is no such message.
 fn deliver(wire: Wire) -> Option<Step> {
     match message(wire) {
         Some(message) => Some(Step::Deliver(message)),
@@ -94,7 +94,7 @@ fn deliver(wire: Wire) -> Option<Step> {
     }
 }
 
-/// Returns the step by which a message is lost, or `None` where there is no such message.
+/// Returns the step in which a message is lost, or `None` if there is no such message.
 fn lose(wire: Wire) -> Option<Step> {
     match message(wire) {
         Some(message) => Some(Step::Lose(message)),
@@ -102,7 +102,7 @@ fn lose(wire: Wire) -> Option<Step> {
     }
 }
 
-/// Returns the step by which a message is repeated, or `None` where there is no such message.
+/// Returns the step in which a message is repeated, or `None` if there is no such message.
 fn repeat(wire: Wire) -> Option<Step> {
     match message(wire) {
         Some(message) => Some(Step::Repeat(message)),
@@ -110,7 +110,7 @@ fn repeat(wire: Wire) -> Option<Step> {
     }
 }
 
-/// Returns the step of what happens, or `None` where a number is that of no node.
+/// Returns the step of what happens, or `None` if a number is not that of a node.
 fn step(act: Act) -> Option<Step> {
     match act {
         Ask(node, client) => ask(node, client, r(), Mode::Exclusive),
@@ -150,7 +150,7 @@ pub const LOSES_REPLY: &[Act] = &[
 ];
 
 /// Adds a step. Returns whether there is one, and room for it.
-fn adds(steps: &mut Steps, step: Option<Step>) -> bool {
+pub fn adds(steps: &mut Steps, step: Option<Step>) -> bool {
     match step {
         Some(step) => steps.push(step).is_ok(),
         None => false,
@@ -177,7 +177,7 @@ pub fn one_lock(alloc: Global) -> Option<Steps> {
     }
 }
 
-/// Writes the trace of what happens, and returns the fault, or `None` where there is none.
+/// Writes the trace of what happens, and returns the fault, or `None` if there is no fault.
 pub fn fault_of(
     alloc: Global,
     nodes: u16,
@@ -192,7 +192,7 @@ pub fn fault_of(
     }
 }
 
-/// What happens among so many nodes, and its trace.
+/// What happens among this many nodes, and its trace.
 pub struct Written(pub u16, pub &'static [Act], pub &'static str);
 
 /// Returns whether what happens has its trace.
@@ -203,7 +203,7 @@ fn is_written(alloc: Global, row: &Written) -> bool {
         && !writer.differs
 }
 
-/// Returns how many of these have their traces, up to the first that has not.
+/// Returns how many of these have their traces, up to the first that does not.
 fn written_so(alloc: Global, rows: &[Written]) -> usize {
     for place in 0..rows.len() {
         if !is_written(alloc, &rows[place]) {

@@ -1,4 +1,4 @@
-//! What `ra_explain` says to a person of a wrong line of a trace or of a log of marks.
+//! What `ra_explain` tells a person about a wrong line of a trace or of a mark log.
 use crate::explained_runs::is_said;
 use crate::helpers::assert_rows;
 use ra_explain::{LineCause, line_note, version_of};
@@ -18,10 +18,10 @@ struct Line {
 /// The cause of a line of a trace that has none of the forms.
 const NO_LINE: LineCause = LineCause::Trace(Cause::Line);
 
-/// The same of a mark log.
+/// The same for a mark log.
 const NO_MARK: LineCause = LineCause::Marks(MarkCause::Line);
 
-/// Wrong lines, of which is said what is said of all where nothing stands for itself.
+/// Wrong lines. If a line has no explanation of its own, its note has the text for all lines, `said of all`.
 const LINES: &[Line] = &[
     Line {
         number: 13,
@@ -35,56 +35,56 @@ const LINES: &[Line] = &[
         tail: "ask 1 1 r X\nrequest 1 1 r X\n",
         feeds: 3,
         cause: NO_LINE,
-        text: "line 3, 'request 1 1 r X': SEQ is missing: the line is request NODE CLIENT NAME MODE SEQ",
+        text: "line 3, 'request 1 1 r X': SEQ is missing: expected request NODE CLIENT NAME MODE SEQ",
     },
     Line {
         number: 2,
         tail: "trace 2 2 0\n",
         feeds: 1,
         cause: NO_LINE,
-        text: "line 2: the text ends before this line, and the last line of a trace is end",
+        text: "line 2: the text ends before this line, but the last line of a trace must be end",
     },
     Line {
         number: 1,
         tail: "",
         feeds: 0,
         cause: NO_LINE,
-        text: "line 1: the text ends before this line, and the last line of a trace is end",
+        text: "line 1: the text ends before this line, but the last line of a trace must be end",
     },
     Line {
         number: 10,
         tail: "leave 1 1 r X 1\nend\nx",
         feeds: 9,
         cause: NO_LINE,
-        text: "line 10, 'x': this stands after end, which is the last line of a trace",
+        text: "line 10, 'x': nothing may follow end, the last line of a trace",
     },
     Line {
         number: 10,
         tail: "end\n\n",
         feeds: 10,
         cause: NO_LINE,
-        text: "line 10, '': this stands after end, which is the last line of a trace",
+        text: "line 10, '': nothing may follow end, the last line of a trace",
     },
     Line {
         number: 2,
         tail: "trace 2 2 0\nask 1 1 r X",
         feeds: 1,
         cause: NO_LINE,
-        text: "line 2, 'ask 1 1 r X': the text ends in this line, before a line feed",
+        text: "line 2, 'ask 1 1 r X': the text ends in this line, without a line feed",
     },
     Line {
         number: 1,
         tail: "aaaaaaaaaaaaaaaaaaaaaaaaaaaaaaaaaaaaaaaaaaaaaaaaaaaaaaaaaaaaaaaaaaaaaaaaaaaaaaaaaaaaaaaaaaaaaaaaaaaaaaaaaaaaaaaaaaaaaaaaaaaaaaaa",
         feeds: 0,
         cause: NO_MARK,
-        text: "line 1, 'aaaaaaaaaaaaaaaaaaaaaaaaaaaaaaaaaaaaaaaaaaaaaaaaaaaaaaaaaaaa..': this line has no line feed among its first 128 bytes",
+        text: "line 1, 'aaaaaaaaaaaaaaaaaaaaaaaaaaaaaaaaaaaaaaaaaaaaaaaaaaaaaaaaaaaa..': this line has no line feed in its first 128 bytes",
     },
     Line {
         number: 1,
         tail: "trace 2 2 0\r\n",
         feeds: 1,
         cause: NO_LINE,
-        text: "line 1, 'trace 2 2 0?': this line ends with a carriage return before its line feed, and each line ends with a line feed alone",
+        text: "line 1, 'trace 2 2 0?': this line ends with a carriage return and a line feed, but each line must end with a line feed alone",
     },
     Line {
         number: 1,
@@ -98,7 +98,7 @@ const LINES: &[Line] = &[
         tail: "request 1 1 r X 1\n",
         feeds: 1,
         cause: NO_LINE,
-        text: "line 1, 'request 1 1 r X 1': this looks like what ra sim prints without --trace: ra check --marks reads its marks, without the six totals",
+        text: "line 1, 'request 1 1 r X 1': this looks like the output of ra sim without --trace: ra check --marks reads its marks, without the six totals",
     },
     Line {
         number: 1,
@@ -112,74 +112,74 @@ const LINES: &[Line] = &[
         tail: "leave 2 2 r X 2\nrequests 2\n",
         feeds: 7,
         cause: NO_MARK,
-        text: "line 7, 'requests 2': this looks like the six totals that a report has after its marks, and that a mark log has not",
+        text: "line 7, 'requests 2': this looks like the six totals of a report, which a mark log does not have",
     },
     Line {
         number: 6,
         tail: "trace 1 2 0\nask 1 1 r X\nrequest 1 1 r X 1\nask 2 2 r S\nrequest 2 2 r S 1\nenter 2 2 r S 1\n",
         feeds: 6,
         cause: LineCause::Trace(Cause::Table),
-        text: "line 6, 'enter 2 2 r S 1': a lock table does not allow this mark: client 1 at node 1 asked for it (X) in line 3",
+        text: "line 6, 'enter 2 2 r S 1': the lock table does not allow this mark: client 1 at node 1 asked for 'r' (X) in line 3",
     },
     Line {
         number: 5,
         tail: "request 1 7 r IX 1\nenter 1 7 r IX 1\nrequest 2 8 q X 1\nrequest 2 8 r S 2\nenter 2 8 r S 2\n",
         feeds: 5,
         cause: LineCause::Marks(MarkCause::Held),
-        text: "line 5, 'enter 2 8 r S 2': said of all: client 7 at node 1 holds it (IX) since line 2",
+        text: "line 5, 'enter 2 8 r S 2': said of all: client 7 at node 1 has held 'r' (IX) since line 2",
     },
     Line {
         number: 5,
         tail: "request 3 9 r S 1\nenter 3 9 r S 1\nrequest 1 7 r X 1\nrequest 2 8 r S 1\nenter 2 8 r S 1\n",
         feeds: 5,
         cause: LineCause::Marks(MarkCause::Earlier),
-        text: "line 5, 'enter 2 8 r S 1': said of all: client 7 at node 1 asked for it (X) in line 3",
+        text: "line 5, 'enter 2 8 r S 1': said of all: client 7 at node 1 asked for 'r' (X) in line 3",
     },
     Line {
         number: 4,
         tail: "request 1 7 r X 1\nrequest 2 8 r S 1\nenter 1 7 r X 1\nrequest 1 9 r S 2\n",
         feeds: 4,
         cause: LineCause::Marks(MarkCause::NodeBusy),
-        text: "line 4, 'request 1 9 r S 2': said of all: client 7 at node 1 holds it (X) since line 3",
+        text: "line 4, 'request 1 9 r S 2': said of all: client 7 at node 1 has held 'r' (X) since line 3",
     },
-    // What was given back is in nobody's way.
+    // A released request blocks no other.
     Line {
         number: 6,
         tail: "request 1 7 r X 1\nenter 1 7 r X 1\nleave 1 7 r X 1\nrequest 3 9 r X 2\nrequest 1 7 r X 2\nrequest 1 7 r X 3\n",
         feeds: 6,
         cause: LineCause::Marks(MarkCause::NodeBusy),
-        text: "line 6, 'request 1 7 r X 3': said of all: client 7 at node 1 asked for it (X) in line 5",
+        text: "line 6, 'request 1 7 r X 3': said of all: client 7 at node 1 asked for 'r' (X) in line 5",
     },
     Line {
         number: 3,
         tail: "trace 2 2 0\nask 1 1 r X\nask 2 2 r X\n",
         feeds: 3,
         cause: LineCause::Trace(Cause::Marks),
-        text: "line 3, 'ask 2 2 r X': the mark 'request 1 1 r X 1' is due here",
+        text: "line 3, 'ask 2 2 r X': expected the mark 'request 1 1 r X 1' here",
     },
     Line {
         number: 4,
         tail: "trace 2 2 0\nask 1 1 r X\nrequest 1 1 r X 1\nrequest 2 2 r X 1\n",
         feeds: 4,
         cause: LineCause::Trace(Cause::Marks),
-        text: "line 4, 'request 2 2 r X 1': no mark is due here",
+        text: "line 4, 'request 2 2 r X 1': expected no mark here",
     },
-    // Of a step with two marks the second one; and one that is longer than what is shown of an input.
+    // Marks that are due: the second of a step's two, and one that is longer than what is shown of an input.
     Line {
         number: 4,
         tail: "trace 2 1 0\nask 1 1 r X\nrequest 1 1 r X 1\nend\n",
         feeds: 4,
         cause: LineCause::Trace(Cause::Marks),
-        text: "line 4, 'end': the mark 'enter 1 1 r X 1' is due here",
+        text: "line 4, 'end': expected the mark 'enter 1 1 r X 1' here",
     },
     Line {
         number: 3,
         tail: "trace 1 64 4294967295\nask 64 4294967295 abcdefghijklmnopqrstuvwxyzABCDEF SIX\nend\n",
         feeds: 3,
         cause: LineCause::Trace(Cause::Marks),
-        text: "line 3, 'end': the mark 'request 64 4294967295 abcdefghijklmnopqrstuvwxyzABCDEF SIX 4294967296' is due here",
+        text: "line 3, 'end': expected the mark 'request 64 4294967295 abcdefghijklmnopqrstuvwxyzABCDEF SIX 4294967296' here",
     },
-    // Nothing more precise is said where the first lines are missing.
+    // Nothing more precise is said if the first lines are missing.
     Line {
         number: 3,
         tail: "ask 1 1 r X\nask 2 2 r X\n",
@@ -187,7 +187,7 @@ const LINES: &[Line] = &[
         cause: LineCause::Trace(Cause::Marks),
         text: "line 3, 'ask 2 2 r X': said of all",
     },
-    // Nobody is named where lines before are missing.
+    // No client is named if earlier lines are missing.
     Line {
         number: 6,
         tail: "request 1 7 r X 1\nenter 1 7 r X 1\nrequest 2 8 r S 2\nenter 2 8 r S 2\n",
@@ -200,7 +200,7 @@ const LINES: &[Line] = &[
         tail: "request 1 7 r X 1\nleave 1 7 r X 1\n",
         feeds: 2,
         cause: LineCause::Marks(MarkCause::NotHeld),
-        text: "line 2, 'leave 1 7 r X 1': said of all: it waits since line 1",
+        text: "line 2, 'leave 1 7 r X 1': said of all: it has waited since line 1",
     },
     // What became of an entry that should wait or hold.
     Line {
@@ -215,54 +215,54 @@ const LINES: &[Line] = &[
         tail: "request 1 7 r X 1\nenter 1 7 r S 1\n",
         feeds: 2,
         cause: LineCause::Marks(MarkCause::NotWaiting),
-        text: "line 2, 'enter 1 7 r S 1': said of all: it was not requested",
+        text: "line 2, 'enter 1 7 r S 1': said of all: it was never requested",
     },
     Line {
         number: 4,
         tail: "request 1 7 r X 1\nenter 1 7 r X 1\nleave 1 7 r X 1\nleave 1 7 r X 1\n",
         feeds: 4,
         cause: LineCause::Marks(MarkCause::NotHeld),
-        text: "line 4, 'leave 1 7 r X 1': said of all: it was given back in line 3",
+        text: "line 4, 'leave 1 7 r X 1': said of all: it was released in line 3",
     },
-    // In a trace it is said, too, which of the causes of a mark log it is.
+    // For a trace, the note also says which of the causes of a mark log applies.
     Line {
         number: 4,
         tail: "trace 2 2 0\nask 1 1 r S\nrequest 1 1 r S 1\nrequest 1 2 r S 2\n",
         feeds: 4,
         cause: LineCause::Trace(Cause::Table),
-        text: "line 4, 'request 1 2 r S 2': a lock table does not allow this mark: its node waits for the name or holds it already: client 1 at node 1 asked for it (S) in line 3",
+        text: "line 4, 'request 1 2 r S 2': the lock table does not allow this mark: its node already waits for the name or holds it: client 1 at node 1 asked for 'r' (S) in line 3",
     },
     Line {
         number: 5,
         tail: "trace 2 1 0\nask 1 1 r X\nrequest 1 1 r X 1\nenter 1 1 r X 1\nrequest 2 2 r X 1\n",
         feeds: 5,
         cause: LineCause::Trace(Cause::Table),
-        text: "line 5, 'request 2 2 r X 1': a lock table does not allow this mark: its number is not above each one that was granted on the name: 1 was granted in line 4",
+        text: "line 5, 'request 2 2 r X 1': the lock table does not allow this mark: its number is not above every number granted for the name: 1 was granted in line 4",
     },
     Line {
         number: 5,
         tail: "trace 2 1 0\nask 1 1 r X\nrequest 1 1 r X 1\nenter 1 1 r X 1\nleave 2 2 r X 1\n",
         feeds: 5,
         cause: LineCause::Trace(Cause::Table),
-        text: "line 5, 'leave 2 2 r X 1': a lock table does not allow this mark: no such entry holds the name: it was not requested",
+        text: "line 5, 'leave 2 2 r X 1': the lock table does not allow this mark: no such request holds the name: it was never requested",
     },
     Line {
         number: 4,
         tail: "trace 2 2 0\nask 1 1 r X\nrequest 1 1 r X 1\nleave 1 1 r X 1\n",
         feeds: 4,
         cause: LineCause::Trace(Cause::Table),
-        text: "line 4, 'leave 1 1 r X 1': a lock table does not allow this mark: no such entry holds the name: it waits since line 3",
+        text: "line 4, 'leave 1 1 r X 1': the lock table does not allow this mark: no such request holds the name: it has waited since line 3",
     },
     Line {
         number: 4,
         tail: "trace 2 2 0\nask 1 1 r X\nrequest 1 1 r X 1\nenter 2 2 r X 1\n",
         feeds: 4,
         cause: LineCause::Trace(Cause::Table),
-        text: "line 4, 'enter 2 2 r X 1': a lock table does not allow this mark: no such entry waits for the name: it was not requested",
+        text: "line 4, 'enter 2 2 r X 1': the lock table does not allow this mark: no such request waits for the name: it was never requested",
     },
 ];
 
-/// Returns whether the row is said of its line.
+/// Returns whether the line is explained as in its row.
 fn is_line(alloc: Global, row: &Line) -> bool {
     let said = line_note(
         alloc,
@@ -276,7 +276,7 @@ fn is_line(alloc: Global, row: &Line) -> bool {
     is_said(said, row.text)
 }
 
-/// Returns how many rows are said of their lines, up to the first that is not.
+/// Returns how many lines are explained as in their rows, up to the first that is not.
 fn lines(alloc: Global) -> usize {
     for (place, row) in LINES.iter().enumerate() {
         if !is_line(alloc, row) {

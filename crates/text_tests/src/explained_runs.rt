@@ -1,4 +1,4 @@
-//! What `ra_explain` says to a person of scripts, of choices, and of runs and their ends.
+//! What `ra_explain` tells a person about scripts, about choices, and about runs and their ends.
 use crate::helpers::{ONE_LOCK_SCRIPT, assert_rows};
 use ra_explain::{choices_note, order_note, script_end_note, unfinished_note};
 use ra_schedule::Policy;
@@ -14,12 +14,12 @@ client = [
 ]
 "#;
 
-/// Two clients of one node that want a name, of which the first keeps it.
+/// Two clients of one node that want a name. The first keeps it.
 const A_QUEUE: &str = r#"nodes = 2
 client = [{ node = 1, ops = ["X r"] }, { node = 1, ops = ["S r", "U r"] }]
 "#;
 
-/// A reader that keeps a name, a writer, and a reader that asks after it.
+/// A reader that keeps a name, a writer, and a reader that asks after the writer.
 pub const A_KEEPER: &str = r#"nodes = 3
 client = [
     { node = 1, ops = ["S r"] },
@@ -28,7 +28,7 @@ client = [
 ]
 "#;
 
-/// Six writers, of which the first keeps the name.
+/// Six writers. The first keeps the name.
 const MANY: &str = r#"nodes = 6
 client = [
     { node = 1, ops = ["X r"] },
@@ -40,7 +40,7 @@ client = [
 ]
 "#;
 
-/// Three readers, of which two keep names.
+/// Three readers. Two of them keep names.
 const READERS: &str = r#"nodes = 2
 client = [
     { node = 1, ops = ["S r", "X a"] },
@@ -49,7 +49,7 @@ client = [
 ]
 "#;
 
-/// Returns whether this is what is said, or nothing where the text is empty.
+/// Returns whether this text is said, or nothing if the text is empty.
 pub fn is_said(said: Result<Option<String>, Memory>, text: &str) -> bool {
     match said {
         Ok(Some(note)) => note.as_str() == text,
@@ -58,7 +58,7 @@ pub fn is_said(said: Result<Option<String>, Memory>, text: &str) -> bool {
     }
 }
 
-/// What is said of a script, with choices where there are some.
+/// What is said of a script, with choices if there are any.
 #[derive(Clone, Copy)]
 struct Said {
     script: &'static str,
@@ -66,9 +66,9 @@ struct Said {
     text: &'static str,
 }
 
-/// What is left to do where the two wait for each other.
+/// What is left to do when the two clients wait for each other.
 pub const DEADLOCK_NOTE: &str =
-    "the run ended with something left to do: client 1 at node 1 waits for 'b' (X): client 2 holds it (X); client 2 at node 2 waits for 'a' (X): client 1 holds it (X)";
+    "the run did not finish: client 1 at node 1 waits for 'b' (X): client 2 holds it (X); client 2 at node 2 waits for 'a' (X): client 1 holds it (X)";
 
 /// Runs that are not finished, and one that is.
 const ENDINGS: &[Said] = &[
@@ -80,42 +80,42 @@ const ENDINGS: &[Said] = &[
     Said {
         script: A_QUEUE,
         choices: None,
-        text: "the run ended with something left to do: client 2 at node 1 queues for 'r' (S) behind client 1, which holds it (X)",
+        text: "the run did not finish: client 2 at node 1 is queued for 'r' (S) after client 1, which holds it (X)",
     },
     Said {
         script: A_KEEPER,
         choices: None,
-        text: "the run ended with something left to do: client 2 at node 2 waits for 'r' (X): client 1, which has done all, holds it (S); client 3 at node 3 waits for 'r' (S): client 2 asked before (X)",
+        text: "the run did not finish: client 2 at node 2 waits for 'r' (X): client 1, which has finished, holds it (S); client 3 at node 3 waits for 'r' (S): client 2 asked earlier (X)",
     },
     Said {
         script: MANY,
         choices: None,
-        text: "the run ended with something left to do: client 2 at node 2 waits for 'r' (X): client 1, which has done all, holds it (X); client 3 at node 3 waits for 'r' (X): client 1, which has done all, holds it (X), client 2 asked before (X); client 4 at node 4 waits for 'r' (X): client 1, which has done all, holds it (X), client 2 asked before (X), client 3 asked before (X); client 5 at node 5 waits for 'r' (X): client 1, which has done all, holds it (X), client 2 asked before (X), client 3 asked before (X) and 1 more; and 1 more",
+        text: "the run did not finish: client 2 at node 2 waits for 'r' (X): client 1, which has finished, holds it (X); client 3 at node 3 waits for 'r' (X): client 1, which has finished, holds it (X), client 2 asked earlier (X); client 4 at node 4 waits for 'r' (X): client 1, which has finished, holds it (X), client 2 asked earlier (X), client 3 asked earlier (X); client 5 at node 5 waits for 'r' (X): client 1, which has finished, holds it (X), client 2 asked earlier (X), client 3 asked earlier (X) and 1 more; and 1 more",
     },
     Said {
         script: ONE_LOCK_SCRIPT,
         choices: Some("c1 l0"),
-        text: "the run ended with something left to do: client 1 at node 1 waits for 'r' (X): no client keeps it out, but a message was lost",
+        text: "the run did not finish: client 1 at node 1 waits for 'r' (X): no client blocks it, but a message was lost",
     },
     Said {
         script: ONE_LOCK_SCRIPT,
         choices: Some("c1 m0"),
-        text: "the run ended with something left to do: client 1 at node 1 waits for 'r' (X): no client keeps it out, but a message is under way",
+        text: "the run did not finish: client 1 at node 1 waits for 'r' (X): no client blocks it, but a message is under way",
     },
     Said {
         script: A_QUEUE,
         choices: Some("c1 c2"),
-        text: "the run ended with something left to do: client 1 at node 1 waits for 'r' (X): no client keeps it out, but a message is under way; client 2 at node 1 queues for 'r' (S) behind client 1, which waits for it (X)",
+        text: "the run did not finish: client 1 at node 1 waits for 'r' (X): no client blocks it, but a message is under way; client 2 at node 1 is queued for 'r' (S) after client 1, which waits for it (X)",
     },
     Said {
         script: A_QUEUE,
         choices: Some("c1 m0 m0"),
-        text: "the run ended with something left to do: client 2 at node 1 has not begun its operation 1",
+        text: "the run did not finish: client 2 at node 1 has not begun operation 1",
     },
     Said {
         script: ONE_LOCK_SCRIPT,
         choices: Some("c1 m0 m0"),
-        text: "the run ended with something left to do: client 1 at node 1 has not begun its operation 2",
+        text: "the run did not finish: client 1 at node 1 has not begun operation 2",
     },
     Said {
         script: ONE_LOCK_SCRIPT,
@@ -129,7 +129,7 @@ const ENDINGS: &[Said] = &[
     },
 ];
 
-/// Returns the policy of a row, or `None` where there is none.
+/// Returns the policy of a row, or `None` if its choices cannot be read.
 fn policy_of(alloc: Global, choices: Option<&str>) -> Option<Policy> {
     match choices {
         Some(choices) => Some(Policy::Listed(read_choices(alloc, choices).ok()?)),
@@ -168,42 +168,42 @@ const CHOICES: &[Said] = &[
     Said {
         script: ONE_LOCK_SCRIPT,
         choices: Some("c1 m5"),
-        text: "choice 2 of --choices, m5, can't be made: one message is under way then, at place 0",
+        text: "choice 2 of --choices, m5, is not possible: one message is under way at that point, at place 0",
     },
     Said {
         script: A_KEEPER,
         choices: Some("c1 m0 l7 m0"),
-        text: "choice 3 of --choices, l7, can't be made: 2 messages are under way then, at the places 0 to 1 in the order of sending",
+        text: "choice 3 of --choices, l7, is not possible: 2 messages are under way at that point, at places 0 to 1 in the order of sending",
     },
     Said {
         script: ONE_LOCK_SCRIPT,
         choices: Some("m0"),
-        text: "choice 1 of --choices, m0, can't be made: no message is under way then",
+        text: "choice 1 of --choices, m0, is not possible: no message is under way at that point",
     },
     Said {
         script: ONE_LOCK_SCRIPT,
         choices: Some("c2"),
-        text: "choice 1 of --choices, c2, can't be made: the script has client 1 alone",
+        text: "choice 1 of --choices, c2, is not possible: the script has only client 1",
     },
     Said {
         script: A_KEEPER,
         choices: Some("c1 c0"),
-        text: "choice 2 of --choices, c0, can't be made: the script has the clients 1 to 3",
+        text: "choice 2 of --choices, c0, is not possible: the script has clients 1 to 3",
     },
     Said {
         script: ONE_LOCK_SCRIPT,
         choices: Some("c1 c1"),
-        text: "choice 2 of --choices, c1, can't be made: client 1 waits for 'r' (X) then",
+        text: "choice 2 of --choices, c1, is not possible: client 1 waits for 'r' (X) at that point",
     },
     Said {
         script: A_QUEUE,
         choices: Some("c1 c2 c2"),
-        text: "choice 3 of --choices, c2, can't be made: client 2 queues for 'r' (S) then",
+        text: "choice 3 of --choices, c2, is not possible: client 2 is queued for 'r' (S) at that point",
     },
     Said {
         script: ONE_LOCK_SCRIPT,
         choices: Some("c1 m0 m0 c1 c1 c1"),
-        text: "choice 5 of --choices, c1, can't be made: client 1 has done all its operations then",
+        text: "choice 5 of --choices, c1, is not possible: client 1 has done all its operations at that point",
     },
     Said {
         script: ONE_LOCK_SCRIPT,
@@ -240,11 +240,11 @@ fn which_choice_can_not_be_made(rt: HostRuntime) {
 const ORDERS: &[(&str, &str)] = &[
     (
         A_DEADLOCK,
-        "client 2, operation 2: it locks 'a' while it holds 'b', which is not below it, byte by byte, so that clients could wait for each other for ever: let all lock names in ascending order, or see by ra sim what comes of it",
+        "client 2, operation 2: locks 'a' while holding 'b', which does not sort before it, so clients could deadlock: lock names in ascending byte order, or run the script with ra sim",
     ),
     (
         A_KEEPER,
-        "client 1, operation 1: it locks 'r', and never unlocks it, so that whoever asks for it later would wait for ever: let it unlock the name, or see by ra sim what comes of it",
+        "client 1, operation 1: locks 'r' and never unlocks it, so others could wait for it forever: unlock the name, or run the script with ra sim",
     ),
     (ONE_LOCK_SCRIPT, ""),
 ];
@@ -268,7 +268,7 @@ fn what_threads_may_not_run(rt: HostRuntime) {
 const KEPT: &[(&str, &str)] = &[
     (
         READERS,
-        "the run is finished, with names still locked: client 1 holds 'r' (S), 'a' (X); client 3 holds 'b' (IS)",
+        "the run finished with names still locked: client 1 holds 'r' (S), 'a' (X); client 3 holds 'b' (IS)",
     ),
     (ONE_LOCK_SCRIPT, ""),
 ];

@@ -1,22 +1,26 @@
-//! Each growth refused: the call answers `Memory`, writes nothing, and does what it should when it is made again.
+//! If any growth is refused, the call answers `Memory`, writes nothing, and does what it should when it is made again.
 use crate::acts::one_lock;
 use crate::explained_runs::{A_DEADLOCK, A_KEEPER, DEADLOCK_NOTE};
 use crate::helpers::{ONE_LOCK, ONE_LOCK_SCRIPT, failing};
 use crate::mark_logs::TWO_WRITERS;
 use crate::performing::ONE_LOCK_LINES;
+use ra_draw::{DrawError, Part, draw};
 use ra_explain::{
     LineCause, choices_note, line_note, order_note, script_end_note, unfinished_note,
 };
-use ra_schedule::Policy;
+use ra_schedule::{Ending, Policy};
 use ra_script::{
-    ChoicesError, PerformError, ScriptError, perform, perform_trace, read_choices, read_script,
+    ChoicesError, Format, PerformError, ScriptError, find_trace, perform, perform_as,
+    perform_trace, read_choices, read_script,
 };
 use ra_stamp::Memory;
 use ra_trace::{
     Cause, MarksVerdict, TraceError, Verdict, Version, WriteTraceError, check, check_marks,
-    trace_text, write_trace,
+    check_marks_within, check_within, trace_text, write_trace,
 };
 use std::alloc::Global;
+use std::io;
+use std::io::Write;
 use std::process::Abort;
 use test_support::{FailingWriter, Tried, again};
 
@@ -32,12 +36,12 @@ fn end(rt: &(impl Abort), tried: Tried) {
     );
 }
 
-/// Returns what became of a call that did as it should or did not.
+/// Returns the result of a call, by whether it did what it should.
 fn tried_if(good: bool) -> Tried {
     if good { Tried::AtOnce } else { Tried::Wrong }
 }
 
-/// Checks a trace. Where that is refused, returns whether memory ran out.
+/// Checks a trace. If that is refused, returns whether memory ran out.
 fn try_check(alloc: Global) -> Result<Tried, bool> {
     let mut reader = ONE_LOCK.as_bytes();
     let valid = Verdict::Valid {
@@ -55,7 +59,7 @@ fn growth_of_a_checker(rt: HostRuntime) {
     end(&rt, again(try_check(rt.alloc()), try_check(rt.alloc())));
 }
 
-/// Checks a log of marks. Where that is refused, returns whether memory ran out.
+/// Checks a mark log. If that is refused, returns whether memory ran out.
 fn try_log(alloc: Global) -> Result<Tried, bool> {
     let mut reader = TWO_WRITERS.as_bytes();
     let valid = MarksVerdict::Valid {
@@ -73,7 +77,7 @@ fn growth_of_a_checker_of_marks(rt: HostRuntime) {
     end(&rt, again(try_log(rt.alloc()), try_log(rt.alloc())));
 }
 
-/// Reads a script of one client. Where that is refused, returns whether memory ran out.
+/// Reads a script of one client. If that is refused, returns whether memory ran out.
 fn try_script(alloc: Global) -> Result<Tried, bool> {
     match read_script(alloc, ONE_LOCK_SCRIPT.as_bytes()) {
         Ok(script) => Ok(tried_if(script.nodes() == 2 && script.clients() == 1)),
@@ -86,7 +90,7 @@ fn growth_of_a_script(rt: HostRuntime) {
     end(&rt, again(try_script(rt.alloc()), try_script(rt.alloc())));
 }
 
-/// Reads choices. Where that is refused, returns whether memory ran out.
+/// Reads choices. If that is refused, returns whether memory ran out.
 fn try_choices(alloc: Global) -> Result<Tried, bool> {
     match read_choices(alloc, "c1 m0 m0 l0 c1") {
         Ok(choices) => Ok(tried_if(choices.len() == 5)),
@@ -114,7 +118,7 @@ fn is_whole(writer: &FailingWriter<'_>) -> bool {
     writer.left.is_empty() && !writer.differs
 }
 
-/// Writes the trace of a run. Where that is refused, returns whether memory ran out and nothing was written.
+/// Writes the trace of a run. If that is refused, returns whether memory ran out and nothing was written.
 fn try_trace(alloc: Global) -> Result<Tried, bool> {
     let Some(steps) = one_lock(alloc) else {
         return Err(true);
@@ -131,7 +135,7 @@ fn growth_of_a_trace_that_is_written(rt: HostRuntime) {
     end(&rt, again(try_trace(rt.alloc()), try_trace(rt.alloc())));
 }
 
-/// Makes the text of the trace of a run. Where that is refused, returns whether memory ran out.
+/// Makes the text of the trace of a run. If that is refused, returns whether memory ran out.
 fn try_trace_text(alloc: Global) -> Result<Tried, bool> {
     let Some(steps) = one_lock(alloc) else {
         return Err(true);
@@ -150,7 +154,7 @@ fn growth_of_the_text_of_a_trace(rt: HostRuntime) {
     );
 }
 
-/// Performs a script. Where that is refused, returns whether memory ran out and nothing was written.
+/// Performs a script. If that is refused, returns whether memory ran out and nothing was written.
 fn try_performance(alloc: Global, traces: bool) -> Result<Tried, bool> {
     let text = if traces { ONE_LOCK } else { ONE_LOCK_LINES };
     let (mut reader, mut writer) = (ONE_LOCK_SCRIPT.as_bytes(), taking(text));
@@ -183,7 +187,7 @@ fn growth_of_a_performance_that_is_traced(rt: HostRuntime) {
     );
 }
 
-/// Looks what a note says. Where it was refused, returns that memory ran out.
+/// Checks what a note says. If the note was refused, returns that memory ran out.
 fn try_note(said: Result<Option<String>, Memory>, text: &str) -> Result<Tried, bool> {
     match said {
         Ok(Some(note)) => Ok(tried_if(note.as_str() == text)),
@@ -211,7 +215,7 @@ fn try_choice(alloc: Global) -> Result<Tried, bool> {
     let said = choices_note(alloc, ONE_LOCK_SCRIPT.as_bytes(), "c1 m0 m3");
     try_note(
         said,
-        "choice 3 of --choices, m3, can't be made: one message is under way then, at place 0",
+        "choice 3 of --choices, m3, is not possible: one message is under way at that point, at place 0",
     )
 }
 
@@ -233,7 +237,7 @@ fn try_line(alloc: Global) -> Result<Tried, bool> {
     );
     try_note(
         said,
-        "line 3, 'ask 2 2 r X': the mark 'request 1 1 r X 1' is due here",
+        "line 3, 'ask 2 2 r X': expected the mark 'request 1 1 r X 1' here",
     )
 }
 
@@ -255,7 +259,7 @@ fn try_field(alloc: Global) -> Result<Tried, bool> {
     );
     try_note(
         said,
-        "line 2, 'ask 1 1 r x': MODE is 'x': it is S, X, IS, IX or SIX",
+        "line 2, 'ask 1 1 r x': MODE is 'x': must be S, X, IS, IX or SIX",
     )
 }
 
@@ -277,7 +281,7 @@ fn try_refused(alloc: Global) -> Result<Tried, bool> {
     );
     try_note(
         said,
-        "line 4, 'ask 1 1 r S': client 1 waits for 'r' (X) at node 1 since line 3, and may not ask for it again",
+        "line 4, 'ask 1 1 r S': client 1 has waited for 'r' (X) at node 1 since line 3 and may not ask for it again",
     )
 }
 
@@ -286,7 +290,7 @@ fn growth_of_what_is_said_of_an_ask(rt: HostRuntime) {
     end(&rt, again(try_refused(rt.alloc()), try_refused(rt.alloc())));
 }
 
-/// Says of a step that is made that it is not refused.
+/// Explains a step that is made, and so is not refused.
 fn try_made(alloc: Global) -> Result<Tried, bool> {
     let said = line_note(
         alloc,
@@ -310,7 +314,7 @@ fn try_order(alloc: Global) -> Result<Tried, bool> {
     let said = order_note(alloc, A_DEADLOCK.as_bytes());
     try_note(
         said,
-        "client 2, operation 2: it locks 'a' while it holds 'b', which is not below it, byte by byte, so that clients could wait for each other for ever: let all lock names in ascending order, or see by ra sim what comes of it",
+        "client 2, operation 2: locks 'a' while holding 'b', which does not sort before it, so clients could deadlock: lock names in ascending byte order, or run the script with ra sim",
     )
 }
 
@@ -324,11 +328,160 @@ fn try_kept(alloc: Global) -> Result<Tried, bool> {
     let said = script_end_note(alloc, A_KEEPER.as_bytes());
     try_note(
         said,
-        "the run is finished, with names still locked: client 1 holds 'r' (S)",
+        "the run finished with names still locked: client 1 holds 'r' (S)",
     )
 }
 
 #[test]
 fn growth_of_what_is_said_of_names_that_stay_locked(rt: HostRuntime) {
     end(&rt, again(try_kept(rt.alloc()), try_kept(rt.alloc())));
+}
+
+/// Checks a trace within a limit. If that is refused, returns whether memory ran out.
+fn try_check_within(alloc: Global) -> Result<Tried, bool> {
+    let mut reader = ONE_LOCK.as_bytes();
+    let valid = Verdict::Valid {
+        requests: 1,
+        messages: 2,
+    };
+    match check_within(alloc, &mut reader, 140) {
+        Ok(verdict) => Ok(tried_if(verdict == valid)),
+        Err(fault) => Err(fault == TraceError::Memory),
+    }
+}
+
+#[test]
+fn growth_of_a_checker_within_a_limit(rt: HostRuntime) {
+    let alloc = rt.alloc();
+    end(&rt, again(try_check_within(alloc), try_check_within(alloc)));
+}
+
+/// Checks a mark log within a limit. If that is refused, returns whether memory ran out.
+fn try_log_within(alloc: Global) -> Result<Tried, bool> {
+    let mut reader = TWO_WRITERS.as_bytes();
+    let valid = MarksVerdict::Valid {
+        requests: 2,
+        grants: 2,
+    };
+    match check_marks_within(alloc, &mut reader, 100) {
+        Ok(verdict) => Ok(tried_if(verdict == valid)),
+        Err(fault) => Err(fault == TraceError::Memory),
+    }
+}
+
+#[test]
+fn growth_of_a_checker_of_marks_within_a_limit(rt: HostRuntime) {
+    let alloc = rt.alloc();
+    end(&rt, again(try_log_within(alloc), try_log_within(alloc)));
+}
+
+/// Performs a script and writes its choices. If that is refused, returns whether memory ran out and nothing was written.
+fn try_written_choices(alloc: Global) -> Result<Tried, bool> {
+    const TEXT: &str = "c1 m0 m0 c1\n";
+    let (mut reader, mut writer) = (ONE_LOCK_SCRIPT.as_bytes(), taking(TEXT));
+    let (format, policy) = (Format::Choices, Policy::Oldest);
+    match perform_as(alloc, &mut reader, &mut writer, format, &policy) {
+        Ok(finished) => Ok(tried_if(finished && is_whole(&writer))),
+        Err(fault) => Err(fault == PerformError::Memory && is_untouched(&writer, TEXT)),
+    }
+}
+
+#[test]
+fn growth_of_a_performance_of_which_the_choices_are_written(rt: HostRuntime) {
+    let alloc = rt.alloc();
+    end(
+        &rt,
+        again(try_written_choices(alloc), try_written_choices(alloc)),
+    );
+}
+
+/// Finds the trace of the first of three seeds whose run finishes. If that is refused, returns whether memory ran out.
+fn try_first_trace(alloc: Global) -> Result<Tried, bool> {
+    let script = match read_script(alloc, ONE_LOCK_SCRIPT.as_bytes()) {
+        Ok(script) => script,
+        Err(fault) => return Err(fault == ScriptError::Memory),
+    };
+    match find_trace(alloc, &script, None, Ending::Finished, 5, 7, &mut ()) {
+        Ok(Some(found)) => Ok(tried_if(found.finished && found.text.as_str() == ONE_LOCK)),
+        Ok(None) => Ok(Tried::Wrong),
+        Err(Memory) => Err(true),
+    }
+}
+
+/// Searches three seeds for a run that is stuck, and finds none. If that is refused, returns whether memory ran out.
+fn try_no_trace(alloc: Global) -> Result<Tried, bool> {
+    let script = match read_script(alloc, ONE_LOCK_SCRIPT.as_bytes()) {
+        Ok(script) => script,
+        Err(fault) => return Err(fault == ScriptError::Memory),
+    };
+    match find_trace(alloc, &script, None, Ending::Stuck, 5, 7, &mut ()) {
+        Ok(found) => Ok(tried_if(found.is_none())),
+        Err(Memory) => Err(true),
+    }
+}
+
+#[test]
+fn growth_of_the_first_trace(rt: HostRuntime) {
+    let alloc = rt.alloc();
+    end(&rt, again(try_first_trace(alloc), try_first_trace(alloc)));
+}
+
+#[test]
+fn growth_of_a_search_that_finds_no_trace(rt: HostRuntime) {
+    let alloc = rt.alloc();
+    end(&rt, again(try_no_trace(alloc), try_no_trace(alloc)));
+}
+
+/// Counts the bytes that are written, and those that begin or end an element. It takes no memory.
+#[derive(Drop)]
+struct Counter {
+    bytes: u64,
+    open: u64,
+    close: u64,
+}
+
+impl Write for Counter {
+    fn write(&mut self, buf: &[u8]) -> io::Result<usize> {
+        for byte in buf {
+            self.bytes = self.bytes.saturating_add(1);
+            match *byte {
+                b'<' => self.open = self.open.saturating_add(1),
+                b'>' => self.close = self.close.saturating_add(1),
+                _ => {}
+            }
+        }
+        Ok(buf.len())
+    }
+
+    fn flush(&mut self) -> io::Result<()> {
+        Ok(())
+    }
+}
+
+/// Draws a trace. If that is refused, returns whether memory ran out and nothing was written.
+fn try_drawing(alloc: Global) -> Result<Tried, bool> {
+    let (mut reader, mut writer) = (
+        ONE_LOCK.as_bytes(),
+        Counter {
+            bytes: 0,
+            open: 0,
+            close: 0,
+        },
+    );
+    let valid = Verdict::Valid {
+        requests: 1,
+        messages: 2,
+    };
+    match draw(alloc, &mut reader, &mut writer, Part::WHOLE) {
+        Ok(verdict) => {
+            let is_whole = writer.open > 0 && writer.open == writer.close;
+            Ok(tried_if(verdict == valid && is_whole))
+        }
+        Err(fault) => Err(fault == DrawError::Memory && writer.bytes == 0),
+    }
+}
+
+#[test]
+fn growth_of_a_picture(rt: HostRuntime) {
+    end(&rt, again(try_drawing(rt.alloc()), try_drawing(rt.alloc())));
 }

@@ -18,6 +18,8 @@ mod explained_runs;
 #[cfg(test)]
 mod growth;
 #[cfg(test)]
+mod hand_overs;
+#[cfg(test)]
 mod helpers;
 #[cfg(test)]
 mod lines;
@@ -35,6 +37,8 @@ mod prefixes;
 mod readers;
 #[cfg(test)]
 mod refusals;
+#[cfg(test)]
+mod refused_traces;
 #[cfg(test)]
 mod round_trips;
 #[cfg(test)]

@@ -1,17 +1,18 @@
-//! How far `check_marks` and `check_marks_buffered` read, and what comes of readers that fail or give a log in pieces.
+//! How far `check_marks` and `check_marks_buffered` read, and how they treat readers that fail or give a log in pieces.
 use crate::helpers::{Part, assert_rows, text_of};
 use crate::mark_logs::{BOTH_INSIDE, TWO_WRITERS, TWO_WRITERS_LENGTH};
+use ErrorKind::{BrokenPipe, Interrupted, WouldBlock};
 use Part::{Text, Times};
 use Way::{Failing, InPieces, Within};
 use ra_trace::{
     MarkCause, MarksVerdict, TraceError, check_marks, check_marks_buffered, check_marks_within,
 };
 use std::alloc::Global;
-use std::io;
+use std::io::ErrorKind;
 use std::process::Abort;
 use test_support::FailingReader;
 
-/// What comes of a log.
+/// The result of checking a log.
 type Checked = Result<MarksVerdict, TraceError>;
 
 /// How a log is read.
@@ -19,47 +20,47 @@ type Checked = Result<MarksVerdict, TraceError>;
 enum Way {
     /// In pieces of this many bytes.
     InPieces(usize),
-    /// Byte by byte, from a reader that fails once it gave so many.
-    Failing(usize),
+    /// Byte by byte, from a reader that fails with this error after this many bytes.
+    Failing(usize, ErrorKind),
     /// Within this limit.
     Within(u8),
 }
 
-/// The parts of a log, how it is read, what comes of it, and how many of its bytes are taken.
+/// The parts of a log, how it is read, the result, and how many of its bytes are taken.
 struct Case(&'static [Part<'static>], Way, Checked, usize);
 
 /// Returns a reader of a log.
 fn reader(log: &[u8], way: Way) -> FailingReader<'_> {
-    let (size, before_fault) = match way {
-        InPieces(size) => (size, None),
-        Failing(before_fault) => (1, Some(before_fault)),
-        Within(_) => (64, None),
+    let (size, before_fault, fault) = match way {
+        InPieces(size) => (size, None, Interrupted),
+        Failing(before_fault, fault) => (1, Some(before_fault), fault),
+        Within(_) => (64, None, Interrupted),
     };
     FailingReader {
         bytes: log,
         size,
         before_fault,
-        fault: io::ErrorKind::Interrupted,
+        fault,
     }
 }
 
-/// Returns what comes of what a reader gives.
+/// Returns the result of checking what a reader gives.
 fn checked(alloc: Global, reader: &mut FailingReader<'_>, way: Way) -> Checked {
     match way {
         Within(limit) => check_marks_within(alloc, reader, u64::from(limit)),
-        InPieces(_) | Failing(_) => check_marks(alloc, reader),
+        InPieces(_) | Failing(_, _) => check_marks(alloc, reader),
     }
 }
 
-/// Returns what comes of what a reader shows in its buffer.
+/// Returns the result of checking what a reader shows in its buffer.
 fn checked_shown(alloc: Global, reader: &mut FailingReader<'_>, way: Way) -> Checked {
     match way {
         Within(limit) => check_marks_within(alloc, reader, u64::from(limit)),
-        InPieces(_) | Failing(_) => check_marks_buffered(alloc, reader),
+        InPieces(_) | Failing(_, _) => check_marks_buffered(alloc, reader),
     }
 }
 
-/// Returns whether this comes of a log, of which so many bytes are taken, each by a read of its own or from a buffer.
+/// Returns whether checking a log has this result and takes this many of its bytes, both by reads and from a buffer.
 fn comes(alloc: Global, log: &[u8], way: Way, wanted: &Checked, taken: usize) -> bool {
     let (mut given, mut shown) = (reader(log, way), reader(log, way));
     checked(alloc, &mut given, way) == *wanted
@@ -68,7 +69,7 @@ fn comes(alloc: Global, log: &[u8], way: Way, wanted: &Checked, taken: usize) ->
         && shown.bytes == given.bytes
 }
 
-/// Returns whether a case is so.
+/// Returns whether a case holds.
 fn is_so(alloc: Global, case: &Case) -> bool {
     match text_of(alloc, case.0) {
         Some(log) => comes(alloc, &log, case.1, &case.2, case.3),
@@ -76,7 +77,7 @@ fn is_so(alloc: Global, case: &Case) -> bool {
     }
 }
 
-/// Returns how many cases are so, up to the first that is not.
+/// Returns how many cases hold, up to the first that does not.
 fn are_so(alloc: Global, cases: &[Case]) -> usize {
     for place in 0..cases.len() {
         if !is_so(alloc, &cases[place]) {
@@ -86,12 +87,12 @@ fn are_so(alloc: Global, cases: &[Case]) -> usize {
     cases.len()
 }
 
-/// Asserts that each case is so.
+/// Asserts that each case holds.
 fn assert_cases(rt: &(impl Abort + AllocGlobal), cases: &[Case]) {
     assert_rows(rt, are_so(rt.alloc(), cases), cases.len());
 }
 
-/// What comes of two writers, one after the other.
+/// The result for two writers, one after the other.
 const TWO: Checked = Ok(MarksVerdict::Valid {
     requests: 2,
     grants: 2,
@@ -108,21 +109,25 @@ fn the_pieces_of_a_log_do_not_matter(rt: HostRuntime) {
     assert_cases(&rt, CASES);
 }
 
-/// Returns after how many bytes of a log the fault of a reader is named and it is not tried again, from 0 up to the first where it is
-/// not so.
-fn not_tried_again(alloc: Global) -> usize {
+/// Returns at how many byte positions of a log, from 0 up to the first exception, a reader's fault is reported and the
+/// reader is not tried again.
+fn not_tried_again(alloc: Global, fault: ErrorKind) -> usize {
     for taken in 0..=TWO_WRITERS_LENGTH {
-        let log = TWO_WRITERS.as_bytes();
-        if !comes(alloc, log, Failing(taken), &Err(TraceError::Read), taken) {
+        let (log, way) = (TWO_WRITERS.as_bytes(), Failing(taken, fault));
+        if !comes(alloc, log, way, &Err(TraceError::Read), taken) {
             return taken;
         }
     }
     TWO_WRITERS_LENGTH + 1
 }
 
+/// Faults after which other readers would try again, and one after which they would not.
 #[test]
 fn a_reader_of_a_log_that_failed_is_not_tried_again(rt: HostRuntime) {
-    assert_rows(&rt, not_tried_again(rt.alloc()), TWO_WRITERS.len() + 1);
+    let (alloc, count) = (rt.alloc(), TWO_WRITERS.len() + 1);
+    assert_rows(&rt, not_tried_again(alloc, Interrupted), count);
+    assert_rows(&rt, not_tried_again(alloc, WouldBlock), count);
+    assert_rows(&rt, not_tried_again(alloc, BrokenPipe), count);
 }
 
 #[test]
@@ -133,8 +138,8 @@ fn nothing_behind_the_first_wrong_mark_is_read(rt: HostRuntime) {
         cause: MarkCause::Held,
     });
     const CASES: &[Case] = &[
-        Case(LOG, Failing(68), HELD, 68),
-        Case(LOG, Failing(67), Err(TraceError::Read), 67),
+        Case(LOG, Failing(68, WouldBlock), HELD, 68),
+        Case(LOG, Failing(67, WouldBlock), Err(TraceError::Read), 67),
         Case(LOG, InPieces(64), HELD, 68),
     ];
     assert_cases(&rt, CASES);

@@ -1,14 +1,15 @@
-//! How far `check` and `check_buffered` read, and what comes of readers that fail or give a text in pieces.
+//! How far `check` and `check_buffered` read, and how they treat readers that fail or give a text in pieces.
 use crate::helpers::{ONE_LOCK, ONE_LOCK_LENGTH, Part, TWO_LOCKS, assert_rows, text_of};
+use ErrorKind::{BrokenPipe, Interrupted, WouldBlock};
 use Part::{Text, Times};
 use Way::{Failing, InPieces, Within};
 use ra_trace::{Cause, TraceError, Verdict, check, check_buffered, check_within};
 use std::alloc::Global;
-use std::io;
+use std::io::ErrorKind;
 use std::process::Abort;
 use test_support::FailingReader;
 
-/// What comes of a text.
+/// The result of checking a text.
 type Checked = Result<Verdict, TraceError>;
 
 /// How a text is read.
@@ -16,47 +17,47 @@ type Checked = Result<Verdict, TraceError>;
 enum Way {
     /// In pieces of this many bytes.
     InPieces(usize),
-    /// Byte by byte, from a reader that fails once it gave so many.
-    Failing(usize),
+    /// Byte by byte, from a reader that fails with this error after this many bytes.
+    Failing(usize, ErrorKind),
     /// Within this limit.
     Within(u8),
 }
 
-/// The parts of a text, how it is read, what comes of it, and how many of its bytes are taken.
+/// The parts of a text, how it is read, the result, and how many of its bytes are taken.
 struct Case(&'static [Part<'static>], Way, Checked, usize);
 
 /// Returns a reader of a text.
 fn reader(text: &[u8], way: Way) -> FailingReader<'_> {
-    let (size, before_fault) = match way {
-        InPieces(size) => (size, None),
-        Failing(before_fault) => (1, Some(before_fault)),
-        Within(_) => (64, None),
+    let (size, before_fault, fault) = match way {
+        InPieces(size) => (size, None, Interrupted),
+        Failing(before_fault, fault) => (1, Some(before_fault), fault),
+        Within(_) => (64, None, Interrupted),
     };
     FailingReader {
         bytes: text,
         size,
         before_fault,
-        fault: io::ErrorKind::Interrupted,
+        fault,
     }
 }
 
-/// Returns what comes of what a reader gives.
+/// Returns the result of checking what a reader gives.
 fn checked(alloc: Global, reader: &mut FailingReader<'_>, way: Way) -> Checked {
     match way {
         Within(limit) => check_within(alloc, reader, u64::from(limit)),
-        InPieces(_) | Failing(_) => check(alloc, reader),
+        InPieces(_) | Failing(_, _) => check(alloc, reader),
     }
 }
 
-/// Returns what comes of what a reader shows in its buffer.
+/// Returns the result of checking what a reader shows in its buffer.
 fn checked_shown(alloc: Global, reader: &mut FailingReader<'_>, way: Way) -> Checked {
     match way {
         Within(limit) => check_within(alloc, reader, u64::from(limit)),
-        InPieces(_) | Failing(_) => check_buffered(alloc, reader),
+        InPieces(_) | Failing(_, _) => check_buffered(alloc, reader),
     }
 }
 
-/// Returns whether this comes of a text, of which so many bytes are taken, each by a read of its own or from a buffer.
+/// Returns whether checking a text has this result and takes this many of its bytes, both by reads and from a buffer.
 fn comes(alloc: Global, text: &[u8], way: Way, wanted: &Checked, taken: usize) -> bool {
     let (mut given, mut shown) = (reader(text, way), reader(text, way));
     checked(alloc, &mut given, way) == *wanted
@@ -65,7 +66,7 @@ fn comes(alloc: Global, text: &[u8], way: Way, wanted: &Checked, taken: usize) -
         && shown.bytes == given.bytes
 }
 
-/// Returns whether a case is so.
+/// Returns whether a case holds.
 fn is_so(alloc: Global, case: &Case) -> bool {
     match text_of(alloc, case.0) {
         Some(text) => comes(alloc, &text, case.1, &case.2, case.3),
@@ -73,7 +74,7 @@ fn is_so(alloc: Global, case: &Case) -> bool {
     }
 }
 
-/// Returns how many cases are so, up to the first that is not.
+/// Returns how many cases hold, up to the first that does not.
 fn are_so(alloc: Global, cases: &[Case]) -> usize {
     for place in 0..cases.len() {
         if !is_so(alloc, &cases[place]) {
@@ -83,7 +84,7 @@ fn are_so(alloc: Global, cases: &[Case]) -> usize {
     cases.len()
 }
 
-/// Asserts that each case is so.
+/// Asserts that each case holds.
 fn assert_cases(rt: &(impl Abort + AllocGlobal), cases: &[Case]) {
     assert_rows(rt, are_so(rt.alloc(), cases), cases.len());
 }
@@ -104,24 +105,28 @@ fn the_pieces_of_a_text_do_not_matter(rt: HostRuntime) {
     assert_cases(&rt, CASES);
 }
 
-/// Returns after how many bytes of the trace of one lock the fault of a reader is named and it is not tried again, from 0 up to the
-/// first where it is not so.
-fn not_tried_again(alloc: Global) -> usize {
+/// Returns at how many byte positions of the trace of one lock, from 0 up to the first exception, a reader's fault is
+/// reported and the reader is not tried again.
+fn not_tried_again(alloc: Global, fault: ErrorKind) -> usize {
     for taken in 0..=ONE_LOCK_LENGTH {
-        let text = ONE_LOCK.as_bytes();
-        if !comes(alloc, text, Failing(taken), &Err(TraceError::Read), taken) {
+        let (text, way) = (ONE_LOCK.as_bytes(), Failing(taken, fault));
+        if !comes(alloc, text, way, &Err(TraceError::Read), taken) {
             return taken;
         }
     }
     ONE_LOCK_LENGTH + 1
 }
 
+/// Faults after which other readers would try again, and one after which they would not.
 #[test]
 fn a_reader_that_failed_is_not_tried_again(rt: HostRuntime) {
-    assert_rows(&rt, not_tried_again(rt.alloc()), ONE_LOCK.len() + 1);
+    let (alloc, count) = (rt.alloc(), ONE_LOCK.len() + 1);
+    assert_rows(&rt, not_tried_again(alloc, Interrupted), count);
+    assert_rows(&rt, not_tried_again(alloc, WouldBlock), count);
+    assert_rows(&rt, not_tried_again(alloc, BrokenPipe), count);
 }
 
-/// `ONE_LOCK` with its fifth line and its sixth exchanged. The fifth ends with byte 84.
+/// `ONE_LOCK` with its fifth and sixth lines exchanged. The fifth ends with byte 84.
 const EXCHANGED: &str = "trace 1 2 0
 ask 1 1 r X
 request 1 1 r X 1
@@ -141,10 +146,10 @@ fn nothing_behind_the_first_wrong_line_is_read(rt: HostRuntime) {
         cause: Cause::Marks,
     });
     const CASES: &[Case] = &[
-        Case(TEXT, Failing(90), MARKS, 84),
-        Case(TEXT, Failing(84), MARKS, 84),
-        Case(TEXT, Failing(83), Err(TraceError::Read), 83),
-        Case(TEXT, Failing(70), Err(TraceError::Read), 70),
+        Case(TEXT, Failing(90, WouldBlock), MARKS, 84),
+        Case(TEXT, Failing(84, WouldBlock), MARKS, 84),
+        Case(TEXT, Failing(83, WouldBlock), Err(TraceError::Read), 83),
+        Case(TEXT, Failing(70, WouldBlock), Err(TraceError::Read), 70),
         Case(TEXT, InPieces(64), MARKS, 84),
     ];
     assert_cases(&rt, CASES);

@@ -1,7 +1,6 @@
 //! The document of a script: its length, its nesting and its shape, and other ways to write it.
 use crate::helpers::Part::{Text, Times};
-use crate::helpers::assert_rows;
-use crate::script_cases::Answer::{Accepted, NoToml, Refused, TooDeep};
+use crate::script_cases::Answer::{Accepted, NoToml, Refused};
 use crate::script_cases::{
     Around, Case, assert_cases, assert_refused, assert_refused_in, comes_of_parts,
 };
@@ -49,47 +48,53 @@ fn deep_nesting_is_refused(rt: HostRuntime) {
     assert_cases(&rt, CASES);
 }
 
-/// The parser has a bound of its own for some of these, and the others are no script.
+/// None of these is closed.
 #[test]
 fn deep_tables_are_refused(rt: HostRuntime) {
     const CASES: &[Case] = &[
-        Case(&[Text("nodes = "), Times(b"{a=", 21_842)], TooDeep),
-        Case(&[Text("nodes"), Times(b".a", 32_765)], TooDeep),
-        Case(&[Text("[nodes"), Times(b".a", 32_765)], TooDeep),
+        Case(&[Text("nodes = "), Times(b"{a=", 21_842)], NoToml(65_534)),
+        Case(&[Text("nodes"), Times(b".a", 32_765)], NoToml(65_535)),
+        Case(&[Text("[nodes"), Times(b".a", 32_765)], NoToml(65_536)),
         Case(
             &[Text("nodes = 1\n[[client"), Times(b".a", 32_759)],
-            TooDeep,
+            NoToml(65_536),
         ),
-        Case(&[Text("client = ["), Times(b"[{a=", 16_381)], TooDeep),
+        Case(
+            &[Text("client = ["), Times(b"[{a=", 16_381)],
+            NoToml(65_534),
+        ),
     ];
     assert_cases(&rt, CASES);
 }
 
-/// Tables, closed as they should be: what stands in front, what opens a level, what the last one has, what closes a level and what
-/// stands behind.
+/// Properly closed tables: the text before them, what opens a level, what the last level has, what closes a level, the
+/// text after them, and the most levels that the parser takes. It takes 80 nested inline tables, and keys of 80 parts.
 struct Tables(
     &'static str,
     &'static [u8],
     &'static str,
     &'static [u8],
     &'static str,
+    usize,
 );
 
-/// Inline tables, and those of a key, of a header and of an array's header with dots.
+/// Inline tables, and those of a dotted key, a dotted header and an array's dotted header.
 const CLOSED_TABLES: &[Tables] = &[
-    Tables("client = []\nnodes = ", b"{a=", "1", b"}", "\n"),
-    Tables("client = []\nnodes", b".a", " = 1\n", b"", ""),
-    Tables("client = []\n[nodes", b".a", "]\n", b"", ""),
+    Tables("client = []\nnodes = ", b"{a=", "1", b"}", "\n", 80),
+    Tables("client = []\nnodes", b".a", " = 1\n", b"", "", 79),
+    Tables("client = []\n[nodes", b".a", "]\n", b"", "", 79),
     Tables(
         "nodes = 1\n[[client",
         b".a",
         "]]\nnode = 1\nops = []\n",
         b"",
         "",
+        79,
     ),
 ];
 
-/// Returns whether such tables of this many levels are refused.
+/// Returns whether tables with this many levels are refused: as invalid TOML if the parser takes fewer levels,
+/// otherwise as another shape.
 fn tables_are_refused(alloc: Global, tables: &Tables, levels: usize) -> bool {
     let parts = [
         Text(tables.0),
@@ -98,10 +103,15 @@ fn tables_are_refused(alloc: Global, tables: &Tables, levels: usize) -> bool {
         Times(tables.3, levels),
         Text(tables.4),
     ];
-    comes_of_parts(alloc, &parts, TooDeep)
+    let fault = if levels > tables.5 {
+        ScriptError::Toml
+    } else {
+        ScriptError::Shape
+    };
+    comes_of_parts(alloc, &parts, Refused(fault))
 }
 
-/// Returns how many of these tables are refused with so many levels, up to the first that is not.
+/// Returns how many of these tables are refused with this many levels, up to the first that is not.
 fn tables_refused(alloc: Global, rows: &[Tables], levels: usize) -> usize {
     for place in 0..rows.len() {
         if !tables_are_refused(alloc, &rows[place], levels) {
@@ -114,9 +124,13 @@ fn tables_refused(alloc: Global, rows: &[Tables], levels: usize) -> usize {
 #[test]
 fn tables_in_tables_are_refused(rt: HostRuntime) {
     let (alloc, tables) = (rt.alloc(), CLOSED_TABLES);
-    assert_rows(&rt, tables_refused(alloc, tables, 1), tables.len());
-    assert_rows(&rt, tables_refused(alloc, tables, 100), tables.len());
-    assert_rows(&rt, tables_refused(alloc, tables, 16_000), tables.len());
+    for levels in [1usize, 2, 78, 79, 80, 81, 100, 16_000] {
+        let refused = tables_refused(alloc, tables, levels);
+        assert!(rt;
+            refused == tables.len(),
+            "row {refused}, counted from 0, at {levels} levels"
+        );
+    }
 }
 
 const OTHER_SHAPES: &[&str] = &[
@@ -168,7 +182,7 @@ fn a_client_has_an_integer_and_strings(rt: HostRuntime) {
 const THIRD_KEYS: &[&str] = &[
     "nodes = 2\nname = 'a'\nclient = []\n",
     "nodes = 2\nclient = [{node = 1, ops = [], name = 'a'}]\n",
-    // The shape is looked at before the nodes, and all of it.
+    // The whole shape is checked before the nodes.
     "nodes = 0\nclient = [{node = 9, ops = ['?']}, {node = 1, ops = [], z = 1}]\n",
 ];
 

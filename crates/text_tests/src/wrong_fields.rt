@@ -1,127 +1,127 @@
-//! What `ra_explain` says to a person of a line with a wrong field, or of one that stands where it may not.
+//! What `ra_explain` tells a person about a line with a wrong field, or about one that is not allowed at its place.
 use crate::explained_runs::is_said;
 use crate::helpers::assert_rows;
 use ra_explain::{LineCause, line_note, version_of};
 use ra_trace::{Cause, MarkCause};
 use std::alloc::Global;
 
-/// The last lines of traces that are none, the number of each, and what is said of it.
+/// In each row: the last lines of an invalid trace, the number of the last one, and what is said about it.
 const TRACE_LINES: &[(&str, u64, &str)] = &[
     (
         "trace 2 65 0\n",
         1,
-        "line 1, 'trace 2 65 0': NODES is '65': it is 1 to 64, with no zeros before it",
+        "line 1, 'trace 2 65 0': NODES is '65': must be 1 to 64, without leading zeros",
     ),
     (
         "trace 1 17 0\n",
         1,
-        "line 1, 'trace 1 17 0': NODES is '17': it is 1 to 16 in version 1, with no zeros before it",
+        "line 1, 'trace 1 17 0': NODES is '17': must be 1 to 16 in version 1, without leading zeros",
     ),
     (
         "trace 2 2\n",
         1,
-        "line 1, 'trace 2 2': START is missing: the line is trace 2 NODES START",
+        "line 1, 'trace 2 2': START is missing: expected trace 2 NODES START",
     ),
     (
         "trace 2 2 00\n",
         1,
-        "line 1, 'trace 2 2 00': START is '00': it is 0 to 18446744073709551615, with no zeros before it",
+        "line 1, 'trace 2 2 00': START is '00': must be 0 to 18446744073709551615, without leading zeros",
     ),
     (
         "trace 3 2 0\n",
         1,
-        "line 1, 'trace 3 2 0': a trace begins with trace, its version, 1 or 2, the number of its nodes, at most 16 in version 1 and 64 in version 2, and the number that each name begins with",
+        "line 1, 'trace 3 2 0': expected trace VERSION NODES START: version 1 or 2, at most 16 nodes in version 1 and 64 in version 2, and the number that each name begins with",
     ),
     (
         "ask 1 1 r X\n",
         1,
-        "line 1, 'ask 1 1 r X': the first line of a trace is trace 2 NODES START, or trace 1 NODES START in version 1",
+        "line 1, 'ask 1 1 r X': expected trace 2 NODES START, or trace 1 NODES START in version 1, as the first line of a trace",
     ),
     (
         "trace 2 2 0\ntrace 2 2 0\n",
         2,
-        "line 2, 'trace 2 2 0': only the first line of a trace begins with trace",
+        "line 2, 'trace 2 2 0': only the first line of a trace may begin with trace",
     ),
     (
         "trace 2 2 0\nask 0 1 r X\n",
         2,
-        "line 2, 'ask 0 1 r X': NODE is '0': it is 1 to 64, with no zeros before it",
+        "line 2, 'ask 0 1 r X': NODE is '0': must be 1 to 64, without leading zeros",
     ),
     (
         "trace 2 2 0\nask 01 1 r X\n",
         2,
-        "line 2, 'ask 01 1 r X': NODE is '01': it is 1 to 64, with no zeros before it",
+        "line 2, 'ask 01 1 r X': NODE is '01': must be 1 to 64, without leading zeros",
     ),
     (
         "trace 2 2 0\nask 1 4294967296 r X\n",
         2,
-        "line 2, 'ask 1 4294967296 r X': CLIENT is '4294967296': it is 0 to 4294967295, with no zeros before it",
+        "line 2, 'ask 1 4294967296 r X': CLIENT is '4294967296': must be 0 to 4294967295, without leading zeros",
     ),
     (
         "trace 2 2 0\nrelease 1 1 r/\n",
         2,
-        "line 2, 'release 1 1 r/': NAME is 'r/': it is 1 to 32 of A to Z, a to z, 0 to 9, _, - and .",
+        "line 2, 'release 1 1 r/': NAME is 'r/': must be 1 to 32 characters from A-Z, a-z, 0-9, _, - and .",
     ),
     (
         "trace 2 2 0\nask 1 1 r x\n",
         2,
-        "line 2, 'ask 1 1 r x': MODE is 'x': it is S, X, IS, IX or SIX",
+        "line 2, 'ask 1 1 r x': MODE is 'x': must be S, X, IS, IX or SIX",
     ),
     (
         "trace 2 2 0\ndeliver request 1 2 r X 0\n",
         2,
-        "line 2, 'deliver request 1 2 r X 0': SEQ is '0': it is 1 to 18446744073709551615, with no zeros before it",
+        "line 2, 'deliver request 1 2 r X 0': SEQ is '0': must be 1 to 18446744073709551615, without leading zeros",
     ),
     (
         "trace 2 2 0\nlose reply 65 2 r 1\n",
         2,
-        "line 2, 'lose reply 65 2 r 1': FROM is '65': it is 1 to 64, with no zeros before it",
+        "line 2, 'lose reply 65 2 r 1': FROM is '65': must be 1 to 64, without leading zeros",
     ),
     (
         "trace 2 2 0\nrepeat reply 1 x r 1\n",
         2,
-        "line 2, 'repeat reply 1 x r 1': TO is 'x': it is 1 to 64, with no zeros before it",
+        "line 2, 'repeat reply 1 x r 1': TO is 'x': must be 1 to 64, without leading zeros",
     ),
     (
         "trace 2 2 0\nask 1  1 r X\n",
         2,
-        "line 2, 'ask 1  1 r X': CLIENT is empty, and one space stands before each field: it is 0 to 4294967295, with no zeros before it",
+        "line 2, 'ask 1  1 r X': CLIENT is empty (a single space separates fields): must be 0 to 4294967295, without leading zeros",
     ),
     (
         "trace 2 2 0\nrelease 1 1 r X\n",
         2,
-        "line 2, 'release 1 1 r X': more stands in the line than release NODE CLIENT NAME",
+        "line 2, 'release 1 1 r X': too many fields: expected release NODE CLIENT NAME",
     ),
     (
         "trace 2 2 0\nend of it\n",
         2,
-        "line 2, 'end of it': more stands in the line than end",
+        "line 2, 'end of it': too many fields: expected end",
     ),
     (
         "trace 2 2 0\nask\n",
         2,
-        "line 2, 'ask': NODE is missing: the line is ask NODE CLIENT NAME MODE",
+        "line 2, 'ask': NODE is missing: expected ask NODE CLIENT NAME MODE",
     ),
     (
         "trace 2 2 0\ndeliver 1 2 r X 1\n",
         2,
-        "line 2, 'deliver 1 2 r X 1': after deliver, lose and repeat stands request or reply",
+        "line 2, 'deliver 1 2 r X 1': expected request or reply after deliver, lose or repeat",
     ),
     (
         "trace 2 2 0\nlock 1 1 r X\n",
         2,
-        "line 2, 'lock 1 1 r X': a line after the first one of a trace begins with ask, release, deliver, lose, repeat, request, enter or leave, and the last one is end",
+        "line 2, 'lock 1 1 r X': expected a line that begins with ask, release, deliver, lose, repeat, request, enter or leave, or the last line, end",
     ),
     // The ranges of version 1.
     (
         "trace 1 2 0\nask 17 1 r X\n",
         2,
-        "line 2, 'ask 17 1 r X': NODE is '17': it is 1 to 16 in version 1, with no zeros before it",
+        "line 2, 'ask 17 1 r X': NODE is '17': must be 1 to 16 in version 1, without leading zeros",
     ),
     (
         "trace 1 2 0\nask 1 1 r IX\n",
         2,
-        "line 2, 'ask 1 1 r IX': MODE is 'IX': it is S or X in version 1",
+        "line 2, 'ask 1 1 r IX': MODE is 'IX': must be S or X in version 1",
     ),
     (
         "trace 1 2 0\nrepeat reply 1 2 r 1\n",
@@ -131,9 +131,9 @@ const TRACE_LINES: &[(&str, u64, &str)] = &[
     (
         "trace 1 2 0\nask 99 1 r X\n",
         2,
-        "line 2, 'ask 99 1 r X': NODE is '99': it is 1 to 16 in version 1, with no zeros before it",
+        "line 2, 'ask 99 1 r X': NODE is '99': must be 1 to 16 in version 1, without leading zeros",
     ),
-    // Repeats are in no line of version 1, and a first line in no later one, whatever their fields are.
+    // Version 1 has no repeats, and a first line may not come later, whatever the fields are.
     (
         "trace 1 2 0\nrepeat request 1 20 r X 1\n",
         2,
@@ -142,43 +142,43 @@ const TRACE_LINES: &[(&str, u64, &str)] = &[
     (
         "trace 1 2 0\ntrace 2 99 0\n",
         2,
-        "line 2, 'trace 2 99 0': only the first line of a trace begins with trace",
+        "line 2, 'trace 2 99 0': only the first line of a trace may begin with trace",
     ),
     (
         "ask 99 1 r X\n",
         1,
-        "line 1, 'ask 99 1 r X': the first line of a trace is trace 2 NODES START, or trace 1 NODES START in version 1",
+        "line 1, 'ask 99 1 r X': expected trace 2 NODES START, or trace 1 NODES START in version 1, as the first line of a trace",
     ),
-    // Where the first line is not known, neither is the version.
+    // If the first line is not known, neither is the version.
     (
         "ask 99 1 r X\n",
         2,
-        "line 2, 'ask 99 1 r X': NODE is '99': it is 1 to 16 in version 1, and to 64 in version 2, with no zeros before it",
+        "line 2, 'ask 99 1 r X': NODE is '99': must be 1 to 16 in version 1, or 1 to 64 in version 2, without leading zeros",
     ),
     (
         "ask 1 1 r Y\n",
         2,
-        "line 2, 'ask 1 1 r Y': MODE is 'Y': it is S or X in version 1, and IS, IX or SIX in version 2, too",
+        "line 2, 'ask 1 1 r Y': MODE is 'Y': must be S or X in version 1, or S, X, IS, IX or SIX in version 2",
     ),
     ("ask 17 1 r X\n", 2, "line 2, 'ask 17 1 r X': said of all"),
 ];
 
-/// The same of mark logs.
+/// The same for mark logs.
 const MARK_LINES: &[(&str, u64, &str)] = &[
     (
         "request 1 1 r X\n",
         1,
-        "line 1, 'request 1 1 r X': SEQ is missing: the line is request NODE CLIENT NAME MODE SEQ",
+        "line 1, 'request 1 1 r X': SEQ is missing: expected request NODE CLIENT NAME MODE SEQ",
     ),
     (
         "enter 1 1 r Y 1\n",
         1,
-        "line 1, 'enter 1 1 r Y 1': MODE is 'Y': it is S, X, IS, IX or SIX",
+        "line 1, 'enter 1 1 r Y 1': MODE is 'Y': must be S, X, IS, IX or SIX",
     ),
     (
         "leave 1 1 r X 1 2\n",
         1,
-        "line 1, 'leave 1 1 r X 1 2': more stands in the line than leave NODE CLIENT NAME MODE SEQ",
+        "line 1, 'leave 1 1 r X 1 2': too many fields: expected leave NODE CLIENT NAME MODE SEQ",
     ),
     (
         "ask 1 1 r\n",
@@ -188,7 +188,7 @@ const MARK_LINES: &[(&str, u64, &str)] = &[
     ("end\n", 1, "line 1, 'end': said of all"),
 ];
 
-/// Returns how many rows are said of their lines, up to the first that is not.
+/// Returns for how many rows the expected text is said, up to the first for which it is not.
 fn said_of(alloc: Global, rows: &[(&str, u64, &str)], cause: LineCause) -> usize {
     for (place, row) in rows.iter().enumerate() {
         let text = row.0.as_bytes();
@@ -220,37 +220,37 @@ fn which_field_of_a_mark_is_wrong(rt: HostRuntime) {
     assert_rows(&rt, said, MARK_LINES.len());
 }
 
-/// Lines that ask or leave where they may not.
+/// Lines in which a client asks or leaves when it may not.
 const REFUSED_LINES: &[(&str, u64, &str)] = &[
     (
         "trace 2 2 0\nask 3 1 r X\n",
         2,
-        "line 2, 'ask 3 1 r X': there is no node 3: the nodes of the trace are 1 to 2",
+        "line 2, 'ask 3 1 r X': there is no node 3: the highest node of the trace is 2",
     ),
     (
         "trace 2 2 0\nrelease 3 1 r\n",
         2,
-        "line 2, 'release 3 1 r': there is no node 3: the nodes of the trace are 1 to 2",
+        "line 2, 'release 3 1 r': there is no node 3: the highest node of the trace is 2",
     ),
     (
         "trace 2 2 0\nask 1 1 r X\nrequest 1 1 r X 1\nask 1 1 r S\n",
         4,
-        "line 4, 'ask 1 1 r S': client 1 waits for 'r' (X) at node 1 since line 3, and may not ask for it again",
+        "line 4, 'ask 1 1 r S': client 1 has waited for 'r' (X) at node 1 since line 3 and may not ask for it again",
     ),
     (
         "trace 2 1 0\nask 1 1 r X\nrequest 1 1 r X 1\nenter 1 1 r X 1\nask 1 1 r S\n",
         5,
-        "line 5, 'ask 1 1 r S': client 1 holds 'r' (X) at node 1 since line 4, and may not ask for it again",
+        "line 5, 'ask 1 1 r S': client 1 has held 'r' (X) at node 1 since line 4 and may not ask for it again",
     ),
     (
         "trace 2 2 0\nask 1 1 r X\nrequest 1 1 r X 1\nask 1 2 r X\nask 1 2 r X\n",
         5,
-        "line 5, 'ask 1 2 r X': client 2 is queued for 'r' at node 1, and may not ask for it again",
+        "line 5, 'ask 1 2 r X': client 2 is queued for 'r' at node 1 and may not ask for it again",
     ),
     (
         "trace 2 1 18446744073709551615\nask 1 1 r X\n",
         2,
-        "line 2, 'ask 1 1 r X': no number is left for 'r': the last one is 18446744073709551615",
+        "line 2, 'ask 1 1 r X': no sequence number is left for 'r': the greatest is 18446744073709551615",
     ),
     (
         "trace 2 2 0\nrelease 1 1 r\n",
@@ -260,9 +260,9 @@ const REFUSED_LINES: &[(&str, u64, &str)] = &[
     (
         "trace 2 2 0\nask 1 1 r X\nrequest 1 1 r X 1\nrelease 1 1 r\n",
         4,
-        "line 4, 'release 1 1 r': client 1 waits for 'r' (X) at node 1 since line 3, and does not hold it",
+        "line 4, 'release 1 1 r': client 1 has waited for 'r' (X) at node 1 since line 3 and does not hold it",
     ),
-    // Where the first lines are not known, neither is what came before.
+    // If the first lines are not known, neither is what came before.
     ("release 1 1 r\n", 2, "line 2, 'release 1 1 r': said of all"),
 ];
 
@@ -279,7 +279,7 @@ const LOW_LINES: &[(&str, u64, &str)] = &[
         4,
         "line 4, 'request 2 2 r X 4': said of all: 4 was granted in line 2",
     ),
-    // The greatest number counts, and no other name's.
+    // The greatest number counts, and only those of the same name.
     (
         "request 1 1 r S 7\nenter 1 1 r S 7\nrequest 2 1 r S 9\nenter 2 1 r S 9\nrequest 1 1 q X 11\nenter 1 1 q X 11\nrequest 3 1 r S 8\n",
         7,
@@ -303,18 +303,18 @@ const GONE_LINES: &[(&str, u64, &str)] = &[
     (
         "trace 2 2 0\nask 1 1 r X\nrequest 1 1 r X 1\ndeliver reply 2 1 r 1\n",
         4,
-        "line 4, 'deliver reply 2 1 r 1': this message is not under way: nobody sent it",
+        "line 4, 'deliver reply 2 1 r 1': this message is not under way: it was never sent",
     ),
     (
         "trace 2 2 0\nask 1 1 r X\nrequest 1 1 r X 1\nlose request 1 2 r X 1\nrepeat request 1 2 r X 1\n",
         5,
-        "line 5, 'repeat request 1 2 r X 1': this message is not under way: it was taken already, the last time in line 4",
+        "line 5, 'repeat request 1 2 r X 1': this message is not under way: it was last delivered or lost in line 4",
     ),
-    // A repeat takes none, and of two lines that take it the last one counts.
+    // A repeat takes no message away, and of two lines that take it the last one counts.
     (
         "trace 2 2 0\nask 1 1 r X\nrequest 1 1 r X 1\nrepeat request 1 2 r X 1\nlose request 1 2 r X 1\ndeliver request 1 2 r X 1\ndeliver request 1 2 r X 1\n",
         7,
-        "line 7, 'deliver request 1 2 r X 1': this message is not under way: it was taken already, the last time in line 6",
+        "line 7, 'deliver request 1 2 r X 1': this message is not under way: it was last delivered or lost in line 6",
     ),
     (
         "deliver reply 2 1 r 1\n",

@@ -1,5 +1,5 @@
-//! Three nodes in one process, and two threads that lock a name, each at a node of its own. In the end the books of the nodes
-//! settle into one run of the cluster.
+//! Three nodes in one process, and two client threads that lock a name, each at its own node. At the end, the nodes'
+//! books settle into one run of the cluster.
 #![tactic(auto)]
 
 use anyhow::{Context, Result};
@@ -10,7 +10,7 @@ use std::sync::Wait;
 use std::thread;
 use std::thread::Threads;
 
-/// A client locks a name at its node, uses what the name stands for, and unlocks it.
+/// A client locks a name at its node, uses what the name protects, and unlocks it.
 fn work<R: Wait>(
     rt: &R,
     alloc: Global,
@@ -21,16 +21,17 @@ fn work<R: Wait>(
 ) -> Result<Grant, CallError> {
     let mode = Mode::Exclusive;
     let held = cluster.with_lock(rt, alloc, node, client, name, mode, |_grant: Grant| {
-        // Here the client has the name for itself.
+        // Here the client holds the name exclusively.
     })?;
     if held.unlocked.is_err() {
-        // It still holds the name, so that the others would wait for ever.
+        // It still holds the name, so the others would wait forever.
         cluster.stop(rt, Stop::Refused);
     }
     Ok(held.grant)
 }
 
-/// Runs a thread for each node and, while these run, the two clients. Returns what these got, once all threads have ended.
+/// Runs a thread for each node and, meanwhile, the two clients. Returns what the clients got, once all threads have
+/// ended.
 fn run<R: Threads + Wait + Sync>(
     rt: &R,
     alloc: Global,

@@ -1,4 +1,4 @@
-//! What a policy makes of a script.
+//! How a policy drives a script.
 use crate::helpers::is_quiet_after;
 use Drive::{
     Differ, EndsAtOnce, Finish, Goes, NamesNothing, Repeat, SixteenWritersEnd, SumsUpFourTurns,
@@ -11,40 +11,40 @@ use ra_stamp::Mark;
 use ra_world::{Report, Step};
 use std::alloc::Global;
 
-/// Who chooses what comes next.
+/// What chooses the next step.
 #[derive(Clone, Copy)]
 pub enum Chooser {
     Oldest,
     Newest,
-    /// Chance, by this seed.
+    /// Random choices from this seed.
     Seeded(u64),
-    /// Chance with faults, by this seed: of 1,000 messages so many are lost, and so many repeated.
+    /// Random choices with faults from this seed: of 1,000 messages this many are lost, and this many repeated.
     Faulty(u64, u16, u16),
     /// These choices.
     Listed(&'static [Choice]),
 }
 
-/// What a policy makes of a script.
+/// How a policy drives a script.
 #[derive(Clone, Copy)]
 pub enum Drive {
-    /// No end is reached in so many turns.
+    /// The run does not end within this many turns.
     TakesMoreTurns(Chooser, u64),
-    /// The end is reached with no turn.
+    /// The run ends without a turn.
     EndsAtOnce(Chooser),
-    /// The end is reached by these steps, with so many messages sent, and it is finished or not. A digit is a step of the client with
-    /// that number, and by `d`, `l` or `r` a message is delivered, lost or repeated.
+    /// The run ends after these steps, with this many messages sent, and is finished or not. A digit is a step of the
+    /// client with that number; `d`, `l` and `r` deliver, lose and repeat a message.
     Goes(Chooser, &'static str, u128, bool),
-    /// A choice names a client or a message that there is not.
+    /// A choice names a client or a message that does not exist.
     NamesNothing(Chooser),
     /// The oldest choices lead to the end in four turns, with one request, its two messages and three marks.
     TakesFourTurns,
-    /// Three turns are too few to sum that up.
+    /// Three turns are too few for its summary.
     SumsUpNoThreeTurns,
     /// The four turns are summed up.
     SumsUpFourTurns,
     /// The oldest choices lead 16 writers to their end, one node after the other.
     SixteenWritersEnd,
-    /// Each seed below 100 leads to the end, with so many requests and messages and nothing left.
+    /// Each seed below 100 leads to the end, with this many requests and messages and nothing left.
     Finish(u128, u128),
     /// Each seed below 100 leads twice to the same steps.
     Repeat,
@@ -52,7 +52,7 @@ pub enum Drive {
     Differ,
 }
 
-/// Returns the policy of chance with faults, or `None` where there are no such faults.
+/// Returns the random policy with faults, or `None` if such faults are not allowed.
 fn faulty(seed: u64, lose: u16, repeat: u16) -> Option<Policy> {
     match Faults::new(lose, repeat) {
         Some(faults) => Some(Policy::Faulty { seed, faults }),
@@ -72,7 +72,7 @@ fn listed(alloc: Global, choices: &[Choice]) -> Option<Policy> {
 }
 
 /// Returns the policy.
-fn policy(alloc: Global, chooser: Chooser) -> Option<Policy> {
+pub fn policy(alloc: Global, chooser: Chooser) -> Option<Policy> {
     match chooser {
         Chooser::Oldest => Some(Policy::Oldest),
         Chooser::Newest => Some(Policy::Newest),
@@ -82,7 +82,7 @@ fn policy(alloc: Global, chooser: Chooser) -> Option<Policy> {
     }
 }
 
-/// Makes the recording of a policy that comes to an end in so many turns.
+/// Makes the recording of a policy's run that ends within this many turns.
 fn recorded(alloc: Global, script: &Script, chooser: Chooser, limit: u64) -> Option<Recording> {
     match policy(alloc, chooser) {
         Some(policy) => drive(alloc, script, &policy, limit).ok(),
@@ -90,7 +90,7 @@ fn recorded(alloc: Global, script: &Script, chooser: Chooser, limit: u64) -> Opt
     }
 }
 
-/// Returns why no end is reached in so many turns, where none is.
+/// Returns why a run does not end within this many turns, if it does not.
 fn refused(alloc: Global, script: &Script, chooser: Chooser, limit: u64) -> Option<DriveError> {
     match policy(alloc, chooser) {
         Some(policy) => drive(alloc, script, &policy, limit).err(),
@@ -98,7 +98,7 @@ fn refused(alloc: Global, script: &Script, chooser: Chooser, limit: u64) -> Opti
     }
 }
 
-/// Returns whether no end is reached in so many turns.
+/// Returns whether this many turns are too few for a run to end.
 fn takes_more_turns(alloc: Global, script: &Script, chooser: Chooser, limit: u64) -> bool {
     refused(alloc, script, chooser, limit) == Some(DriveError::TurnLimit)
 }
@@ -108,7 +108,7 @@ fn is_of_one_lock(report: &Report) -> bool {
     report.requests == 1 && report.sent == 2 && report.marks.len() == 3
 }
 
-/// Returns whether a recording ended, in so many turns.
+/// Returns whether a recording is finished and has this many turns.
 fn has_ended(recording: &Recording, turns: u64) -> bool {
     recording.finished && recording.steps.len() == turns
 }
@@ -121,7 +121,7 @@ fn takes_four_turns(alloc: Global, script: &Script) -> bool {
     }
 }
 
-/// Returns whether the end is reached with no turn.
+/// Returns whether a run ends without a turn.
 fn ends_at_once(alloc: Global, script: &Script, chooser: Chooser) -> bool {
     match recorded(alloc, script, chooser, 0) {
         Some(recording) => has_ended(&recording, 0),
@@ -153,7 +153,7 @@ fn have_letters(steps: &[Step], letters: &[u8]) -> bool {
     true
 }
 
-/// Returns how often a letter is among these.
+/// Returns how often a letter occurs among these.
 fn count(letters: &[u8], sought: u8) -> u128 {
     let mut count = 0u128;
     for letter in letters {
@@ -169,7 +169,7 @@ fn counts(report: &Report, letters: &[u8]) -> bool {
     report.lost == count(letters, b'l') && report.repeated == count(letters, b'r')
 }
 
-/// Returns whether the end is reached by steps of these letters, with so many messages sent, and it is finished or not.
+/// Returns whether a run ends after steps of these letters, with this many messages sent, and is finished or not.
 fn goes(
     alloc: Global,
     script: &Script,
@@ -189,7 +189,7 @@ fn goes(
     }
 }
 
-/// Returns whether three turns are too few to sum one lock up.
+/// Returns whether three turns are too few to sum up one lock.
 fn sums_up_no_three_turns(alloc: Global, script: &Script) -> bool {
     summarize(alloc, script, &Policy::Oldest, 3).err() == Some(DriveError::TurnLimit)
 }
@@ -221,7 +221,7 @@ fn enter_in_order(marks: &[Mark]) -> bool {
     last == 16
 }
 
-/// Returns whether a recording ended, with so many requests and messages and nothing left.
+/// Returns whether a recording is finished, with this many requests and messages and nothing left.
 fn is_quiet(recording: &Recording, requests: u128, sent: u128) -> bool {
     recording.finished && is_quiet_after(&recording.report, requests, sent)
 }
@@ -236,7 +236,7 @@ fn sixteen_writers_end(alloc: Global, script: &Script) -> bool {
     }
 }
 
-/// Returns whether a seed drives a script to its end, with so many requests and messages and nothing left.
+/// Returns whether a seed drives a script to its end, with this many requests and messages and nothing left.
 fn is_finished(alloc: Global, script: &Script, seed: u64, requests: u128, sent: u128) -> bool {
     match recorded(alloc, script, Chooser::Seeded(seed), 100) {
         Some(recording) => is_quiet(&recording, requests, sent),
@@ -254,7 +254,7 @@ fn all_are_finished(alloc: Global, script: &Script, requests: u128, sent: u128) 
     true
 }
 
-/// Returns whether a seed leads to the steps of a recording, or `None` where it leads to no end.
+/// Returns whether a seed leads to the steps of a recording, or `None` if it leads to no end.
 fn leads_to(alloc: Global, script: &Script, one: &Recording, seed: u64) -> Option<bool> {
     match recorded(alloc, script, Chooser::Seeded(seed), 100) {
         Some(other) => Some(one.steps.as_slice() == other.steps.as_slice()),
@@ -262,7 +262,7 @@ fn leads_to(alloc: Global, script: &Script, one: &Recording, seed: u64) -> Optio
     }
 }
 
-/// Returns whether two seeds lead to the same steps, or `None` where one leads to no end.
+/// Returns whether two seeds lead to the same steps, or `None` if one leads to no end.
 fn lead_to_the_same(alloc: Global, script: &Script, one: u64, other: u64) -> Option<bool> {
     match recorded(alloc, script, Chooser::Seeded(one), 100) {
         Some(one) => leads_to(alloc, script, &one, other),
@@ -290,7 +290,7 @@ fn differ(alloc: Global, script: &Script) -> bool {
     false
 }
 
-/// Returns whether the first step of a recording is that this client asks.
+/// Returns whether a recording begins with this client asking.
 fn begins_with(recording: &Recording, expected: u64) -> bool {
     match recording.steps.at(0) {
         Some(Step::Ask { client, .. }) => u64::from(client) == expected,
@@ -298,7 +298,7 @@ fn begins_with(recording: &Recording, expected: u64) -> bool {
     }
 }
 
-/// Returns whether this client asks first by seed 0.
+/// Returns whether this client asks first with seed 0.
 pub fn asks_first(alloc: Global, script: &Script, client: u64) -> bool {
     match recorded(alloc, script, Chooser::Seeded(0), 200) {
         Some(recording) => begins_with(&recording, client),
@@ -306,7 +306,7 @@ pub fn asks_first(alloc: Global, script: &Script, client: u64) -> bool {
     }
 }
 
-/// Returns whether a policy makes this of a script.
+/// Returns whether a policy drives a script like this.
 pub fn drives(alloc: Global, script: &Script, drive: Drive) -> bool {
     match drive {
         TakesMoreTurns(chooser, limit) => takes_more_turns(alloc, script, chooser, limit),

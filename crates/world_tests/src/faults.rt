@@ -1,4 +1,7 @@
-//! Chance that loses and repeats messages, and choices that repeat one.
+//! Random runs that lose and repeat messages, and choices that repeat one.
+//!
+//! The letters of random runs were computed by a separate Python model of the algorithm, the policies and the generator
+//! PCG XSL RR 128/64, written from the rules in docs/ALGORITHM.md and docs/FORMATS.md. All others were found by hand.
 use crate::drives::{Chooser, Drive};
 use crate::helpers::assert_rows;
 use crate::plans::{Plan, carry_out};
@@ -9,7 +12,7 @@ use Plan::{AddsLocker, Drives};
 use ra_schedule::{Choice, Faults};
 use ra_stamp::Mode;
 
-/// How many of 1,000 messages are lost and how many repeated, and whether there are such faults.
+/// How many of 1,000 messages are lost and how many repeated, and whether such faults are allowed.
 const RANGES: &[(u16, u16, bool)] = &[
     (0, 0, true),
     (1_000, 0, true),
@@ -24,7 +27,7 @@ const RANGES: &[(u16, u16, bool)] = &[
     (u16::MAX, u16::MAX, false),
 ];
 
-/// Returns how many rows are so, up to the first that is not.
+/// Returns how many rows hold, up to the first that does not.
 fn ranges_so() -> usize {
     for place in 0..RANGES.len() {
         let (lose, repeat, expected) = RANGES[place];
@@ -40,7 +43,7 @@ fn faults_are_at_most_all_messages_and_few_repeats(rt: HostRuntime) {
     assert_rows(&rt, ranges_so(), RANGES.len());
 }
 
-/// By seed 0 the second word names the REQUEST, and the third one is 81 modulo 1,000.
+/// With seed 0, the second random word names the REQUEST, and the third one is 81 modulo 1,000.
 #[test]
 fn the_word_behind_the_one_that_names_a_message_says_what_becomes_of_it(rt: HostRuntime) {
     const PLANS: &[Plan] = &[
@@ -58,7 +61,7 @@ fn the_word_behind_the_one_that_names_a_message_says_what_becomes_of_it(rt: Host
     carry_out(&rt, 2, PLANS);
 }
 
-/// So the runs of one seed differ where no fault befalls a message.
+/// So the two policies' runs of one seed differ even if no fault befalls a message.
 #[test]
 fn a_word_is_drawn_for_each_message_also_where_there_are_no_faults(rt: HostRuntime) {
     const PLANS: &[Plan] = &[
@@ -113,7 +116,7 @@ fn a_run_with_faults_has_a_limit(rt: HostRuntime) {
     carry_out(&rt, 2, PLANS);
 }
 
-/// The REQUEST is repeated, and then each REPLY; the first one lets the client in.
+/// The REQUEST is repeated, and then a REPLY; the first REPLY delivered lets the client in.
 #[test]
 fn a_choice_repeats_a_message(rt: HostRuntime) {
     const REPEATS: &[Choice] = &[

@@ -4,6 +4,8 @@
 #[cfg(test)]
 mod acts;
 #[cfg(test)]
+mod alike;
+#[cfg(test)]
 mod drives;
 #[cfg(test)]
 mod faults;
@@ -26,6 +28,10 @@ mod plans;
 #[cfg(test)]
 mod printing;
 #[cfg(test)]
+mod refused_drives;
+#[cfg(test)]
+mod refused_runs;
+#[cfg(test)]
 mod repeats;
 #[cfg(test)]
 mod runs;
@@ -37,5 +43,7 @@ mod scripts;
 mod seeds;
 #[cfg(test)]
 mod streams;
+#[cfg(test)]
+mod surveys;
 #[cfg(test)]
 mod worlds;

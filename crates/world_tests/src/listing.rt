@@ -1,9 +1,11 @@
-//! The choices by which the steps of a run are made again, and the first seed that comes to an end.
-use crate::helpers::r;
+//! The choices that make the steps of a run again, and the first seed that comes to an end.
+use crate::drives::{Chooser, policy};
+use crate::helpers::{assert_rows, r};
+use Chooser::{Faulty, Newest, Oldest, Seeded};
 use Ending::{Finished, Stuck};
 use ra_schedule::{
-    Choices, Ending, Faults, Figures, Observer, Op, Outcome, Policy, Recording, Script, drive,
-    first_seed, list_choices, survey,
+    Choice, Choices, Ending, Faults, Figures, Observer, Op, Outcome, Policy, Recording, Script,
+    drive, first_seed, list_choices, survey,
 };
 use ra_stamp::{Memory, Mode, NodeId};
 use ra_world::{Step, Steps};
@@ -16,7 +18,7 @@ fn add_locker(alloc: Global, script: &mut Script, node: u16) -> bool {
         && script.add_op(Op::Unlock(r())).is_ok()
 }
 
-/// Makes a script of two nodes with this many such clients, one after the other at the first and at the second.
+/// Makes a script of two nodes with this many such clients, alternately at the first and the second node.
 fn lockers(alloc: Global, clients: u16) -> Option<Script> {
     let mut script = Script::new(alloc, 2).ok()?;
     for client in 0..clients {
@@ -40,7 +42,7 @@ fn make(alloc: Global, script: &Script, choices: Choices, recording: &Recording)
     }
 }
 
-/// Returns whether what a policy makes of a script is made again by the choices of its steps.
+/// Returns whether the choices of a policy's steps make its run of a script again.
 fn is_made_again(alloc: Global, script: &Script, policy: &Policy) -> bool {
     let Ok(recording) = drive(alloc, script, policy, 10_000) else {
         return false;
@@ -51,7 +53,7 @@ fn is_made_again(alloc: Global, script: &Script, policy: &Policy) -> bool {
     }
 }
 
-/// Returns whether it is so by chance from a seed, without faults, and with some.
+/// Returns whether that holds for the random runs of a seed, without and with faults.
 fn seed_is_made_again(alloc: Global, script: &Script, seed: u64) -> bool {
     let Some(faults) = Faults::new(100, 300) else {
         return false;
@@ -60,7 +62,7 @@ fn seed_is_made_again(alloc: Global, script: &Script, seed: u64) -> bool {
         && is_made_again(alloc, script, &Policy::Faulty { seed, faults })
 }
 
-/// Returns whether it is so of four clients by each of the first seeds, and by the policies without a seed.
+/// Returns whether that holds for four clients with each of the first seeds, and with the policies that have no seed.
 fn runs_are_made_again(alloc: Global) -> bool {
     let Some(script) = lockers(alloc, 4) else {
         return false;
@@ -78,7 +80,94 @@ fn the_choices_of_steps_make_them_again(rt: HostRuntime) {
     assert!(rt; runs_are_made_again(rt.alloc()));
 }
 
-/// Returns whether there are no choices for this step of a client, which is not what the script of one client says.
+/// What chooses for four clients, and the choices of the run, each a letter and a digit.
+struct Listed(Chooser, &'static str);
+
+/// Returns the letter of a choice and its number.
+fn word_of(choice: &Choice) -> (u8, u64) {
+    match choice {
+        Choice::Client(client) => (b'c', u64::from(*client)),
+        Choice::Message(place) => (b'm', *place),
+        Choice::Lost(place) => (b'l', *place),
+        Choice::Repeated(place) => (b'r', *place),
+    }
+}
+
+/// Returns whether a word of a letter and a digit is that of a choice.
+fn is_word(word: &[u8], choice: &Choice) -> bool {
+    match word {
+        [letter, digit] => {
+            let (expected, number) = word_of(choice);
+            *letter == expected && u64::from(*digit) == number.saturating_add(48)
+        }
+        _ => false,
+    }
+}
+
+/// Returns whether these are the words of the choices.
+fn are_words(words: &str, choices: &[Choice]) -> bool {
+    let mut place = 0usize;
+    for word in words.split(' ') {
+        match choices.get(place) {
+            Some(choice) if is_word(word.as_bytes(), choice) => {}
+            _ => return false,
+        }
+        place = place.saturating_add(1);
+    }
+    place == choices.len()
+}
+
+/// Returns whether a policy's run of four clients has these choices.
+fn is_listed(alloc: Global, row: &Listed) -> bool {
+    let (Some(script), Some(policy)) = (lockers(alloc, 4), policy(alloc, row.0)) else {
+        return false;
+    };
+    let Ok(recording) = drive(alloc, &script, &policy, 10_000) else {
+        return false;
+    };
+    match list_choices(alloc, &script, &recording.steps) {
+        Ok(Some(choices)) => are_words(row.1, choices.as_slice()),
+        _ => false,
+    }
+}
+
+/// Returns how many rows hold, up to the first that does not.
+fn are_listed(alloc: Global, rows: &[Listed]) -> usize {
+    for place in 0..rows.len() {
+        if !is_listed(alloc, &rows[place]) {
+            return place;
+        }
+    }
+    rows.len()
+}
+
+/// The words were computed by a separate Python model of the algorithm, the policies and the generator PCG XSL RR
+/// 128/64, written from the rules in docs/ALGORITHM.md and docs/FORMATS.md.
+#[test]
+fn the_choices_of_a_run_are_those_of_a_model(rt: HostRuntime) {
+    const ROWS: &[Listed] = &[
+        Listed(Oldest, "c1 c2 c3 c4 m0 m0 m0 c1 m0 c2 m0 m0 m0 c3 m0 c4"),
+        Listed(Newest, "c1 c2 c3 c4 m1 m0 m0 c1 m1 m0 c2 m1 m0 c3 m0 c4"),
+        Listed(Seeded(0), "c4 m0 c2 c1 c3 m1 m0 c4 m0 m0 c1 m0 c2 m0 m0 c3"),
+        Listed(Seeded(7), "c4 c2 m0 m0 c4 c3 m0 c1 m0 m0 c3 m1 m0 c2 m0 c1"),
+        Listed(
+            Seeded(19),
+            "c4 c3 c1 m1 c2 m1 c3 m0 m0 m0 c4 m1 m0 c1 m0 c2",
+        ),
+        Listed(Faulty(0, 100, 300), "c4 l0 c1 c2 m0 r0 c3 m0 c1 m1 m0"),
+        Listed(
+            Faulty(1, 100, 300),
+            "c4 m0 m0 c1 c3 m0 c2 c4 r0 r0 m0 r1 l1 c1 l3 m1 r1 m1 l1 m0",
+        ),
+        Listed(
+            Faulty(7, 100, 300),
+            "c4 c2 m0 m0 c3 m0 c1 c4 m1 r0 r0 r0 l0 r0 m0 m0 m0 c3 m1 m1 l0 c2 m0 c1",
+        ),
+    ];
+    assert_rows(&rt, are_listed(rt.alloc(), ROWS), ROWS.len());
+}
+
+/// Returns whether this step of a client has no choices. The script of one client does not contain it.
 fn has_none(alloc: Global, client: u32, mode: Mode) -> bool {
     let (Some(script), Some(node)) = (lockers(alloc, 1), NodeId::new(1)) else {
         return false;
@@ -100,7 +189,8 @@ fn steps_that_a_script_does_not_say_have_no_choices(rt: HostRuntime) {
     assert!(rt; has_none(rt.alloc(), 2, Mode::Exclusive));
 }
 
-/// Returns the first seed from one to another by which a client at two nodes comes to an end, within so many turns. It takes four.
+/// Returns the first seed of a range with which one client of two nodes comes to this end within this many turns. It
+/// takes four.
 fn first_of(
     alloc: Global,
     ending: Ending,
@@ -147,7 +237,7 @@ impl Observer for Told {
     }
 }
 
-/// What comes of one client at two nodes: it asks, its REQUEST and the REPLY are delivered, and it leaves.
+/// The outcome for one client of two nodes: it asks, its REQUEST and the REPLY are delivered, and it leaves.
 const ONE_LOCK: Outcome = Outcome::Finished(Figures {
     turns: 4,
     messages: 2,

@@ -1,4 +1,4 @@
-//! Runs of a list of steps: what is reported of them, and where they are refused.
+//! Runs of a list of steps: what is reported about them, and where they are refused.
 use crate::acts::{Wire, Wish, is_text, step};
 use crate::helpers::assert_rows;
 use Answer::{Refused, Reported};
@@ -15,15 +15,15 @@ use std::process::Abort;
 enum Answer {
     /// The steps are made, and their report has this text.
     Reported(&'static str),
-    /// They are refused so.
+    /// They are refused with this error.
     Refused(RunError),
 }
 
-/// So many nodes, the steps of a run from 0, and what is answered.
+/// The number of nodes, the steps of a run from 0, and the answer.
 struct Case(u16, &'static [Wish], Answer);
 
-/// Adds a step, if there is one. Returns whether there is, and there was room.
-fn adds(steps: &mut Steps, step: Option<Step>) -> bool {
+/// Adds a step, if there is one. Returns whether there was a step and room for it.
+pub fn adds(steps: &mut Steps, step: Option<Step>) -> bool {
     match step {
         Some(step) => steps.push(step).is_ok(),
         None => false,
@@ -50,7 +50,7 @@ fn answer_to(alloc: Global, nodes: u16, wishes: &[Wish]) -> Result<Report, RunEr
     }
 }
 
-/// Returns whether a case is answered as it says.
+/// Returns whether a case has the expected answer.
 fn is_so(alloc: Global, case: &Case) -> bool {
     match (answer_to(alloc, case.0, case.1), case.2) {
         (Ok(report), Reported(text)) => is_text(report_text(alloc, &report), text),
@@ -59,7 +59,7 @@ fn is_so(alloc: Global, case: &Case) -> bool {
     }
 }
 
-/// Returns how many cases are answered as they say, up to the first that is not.
+/// Returns how many cases have the expected answer, up to the first that does not.
 fn are_so(alloc: Global, cases: &[Case]) -> usize {
     for place in 0..cases.len() {
         if !is_so(alloc, &cases[place]) {
@@ -69,7 +69,7 @@ fn are_so(alloc: Global, cases: &[Case]) -> usize {
     cases.len()
 }
 
-/// Asserts that each case is answered as it says.
+/// Asserts that each case has the expected answer.
 fn assert_cases(rt: &(impl Abort + AllocGlobal), cases: &[Case]) {
     assert_rows(rt, are_so(rt.alloc(), cases), cases.len());
 }
@@ -83,6 +83,22 @@ fn a_run_ends_at_the_first_step_that_is_refused(rt: HostRuntime) {
             Refused(RunError::Refused {
                 place: 2,
                 cause: StepError::Node(NodeRefusal::Busy),
+            }),
+        ),
+        Case(
+            2,
+            &[Leaves],
+            Refused(RunError::Refused {
+                place: 1,
+                cause: StepError::Node(NodeRefusal::NotHeld),
+            }),
+        ),
+        Case(
+            2,
+            &[Asks(3, 1)],
+            Refused(RunError::Refused {
+                place: 1,
+                cause: StepError::NoNode,
             }),
         ),
         Case(

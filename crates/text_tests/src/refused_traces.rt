@@ -1,0 +1,190 @@
+//! Lists of steps that have no trace because one step is refused: the first, or one after many others.
+use crate::acts::adds;
+use crate::helpers::{assert_rows, failing, r};
+use ra_stamp::{Message, Mode, NodeId};
+use ra_trace::{WriteTraceError, trace_text, write_trace};
+use ra_world::{NodeRefusal, RunError, Step, StepError, Steps};
+use std::alloc::Global;
+
+/// Returns the step in which a client asks for `r` exclusively, or `None` if there is no such node.
+fn ask(node: u16, client: u32) -> Option<Step> {
+    Some(Step::Ask {
+        node: NodeId::new(node)?,
+        client,
+        name: r(),
+        mode: Mode::Exclusive,
+    })
+}
+
+/// Returns the step in which client 1 leaves `r` at node 1.
+fn leave() -> Option<Step> {
+    Some(Step::Leave {
+        node: NodeId::new(1)?,
+        client: 1,
+        name: r(),
+    })
+}
+
+/// Returns the REQUEST of node 1 to node 2 with this number.
+fn request(seq: u64) -> Option<Message> {
+    Some(Message::Request {
+        from: NodeId::new(1)?,
+        to: NodeId::new(2)?,
+        name: r(),
+        mode: Mode::Exclusive,
+        seq,
+    })
+}
+
+/// Returns the REPLY to it.
+fn reply(seq: u64) -> Option<Message> {
+    Some(Message::Reply {
+        from: NodeId::new(2)?,
+        to: NodeId::new(1)?,
+        name: r(),
+        seq,
+    })
+}
+
+/// Adds the steps of a request with this number: client 1 of node 1 asks, and the REQUEST and the REPLY are delivered.
+/// Returns whether there was room.
+fn adds_entry(steps: &mut Steps, seq: u64) -> bool {
+    let (Some(request), Some(reply)) = (request(seq), reply(seq)) else {
+        return false;
+    };
+    adds(steps, ask(1, 1))
+        && adds(steps, Some(Step::Deliver(request)))
+        && adds(steps, Some(Step::Deliver(reply)))
+}
+
+/// Adds 39 steps, with numbers that begin at `start`: client 1 locks `r` nine times and enters a tenth time. Returns
+/// whether there was room.
+fn adds_39_steps(steps: &mut Steps, start: u64) -> bool {
+    for lock in 1..=9u64 {
+        if !adds_entry(steps, start.saturating_add(lock)) || !adds(steps, leave()) {
+            return false;
+        }
+    }
+    adds_entry(steps, start.saturating_add(10))
+}
+
+/// The step that is refused.
+#[derive(Clone, Copy)]
+enum Last {
+    /// A client asks at this node.
+    Asks(u16, u32),
+    /// Client 1 leaves at node 1.
+    Leaves,
+    /// Client 2 leaves at node 1.
+    LeavesAsOther,
+    /// The first REQUEST is delivered, lost or repeated.
+    Delivers,
+    Loses,
+    Repeats,
+}
+
+/// Returns the step, or `None` if there is no such node.
+fn step(last: Last) -> Option<Step> {
+    match last {
+        Last::Asks(node, client) => ask(node, client),
+        Last::Leaves => leave(),
+        Last::LeavesAsOther => Some(Step::Leave {
+            node: NodeId::new(1)?,
+            client: 2,
+            name: r(),
+        }),
+        Last::Delivers => Some(Step::Deliver(request(1)?)),
+        Last::Loses => Some(Step::Lose(request(1)?)),
+        Last::Repeats => Some(Step::Repeat(request(1)?)),
+    }
+}
+
+/// The step that is refused, the number that each name begins with, and the cause.
+struct Case(Last, u64, StepError);
+
+/// The greatest start from which ten requests can be made.
+const TEN_LEFT: u64 = u64::MAX - 10;
+
+const BUSY: StepError = StepError::Node(NodeRefusal::Busy);
+
+const EXHAUSTED: StepError = StepError::Node(NodeRefusal::Exhausted);
+
+const NOT_HELD: StepError = StepError::Node(NodeRefusal::NotHeld);
+
+/// Returns whether two nodes refuse the step at this place for this cause, so that there is no trace and nothing is
+/// written.
+fn has_no_trace(alloc: Global, start: u64, steps: &Steps, place: u64, cause: StepError) -> bool {
+    let refused = WriteTraceError::Run(RunError::Refused { place, cause });
+    let mut writer = failing("", 0, None);
+    write_trace(alloc, 2, start, steps, &mut writer).err() == Some(refused)
+        && !writer.differs
+        && writer.before_fault == Some(0)
+        && trace_text(alloc, 2, start, steps).err() == Some(refused)
+}
+
+/// Returns whether the step of a case is refused, as the first step or after 39 others. One more step follows it.
+fn is_refused(alloc: Global, case: &Case, place: u64) -> bool {
+    let (mut steps, start) = (Steps::new(alloc), case.1);
+    (place < 40 || adds_39_steps(&mut steps, start))
+        && adds(&mut steps, step(case.0))
+        && adds(&mut steps, ask(2, 3))
+        && has_no_trace(alloc, start, &steps, place, case.2)
+}
+
+/// Returns how many cases are refused at this place, up to the first that is not.
+fn are_refused(alloc: Global, cases: &[Case], place: u64) -> usize {
+    for row in 0..cases.len() {
+        if !is_refused(alloc, &cases[row], place) {
+            return row;
+        }
+    }
+    cases.len()
+}
+
+#[test]
+fn the_first_step_of_a_trace_is_refused_for_each_cause(rt: HostRuntime) {
+    const CASES: &[Case] = &[
+        Case(Last::Asks(3, 1), 0, StepError::NoNode),
+        Case(Last::Delivers, 0, StepError::NotUnderWay),
+        Case(Last::Loses, 0, StepError::NotUnderWay),
+        Case(Last::Repeats, 0, StepError::NotUnderWay),
+        Case(Last::Leaves, 0, NOT_HELD),
+        Case(Last::Asks(1, 1), u64::MAX, EXHAUSTED),
+    ];
+    assert_rows(&rt, are_refused(rt.alloc(), CASES, 1), CASES.len());
+}
+
+/// Client 1 holds `r` by its tenth request.
+#[test]
+fn the_fortieth_step_of_a_trace_is_refused_for_each_cause(rt: HostRuntime) {
+    const CASES: &[Case] = &[
+        Case(Last::Asks(3, 1), 0, StepError::NoNode),
+        Case(Last::Delivers, 0, StepError::NotUnderWay),
+        Case(Last::Loses, 0, StepError::NotUnderWay),
+        Case(Last::Repeats, 0, StepError::NotUnderWay),
+        Case(Last::LeavesAsOther, 0, NOT_HELD),
+        Case(Last::Asks(1, 1), 0, BUSY),
+        Case(Last::Asks(1, 1), TEN_LEFT, BUSY),
+        Case(Last::Asks(1, 2), TEN_LEFT, EXHAUSTED),
+    ];
+    assert_rows(&rt, are_refused(rt.alloc(), CASES, 40), CASES.len());
+}
+
+/// Returns whether the 39 steps, with client 1's leave as the fortieth, have a trace of this many lines.
+fn has_lines(alloc: Global, start: u64, lines: usize) -> bool {
+    let mut steps = Steps::new(alloc);
+    if !adds_39_steps(&mut steps, start) || !adds(&mut steps, leave()) {
+        return false;
+    }
+    match trace_text(alloc, 2, start, &steps) {
+        Ok(text) => text.as_str().lines().count() == lines,
+        Err(_) => false,
+    }
+}
+
+/// A line for each of 40 steps and 30 marks, and the first and the last line.
+#[test]
+fn the_steps_before_have_their_lines(rt: HostRuntime) {
+    assert!(rt; has_lines(rt.alloc(), 0, 72));
+    assert!(rt; has_lines(rt.alloc(), TEN_LEFT, 72));
+}
