@@ -1,5 +1,6 @@
 //! If a growth is refused, the call returns `Memory` and changes nothing, and it succeeds when it is made again.
 use crate::helpers::{id, r, reply, request, writer};
+use crate::names::numbered;
 use Call::{Ask, Leave, Reply, Request};
 use ra_bag::Bag;
 use ra_node::{AskError, LeaveError, Node, ReceiveError};
@@ -121,6 +122,44 @@ fn try_node(alloc: Global) -> Tried {
 #[test]
 fn growth_of_a_node(rt: HostRuntime) {
     end(&rt, try_node(rt.alloc()));
+}
+
+/// Has a node take a REPLY about a name of three digits, which it does not await. Returns whether nothing came of it.
+fn takes_stray(alloc: Global, node: &mut Node, number: u16) -> bool {
+    let Some(name) = numbered(number) else {
+        return false;
+    };
+    let stray = Message::Reply {
+        from: id(2),
+        to: id(1),
+        name,
+        seq: 1,
+    };
+    match node.receive(alloc, &stray) {
+        Ok(outcome) => outcome.sends.len() == 0 && outcome.marks.len() == 0,
+        Err(_) => false,
+    }
+}
+
+/// Has a node take a REQUEST about `r`, which needs memory, and then a stray about each of a thousand other names. The strays
+/// need none: not one of them may be refused, whichever growth is.
+fn try_strays(alloc: Global, node: &mut Node) -> Tried {
+    let tried = try_call(alloc, node, Request(3));
+    for number in 0..1000 {
+        if !takes_stray(alloc, node, number) {
+            return Tried::Wrong;
+        }
+    }
+    tried
+}
+
+#[test]
+fn growth_of_a_node_that_strays_leave_as_it_was(rt: HostRuntime) {
+    let alloc = rt.alloc();
+    match Node::new(alloc, id(1), 2, 0) {
+        Ok(mut node) => end(&rt, try_strays(alloc, &mut node)),
+        Err(_) => panic!(rt; "the node was refused"),
+    }
 }
 
 /// Puts the request with this number into a list, and tries again if memory ran out.

@@ -12,7 +12,7 @@ fn digit(number: u16) -> u8 {
 }
 
 /// Returns a name of three digits.
-fn numbered(number: u16) -> Option<Name> {
+pub fn numbered(number: u16) -> Option<Name> {
     Name::new(&[digit(number / 100), digit(number / 10), digit(number)]).ok()
 }
 

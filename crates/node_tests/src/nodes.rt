@@ -103,6 +103,8 @@ fn a_single_node_grants_at_once(rt: HostRuntime) {
 #[test]
 fn an_idle_node_answers_and_takes_strays(rt: HostRuntime) {
     const STEPS: &[Step] = &[
+        Receives(Replies(1, 2, 9), &[], &[]),
+        HasHighest(0),
         Receives(Requests(1, 2, 7), &[Replies(2, 1, 7)], &[]),
         HasHighest(7),
         Receives(Replies(1, 2, 7), &[], &[]),

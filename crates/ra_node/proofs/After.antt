@@ -1,5 +1,5 @@
 -- What a turn at the slot of a name makes of a node.
-use Rattle.std.proofs.Common.{◌≡◌, ℕ, List, Option, Some, None, Result, Ok, Err, IfOk, OnErr, MatchResult, IsSome, refl, sym, ap, ◌∙◌, subst}
+use Rattle.std.proofs.Common.{◌≡◌, ℕ, false, List, [], Option, Some, None, Result, Ok, Err, IfOk, OnErr, MatchResult, IsSome, refl, sym, ap, ◌∙◌, subst, inl}
 use Rattle.std.specs.Prelude.{unwrap_or}
 use Rattle.std.specs.Str.{bytes_eq}
 use Rattle.std.specs.Map.{lookup, set_value}
@@ -9,19 +9,22 @@ use Rattle.std.proofs.lemmas.Option.{none-some}
 use Rattle.indexmap.specs.IndexMap.{IndexMap, WritesThrough}
 use Rattle.ra_stamp.specs.declared.mode.Mode.{Mode}
 use Rattle.ra_stamp.specs.declared.message.Message.{Message}
+use Rattle.ra_stamp.specs.declared.message.Message.TheVariants.{Request, Reply}
+use Rattle.ra_automaton.specs.declared.phase.Phase.TheVariants.{Idle, Waiting}
 use Rattle.ra_stamp.specs.declared.entry.Entry.{Entry}
 use Rattle.ra_stamp.specs.declared.entry.Mark.{Mark}
 use Rattle.ra_stamp.specs.Message.{name_of}
 use Rattle.ra_automaton.specs.State.{IsConsistent}
 use Rattle.ra_node.specs.declared.outcome.Outcome.{Outcome}
 use Rattle.ra_node.specs.Resource.{Resource, unmet, Holds, holder_of, IsConsistentResource}
-use Rattle.ra_node.specs.Turns.{AskTurn, LeaveTurn, ReceiveTurn}
+use Rattle.ra_node.specs.Turns.{AskTurn, LeaveTurn, ReceiveTurn, IsStrayAt}
 use Rattle.ra_node.specs.Node.{NodeState, resource_at, waiting_count, queued_count, IsConsistentNode}
 use Rattle.ra_node.specs.Events.{AskEvent, LeaveEvent, ReceiveEvent}
 use Rattle.ra_node.specs.declared.node.Node.TheInside.{Inside}
 use Rattle.ra_node.specs.View.{node_with, Finds, excess_of, IsKept}
 use Rattle.ra_node.proofs.Kept.{ask_kept, leave_kept, receive_kept}
 use Rattle.ra_node.proofs.NodeLemmas.{found, after_update}
+use Rattle.ra_node.proofs.Updates.{stray_stays}
 
 -- this slot was found at a name, and the slots afterwards have the new one there and all others as before
 pub record IsWritten (slots : List (List ℕ × Resource)) (name : List ℕ) (slot new : Resource) (slots' : List (List ℕ × Resource)) : Type 0 where
@@ -52,12 +55,25 @@ module _ (me nodes start : ℕ) (slots : List (List ℕ × Resource)) (now : Nod
       let after = after_update me nodes start slots now is name new slots' kept finds (leave_kept now.me now.nodes name now.start slot client sends marks new turn state (here_is_consistent name here)) in
       (after.kept, record { resource = new; turn = subst (λ (r : Resource). LeaveTurn r client sends marks new) here turn; new_is = after.view })
 
+  -- a slot that is written as it was leaves the node as it was
+  unchanged : (name : List ℕ) → IsWritten slots name slot new slots' → new ≡ slot → node_with me nodes start slots' ≡ now
+  unchanged name written same =
+      ap (λ (es : List (List ℕ × Resource)). node_with me nodes start es)
+      (written.slots_are ∙ ap (set_value (bytes_eq name) slots) same ∙ set_value_same (bytes_eq name) slots slot (sym written.was)) ∙ is
+
   pub received : (message : Message) (sends : List Message) (marks : List Mark) → slot ≡ resource_at now (name_of message) → FindsAt (name_of message) → ReceiveTurn slot message sends marks new → IsConsistent new.state
-      → Happens (ReceiveEvent now message sends marks (node_with me nodes start slots'))
-  received message sends marks here finds turn state =
+      → (IsStrayAt slot message → node_with me nodes start slots' ≡ now) → Happens (ReceiveEvent now message sends marks (node_with me nodes start slots'))
+  received message sends marks here finds turn state at_stray =
       let name = name_of message in
-      let after = after_update me nodes start slots now is name new slots' kept finds (receive_kept now.me now.nodes name now.start slot message sends marks new turn state (here_is_consistent name here)) in
-      (after.kept, record { resource = new; turn = subst (λ (r : Resource). ReceiveTurn r message sends marks new) here turn; new_is = after.view })
+      let after = after_update me nodes start slots now is name new slots' kept finds (receive_kept now.me now.nodes name now.start slot message sends marks new turn state (here_is_consistent name here)) in (
+        after.kept,
+        record {
+          resource = new;
+          turn = subst (λ (r : Resource). ReceiveTurn r message sends marks new) here turn;
+          after_stray = λ stray. at_stray (subst (λ (r : Resource). IsStrayAt r message) (sym here) stray);
+          after_other = λ _. after.view;
+        },
+      )
 
   -- what is known after a call at a slot: the node is consistent, an event happened where it was Ok, and else the node is as before
   pub record IsAfterCall {E : Type 0} (result : Result Outcome E) (Event : Outcome → Type 0) : Type 0 where
@@ -71,8 +87,7 @@ module _ (me nodes start : ℕ) (slots : List (List ℕ × Resource)) (now : Nod
       let happens = by_turn outcome ended.0 ended.1 in
       record { consistent = happens.0; ok = happens.1; err = tt }
   after_call (Err fault) Turn Event Refused name ended written by_turn =
-      let same : slots' ≡ slots = written.slots_are ∙ ap (set_value (bytes_eq name) slots) ended.1 ∙ set_value_same (bytes_eq name) slots slot (sym written.was) in
-      let view : node_with me nodes start slots' ≡ now = ap (λ (es : List (List ℕ × Resource)). node_with me nodes start es) same ∙ is in
+      let view = unchanged name written ended.1 in
       record { consistent = subst IsConsistentNode (sym view) kept; ok = tt; err = view }
 
 -- ---- A call at the slot that a look-up among a node's slots finds
@@ -113,7 +128,8 @@ module _ {S E : Type 0} (me nodes start : ℕ) (slots slots' : IndexMap (List �
     received_at message name name-is turn was through =
         let written = subst (λ (q : List ℕ). IsWritten slots.entries q slot new slots'.entries) name-is (written_through slots slots' name slot new was through) in
         after_call me nodes start slots.entries now is kept slot new slots'.entries result (λ (o : Outcome). ReceiveTurn slot message o.sends.items o.marks.items new) (λ (o : Outcome). ReceiveEvent now message o.sends.items o.marks.items (node_with me nodes start slots'.entries)) Refused (name_of message) turn written
-        (λ o. received me nodes start slots.entries now is kept slot new slots'.entries message o.sends.items o.marks.items (found me nodes start slots.entries now is (name_of message) slot written.was) written.finds)
+        (λ o turn state. received me nodes start slots.entries now is kept slot new slots'.entries message o.sends.items o.marks.items (found me nodes start slots.entries now is (name_of message) slot written.was) written.finds turn state
+        (λ stray. unchanged me nodes start slots.entries now is kept slot new slots'.entries (name_of message) written (stray_stays slot message o.sends.items o.marks.items new turn stray)))
 
 -- a resource that the map does not have is unmet
 pub unmet_here : (me nodes start : ℕ) (slots : List (List ℕ × Resource)) (now : NodeState) (name : List ℕ) → node_with me nodes start slots ≡ now → finmap.get now.resources name ≡ None
@@ -161,8 +177,49 @@ module _ (me nodes start : ℕ) (before slots : List (List ℕ × Resource)) (no
         → IsConsistentNode (node_with me nodes start slots') × AskEvent now client name mode sends marks (node_with me nodes start slots')
     first_asked client mode sends marks turn state = asked me nodes start slots now view (subst IsConsistentNode is invariant) slot new slots' client name mode sends marks here finds turn state
 
-    pub first_received : (message : Message) (sends : List Message) (marks : List Mark) → name ≡ name_of message → ReceiveTurn slot message sends marks new → IsConsistent new.state
+    pub first_received : (message : Message) (sends : List Message) (marks : List Mark) → name ≡ name_of message → ReceiveTurn slot message sends marks new → IsConsistent new.state → (IsStrayAt slot message → ⊥)
         → IsConsistentNode (node_with me nodes start slots') × ReceiveEvent now message sends marks (node_with me nodes start slots')
-    first_received message sends marks name-is turn state =
+    first_received message sends marks name-is turn state other =
         received me nodes start slots now view (subst IsConsistentNode is invariant) slot new slots' message sends marks
-        (here ∙ ap (λ (q : List ℕ). resource_at now q) name-is) (subst (λ (q : List ℕ). Finds slots slots' q new) name-is finds) turn state
+        (here ∙ ap (λ (q : List ℕ). resource_at now q) name-is) (subst (λ (q : List ℕ). Finds slots slots' q new) name-is finds) turn state (λ stray. absurd (other stray))
+
+-- ---- A message about a name that nothing was about yet
+
+idle_at : (n : NodeState) (name : List ℕ) → finmap.get n.resources name ≡ None → (resource_at n name).state.phase ≡ Idle
+idle_at n name none = ap (λ (o : Option Resource). (unwrap_or o (unmet n.me n.nodes name n.start)).state.phase) none
+
+-- a REPLY is a stray then
+first_is_stray : (now : NodeState) (from to : ℕ) (name : List ℕ) (seq : ℕ) → finmap.get now.resources name ≡ None → ReceiveEvent now (Reply from to name seq) [] [] now
+first_is_stray now from to name seq none =
+    let message = Reply from to name seq in
+    let r = resource_at now name in
+    let stray : IsStrayAt r message = λ mode awaits. idle_waits (sym (idle_at now name none) ∙ awaits.waits) in
+    record {
+      resource = r;
+      turn = record {
+        entered = false;
+        step = (refl, inl (record { not_awaited = stray; entered_is = refl; new_is = refl }));
+        enters = refl;
+        client_is = refl;
+        queue_is = refl;
+      };
+      after_stray = λ _. refl;
+      after_other = λ other. absurd (other stray);
+    }
+  where
+    idle_waits : {seq : ℕ} {mode : Mode} → Idle ≡ Waiting seq mode → ⊥
+    idle_waits is = cc
+
+-- and leaves the node as it was
+pub first_stays : (now new : NodeState) → new ≡ now → (message : Message) (from to : ℕ) (name : List ℕ) (seq : ℕ) → message ≡ Reply from to name seq → finmap.get now.resources (name_of message) ≡ None
+    → (sends : List Message) (marks : List Mark) → sends ≡ [] → marks ≡ [] → ReceiveEvent now message sends marks new
+first_stays now new view message from to name seq is none sends marks no_sends no_marks =
+    let event = first_is_stray now from to name seq (subst (λ (m : Message). finmap.get now.resources (name_of m) ≡ None) is none) in
+    subst (λ (n : NodeState). ReceiveEvent now message sends marks n) (sym view)
+    (subst (λ (xs : List Mark). ReceiveEvent now message sends xs now) (sym no_marks)
+    (subst (λ (ms : List Message). ReceiveEvent now message ms [] now) (sym no_sends)
+    (subst (λ (m : Message). ReceiveEvent now m [] [] now) (sym is) event)))
+
+-- a REQUEST is no stray
+pub request_is_no_stray : (r : Resource) (message : Message) (from to : ℕ) (name : List ℕ) (mode : Mode) (seq : ℕ) → message ≡ Request from to name mode seq → IsStrayAt r message → ⊥
+request_is_no_stray r message from to name mode seq is = subst (λ (m : Message). IsStrayAt r m → ⊥) (sym is) (λ stray. stray)

@@ -1,19 +1,22 @@
 -- Which messages bring nothing: those that are not answered at once and let nobody enter.
-use Rattle.std.proofs.Common.{◌≡◌, Bool, true, false, ℕ, List, [], ◌∷◌, Result, Ok, Err, OnErr, refl, sym, ◌∙◌, subst, inl, inr}
-use Rattle.std.specs.Prelude.{IsErrOf, IsTrue, not, ◌↔◌}
+use Rattle.std.proofs.Common.{◌≡◌, Bool, true, false, ℕ, List, [], ◌∷◌, Option, None, Result, Ok, Err, OnErr, refl, sym, ap, ◌∙◌, subst, inl, inr}
+use Rattle.std.specs.Prelude.{IsErrOf, IsTrue, not, ◌↔◌, unwrap_or}
+use Rattle.std.specs.FinMap as finmap
 use Rattle.std.proofs.lemmas.Bool.{false≢true}
 use Rattle.ra_stamp.specs.declared.message.Message.{Message}
 use Rattle.ra_stamp.specs.declared.message.Message.TheVariants.{Request, Reply}
 use Rattle.ra_stamp.specs.Message.{name_of}
+use Rattle.ra_automaton.specs.declared.phase.Phase.{Phase}
 use Rattle.ra_automaton.specs.declared.phase.Phase.TheVariants.{Idle, Waiting}
 use Rattle.ra_stamp.specs.declared.mode.Mode.{Mode}
 use Rattle.ra_automaton.specs.State.{State}
-use Rattle.ra_automaton.specs.Steps.{ReceiveStep, LetsEnter}
+use Rattle.ra_automaton.specs.Steps.{ReceiveStep, LetsEnter, OwnGoesFirst}
 use Rattle.ra_automaton.specs.Memory.{IsRepliedAtOnce}
 use Rattle.ra_node.specs.Resource.{Resource, unmet}
 use Rattle.ra_node.specs.Turns.{EntersBy}
-use Rattle.ra_node.specs.Node.{NodeState, resource_at, with_resource}
+use Rattle.ra_node.specs.Node.{NodeState, resource_at}
 use Rattle.ra_node.specs.Memory.{BringsNothingTo, BringsNothing}
+use Rattle.ra_node.proofs.Updates.{event_by_turn}
 use Rattle.ra_node.proofs.Possible.{possible_receive}
 
 -- the message is not answered at once and lets nobody enter
@@ -93,7 +96,7 @@ unmet_is_quiet me nodes start from to seq at name = record { not_answered = λ a
 pub to_node : (n : NodeState) (message : Message) (r : Resource) → r ≡ resource_at n (name_of message) → BringsNothingTo r message → BringsNothing n message
 to_node n message r here brings =
     let (new, turn) = subst (λ (x : Resource). BringsNothingTo x message) here brings in
-    (with_resource n (name_of message) new, record { resource = new; turn = turn; new_is = refl })
+    event_by_turn n message [] [] new turn
 
 pub of_node : (n : NodeState) (message : Message) (r : Resource) → r ≡ resource_at n (name_of message) → BringsNothing n message → BringsNothingTo r message
 of_node n message r here brings = subst (λ (x : Resource). BringsNothingTo x message) (sym here) (brings.1.resource, brings.1.turn)
@@ -114,3 +117,12 @@ entry_is_brought r message lets brings = (is_quiet r message brings).no_entry le
 
 pub reply_is_brought : (r : Resource) (message : Message) → IsRepliedAtOnce r.state message → BringsNothingTo r message → ⊥
 reply_is_brought r message answered brings = (is_quiet r message brings).not_answered answered
+
+-- a REQUEST about a name that the node has not met is answered at once
+pub first_is_brought : (n : NodeState) (message : Message) (from to : ℕ) (name : List ℕ) (mode : Mode) (seq : ℕ) → message ≡ Request from to name mode seq → finmap.get n.resources (name_of message) ≡ None → BringsNothing n message → ⊥
+first_is_brought n message from to name mode seq is none brings =
+    let r = resource_at n (name_of message) in
+    let idle : r.state.phase ≡ Idle = ap (λ (o : Option Resource). (unwrap_or o (unmet n.me n.nodes (name_of message) n.start)).state.phase) none in
+    let answered : IsRepliedAtOnce r.state message = subst (λ (m : Message). IsRepliedAtOnce r.state m) (sym is)
+    (subst (λ (p : Phase). OwnGoesFirst p r.state.me from seq mode → ⊥) (sym idle) (λ first. first)) in
+    reply_is_brought r message answered (of_node n message r refl brings)

@@ -18,6 +18,7 @@ use Rattle.ra_node.specs.Node.{NodeState, resource_at, with_resource}
 use Rattle.ra_stamp.specs.Message.{name_of}
 use Rattle.ra_node.specs.Events.{Event, Happening, NodeEvent, NodeEvents}
 use Rattle.ra_node.specs.Events.Event.{Ask, Leave, Receive}
+use Rattle.ra_node.proofs.Updates.{stray_or_not}
 use Rattle.ra_node.proofs.Uses.{some_is}
 
 -- ---- Steps of the automaton
@@ -220,7 +221,12 @@ event_one old a b (Ask client name mode) ms ns xs ys p q =
 event_one old a b (Leave client name) ms ns xs ys p q =
     same_outcome old name ms ns xs ys p.resource q.resource a b (leave_turn_one (resource_at old name) client ms ns xs ys p.resource q.resource p.turn q.turn) p.new_is q.new_is
 event_one old a b (Receive message) ms ns xs ys p q =
-    same_outcome old (name_of message) ms ns xs ys p.resource q.resource a b (receive_turn_one (resource_at old (name_of message)) message ms ns xs ys p.resource q.resource p.turn q.turn) p.new_is q.new_is
+    let here = resource_at old (name_of message) in
+    let same = receive_turn_one here message ms ns xs ys p.resource q.resource p.turn q.turn in
+    elim (stray_or_not here message ms xs p.resource p.turn) [
+      | inl stray ↦ (same.0, same.1, p.after_stray stray ∙ sym (q.after_stray stray))
+      | inr other ↦ same_outcome old (name_of message) ms ns xs ys p.resource q.resource a b same (p.after_other other) (q.after_other other)
+    ]
 
 pub events_one : (hs : List Happening) (old a b : NodeState) → NodeEvents old hs a → NodeEvents old hs b → a ≡ b
 events_one [] old a b p q = p ∙ sym q

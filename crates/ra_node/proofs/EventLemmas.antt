@@ -1,5 +1,5 @@
 -- What the messages and marks of an event are about.
-use Rattle.std.proofs.Common.{◌≡◌, ◌≢◌, ℕ, ◌*◌, ◌≤◌, Bool, true, false, List, All, length, sym, ap, ◌∙◌, subst, arith}
+use Rattle.std.proofs.Common.{◌≡◌, ◌≢◌, ℕ, ◌*◌, ◌≤◌, Bool, true, false, List, All, length, sym, subst, inr, arith}
 use Rattle.std.proofs.lemmas.Bool.{false≢true}
 use Rattle.std.specs.Prelude.{unwrap_or}
 use Rattle.std.specs.FinMap as finmap
@@ -10,14 +10,13 @@ use Rattle.ra_stamp.specs.declared.entry.Mark.{Mark}
 use Rattle.ra_stamp.specs.Message.{name_of, seq_of}
 use Rattle.ra_automaton.specs.State.{State, IsForNode, IsAddressed}
 use Rattle.ra_node.specs.Resource.{Resource, unmet, use_of, IsConsistentResource}
-use Rattle.ra_node.specs.Node.{NodeState, resource_at, with_resource, IsConsistentNode}
+use Rattle.ra_node.specs.Node.{NodeState, resource_at, IsConsistentNode}
 use Rattle.ra_node.specs.Events.{AskEvent, LeaveEvent, ReceiveEvent, Event, name_of_event, NodeEvent}
-use Rattle.ra_node.specs.Events.Event.{Ask, Leave, Receive}
 use Rattle.ra_node.specs.Turns.{EntersBy}
 use Rattle.ra_node.specs.Carried.{IsSend, IsMark, MarksLead, replies_at_most, entries_at_most}
 use Rattle.ra_node.proofs.Leading.{ask_leads, leave_leads, receive_leads}
 use Rattle.ra_node.proofs.Room.{ask_room, leave_turn_room, receive_room}
-use Rattle.ra_node.proofs.Lookups.{resource_changed, entry_stays}
+use Rattle.ra_node.proofs.Updates.{IsUpdate, receive_updates, event_updates, updated_here, others_stay, node_stays}
 use Rattle.ra_node.proofs.Sends.{answers_are_sends}
 use Rattle.ra_node.proofs.Kept.{ask_sends, ask_marks, leave_sends, leave_marks, receive_marks}
 
@@ -80,7 +79,7 @@ pub receive_event_marks : (old : NodeState) (message : Message) (sends : List Me
 receive_event_marks old message sends marks new h after event =
     let name = name_of message in
     let here = h.each name in
-    let is : resource_at new name ≡ event.resource = ap (λ (n : NodeState). resource_at n name) event.new_is ∙ resource_changed old name event.resource in
+    let is : resource_at new name ≡ event.resource = updated_here old new name event.resource (receive_updates old new message sends marks event) in
     let state = subst (λ (r : Resource). IsConsistentResource new.me new.nodes name new.start r) is (after.each name) in
     marks_moved marks (resource_at old name).state old.me name here.me_is here.name_is
     (receive_marks (resource_at old name) message sends marks event.resource state.state event.turn)
@@ -115,40 +114,38 @@ receive_event_room_of old new (Reply from to name seq) sends marks event =
 
 -- ---- One request of a node on a name
 
-leads_on : (old new : NodeState) (name : List ℕ) (r : Resource) (marks : List Mark) → new ≡ with_resource old name r → MarksLead (use_of (resource_at old name)) marks (use_of r)
+leads_on : (old new : NodeState) (name : List ℕ) (r : Resource) (marks : List Mark) → IsUpdate old name r new → MarksLead (use_of (resource_at old name)) marks (use_of r)
     → MarksLead (use_of (resource_at old name)) marks (use_of (resource_at new name))
-leads_on old new name r marks is h =
-    let here : resource_at new name ≡ r = ap (λ (n : NodeState). resource_at n name) is ∙ resource_changed old name r in
-    subst (λ (x : Resource). MarksLead (use_of (resource_at old name)) marks (use_of x)) (sym here) h
+leads_on old new name r marks update h =
+    subst (λ (x : Resource). MarksLead (use_of (resource_at old name)) marks (use_of x)) (sym (updated_here old new name r update)) h
 
 pub ask_event_leads : (old : NodeState) (client : ℕ) (name : List ℕ) (mode : Mode) (sends : List Message) (marks : List Mark) (new : NodeState) → AskEvent old client name mode sends marks new
     → MarksLead (use_of (resource_at old name)) marks (use_of (resource_at new name))
 ask_event_leads old client name mode sends marks new event =
-    leads_on old new name event.resource marks event.new_is (ask_leads (resource_at old name) client mode sends marks event.resource event.turn)
+    leads_on old new name event.resource marks (inr event.new_is) (ask_leads (resource_at old name) client mode sends marks event.resource event.turn)
 
 pub leave_event_leads : (old : NodeState) (client : ℕ) (name : List ℕ) (sends : List Message) (marks : List Mark) (new : NodeState) → LeaveEvent old client name sends marks new
     → MarksLead (use_of (resource_at old name)) marks (use_of (resource_at new name))
 leave_event_leads old client name sends marks new event =
-    leads_on old new name event.resource marks event.new_is (leave_leads (resource_at old name) client sends marks event.resource event.turn)
+    leads_on old new name event.resource marks (inr event.new_is) (leave_leads (resource_at old name) client sends marks event.resource event.turn)
 
 pub receive_event_leads : (old : NodeState) (message : Message) (sends : List Message) (marks : List Mark) (new : NodeState) → ReceiveEvent old message sends marks new
     → MarksLead (use_of (resource_at old (name_of message))) marks (use_of (resource_at new (name_of message)))
 receive_event_leads old message sends marks new event =
-    leads_on old new (name_of message) event.resource marks event.new_is (receive_leads (resource_at old (name_of message)) message sends marks event.resource event.turn)
+    leads_on old new (name_of message) event.resource marks (receive_updates old new message sends marks event) (receive_leads (resource_at old (name_of message)) message sends marks event.resource event.turn)
 
 -- ---- An event on one name leaves all other names
 
 pub other_entry : (old new : NodeState) (event : Event) (sends : List Message) (marks : List Mark) (other : List ℕ) → NodeEvent old event sends marks new → other ≢ name_of_event event
     → finmap.get new.resources other ≡ finmap.get old.resources other
-other_entry old new (Ask client name mode) sends marks other event apart = ap (λ (n : NodeState). finmap.get n.resources other) event.new_is ∙ entry_stays old name other event.resource apart
-other_entry old new (Leave client name) sends marks other event apart = ap (λ (n : NodeState). finmap.get n.resources other) event.new_is ∙ entry_stays old name other event.resource apart
-other_entry old new (Receive message) sends marks other event apart =
-    ap (λ (n : NodeState). finmap.get n.resources other) event.new_is ∙ entry_stays old (name_of message) other event.resource apart
+other_entry old new event sends marks other h apart =
+    let update = event_updates old new event sends marks h in
+    others_stay old new (name_of_event event) update.0 update.1 other apart
 
 pub same_node : (old new : NodeState) (event : Event) (sends : List Message) (marks : List Mark) → NodeEvent old event sends marks new → (new.me ≡ old.me) × (new.nodes ≡ old.nodes) × (new.start ≡ old.start)
-same_node old new (Ask client name mode) sends marks event = (ap (λ (n : NodeState). n.me) event.new_is, ap (λ (n : NodeState). n.nodes) event.new_is, ap (λ (n : NodeState). n.start) event.new_is)
-same_node old new (Leave client name) sends marks event = (ap (λ (n : NodeState). n.me) event.new_is, ap (λ (n : NodeState). n.nodes) event.new_is, ap (λ (n : NodeState). n.start) event.new_is)
-same_node old new (Receive message) sends marks event = (ap (λ (n : NodeState). n.me) event.new_is, ap (λ (n : NodeState). n.nodes) event.new_is, ap (λ (n : NodeState). n.start) event.new_is)
+same_node old new event sends marks h =
+    let update = event_updates old new event sends marks h in
+    node_stays old new (name_of_event event) update.0 update.1
 
 pub other_resource : (old new : NodeState) (event : Event) (sends : List Message) (marks : List Mark) (other : List ℕ) → NodeEvent old event sends marks new → other ≢ name_of_event event
     → resource_at new other ≡ resource_at old other

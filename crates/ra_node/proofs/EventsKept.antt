@@ -15,6 +15,7 @@ use Rattle.ra_node.specs.Events.Event.{Ask, Leave, Receive}
 use Rattle.ra_node.specs.Carried.{IsSend, IsMark, MarksLead, sends_at_most, marks_at_most}
 use Rattle.ra_node.proofs.Kept.{ask_kept, leave_kept, receive_kept}
 use Rattle.ra_node.proofs.NodeLemmas.{with_kept}
+use Rattle.ra_node.proofs.Updates.{receive_updates, update_kept}
 use Rattle.ra_node.proofs.EventLemmas.{addressed, ask_event_room, leave_event_room, receive_event_room, ask_event_sends, leave_event_sends, receive_event_sends, ask_event_marks, leave_event_marks, receive_event_marks, ask_event_leads, leave_event_leads, receive_event_leads}
 
 -- ---- Turns and events
@@ -57,8 +58,8 @@ module _
         let turn = event.turn in
         let state = receive (resource_at old name).state event.resource.state message sends turn.entered here.state
         (addressed old message (resource_at old name).state here.me_is here.nodes_is for).from turn.step in
-        subst IsConsistentNode (sym event.new_is) (with_kept old name event.resource h
-        (receive_kept old.me old.nodes name old.start (resource_at old name) message sends marks event.resource turn state here))
+        update_kept old new name event.resource (receive_updates old new message sends marks event) h
+        (receive_kept old.me old.nodes name old.start (resource_at old name) message sends marks event.resource turn state here)
 
 -- ---- What an event sends and marks
 

@@ -11,6 +11,7 @@ pub mod Kept
 pub mod Leading
 pub mod Room
 pub mod NodeLemmas
+pub mod Updates
 pub mod EventLemmas
 pub mod EventsKept
 pub mod After

@@ -23,6 +23,7 @@ use Rattle.ra_node.specs.Turns.{request_marks, next_entry, MayAsk, EntersBy, Ask
 use Rattle.ra_node.specs.Node.{NodeState, resource_at, with_resource, IsConsistentNode}
 use Rattle.ra_node.specs.Events.{AllowsEvent}
 use Rattle.ra_node.specs.Events.Event.{Ask, Leave, Receive}
+use Rattle.ra_node.proofs.Updates.{event_by_turn}
 use Rattle.ra_node.proofs.Uses.{granted_inside}
 use Rattle.ra_node.proofs.Distinct.{Once, next_may_ask}
 
@@ -273,4 +274,5 @@ receive_is_possible old message h =
     let step = possible_receive r.state message in
     let new : Resource = record { state = step.2; client = r.client; queue = r.queue } in
     let marks = marks_of_entry step.1 new (λ e. entered_holds r.state message step.0 step.2 r.client (subst (λ (t : Bool). ReceiveStep r.state message step.0 t step.2) e step.3) (h.each name).client_fits) in
-    (step.0, marks.0, with_resource old name new, record { resource = new; turn = record { entered = step.1; step = step.3; enters = marks.1; client_is = refl; queue_is = refl }; new_is = refl })
+    let after = event_by_turn old message step.0 marks.0 new (record { entered = step.1; step = step.3; enters = marks.1; client_is = refl; queue_is = refl }) in
+    (step.0, marks.0, after.0, after.1)

@@ -6,7 +6,7 @@ use Rattle.ra_stamp.specs.declared.mode.Mode.{Mode}
 use Rattle.ra_stamp.specs.Message.{name_of}
 use Rattle.ra_automaton.specs.State.{IsForNode}
 use Rattle.ra_node.specs.Resource.{Resource}
-use Rattle.ra_node.specs.Turns.{AskTurn, LeaveTurn, ReceiveTurn}
+use Rattle.ra_node.specs.Turns.{AskTurn, LeaveTurn, ReceiveTurn, IsStrayAt}
 use Rattle.ra_node.specs.Node.{NodeState, resource_at, with_resource}
 
 -- a client asks for the resource of this name
@@ -23,12 +23,15 @@ pub record LeaveEvent (old : NodeState) (client : ℕ) (name : List ℕ) (sends 
   pub turn : LeaveTurn (resource_at old name) client sends marks resource
   pub new_is : new ≡ with_resource old name resource
 
--- a message comes, about the resource that it names
+-- A message comes, about the resource that it names. A stray leaves the node as it was, so a name that the node has not
+-- met stays unmet.
 pub record ReceiveEvent (old : NodeState) (message : Message) (sends : List Message) (marks : List Mark)
     (new : NodeState) : Type 0 where
   pub resource : Resource
   pub turn : ReceiveTurn (resource_at old (name_of message)) message sends marks resource
-  pub new_is : new ≡ with_resource old (name_of message) resource
+  pub after_stray : IsStrayAt (resource_at old (name_of message)) message → new ≡ old
+  pub after_other : (IsStrayAt (resource_at old (name_of message)) message → ⊥)
+      → new ≡ with_resource old (name_of message) resource
 
 -- what happens at a node
 pub data Event : Type 0 where

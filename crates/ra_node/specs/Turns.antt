@@ -6,6 +6,7 @@ use Rattle.ra_stamp.specs.declared.entry.Entry.{Entry}
 use Rattle.ra_stamp.specs.declared.entry.Mark.{Mark}
 use Rattle.ra_stamp.specs.declared.entry.Mark.TheVariants.{Requested, Entered, Left}
 use Rattle.ra_stamp.specs.declared.message.Message.{Message}
+use Rattle.ra_stamp.specs.declared.message.Message.TheVariants.{Request, Reply}
 use Rattle.ra_stamp.specs.declared.mode.Mode.{Mode}
 use Rattle.ra_automaton.specs.declared.phase.Phase.TheVariants.{Idle}
 use Rattle.ra_automaton.specs.Steps as automaton
@@ -99,6 +100,11 @@ LeaveTurn old client sends marks new =
 abbrev pub EntersBy : Bool → Resource → List Mark → Type 0
 EntersBy false new marks = marks ≡ []
 EntersBy true new marks = (entry : Entry) × (holder_of new ≡ Some entry) × (marks ≡ Entered entry ∷ [])
+
+-- the message is a stray: a REPLY that the node does not await here
+abbrev pub IsStrayAt : Resource → Message → Type 0
+IsStrayAt r (Request from to name mode seq) = ⊥
+IsStrayAt r (Reply from to name seq) = (mode : Mode) → automaton.Awaits r.state from seq mode → ⊥
 
 -- the automaton takes the message, and the current client may enter; the current client and the queue stay
 pub record ReceiveTurn (old : Resource) (message : Message) (sends : List Message) (marks : List Mark)

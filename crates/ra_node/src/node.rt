@@ -4,6 +4,7 @@ ghost use Rattle.ra_stamp.specs.NodeId.{IsNodeNumber};
 ghost use Rattle.ra_node.specs.Resource.{unmet};
 ghost use Rattle.ra_node.specs.View.{Finds};
 
+use crate::outcome::nothing;
 use crate::slot::Slot;
 use crate::{AskError, LeaveError, NewError, Outcome, ReceiveError};
 use indexmap::IndexMap;
@@ -13,8 +14,8 @@ use std::marker::Model;
 
 /// A node: many resources by their names, and the node's clients. Contracts see the map from names to resources.
 ///
-/// A client is any number, which means nothing to another node. A node keeps every name that a client asked for or a
-/// message was about, since the highest number that it has met on a name must never fall.
+/// A client is any number, which means nothing to another node. A node has met a name if a client asked for it or a
+/// REQUEST was about it. It keeps every such name, since the highest number that it has met on a name must never fall.
 ///
 /// Each call finds its name by a hash, in expected constant time however many names the node has met. The comment of a
 /// call gives its other costs. The first call about a name may move all names into a larger table, which is constant on
@@ -213,9 +214,8 @@ impl Node {
     }
 
     /// Takes a message from another node. With the last REPLY that it awaits, the node's request enters, with the mark
-    /// Entered. A REPLY that is not awaited is a stray: it is taken and changes nothing, except that its name counts as
-    /// met. So a node and an event determine the node after it. The cost is constant, and linear in the number of nodes
-    /// if the name was not met before.
+    /// Entered. A REPLY that is not awaited is a stray, and leaves the node exactly as it was. The cost is constant, and
+    /// linear in the number of nodes for a REQUEST about a name that the node has not met.
     ///
     /// # Errors
     ///
@@ -224,7 +224,7 @@ impl Node {
     /// 1. `WrongNode`: the message is for another node.
     /// 2. `Stranger`: its sender is this node or above the number of nodes.
     /// 3. `Memory`: nothing has changed, and the call can be made again. It comes only if the message makes the node
-    ///    send or mark something, or is the first about its name.
+    ///    send or mark something.
     #[inline(always)]
     pub fn receive(&mut self, alloc: Global, message: &Message) -> Result<Outcome, ReceiveError>
         ensures ok { IfOk result (λ outcome.
@@ -238,9 +238,8 @@ impl Node {
         ensures allowed { IsOkUnless result ReceiveError.Memory
             ↔ IsForNode self.old.me self.old.nodes message.now }
         ensures err { OnErr result (self.new ≡ self.old) }
-        // If a message brings nothing, only its name can need room, and only if it is the first message about it.
-        ensures memory_only_to_bring { IsErrOf result ReceiveError.Memory → BringsNothing self.old message.now
-            → map.get self.old.resources (name_of message.now) ≡ None }
+        // A message that brings nothing takes no memory.
+        ensures memory_only_to_bring { IsErrOf result ReceiveError.Memory → BringsNothing self.old message.now → ⊥ }
     {
         if message.to() != self.me {
             return Err(ReceiveError::WrongNode);
@@ -391,7 +390,8 @@ impl Node {
         Ok(outcome)
     }
 
-    /// Takes a message for this node about a name that the node has not met yet.
+    /// Takes a message for this node about a name that the node has not met yet. A REQUEST is answered, and the node has
+    /// met its name then.
     ///
     /// # Errors
     ///
@@ -402,10 +402,14 @@ impl Node {
         ensures received { MatchResult result
             (λ outcome. ReceiveEvent self.old message.now outcome.sends.items outcome.marks.items self.new)
             (λ fault. (fault ≡ ReceiveError.Memory) × (self.new ≡ self.old)) }
+        ensures brings { OnErr result (BringsNothing self.old message.now → ⊥) }
         ensures consistent { IsConsistentNode self.new }
     {
-        let name = message.name();
         let slots = &mut self.slots;
+        let Message::Request { name, .. } = *message else {
+            // A REPLY is a stray, since the node has asked nobody.
+            return Ok(nothing(alloc));
+        };
         let first = first_slot(slots, alloc, self.me, self.nodes, name, self.start);
         let Ok(mut slot) = first else {
             return Err(ReceiveError::Memory);

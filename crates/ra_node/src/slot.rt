@@ -3,11 +3,12 @@ ghost use Rattle.ra_stamp.specs.declared.entry.Entry.{Entry};
 ghost use Rattle.ra_node.specs.Resource.{entry_of};
 
 use crate::marks::{marks_for, marks_of_leave, push_request, push_reserved};
+use crate::outcome::nothing;
 use crate::queue::Queue;
 use crate::queued_client::Queued;
 use crate::{AskError, LeaveError, Outcome};
 use ra_automaton::{Automaton, Phase, Reaction, ReceiveError};
-use ra_stamp::{Entry, Mark, Marks, Memory, Message, Messages, Mode, Name, NodeId, Stamp};
+use ra_stamp::{Entry, Mark, Marks, Memory, Message, Mode, Name, NodeId, Stamp};
 use std::alloc::Global;
 use std::marker::Model;
 
@@ -199,10 +200,7 @@ impl Slot {
             (λ fault. (fault ≡ AskError.Memory) × (self.new ≡ self.old)) }
     {
         self.queue.push_back(Queued { client, mode })?;
-        Ok(Outcome {
-            sends: Messages::new(alloc),
-            marks: Marks::new(alloc),
-        })
+        Ok(nothing(alloc))
     }
 
     /// Leaves for the client that holds, and the next one asks in the same event. No client may stand here twice.

@@ -23,6 +23,7 @@ use Rattle.ra_world.specs.Run.{events_at, happened_at, IsFit, IsRun}
 use Rattle.ra_world.proofs.Dialogs.{belongs, between, asker_of, answerer_of, belongs_here}
 use Rattle.ra_world.proofs.Protocol.{IsNode}
 use Rattle.ra_node.proofs.Lookups.{resource_changed}
+use Rattle.ra_node.proofs.Updates.{received_turn}
 use Rattle.ra_world.proofs.Moves.{Allows, AllowsAll, allows_moves, allows_more, sent_more, happens, happened_more, fits_split, at_node, only_at}
 use Rattle.ra_world.proofs.Reached.{Reached, under_way_sent, one_list, was_under_way}
 use Rattle.ra_world.proofs.Runs.{prefixes, every_run}
@@ -159,8 +160,7 @@ module _ (laws : LawsBelow) (n start : ℕ) where
         let for : IsForThisNode (before.nodes p) event = subst (λ (k : ℕ). IsForNode k (before.nodes p).nodes message) (sym there.me_is) (subst (λ (k : ℕ). IsForNode p k message) (sym there.nodes_is) for') in
         let did = happened ms m before after known p within event here for in
         let turn : ReceiveTurn (resource_at (before.nodes p) name) message sends marks (resource_at (after.nodes p) name) =
-        subst (λ (x : Resource). ReceiveTurn (resource_at (before.nodes p) name) message sends marks x)
-        (sym (ap (λ (x : NodeState). resource_at x name) did.new_is ∙ resource_changed (before.nodes p) name did.resource)) did.turn
+        received_turn (before.nodes p) (after.nodes p) message sends marks did
         in
         known_after ms m before after known refl (sent_between ms m before after known p within event here for) taken.rest (taken.rest, taken.takes, refl)
         (said_by_receive n before.nodes after.nodes p name sends before.bag (sent_by ms) (λ q. (before.invariant.protocol q).exact (λ x. x)) known.said (event_happens ms m before after known p within event here for)

@@ -1,5 +1,5 @@
 -- What holds at the end of every run: who holds, who waits, what is under way, and that no REPLY is a stray.
-use Rattle.std.proofs.Common.{◌≡◌, ◌≢◌, ℕ, ◌<◌, List, [], ◌∷◌, ◌++◌, Contains, length, Some, refl, sym, ap, ◌∙◌, subst, arith, inl, inr}
+use Rattle.std.proofs.Common.{◌≡◌, ◌≢◌, ℕ, List, [], ◌∷◌, ◌++◌, Contains, length, Some, refl, sym, ap, ◌∙◌, subst, arith, inl, inr}
 use Rattle.std.specs.Prelude.{◌↔◌}
 use Rattle.ra_stamp.specs.declared.mode.Mode.{Mode}
 use Rattle.ra_stamp.specs.declared.message.Message.{Message}
@@ -27,7 +27,6 @@ use Rattle.ra_world.proofs.Protocol.{IsNode}
 use Rattle.ra_world.proofs.Uses.{may_be_granted}
 use Rattle.ra_world.proofs.WaitingCounts.{same_over}
 use Rattle.ra_world.proofs.Cluster.{IsTraffic, states}
-use Rattle.ra_world.proofs.ExchangesReceiving.{contains_filter}
 use Rattle.ra_world.proofs.Reached.{Reached, waits_nowhere, one_list, was_under_way}
 use Rattle.ra_world.proofs.Runs.{every_run, same_ends, prefixes}
 
@@ -73,16 +72,6 @@ module _ (laws : LawsBelow) (n start : ℕ) (moves : List Move) (count : IsNodeN
 
   pub is_traffic : (message : Message) → IsUnderWay moves message → IsTraffic n message
   is_traffic message was = (was_under_way laws n start moves at_end message was).traffic
-
-  -- a REPLY is for a node that asked for its name
-  pub asked_for : (nodes : ℕ → NodeState) (from to : ℕ) (name : List ℕ) (seq : ℕ) → EndsWith n start moves nodes → IsUnderWay moves (Reply from to name seq) → start < (resource_at (nodes to) name).state.highest
-  asked_for nodes from to name seq ends was =
-      let message = Reply from to name seq in
-      let traffic = is_traffic message was in
-      let there : Contains at_end.bag message = subst (λ (xs : List Message). Contains xs message) (one_list moves was.0 at_end.bag was.1 at_end.under_way) was.2 in
-      let dialog = (at_end.invariant.protocol name).exchanges.dialog to from traffic.to (traffic.from.first, traffic.from.last) (λ e. traffic.from.other (sym e)) in
-      let grants = dialog.answered seq (contains_filter (belongs name to from) at_end.bag message (belongs_at name to from message (record { asker = refl; answerer = refl; name_is = refl })) there) in
-      omega (arith, grants.above, grants.reached, ap (λ (x : NodeState). (resource_at x name).state.highest) (same_at nodes ends to traffic.to))
 
 pub among_them : (moves : List Move) (left : List Message) (message : Message) → LeavesUnderWay moves left → IsUnderWay moves message ↔ Contains left message
 among_them moves left message less = (λ was. subst (λ (xs : List Message). Contains xs message) (one_list moves was.0 left was.1 less) was.2, λ at. (left, less, at))

@@ -10,7 +10,7 @@ use Rattle.ra_stamp.specs.declared.entry.Mark.{Mark}
 use Rattle.ra_stamp.specs.Message.{to_of}
 use Rattle.ra_node.specs.Resource.{Resource}
 use Rattle.ra_node.specs.Turns.{AskTurn, LeaveTurn}
-use Rattle.ra_node.specs.Node.{NodeState, opening_node, resource_at, with_resource, queued_count}
+use Rattle.ra_node.specs.Node.{NodeState, opening_node, resource_at, queued_count}
 use Rattle.ra_node.specs.Events.{Event, Happening, NodeEvent, NodeEvents}
 use Rattle.ra_node.specs.Events.Event.{Ask as AskedFor, Leave as GivenBack, Receive as Received}
 use Rattle.ra_world.specs.declared.step.Step.{Step}
@@ -20,7 +20,8 @@ use Rattle.ra_world.specs.Run.{events_at, happened_at}
 use Rattle.ra_world.specs.Keeping.{nodes_of, Keeps}
 use Rattle.std.proofs.lemmas.Bool.{ne_eqb}
 use Rattle.ra_automaton.proofs.Apart.{cases_same}
-use Rattle.ra_world.proofs.WaitingCounts.{one_resource, none_counted}
+use Rattle.ra_world.proofs.WaitingCounts.{one_update, none_counted}
+use Rattle.ra_node.proofs.Updates.{IsUpdate, receive_updates}
 
 -- ---- The nodes of a list, by their numbers
 
@@ -58,18 +59,18 @@ leave_queues old client sends marks new turn =
     ]
 
 more_at : (old new : NodeState) (name : List ℕ) (r : Resource) → length r.queue ≤ length (resource_at old name).queue + 1
-    → new ≡ with_resource old name r → queued_count new ≤ queued_count old + 1
-more_at old new name r few is =
-    omega (arith, few, ap queued_count is, one_resource (λ x. length x.queue) (λ _ _ _ _. refl) old name r)
+    → IsUpdate old name r new → queued_count new ≤ queued_count old + 1
+more_at old new name r few update =
+    omega (arith, few, one_update (λ x. length x.queue) (λ _ _ _ _. refl) old new name r update)
 
 event_queues : (old new : NodeState) (event : Event) (sends : List Message) (marks : List Mark)
     → NodeEvent old event sends marks new → queued_count new ≤ queued_count old + 1
 event_queues old new (AskedFor client name mode) sends marks e =
-    more_at old new name e.resource (ask_queues (resource_at old name) client mode sends marks e.resource e.turn) e.new_is
+    more_at old new name e.resource (ask_queues (resource_at old name) client mode sends marks e.resource e.turn) (inr e.new_is)
 event_queues old new (GivenBack client name) sends marks e =
-    more_at old new name e.resource (leave_queues (resource_at old name) client sends marks e.resource e.turn) e.new_is
+    more_at old new name e.resource (leave_queues (resource_at old name) client sends marks e.resource e.turn) (inr e.new_is)
 event_queues old new (Received message) sends marks e =
-    more_at old new _ e.resource (omega (arith, ap length e.turn.queue_is)) e.new_is
+    more_at old new _ e.resource (omega (arith, ap length e.turn.queue_is)) (receive_updates old new message sends marks e)
 
 events_queue : (hs : List Happening) (old new : NodeState) → NodeEvents old hs new → queued_count new ≤ queued_count old + length hs
 events_queue [] old new e = omega (arith, ap queued_count e)

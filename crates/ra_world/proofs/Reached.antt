@@ -13,11 +13,12 @@ use Rattle.ra_stamp.specs.declared.entry.Mark.{Mark}
 use Rattle.ra_stamp.specs.Message.{seq_of}
 use Rattle.ra_stamp.specs.NodeId.{IsNodeNumber}
 use Rattle.ra_bag.specs.Bag.{TakesFirst}
-use Rattle.ra_node.proofs.Lookups.{nothing_met, resource_changed}
+use Rattle.ra_node.proofs.Lookups.{nothing_met}
+use Rattle.ra_node.proofs.Updates.{IsUpdate, event_updates, updated_here}
 use Rattle.ra_node.specs.Resource.{Resource, unmet, use_of, waiting_at}
-use Rattle.ra_node.specs.Node.{NodeState, opening_node, resource_at, with_resource, waiting_count}
+use Rattle.ra_node.specs.Node.{NodeState, opening_node, resource_at, waiting_count}
 use Rattle.ra_node.specs.Events.{Event, Happening, name_of_event, NodeEvent, NodeEvents, IsForThisNode}
-use Rattle.ra_node.specs.Events.Event.{Ask as AskedFor, Leave as GivenBack, Receive as Received}
+use Rattle.ra_node.specs.Events.Event.{Receive as Received}
 use Rattle.ra_node.specs.Carried.{IsSend, MarksLead}
 use Rattle.ra_table.specs.Table.{LockTable, empty_table, TableSteps, TableRun}
 use Rattle.ra_world.specs.Below.{LawsBelow}
@@ -31,7 +32,7 @@ use Rattle.ra_world.proofs.Protocol.{IsNode, HasOwn}
 use Rattle.ra_world.proofs.AutomatonSteps.{awaits_has}
 use Rattle.ra_world.proofs.Marking.{waiting_of, granted_of}
 use Rattle.ra_world.proofs.Balance.{asking, owed}
-use Rattle.ra_world.proofs.WaitingCounts.{total, over, one_resource, one_node, marks_count, use_count, none_counted}
+use Rattle.ra_world.proofs.WaitingCounts.{total, over, one_update, one_node, marks_count, use_count, none_counted}
 use Rattle.ra_world.proofs.Cluster.{IsThere, IsTraffic, Invariant, Went, placed_at}
 use Rattle.ra_world.proofs.Nodes.{put_node, EndsAt, happens_here, ends_after}
 
@@ -137,12 +138,6 @@ was_under_way laws n start ms reached message was =
 
 -- ---- An event of a node
 
--- what an event makes of the resource of its name
-event_resource : (old new : NodeState) (event : Event) (sends : List Message) (marks : List Mark) → NodeEvent old event sends marks new → (x : Resource) × (new ≡ with_resource old (name_of_event event) x)
-event_resource old new (AskedFor client name mode) sends marks happened = (happened.resource, happened.new_is)
-event_resource old new (GivenBack client name) sends marks happened = (happened.resource, happened.new_is)
-event_resource old new (Received message) sends marks happened = (happened.resource, happened.new_is)
-
 module _ (laws : LawsBelow) {Lossy Copied : Type 0} (n start : ℕ) (ms : List Move) (m : Move) (before : Reached Lossy Copied n start ms) (p : ℕ) (within : IsNode n p) (event : Event) (here : events_at p m.step ≡ event ∷ []) where
   pub event_happened : EndsAt n start (ms ++ m ∷ []) p → (new : NodeState) × NodeEvent (before.nodes p) event m.sends m.marks new
   event_happened end =
@@ -172,32 +167,32 @@ module _ (laws : LawsBelow) {Lossy Copied : Type 0} (n start : ℕ) (ms : List M
     pub leads : MarksLead (use_of (resource_at (before.nodes p) name)) m.marks (use_of (resource_at new name))
     leads = laws.one_request (before.nodes p) new event m.sends m.marks happened
 
-    changed : (x : Resource) × (new ≡ with_resource (before.nodes p) name x)
-    changed = event_resource (before.nodes p) new event m.sends m.marks happened
+    changed : (x : Resource) × IsUpdate (before.nodes p) name x new
+    changed = event_updates (before.nodes p) new event m.sends m.marks happened
 
     resource_is : resource_at new name ≡ changed.0
-    resource_is = ap (λ (x : NodeState). resource_at x name) changed.1 ∙ resource_changed (before.nodes p) name changed.0
+    resource_is = updated_here (before.nodes p) new name changed.0 changed.1
 
     counted : (t : LockTable) → TableSteps before.table m.marks t → length t.waiting ≡ over waiting_at (with_node before.nodes p new) 1 n
     counted t steps =
         let marked = marks_count m.marks before.table t (use_of (resource_at (before.nodes p) name)) (use_of (resource_at new name)) steps leads in
         let was = use_count (resource_at (before.nodes p) name) ((before.invariant.each p within).consistent.each name).client_fits in
         let is = use_count (resource_at new name) (went.there.consistent.each name).client_fits in
-        let resource = one_resource waiting_at waits_nowhere (before.nodes p) name changed.0 in
+        let resource = one_update waiting_at waits_nowhere (before.nodes p) new name changed.0 changed.1 in
         let node = one_node waiting_at waits_nowhere before.nodes (with_node before.nodes p new) p 1 n within.0 (omega (arith, within.1)) went.turned.there in
-        omega (arith, marked, was, is, resource, node, before.count, ap waiting_count went.turned.here, ap waiting_count changed.1, ap waiting_at resource_is)
+        omega (arith, marked, was, is, resource, node, before.count, ap waiting_count went.turned.here, ap waiting_at resource_is)
 
     balanced_after : (bag : List Message) → length m.sends + asking bag + owed (resource_at new name) ≡ asking before.bag + owed (resource_at (before.nodes p) name) + 2 * (n - 1) * requests_in m.marks
         → (Lossy → ⊥) → (Copied → ⊥) → length (sent_by (ms ++ m ∷ [])) + asking bag + over owed (with_node before.nodes p new) 1 n ≡ 2 * (n - 1) * requests_in (marks_of (ms ++ m ∷ []))
     balanced_after bag balanced none uncopied =
-        let resource = one_resource owed owes_nowhere (before.nodes p) name changed.0 in
+        let resource = one_update owed owes_nowhere (before.nodes p) new name changed.0 changed.1 in
         let node = one_node owed owes_nowhere before.nodes (with_node before.nodes p new) p 1 n within.0 (omega (arith, within.1)) went.turned.there in
         let sent = ap length (sent_more ms m) ∙ length-append (sent_by ms) m.sends in
         let marked = ap requests_in (marks_more ms m) ∙ requests_both (marks_of ms) m.marks in
         let product : 2 * (n - 1) * requests_in (marks_of (ms ++ m ∷ [])) ≡ 2 * (n - 1) * requests_in (marks_of ms) + 2 * (n - 1) * requests_in m.marks =
         ap (λ k. 2 * (n - 1) * k) marked ∙ mul-add (2 * (n - 1)) (requests_in (marks_of ms)) (requests_in m.marks)
         in
-        omega (arith, before.balance none uncopied, balanced, resource, node, sent, product, ap (total owed) went.turned.here, ap (total owed) changed.1, ap owed resource_is)
+        omega (arith, before.balance none uncopied, balanced, resource, node, sent, product, ap (total owed) went.turned.here, ap owed resource_is)
 
     -- all of it together
     pub reached : (bag : List Message) → LeavesUnderWay (ms ++ m ∷ []) bag → (t : LockTable) × TableSteps before.table m.marks t × Invariant Lossy Copied start n (with_node before.nodes p new) bag t

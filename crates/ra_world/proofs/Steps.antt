@@ -28,6 +28,7 @@ use Rattle.ra_world.proofs.Receiving.{was_asked}
 use Rattle.ra_world.proofs.Balance.{is_request, asking_both, ask_balanced, leave_balanced, receive_balanced}
 use Rattle.ra_world.proofs.Protocol.{IsNode, Protocol}
 use Rattle.ra_node.proofs.Lookups.{resource_changed}
+use Rattle.ra_node.proofs.Updates.{received_turn}
 use Rattle.ra_world.proofs.Cluster.{states, asked, left, received, lost, copied}
 use Rattle.ra_world.proofs.Nodes.{EndsAt, left_alone}
 use Rattle.ra_world.proofs.Reached.{Reached, under_way_more, under_way_sent, one_list, was_under_way, event_happened, went, leads, reached}
@@ -119,8 +120,7 @@ module _ (laws : LawsBelow) {Lossy Copied : Type 0} (n start : ℕ) (ms : List M
       let for' : IsForNode p n message = record { to = refl; from = was.traffic.from } in
       let for : IsForThisNode (before.nodes p) event = subst (λ (k : ℕ). IsForNode k (before.nodes p).nodes message) (sym there.me_is) (subst (λ (k : ℕ). IsForNode p k message) (sym there.nodes_is) for') in
       let turn : ReceiveTurn (resource_at (before.nodes p) name) message sends marks (resource_at new name) =
-      subst (λ (x : Resource). ReceiveTurn (resource_at (before.nodes p) name) message sends marks x)
-      (sym (ap (λ (x : NodeState). resource_at x name) happened.1.new_is ∙ resource_changed (before.nodes p) name happened.1.resource)) happened.1.turn
+      received_turn (before.nodes p) new message sends marks happened.1
       in
       let result = received laws.symmetric start n before.nodes (with_node before.nodes p new) p name new sends before.bag was.rest before.table before.invariant
       (went laws n start ms m before p within event here new happened.1 for numbered) message marks was.takes for' refl turn

@@ -23,6 +23,7 @@ use Rattle.ra_node.specs.Node.{NodeState, resource_at, with_resource}
 use Rattle.ra_node.specs.Carried.{MarksLead}
 use Rattle.ra_table.specs.Table.{LockTable, Gains, TableSteps}
 use Rattle.ra_node.proofs.Lookups.{true_of}
+use Rattle.ra_node.proofs.Updates.{IsUpdate}
 use Rattle.ra_automaton.proofs.Apart.{cases_same}
 
 -- ---- One resource of a node changes
@@ -80,12 +81,19 @@ module _ (f : Resource → ℕ) (zero_at : (me nodes : ℕ) (name : List ℕ) (s
   found_value node r None = zero_at node.me node.nodes r node.start
   found_value node r (Some x) = refl
 
-  pub one_resource : (node : NodeState) (r : List ℕ) (x : Resource) → total f (with_resource node r x) + f (resource_at node r) ≡ total f node + f x
+  one_resource : (node : NodeState) (r : List ℕ) (x : Resource) → total f (with_resource node r x) + f (resource_at node r) ≡ total f node + f x
   one_resource node r x =
       let es = finmap.entries node.resources in
       let put' : total f (with_resource node r x) ≡ sum_by (λ e. f e.1) (put cmp r x es) = ap (sum_by (λ (e : List ℕ × Resource). f e.1)) (finmap.entries-insert nat_list_cmp_total node.resources r x) in
       let was : f (resource_at node r) ≡ value_or f (find cmp r es) = found_value node r (finmap.get node.resources r) ∙ ap (value_or f) (finmap.get-entries node.resources r) in
       omega (arith, put', was, sum_put f r x es (finmap.entries_sorted node.resources))
+
+  pub one_update : (old new : NodeState) (r : List ℕ) (x : Resource) → IsUpdate old r x new → total f new + f (resource_at old r) ≡ total f old + f x
+  one_update old new r x update =
+      elim update [
+        | inl same ↦ omega (arith, ap (total f) same.1, ap f same.0)
+        | inr is ↦ omega (arith, ap (total f) is, one_resource old r x)
+      ]
 
   -- ---- One node changes
 

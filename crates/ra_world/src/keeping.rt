@@ -1,10 +1,9 @@
 //! What a world keeps of its run at each step.
-ghost use Rattle.std.specs.Prelude.{◌≡◌, ◌+◌, ◌≤◌, ◌<◌, ◌↔◌, ◌⊎◌, ◌∷◌, ◌++◌, [], ℕ, List, Contains, length, map, slice_set, slice_index_or, sum_by, None, IfOk, OnOk, OnErr};
+ghost use Rattle.std.specs.Prelude.{◌≡◌, ◌+◌, ◌≤◌, ◌<◌, ◌↔◌, ◌⊎◌, ◌∷◌, ◌++◌, [], ℕ, List, Contains, length, map, slice_set, slice_index_or, sum_by, IfOk, OnOk, OnErr};
 ghost use Rattle.std.specs.List.{range_with_len, remove};
-ghost use Rattle.std.specs.FinMap as finmap;
 ghost use Rattle.ra_stamp.specs.declared.message.Message.{Message};
 ghost use Rattle.ra_stamp.specs.declared.entry.Mark.{Mark};
-ghost use Rattle.ra_stamp.specs.Message.{to_of, name_of};
+ghost use Rattle.ra_stamp.specs.Message.{to_of};
 ghost use Rattle.ra_stamp.specs.NodeId.{IsNodeNumber};
 ghost use Rattle.ra_bag.specs.Bag.{TakesFirst, TakesOne};
 ghost use Rattle.ra_automaton.specs.State.{IsForNode};
@@ -200,11 +199,6 @@ pub fn kept_runs_go_on()
         (message : Message)
         → Keeps start nodes left moves → Contains left message → (to_of message ≤ length nodes)
         × IsForNode (nodes_of nodes (to_of message)).me (nodes_of nodes (to_of message)).nodes message }
-    // A message under way that brings nothing is about a name that its node has met.
-    ensures met { (start : ℕ) (nodes : List NodeState) (left : List Message) (moves : List Move) (message : Message)
-        → Keeps start nodes left moves → Contains left message
-        → BringsNothing (nodes_of nodes (to_of message)) message
-        → finmap.get (nodes_of nodes (to_of message)).resources (name_of message) ≡ None → ⊥ }
     ensures counts { (start : ℕ) (nodes : List NodeState) (left : List Message) (moves : List Move) (place : ℕ)
         → Keeps start nodes left moves → place < length nodes → (nodes_of nodes (place + 1)).nodes ≡ length nodes }
     // If nothing was repeated, all messages under way are different, so each is the first of its kind.

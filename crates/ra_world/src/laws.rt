@@ -132,10 +132,6 @@ pub fn messages_under_way_are_between_nodes()
     ensures between_nodes { (n start : ℕ) (moves : List Move) (message : Message)
         → IsNodeNumber n → IsRun n start moves → IsUnderWay moves message
         → ((1 ≤ to_of message) × (to_of message ≤ n)) × IsOtherNode (to_of message) n (from_of message) }
-    // A REPLY is for a node that asked for its name, so that the highest number there is above the start value.
-    ensures asked_for { (n start : ℕ) (moves : List Move) (nodes : ℕ → NodeState) (from to : ℕ) (name : List ℕ) (seq : ℕ)
-        → IsNodeNumber n → IsRun n start moves → EndsWith n start moves nodes
-        → IsUnderWay moves (Message.Reply from to name seq) → start < (resource_at (nodes to) name).state.highest }
     ensures numbered { (n start : ℕ) (moves : List Move) (message : Message)
         → IsNodeNumber n → IsRun n start moves → IsUnderWay moves message → 1 ≤ seq_of message }
 {

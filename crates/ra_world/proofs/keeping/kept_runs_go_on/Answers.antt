@@ -1,5 +1,4 @@
 use Rattle.ra_world.proofs.KeptRuns as kept
-use Rattle.ra_world.proofs.Bringing.{name_is_met}
 use Rattle.ra_world.proofs.Queues.{few_queued, at_all}
 use Rattle.ra_world.proofs.keeping.kept_runs_go_on.Goals as goal
 
@@ -29,10 +28,6 @@ returns-clause-is_taken c = kept.is_taken c.events_leave_other_names.ensures.nod
 
 pub returns-clause-counts : goal.returns-clause-counts
 returns-clause-counts c = kept.counts c.events_leave_other_names.ensures.node
-
-pub returns-clause-met : goal.returns-clause-met
-returns-clause-met c =
-    name_is_met c.messages_under_way_are_between_nodes.ensures.between_nodes c.messages_under_way_are_between_nodes.ensures.asked_for c.events_leave_other_names.ensures.node
 
 pub returns-clause-queued : goal.returns-clause-queued
 returns-clause-queued c = few_queued

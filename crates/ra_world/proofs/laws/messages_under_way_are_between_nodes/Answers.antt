@@ -1,6 +1,6 @@
 use Rattle.ra_world.proofs.Moves.{put_is_sent}
 use Rattle.ra_world.proofs.Reached.{one_list, under_way_more}
-use Rattle.ra_world.proofs.Outcomes.{something_under_way, is_traffic, among_them, asked_for}
+use Rattle.ra_world.proofs.Outcomes.{something_under_way, is_traffic, among_them}
 use Rattle.ra_world.proofs.laws.messages_under_way_are_between_nodes.Goals as goal
 
 pub returns : goal.returns
@@ -13,6 +13,5 @@ returns c =
       go_on = under_way_more;
       put_is_sent = put_is_sent;
       between_nodes = λ n start moves message count run was. let traffic = is_traffic laws n start moves count run message was in (traffic.to, traffic.from);
-      asked_for = λ n start moves nodes from to name seq count run. asked_for laws n start moves count run nodes from to name seq;
       numbered = λ n start moves message count run was. (is_traffic laws n start moves count run message was).numbered;
     }

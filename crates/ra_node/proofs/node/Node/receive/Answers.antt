@@ -10,9 +10,10 @@ use Rattle.ra_node.specs.Resource.{Resource, waiting_at}
 use Rattle.ra_node.specs.Node.{NodeState, IsConsistentNode}
 use Rattle.ra_automaton.proofs.Refusals.{ReceiveTells, wrong_node_tells, stranger_tells, received_tells}
 use Rattle.ra_node.specs.Events.{ReceiveEvent}
+use Rattle.ra_node.specs.Memory.{BringsNothing}
 use Rattle.ra_node.proofs.After.{received_at, kept_as, same_view, seen_from}
 use Rattle.ra_node.proofs.EventLemmas.{addressed}
-use Rattle.ra_node.proofs.NodeLemmas.{slot_is_consistent, absent_in, found, missing}
+use Rattle.ra_node.proofs.NodeLemmas.{slot_is_consistent, absent_in, found}
 use Rattle.ra_node.proofs.Bringing.{of_node, refused_to_bring}
 use Rattle.ra_node.proofs.Totals.{part, through, one_at_most, few_wait, queue_stays}
 use Rattle.ra_node.proofs.node.Node.receive.Goals as goal
@@ -171,10 +172,10 @@ returns-in-Some-clause-memory_only_to_bring c =
     let name = name_of c.args.message.now in
     let here = found n.me n.nodes n.start n.slots.entries c.args.self.now c.self.view_is name c.in-Some.slot.now
     (subst (λ (q : List ℕ). Some c.in-Some.slot.now ≡ lookup (bytes_eq q) n.slots.entries) c.name.ensures c.in-Some.ensures.value) in
-    λ is brings. absurd (refused_to_bring c.receive-outcome.result _ is c.receive-outcome.ensures.brings (of_node c.args.self.now c.args.message.now c.in-Some.slot.now here brings))
+    λ is brings. refused_to_bring c.receive-outcome.result _ is c.receive-outcome.ensures.brings (of_node c.args.self.now c.args.message.now c.in-Some.slot.now here brings)
 
 pub returns-in-None-clause-memory_only_to_bring : goal.returns-in-None-clause-memory_only_to_bring
 returns-in-None-clause-memory_only_to_bring c =
     let n = c.self.inside in
-    λ is brings. (missing n.me n.nodes n.start n.slots.entries c.args.self.now c.self.view_is (name_of c.args.message.now)
-    (subst (λ (q : List ℕ). None ≡ lookup (bytes_eq q) n.slots.entries) c.name.ensures c.in-None.ensures.value)).1
+    let view = same_view n.me n.nodes n.start n.slots.entries c.get_mut.follows.lender-at-none.entries c.args.self.now (ap (λ (m : IndexMap (List ℕ) Resource _). m.entries) c.get_mut.follows.holds-at-none) c.self.view_is in
+    λ is brings. refused_to_bring c.receive_first.result _ is c.receive_first.ensures.brings (subst (λ (m : NodeState). BringsNothing m c.args.message.now) (sym view) brings)

@@ -1,7 +1,6 @@
-use Rattle.std.proofs.Common.{rules, ◌≡◌, ◌+◌, ◌<◌, length, get_or, Contains, Err, refl, sym, ap, ◌∙◌, subst, arith, inl, inr}
+use Rattle.std.proofs.Common.{rules, ◌≡◌, ◌+◌, ◌<◌, length, get_or, Contains, Err, refl, ap, ◌∙◌, subst, arith, inl, inr}
 use Rattle.ra_stamp.specs.declared.message.Message.{Message}
-use Rattle.ra_stamp.specs.Message.{to_of, name_of}
-use Rattle.std.specs.FinMap as finmap
+use Rattle.ra_stamp.specs.Message.{to_of}
 use Rattle.ra_stamp.specs.Sequence.{Listed}
 use Rattle.ra_bag.specs.Bag.{TakesFirst}
 use Rattle.ra_automaton.specs.State.{IsForNode}
@@ -11,7 +10,6 @@ use Rattle.ra_node.specs.Node.{NodeState}
 use Rattle.ra_node.specs.Memory.{BringsNothing}
 use Rattle.ra_world.specs.declared.step.Step.TheVariants.{Deliver}
 use Rattle.ra_world.specs.declared.error.StepError.TheVariants.{NotUnderWay, Memory}
-use Rattle.ra_world.specs.Keeping.{nodes_of}
 use Rattle.ra_world.proofs.StepTries.{shown, with_cause, short, same_nodes, at_node, node_here, took_first, room_here, kept_by, here, run_of}
 use Rattle.ra_world.proofs.world.WorldOf.deliver.Goals as goal
 
@@ -57,10 +55,8 @@ returns-in-Err-Memory-clause-tried g c =
     let number : place + 1 ≡ to_of message = c.in-Some-place_of.ensures.some.0 ∙ c.to.ensures in
     let within : place < length w.nodes.items = search rules in
     let at : old ≡ get_or w.nodes.items place old = search rules in
-    let here : nodes_of w.nodes.items (to_of message) ≡ old = node_here w.nodes.items place (to_of message) old number within at in
     let brings : BringsNothing old message → ⊥ =
-    λ nothing. c.kept_runs_go_on.ensures.met w.start w.nodes.items w.under_way.items w.log.moves message k there (subst (λ (s : NodeState). BringsNothing s message) (sym here) nothing)
-    (ap (λ (s : NodeState). finmap.get s.resources (name_of message)) here ∙ c.in-Err-Memory.ensures.memory_only_to_bring (ap Err c.in-Err-Memory.field-0-is) nothing) in
+    c.in-Err-Memory.ensures.memory_only_to_bring (ap Err c.in-Err-Memory.field-0-is) in
     short w.start w.nodes.items w.log.moves c.args.self.now _ (Deliver message) (Err Memory) c.self.view_is
     (same_nodes w.start w.nodes.items w.log.moves c.make_room_for.new.log.moves place old c.receive.new.self at c.in-Err-Memory.ensures.err c.make_room_for.ensures.moves)
     ((c.runs_go_on_where_steps_are_allowed.ensures.deliver _ w.start w.log.moves k.count k.run message).1 (under.1 there))
