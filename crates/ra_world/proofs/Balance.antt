@@ -1,6 +1,7 @@
--- How many messages were sent. While nothing is lost, those sent, the REQUESTs under way and the deferred REPLYs are
--- together two for each request and each other node.
-use Rattle.std.proofs.Common.{◌≡◌, ◌≢◌, ◌⊎◌, ℕ, zero, suc, ◌+◌, ◌-◌, ◌*◌, ◌<◌, ◌≤◌, Bool, true, false, cond, not, List, [], ◌∷◌, ◌++◌, length, filter, map, None, refl, sym, ap, ◌∙◌, subst, arith, inl, inr}
+-- How many messages were sent. Those sent, the REQUESTs under way, the REQUESTs lost and the deferred REPLYs are together
+-- two for each request and each other node, if nothing is repeated. A copied REQUEST adds one to them, or none if its
+-- sender is deferred already when it comes.
+use Rattle.std.proofs.Common.{◌≡◌, ◌≢◌, ◌⊎◌, ℕ, zero, suc, ◌+◌, ◌-◌, ◌*◌, ◌<◌, ◌≤◌, Bool, true, false, cond, not, List, [], ◌∷◌, ◌++◌, length, filter, map, Option, Some, None, refl, sym, ap, ◌∙◌, subst, arith, inl, inr}
 use Rattle.std.specs.Prelude.{◌==◌, is_some}
 use Rattle.std.specs.List.{range_with_len}
 use Rattle.std.specs.Ordering.{nat_cmp}
@@ -45,12 +46,17 @@ asking_replies : (p : ℕ) (name : List ℕ) (es : List (ℕ × ℕ)) → asking
 asking_replies p name [] = refl
 asking_replies p name (e ∷ es) = asking_replies p name es
 
-asking_taken : (bag : List Message) (m : Message) (rest : List Message) → TakesFirst bag m rest → asking bag ≡ asking rest + asking (m ∷ [])
+pub asking_taken : (bag : List Message) (m : Message) (rest : List Message) → TakesFirst bag m rest → asking bag ≡ asking rest + asking (m ∷ [])
 asking_taken bag m rest takes =
     let was = ap asking takes.old_is ∙ asking_both takes.prefix (m ∷ takes.suffix) in
     let one : asking (m ∷ takes.suffix) ≡ asking (m ∷ []) + asking takes.suffix = asking_both (m ∷ []) takes.suffix in
     let is = ap asking takes.new_is ∙ asking_both takes.prefix takes.suffix in
     omega (arith, was, one, is)
+
+pub asking_at_most : (ms : List Message) → asking ms ≤ length ms
+asking_at_most [] = omega arith
+asking_at_most (Request from to name mode seq ∷ ms) = omega (arith, asking_at_most ms)
+asking_at_most (Reply from to name seq ∷ ms) = omega (arith, asking_at_most ms)
 
 -- ---- The other nodes
 
@@ -96,7 +102,7 @@ owed r = finmap.len r.state.deferred
 abbrev pub IsBalanced : ℕ → ℕ → ℕ → List Message → Resource → Resource → List Mark → Type 0
 IsBalanced each was left sends before after marks = length sends + (left + asking sends) + owed after ≡ was + owed before + each * requests_in marks
 
-marks_request : (entered : Bool) (e : Entry) → requests_in (request_marks entered e) ≡ 1
+pub marks_request : (entered : Bool) (e : Entry) → requests_in (request_marks entered e) ≡ 1
 marks_request false e = refl
 marks_request true e = refl
 
@@ -119,6 +125,10 @@ replies_sent s sends new step =
       ap asking step.sends_are ∙ asking_replies s.me s.name es,
       ap (λ (t : State). finmap.len t.deferred) step.new_is ∙ finmap.len-empty nat_cmp ℕ,
     )
+
+-- a REQUEST comes from a node that is not deferred
+abbrev pub IsFresh : Resource → Message → Type 0
+IsFresh before m = (from to seq : ℕ) (name : List ℕ) (mode : Mode) → m ≡ Request from to name mode seq → finmap.get before.state.deferred from ≡ None
 
 module _ (n each : ℕ) (each_is : each ≡ 2 * (n - 1)) (before after : Resource) (within : IsNode n before.state.me) (nodes_is : before.state.nodes ≡ n) (sends : List Message) (marks : List Mark) where
   pub ask_balanced : (client : ℕ) (mode : Mode) (bag : List Message) → AskTurn before client mode sends marks after → IsBalanced each (asking bag) (asking bag) sends before after marks
@@ -152,23 +162,34 @@ module _ (n each : ℕ) (each_is : each ≡ 2 * (n - 1)) (before after : Resourc
   no_requests false none = ap requests_in none
   no_requests true some = ap requests_in some.2
 
-  -- a REQUEST that is deferred was not deferred before
-  pub receive_balanced : (m : Message) (bag rest : List Message) → TakesFirst bag m rest → ((from to seq : ℕ) (name : List ℕ) (mode : Mode) → m ≡ Request from to name mode seq → finmap.get before.state.deferred from ≡ None)
-      → ReceiveTurn before m sends marks after → IsBalanced each (asking bag) (asking rest) sends before after marks
-  receive_balanced (Request from to name mode seq) bag rest takes fresh turn =
+  -- so it is for a message that comes, but a REQUEST that is deferred may join one of its sender that is deferred already
+  pub receive_balanced : (m : Message) (bag rest : List Message) → TakesFirst bag m rest → ReceiveTurn before m sends marks after
+      → (joined : ℕ) × (length sends + (asking rest + asking sends) + owed after + joined ≡ asking bag + owed before + each * requests_in marks) × (IsFresh before m → joined ≡ 0)
+  receive_balanced (Request from to name mode seq) bag rest takes turn =
       let taken = asking_taken bag (Request from to name mode seq) rest takes in
       let none : each * requests_in marks ≡ each * 0 = ap (λ k. each * k) (no_requests turn.entered turn.enters) in
       elim turn.step.1 [
         | inl defers ↦
-            let more : finmap.len after.state.deferred ≡ finmap.len before.state.deferred + 1 =
+            let more : finmap.len after.state.deferred ≡ cond (is_some (finmap.get before.state.deferred from)) (finmap.len before.state.deferred) (finmap.len before.state.deferred + 1) =
             ap (λ (t : State). finmap.len t.deferred) defers.new_is
             ∙ finmap.len-insert nat_cmp_total before.state.deferred from (later_of (finmap.get before.state.deferred from) seq)
-            ∙ ap (λ o. cond (is_some o) (finmap.len before.state.deferred) (finmap.len before.state.deferred + 1)) (fresh from to seq name mode refl)
             in
-            omega (arith, taken, none, more, ap length defers.sends_are, ap asking defers.sends_are)
-        | inr replies ↦ omega (arith, taken, none, ap (λ (t : State). finmap.len t.deferred) replies.new_is, ap length replies.sends_are, ap asking replies.sends_are)
+            let joined = join_one from (finmap.get before.state.deferred from) refl more in
+            (joined.0, omega (arith, taken, none, joined.1, ap length defers.sends_are, ap asking defers.sends_are), λ fresh. joined.2 (fresh from to seq name mode refl))
+        | inr replies ↦ (0, omega (arith, taken, none, ap (λ (t : State). finmap.len t.deferred) replies.new_is, ap length replies.sends_are, ap asking replies.sends_are), λ _. refl)
       ]
-  receive_balanced (Reply from to name seq) bag rest takes fresh turn =
+    where
+      some_none : {d : ℕ} → ◌≡◌ {A = Option ℕ} (Some d) None → ⊥
+      some_none e = cc
+
+      join_one : (from : ℕ) (was : Option ℕ) → finmap.get before.state.deferred from ≡ was
+          → finmap.len after.state.deferred ≡ cond (is_some (finmap.get before.state.deferred from)) (finmap.len before.state.deferred) (finmap.len before.state.deferred + 1)
+          → (joined : ℕ) × (finmap.len after.state.deferred + joined ≡ finmap.len before.state.deferred + 1) × (finmap.get before.state.deferred from ≡ None → joined ≡ 0)
+      join_one from None was more =
+          (0, omega (arith, more ∙ ap (λ o. cond (is_some o) (finmap.len before.state.deferred) (finmap.len before.state.deferred + 1)) was), λ _. refl)
+      join_one from (Some d) was more =
+          (1, omega (arith, more ∙ ap (λ o. cond (is_some o) (finmap.len before.state.deferred) (finmap.len before.state.deferred + 1)) was), λ none. absurd (some_none (sym was ∙ none)))
+  receive_balanced (Reply from to name seq) bag rest takes turn =
       let taken = asking_taken bag (Reply from to name seq) rest takes in
       let none : each * requests_in marks ≡ each * 0 = ap (λ k. each * k) (no_requests turn.entered turn.enters) in
       let same : finmap.len after.state.deferred ≡ finmap.len before.state.deferred = elim turn.step.1 [
@@ -178,4 +199,4 @@ module _ (n each : ℕ) (each_is : each ≡ 2 * (n - 1)) (before after : Resourc
           | inr on ↦ ap (λ (t : State). finmap.len t.deferred) on.new_is
         ]
       ] in
-      omega (arith, taken, none, same, ap length turn.step.0, ap asking turn.step.0)
+      (0, omega (arith, taken, none, same, ap length turn.step.0, ap asking turn.step.0), λ _. refl)

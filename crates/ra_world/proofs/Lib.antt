@@ -18,6 +18,7 @@ mod Cluster
 mod WaitingCounts
 mod Blocked
 mod Balance
+mod Rising
 mod NobodyDeferred
 pub mod Moves
 mod Nodes
@@ -28,6 +29,7 @@ mod GoingOn
 mod Outcomes
 mod Numbered
 mod QuietRuns
+mod TableNodes
 mod DifferentLists
 mod DifferentDialogs
 mod DifferentTurns

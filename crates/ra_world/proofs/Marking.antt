@@ -29,7 +29,7 @@ is_waiting (WaitsBy e) x (zero, lt, is) = ap (λ (y : Entry). WaitsBy y) is
 is_waiting (WaitsBy e) x (suc k, lt, is) = absurd (omega (arith, lt))
 is_waiting (HoldsBy e) x at = absurd (omega (arith, at.1))
 
-is_granted : (w : Use) (x : Entry) → Contains (granted_of w) x → w ≡ HoldsBy x
+pub is_granted : (w : Use) (x : Entry) → Contains (granted_of w) x → w ≡ HoldsBy x
 is_granted Nobody x at = absurd (omega (arith, at.1))
 is_granted (WaitsBy e) x at = absurd (omega (arith, at.1))
 is_granted (HoldsBy e) x (zero, lt, is) = ap (λ (y : Entry). HoldsBy y) is

@@ -47,6 +47,14 @@ pub marks_more : (ms : List Move) (m : Move) → marks_of (ms ++ m ∷ []) ≡ m
 marks_more [] m = append-nil m.marks
 marks_more (x ∷ ms) m = ap (λ (ys : List Mark). x.marks ++ ys) (marks_more ms m) ∙ sym (append_assoc x.marks (marks_of ms) m.marks)
 
+pub lost_more : (ms : List Move) (m : Move) → lost_by (ms ++ m ∷ []) ≡ lost_by ms ++ lost_in m.step
+lost_more [] m = append-nil (lost_in m.step)
+lost_more (x ∷ ms) m = ap (λ (ys : List Message). lost_in x.step ++ ys) (lost_more ms m) ∙ sym (append_assoc (lost_in x.step) (lost_by ms) (lost_in m.step))
+
+pub repeated_more : (ms : List Move) (m : Move) → repeated_by (ms ++ m ∷ []) ≡ repeated_by ms ++ repeated_in m.step
+repeated_more [] m = append-nil (repeated_in m.step)
+repeated_more (x ∷ ms) m = ap (λ (ys : List Message). repeated_in x.step ++ ys) (repeated_more ms m) ∙ sym (append_assoc (repeated_in x.step) (repeated_by ms) (repeated_in m.step))
+
 -- what happened at a node by one move
 abbrev pub happens : ℕ → Move → List Happening
 happens i m = map (λ event. record { event = event; sends = m.sends; marks = m.marks }) (events_at i m.step)
@@ -102,6 +110,14 @@ event_copies_nothing p (Leave node client name) event here = refl
 event_copies_nothing p (Deliver message) event here = refl
 event_copies_nothing p (Lose message) event here = refl
 event_copies_nothing p (Repeat message) event here = absurd (none_some here)
+
+-- and loses nothing
+pub event_loses_nothing : (p : ℕ) (step : Step) (event : Event) → events_at p step ≡ event ∷ [] → lost_in step ≡ []
+event_loses_nothing p (Ask node client name mode) event here = refl
+event_loses_nothing p (Leave node client name) event here = refl
+event_loses_nothing p (Deliver message) event here = refl
+event_loses_nothing p (Lose message) event here = absurd (none_some here)
+event_loses_nothing p (Repeat message) event here = refl
 
 -- ---- Which messages may be lost or repeated
 

@@ -1,5 +1,5 @@
 -- What holds at the end of every run: who holds, who waits, what is under way, and that no REPLY is a stray.
-use Rattle.std.proofs.Common.{◌≡◌, ◌≢◌, ℕ, List, [], ◌∷◌, ◌++◌, Contains, length, Some, refl, sym, ap, ◌∙◌, subst, arith, inl, inr}
+use Rattle.std.proofs.Common.{◌≡◌, ◌≢◌, ℕ, ◌+◌, ◌-◌, ◌*◌, ◌<◌, ◌≤◌, List, [], ◌∷◌, ◌++◌, Contains, length, Some, refl, sym, ap, ◌∙◌, subst, arith, inl, inr}
 use Rattle.std.specs.Prelude.{◌↔◌}
 use Rattle.ra_stamp.specs.declared.mode.Mode.{Mode}
 use Rattle.ra_stamp.specs.declared.message.Message.{Message}
@@ -17,8 +17,9 @@ use Rattle.ra_table.specs.Laws.{SameEntries}
 use Rattle.ra_world.specs.declared.step.Step.{Step}
 use Rattle.ra_world.specs.declared.step.Step.TheVariants.{Deliver}
 use Rattle.ra_world.specs.Below.{LawsBelow}
-use Rattle.ra_world.specs.Traffic.{Move, LeavesUnderWay, IsUnderWay, repeated_by}
+use Rattle.ra_world.specs.Traffic.{Move, LeavesUnderWay, IsUnderWay, sent_by, repeated_by}
 use Rattle.ra_world.specs.Run.{happened_at, marks_of, IsFit, IsRun, EndsWith, waiting_at_all}
+use Rattle.ra_world.specs.Quiet.{requests_in}
 use Rattle.ra_world.proofs.Lists.{filter_taken}
 use Rattle.ra_world.proofs.Moves.{allows_all, allows_moves, fits_split}
 use Rattle.ra_world.proofs.Dialogs.{belongs, between, belongs_at}
@@ -26,6 +27,7 @@ use Rattle.ra_world.proofs.Receiving.{was_answered}
 use Rattle.ra_world.proofs.Protocol.{IsNode}
 use Rattle.ra_world.proofs.Uses.{may_be_granted}
 use Rattle.ra_world.proofs.WaitingCounts.{same_over}
+use Rattle.ra_world.proofs.Balance.{asking_at_most}
 use Rattle.ra_world.proofs.Cluster.{IsTraffic, states}
 use Rattle.ra_world.proofs.Reached.{Reached, waits_nowhere, one_list, was_under_way}
 use Rattle.ra_world.proofs.Runs.{every_run, same_ends, prefixes}
@@ -40,10 +42,10 @@ held : (r : Resource) (e : Entry) → holder_of r ≡ Some e → use_of r ≡ Ho
 held r e is = held_in (use_of r) e is
 
 module _ (laws : LawsBelow) (n start : ℕ) (moves : List Move) (count : IsNodeNumber n) (run : IsRun n start moves) where
-  at_end : Reached (Unit {0}) (Unit {0}) n start moves
+  pub at_end : Reached (Unit {0}) (Unit {0}) n start moves
   at_end = every_run laws n start moves (allows_all moves) count run
 
-  same_at : (nodes : ℕ → NodeState) → EndsWith n start moves nodes → (i : ℕ) → IsNode n i → nodes i ≡ at_end.nodes i
+  pub same_at : (nodes : ℕ → NodeState) → EndsWith n start moves nodes → (i : ℕ) → IsNode n i → nodes i ≡ at_end.nodes i
   same_at nodes ends i at = same_ends laws.one_end n start moves nodes at_end.nodes ends at_end.ends i at
 
   -- ---- Who holds and who waits
@@ -64,6 +66,12 @@ module _ (laws : LawsBelow) (n start : ℕ) (moves : List Move) (count : IsNodeN
   as_many_wait nodes table ends same table_run =
       (same table at_end.table table_run at_end.run).waiting_count ∙ at_end.count
       ∙ same_over waiting_at waits_nowhere at_end.nodes nodes 1 n (λ i low high. sym (same_at nodes ends i (low, omega (arith, high))))
+
+  pub sends_at_most : length (sent_by moves) ≤ 2 * (n - 1) * requests_in (marks_of moves) + length (repeated_by moves)
+  sends_at_most = omega (arith, at_end.balance, asking_at_most (repeated_by moves))
+
+  pub numbers_at_most : (nodes : ℕ → NodeState) → EndsWith n start moves nodes → (i : ℕ) (name : List ℕ) → IsNode n i → (resource_at (nodes i) name).state.highest ≤ start + requests_in (marks_of moves)
+  numbers_at_most nodes ends i name at = omega (arith, at_end.highest i at name, ap (λ (x : NodeState). (resource_at x name).state.highest) (same_at nodes ends i at))
 
   -- ---- What is under way
 

@@ -54,7 +54,7 @@ module _ (laws : LawsBelow) (n start : ℕ) (moves : List Move) (count : IsNodeN
         let same = same_tables table exactly.table table_run exactly.run in
         let none : length exactly.table.waiting ≡ 0 = omega (arith, same.waiting_count, ap length nobody) in
         let owes = nothing_owed start n exactly.nodes exactly.table (subst (λ (bag : List Message). Invariant ⊥ ⊥ start n exactly.nodes bag exactly.table) nothing_left exactly.invariant) none in
-        omega (arith, exactly.balance (λ x. x) (λ x. x), owes, ap asking nothing_left)
+        omega (arith, exactly.balance, exactly.none_joined (λ x. x), owes, ap asking nothing_left, ap asking quiet.none_lost, ap asking unrepeated)
 
 pub blocked_may_not_enter : (table : LockTable) (e : Entry) → IsBlocked table e → MayEnter table e → ⊥
 blocked_may_not_enter table e x may = elim x [

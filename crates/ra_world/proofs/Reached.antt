@@ -1,19 +1,20 @@
 -- What is reached at the end of a run: its nodes, what is under way, and its lock table, and all that holds of them. An
 -- event of a node leads on.
-use Rattle.std.proofs.Common.{◌≡◌, ℕ, ◌≤◌, List, [], ◌∷◌, ◌++◌, All, Contains, length, Option, Some, None, refl, sym, ap, ◌∙◌, subst, arith, inl, ◌+◌, ◌-◌, ◌*◌, mul-add}
+use Rattle.std.proofs.Common.{◌≡◌, ℕ, ◌≤◌, List, [], ◌∷◌, ◌++◌, All, Contains, length, Option, Some, None, refl, sym, ap, ◌∙◌, subst, arith, inl, inr, ◌+◌, ◌-◌, ◌*◌, mul-add}
 use Rattle.std.specs.Prelude.{IsTrue}
 use Rattle.std.specs.Ordering.{nat_cmp}
 use Rattle.std.specs.FinSet as set
 use Rattle.std.specs.FinMap as finmap
 use Rattle.std.proofs.lemmas.List.{length-append, append-nil}
-use Rattle.std.proofs.lemmas.List.Elements.{All-nil}
+use Rattle.std.proofs.lemmas.List.Elements.{All-nil, All-append, All-weaker}
 use Rattle.ra_stamp.specs.declared.mode.Mode.{Mode}
 use Rattle.ra_stamp.specs.declared.message.Message.{Message}
 use Rattle.ra_stamp.specs.declared.entry.Mark.{Mark}
 use Rattle.ra_stamp.specs.Message.{seq_of}
 use Rattle.ra_stamp.specs.NodeId.{IsNodeNumber}
 use Rattle.ra_bag.specs.Bag.{TakesFirst}
-use Rattle.ra_node.proofs.Lookups.{nothing_met}
+use Rattle.ra_automaton.proofs.Apart.{cases_same}
+use Rattle.ra_node.proofs.Lookups.{nothing_met, same_or_apart}
 use Rattle.ra_node.proofs.Updates.{IsUpdate, event_updates, updated_here}
 use Rattle.ra_node.specs.Resource.{Resource, unmet, use_of, waiting_at}
 use Rattle.ra_node.specs.Node.{NodeState, opening_node, resource_at, waiting_count}
@@ -22,16 +23,17 @@ use Rattle.ra_node.specs.Events.Event.{Receive as Received}
 use Rattle.ra_node.specs.Carried.{IsSend, MarksLead}
 use Rattle.ra_table.specs.Table.{LockTable, empty_table, TableSteps, TableRun}
 use Rattle.ra_world.specs.Below.{LawsBelow}
-use Rattle.ra_world.specs.Traffic.{Move, sent_by, put_in, put_by, taken_in, taken_by, repeated_in, TakesEach, LeavesUnderWay, IsUnderWay}
+use Rattle.ra_world.specs.Traffic.{Move, sent_by, put_in, put_by, taken_in, taken_by, lost_by, repeated_in, repeated_by, TakesEach, LeavesUnderWay, IsUnderWay}
 use Rattle.ra_world.specs.Run.{events_at, happened_at, marks_of, EndsWith, with_node}
 use Rattle.ra_world.specs.Quiet.{requests_in}
 use Rattle.ra_world.proofs.Lists.{All-taken, takes_out, less_more, less_joined, less_alike}
-use Rattle.ra_world.proofs.Moves.{sent_more, put_more, taken_more, marks_more, happens, happened_more, requests_both}
+use Rattle.ra_world.proofs.Moves.{sent_more, put_more, taken_more, lost_more, repeated_more, marks_more, happens, happened_more, event_copies_nothing, event_loses_nothing, requests_both}
 use Rattle.ra_world.proofs.Members.{nobody}
 use Rattle.ra_world.proofs.Protocol.{IsNode, HasOwn}
 use Rattle.ra_world.proofs.AutomatonSteps.{awaits_has}
 use Rattle.ra_world.proofs.Marking.{waiting_of, granted_of}
 use Rattle.ra_world.proofs.Balance.{asking, owed}
+use Rattle.ra_world.proofs.Rising.{RaisesTo, Rises}
 use Rattle.ra_world.proofs.WaitingCounts.{total, over, one_update, one_node, marks_count, use_count, none_counted}
 use Rattle.ra_world.proofs.Cluster.{IsThere, IsTraffic, Invariant, Went, placed_at}
 use Rattle.ra_world.proofs.Nodes.{put_node, EndsAt, happens_here, ends_after}
@@ -46,7 +48,12 @@ pub record Reached (Lossy Copied : Type 0) (n start : ℕ) (moves : List Move) :
   pub run : TableRun (marks_of moves) table
   pub invariant : Invariant Lossy Copied start n nodes bag table
   pub count : length table.waiting ≡ over waiting_at nodes 1 n
-  pub balance : (Lossy → ⊥) → (Copied → ⊥) → length (sent_by moves) + asking bag + over owed nodes 1 n ≡ 2 * (n - 1) * requests_in (marks_of moves)
+  -- how many REQUESTs that came again joined a deferral of their sender's
+  pub joined : ℕ
+  pub none_joined : (Copied → ⊥) → joined ≡ 0
+  pub balance : length (sent_by moves) + asking bag + asking (lost_by moves) + over owed nodes 1 n + joined ≡ 2 * (n - 1) * requests_in (marks_of moves) + asking (repeated_by moves)
+  pub highest : (i : ℕ) → IsNode n i → (r : List ℕ) → (resource_at (nodes i) r).state.highest ≤ start + requests_in (marks_of moves)
+  pub raising : All (RaisesTo (start + requests_in (marks_of moves))) bag
 
 -- ---- At the start
 
@@ -104,7 +111,11 @@ opening laws Lossy Copied n start count =
         };
       };
       count = sym (none_counted waiting_at waits_nowhere nodes 1 n (λ i. refl));
-      balance = λ _ _. omega (arith, none_counted owed owes_nowhere nodes 1 n (λ i. refl));
+      joined = 0;
+      none_joined = λ _. refl;
+      balance = omega (arith, none_counted owed owes_nowhere nodes 1 n (λ i. refl));
+      highest = λ i at r. omega (arith, ap (λ (x : Resource). x.state.highest) (nothing_met i n start r));
+      raising = All-nil (RaisesTo (start + 0));
     }
 
 -- ---- What is under way
@@ -182,9 +193,10 @@ module _ (laws : LawsBelow) {Lossy Copied : Type 0} (n start : ℕ) (ms : List M
         let node = one_node waiting_at waits_nowhere before.nodes (with_node before.nodes p new) p 1 n within.0 (omega (arith, within.1)) went.turned.there in
         omega (arith, marked, was, is, resource, node, before.count, ap waiting_count went.turned.here, ap waiting_at resource_is)
 
-    balanced_after : (bag : List Message) → length m.sends + asking bag + owed (resource_at new name) ≡ asking before.bag + owed (resource_at (before.nodes p) name) + 2 * (n - 1) * requests_in m.marks
-        → (Lossy → ⊥) → (Copied → ⊥) → length (sent_by (ms ++ m ∷ [])) + asking bag + over owed (with_node before.nodes p new) 1 n ≡ 2 * (n - 1) * requests_in (marks_of (ms ++ m ∷ []))
-    balanced_after bag balanced none uncopied =
+    balanced_after : (bag : List Message) (more : ℕ) → length m.sends + asking bag + owed (resource_at new name) + more ≡ asking before.bag + owed (resource_at (before.nodes p) name) + 2 * (n - 1) * requests_in m.marks
+        → length (sent_by (ms ++ m ∷ [])) + asking bag + asking (lost_by (ms ++ m ∷ [])) + over owed (with_node before.nodes p new) 1 n + (before.joined + more)
+        ≡ 2 * (n - 1) * requests_in (marks_of (ms ++ m ∷ [])) + asking (repeated_by (ms ++ m ∷ []))
+    balanced_after bag more balanced =
         let resource = one_update owed owes_nowhere (before.nodes p) new name changed.0 changed.1 in
         let node = one_node owed owes_nowhere before.nodes (with_node before.nodes p new) p 1 n within.0 (omega (arith, within.1)) went.turned.there in
         let sent = ap length (sent_more ms m) ∙ length-append (sent_by ms) m.sends in
@@ -192,21 +204,51 @@ module _ (laws : LawsBelow) {Lossy Copied : Type 0} (n start : ℕ) (ms : List M
         let product : 2 * (n - 1) * requests_in (marks_of (ms ++ m ∷ [])) ≡ 2 * (n - 1) * requests_in (marks_of ms) + 2 * (n - 1) * requests_in m.marks =
         ap (λ k. 2 * (n - 1) * k) marked ∙ mul-add (2 * (n - 1)) (requests_in (marks_of ms)) (requests_in m.marks)
         in
-        omega (arith, before.balance none uncopied, balanced, resource, node, sent, product, ap (total owed) went.turned.here, ap owed resource_is)
+        let lost = ap asking (lost_more ms m ∙ ap (λ (xs : List Message). lost_by ms ++ xs) (event_loses_nothing p m.step event here) ∙ append-nil (lost_by ms)) in
+        let copied = ap asking (repeated_more ms m ∙ ap (λ (xs : List Message). repeated_by ms ++ xs) (event_copies_nothing p m.step event here) ∙ append-nil (repeated_by ms)) in
+        omega (arith, before.balance, balanced, resource, node, sent, lost, copied, product, ap (total owed) went.turned.here, ap owed resource_is)
+
+    requests_now : requests_in (marks_of (ms ++ m ∷ [])) ≡ requests_in (marks_of ms) + requests_in m.marks
+    requests_now = ap requests_in (marks_more ms m) ∙ requests_both (marks_of ms) m.marks
+
+    highest_after : Rises (resource_at new name) m.sends (start + requests_in (marks_of ms) + requests_in m.marks) → (i : ℕ) → IsNode n i → (r : List ℕ)
+        → (resource_at (with_node before.nodes p new i) r).state.highest ≤ start + requests_in (marks_of (ms ++ m ∷ []))
+    highest_after rises i at r = elim (cases_same i p) [
+      | inr apart ↦ omega (arith, requests_now, before.highest i at r, ap (λ (x : NodeState). (resource_at x r).state.highest) (went.turned.there i apart))
+      | inl is ↦
+          let now = ap (λ (x : NodeState). (resource_at x r).state.highest) (ap (with_node before.nodes p new) is ∙ went.turned.here) in
+          elim (same_or_apart r name) [
+            | inl same ↦ omega (arith, requests_now, now, rises.highest, ap (λ (q : List ℕ). (resource_at new q).state.highest) same)
+            | inr other ↦ omega (arith, requests_now, now, before.highest p within r, ap (λ (x : Resource). x.state.highest) (went.others r other))
+          ]
+    ]
+
+    raising_after : (rest : List Message) → All (RaisesTo (start + requests_in (marks_of ms))) rest → Rises (resource_at new name) m.sends (start + requests_in (marks_of ms) + requests_in m.marks)
+        → All (RaisesTo (start + requests_in (marks_of (ms ++ m ∷ [])))) (rest ++ m.sends)
+    raising_after rest all rises =
+        let was = start + requests_in (marks_of ms) in
+        let top = start + requests_in (marks_of (ms ++ m ∷ [])) in
+        All-append (RaisesTo top) rest m.sends (All-weaker (RaisesTo was) (RaisesTo top) (λ x low. omega (arith, requests_now, low)) rest all)
+        (All-weaker (RaisesTo (was + requests_in m.marks)) (RaisesTo top) (λ x low. omega (arith, requests_now, low)) m.sends rises.raising)
 
     -- all of it together
-    pub reached : (bag : List Message) → LeavesUnderWay (ms ++ m ∷ []) bag → (t : LockTable) × TableSteps before.table m.marks t × Invariant Lossy Copied start n (with_node before.nodes p new) bag t
-        → ((Copied → ⊥) → length m.sends + asking bag + owed (resource_at new name) ≡ asking before.bag + owed (resource_at (before.nodes p) name) + 2 * (n - 1) * requests_in m.marks)
+    pub reached : (rest : List Message) → LeavesUnderWay (ms ++ m ∷ []) (rest ++ m.sends) → (t : LockTable) × TableSteps before.table m.marks t × Invariant Lossy Copied start n (with_node before.nodes p new) (rest ++ m.sends) t
+        → (more : ℕ) → ((Copied → ⊥) → more ≡ 0) → length m.sends + asking (rest ++ m.sends) + owed (resource_at new name) + more ≡ asking before.bag + owed (resource_at (before.nodes p) name) + 2 * (n - 1) * requests_in m.marks
+        → All (RaisesTo (start + requests_in (marks_of ms))) rest → Rises (resource_at new name) m.sends (start + requests_in (marks_of ms) + requests_in m.marks)
         → Reached Lossy Copied n start (ms ++ m ∷ [])
-    reached bag under_way result balanced =
+    reached rest under_way result more none_more balanced raising rises =
         record {
           nodes = with_node before.nodes p new;
-          bag = bag;
+          bag = rest ++ m.sends;
           table = result.0;
           ends = ends_after laws.joins n start ms m before.nodes p event new before.ends here happened;
           under_way = under_way;
           run = subst (λ (marks : List Mark). TableRun marks result.0) (sym (marks_more ms m)) (laws.table_joins (marks_of ms) m.marks empty_table before.table result.0 before.run result.1);
           invariant = result.2;
           count = counted result.0 result.1;
-          balance = λ none uncopied. balanced_after bag (balanced uncopied) none uncopied;
+          joined = before.joined + more;
+          none_joined = λ uncopied. omega (arith, before.none_joined uncopied, none_more uncopied);
+          balance = balanced_after (rest ++ m.sends) more balanced;
+          highest = highest_after rises;
+          raising = raising_after rest raising rises;
         }

@@ -1,7 +1,8 @@
 -- Each step of a run leads from what is reached before it to what is reached after it.
-use Rattle.std.proofs.Common.{◌≡◌, ℕ, ◌≤◌, true, List, [], ◌∷◌, ◌++◌, Contains, refl, sym, ap, ◌∙◌, subst, arith, ◌-◌, ◌*◌, None}
+use Rattle.std.proofs.Common.{◌≡◌, ℕ, ◌≤◌, true, List, [], ◌∷◌, ◌++◌, All, Contains, length, ◌+◌, refl, sym, ap, ◌∙◌, subst, arith, ◌-◌, ◌*◌, None}
 use Rattle.std.specs.FinMap as finmap
 use Rattle.std.proofs.lemmas.List.{append-nil}
+use Rattle.std.proofs.lemmas.List.Elements.{All-push, All-contains}
 use Rattle.std.proofs.lemmas.Bool.{false≢true}
 use Rattle.ra_stamp.specs.declared.mode.Mode.{Mode}
 use Rattle.ra_stamp.specs.declared.message.Message.{Message}
@@ -19,13 +20,15 @@ use Rattle.ra_table.specs.Table.{TableRun}
 use Rattle.ra_world.specs.declared.step.Step.{Step}
 use Rattle.ra_world.specs.declared.step.Step.TheVariants.{Ask, Leave, Deliver, Lose, Repeat}
 use Rattle.ra_world.specs.Below.{LawsBelow}
-use Rattle.ra_world.specs.Traffic.{Move, LeavesUnderWay, IsUnderWay}
+use Rattle.ra_world.specs.Traffic.{Move, LeavesUnderWay, IsUnderWay, sent_by, lost_by, repeated_by}
 use Rattle.ra_world.specs.Run.{marks_of, IsFit, with_node}
-use Rattle.ra_world.proofs.Lists.{filter_taken}
-use Rattle.ra_world.proofs.Moves.{Allows, marks_more, at_node}
+use Rattle.ra_world.specs.Quiet.{requests_in}
+use Rattle.ra_world.proofs.Lists.{filter_taken, All-taken}
+use Rattle.ra_world.proofs.Moves.{Allows, sent_more, lost_more, repeated_more, marks_more, at_node}
 use Rattle.ra_world.proofs.Dialogs.{belongs, between, belongs_at}
 use Rattle.ra_world.proofs.Receiving.{was_asked}
-use Rattle.ra_world.proofs.Balance.{is_request, asking_both, ask_balanced, leave_balanced, receive_balanced}
+use Rattle.ra_world.proofs.Balance.{is_request, asking, asking_both, asking_taken, ask_balanced, leave_balanced, receive_balanced}
+use Rattle.ra_world.proofs.Rising.{RaisesTo, ask_rises, leave_rises, receive_rises}
 use Rattle.ra_world.proofs.Protocol.{IsNode, Protocol}
 use Rattle.ra_node.proofs.Lookups.{resource_changed}
 use Rattle.ra_node.proofs.Updates.{received_turn}
@@ -79,8 +82,9 @@ module _ (laws : LawsBelow) {Lossy Copied : Type 0} (n start : ℕ) (ms : List M
       in
       let placed = (before.invariant.protocol name).exchanges.each p within in
       let balanced = ask_balanced n (2 * (n - 1)) refl (resource_at (before.nodes p) name) (resource_at new name) (subst (λ (k : ℕ). IsNode n k) (sym placed.me_is) within) placed.nodes_is sends marks client mode before.bag turn in
-      reached laws n start ms m before p within event here new happened.1 tt unnumbered (before.bag ++ sends) (under_way_sent ms m before.bag before.bag before.under_way refl refl) result
-      (λ _. omega (arith, balanced, asking_both before.bag sends))
+      let rises = ask_rises (resource_at (before.nodes p) name) (resource_at new name) sends marks (start + requests_in (marks_of ms)) (before.highest p within name) client mode turn in
+      reached laws n start ms m before p within event here new happened.1 tt unnumbered before.bag (under_way_sent ms m before.bag before.bag before.under_way refl refl) result
+      0 (λ _. refl) (omega (arith, balanced, asking_both before.bag sends)) before.raising rises
 
   leave_reached : (p client : ℕ) (name : List ℕ) → IsNode n p → EndsAt n start (ms ++ move (Leave p client name) ∷ []) p → Reached Lossy Copied n start (ms ++ move (Leave p client name) ∷ [])
   leave_reached p client name within end =
@@ -101,8 +105,9 @@ module _ (laws : LawsBelow) {Lossy Copied : Type 0} (n start : ℕ) (ms : List M
       in
       let placed = (before.invariant.protocol name).exchanges.each p within in
       let balanced = leave_balanced n (2 * (n - 1)) refl (resource_at (before.nodes p) name) (resource_at new name) (subst (λ (k : ℕ). IsNode n k) (sym placed.me_is) within) placed.nodes_is sends marks client before.bag turn in
-      reached laws n start ms m before p within event here new happened.1 tt unnumbered (before.bag ++ sends) (under_way_sent ms m before.bag before.bag before.under_way refl refl) result
-      (λ _. omega (arith, balanced, asking_both before.bag sends))
+      let rises = leave_rises (resource_at (before.nodes p) name) (resource_at new name) sends marks (start + requests_in (marks_of ms)) (before.highest p within name) client turn in
+      reached laws n start ms m before p within event here new happened.1 tt unnumbered before.bag (under_way_sent ms m before.bag before.bag before.under_way refl refl) result
+      0 (λ _. refl) (omega (arith, balanced, asking_both before.bag sends)) before.raising rises
 
   deliver_reached : (message : Message) → IsUnderWay ms message → ((i : ℕ) → IsNode n i → EndsAt n start (ms ++ move (Deliver message) ∷ []) i) → Reached Lossy Copied n start (ms ++ move (Deliver message) ∷ [])
   deliver_reached message is_under_way ends =
@@ -127,11 +132,19 @@ module _ (laws : LawsBelow) {Lossy Copied : Type 0} (n start : ℕ) (ms : List M
       (leads laws n start ms m before p within event here new happened.1 for numbered)
       in
       let placed = (before.invariant.protocol name).exchanges.each p within in
-      let balanced = λ (uncopied : Copied → ⊥). receive_balanced n (2 * (n - 1)) refl (resource_at (before.nodes p) name) (resource_at new name) (subst (λ (k : ℕ). IsNode n k) (sym placed.me_is) within) placed.nodes_is sends marks message before.bag was.rest was.takes
-      (fresh_request n (states before.nodes name) before.bag was.rest message ((before.invariant.protocol name).exact uncopied) within was.traffic.from was.takes) turn
-      in
-      reached laws n start ms m before p within event here new happened.1 for numbered (was.rest ++ sends) (under_way_sent ms m before.bag was.rest before.under_way (was.rest, was.takes, refl) refl) result
-      (λ uncopied. omega (arith, balanced uncopied, asking_both was.rest sends))
+      let balanced = receive_balanced n (2 * (n - 1)) refl (resource_at (before.nodes p) name) (resource_at new name) (subst (λ (k : ℕ). IsNode n k) (sym placed.me_is) within) placed.nodes_is sends marks message before.bag was.rest was.takes turn in
+      let raising = All-taken (RaisesTo (start + requests_in (marks_of ms))) before.bag message was.rest was.takes before.raising in
+      let rises = receive_rises (resource_at (before.nodes p) name) (resource_at new name) sends marks (start + requests_in (marks_of ms)) (before.highest p within name) message raising.0 turn in
+      reached laws n start ms m before p within event here new happened.1 for numbered was.rest (under_way_sent ms m before.bag was.rest before.under_way (was.rest, was.takes, refl) refl) result
+      balanced.0 (λ uncopied. balanced.2 (fresh_request n (states before.nodes name) before.bag was.rest message ((before.invariant.protocol name).exact uncopied) within was.traffic.from was.takes))
+      (omega (arith, balanced.1, asking_both was.rest sends)) raising.1 rises
+
+  -- a step without marks makes no request, and raises no number
+  unmarked : (step : Step) → marks ≡ [] → requests_in (marks_of (ms ++ move step ∷ [])) ≡ requests_in (marks_of ms)
+  unmarked step none = ap requests_in (marks_more ms (move step) ∙ ap (λ (xs : List Mark). marks_of ms ++ xs) none ∙ append-nil (marks_of ms))
+
+  raising_still : (step : Step) → marks ≡ [] → (bag : List Message) → All (RaisesTo (start + requests_in (marks_of ms))) bag → All (RaisesTo (start + requests_in (marks_of (ms ++ move step ∷ [])))) bag
+  raising_still step none bag all = subst (λ (k : ℕ). All (RaisesTo (start + k)) bag) (sym (unmarked step none)) all
 
   lose_reached : Lossy → (message : Message) → IsUnderWay ms message → sends ≡ [] → marks ≡ [] → Reached Lossy Copied n start (ms ++ move (Lose message) ∷ [])
   lose_reached lossy message is_under_way no_sends no_marks =
@@ -146,7 +159,19 @@ module _ (laws : LawsBelow) {Lossy Copied : Type 0} (n start : ℕ) (ms : List M
         run = subst (λ (xs : List Mark). TableRun xs before.table) (sym (marks_more ms m ∙ ap (λ (xs : List Mark). marks_of ms ++ xs) no_marks ∙ append-nil (marks_of ms))) before.run;
         invariant = lost lossy start n before.nodes before.bag was.rest before.table message before.invariant was.takes;
         count = before.count;
-        balance = λ none _. absurd (none lossy);
+        joined = before.joined;
+        none_joined = before.none_joined;
+        balance = omega (
+          arith,
+          before.balance,
+          asking_taken before.bag message was.rest was.takes,
+          ap asking (lost_more ms m) ∙ asking_both (lost_by ms) (message ∷ []),
+          ap asking (repeated_more ms m ∙ append-nil (repeated_by ms)),
+          ap length (sent_more ms m ∙ ap (λ (xs : List Message). sent_by ms ++ xs) no_sends ∙ append-nil (sent_by ms)),
+          ap (λ k. 2 * (n - 1) * k) (unmarked (Lose message) no_marks),
+        );
+        highest = λ i at r. omega (arith, before.highest i at r, unmarked (Lose message) no_marks);
+        raising = raising_still (Lose message) no_marks was.rest (All-taken (RaisesTo (start + requests_in (marks_of ms))) before.bag message was.rest was.takes before.raising).1;
       }
 
   copy_reached : Copied → (message : Message) → IsUnderWay ms message → sends ≡ [] → marks ≡ [] → Reached Lossy Copied n start (ms ++ move (Repeat message) ∷ [])
@@ -162,7 +187,20 @@ module _ (laws : LawsBelow) {Lossy Copied : Type 0} (n start : ℕ) (ms : List M
         run = subst (λ (xs : List Mark). TableRun xs before.table) (sym (marks_more ms m ∙ ap (λ (xs : List Mark). marks_of ms ++ xs) no_marks ∙ append-nil (marks_of ms))) before.run;
         invariant = copied copies start n before.nodes before.bag before.table message before.invariant there;
         count = before.count;
-        balance = λ _ uncopied. absurd (uncopied copies);
+        joined = before.joined;
+        none_joined = before.none_joined;
+        balance = omega (
+          arith,
+          before.balance,
+          asking_both before.bag (message ∷ []),
+          ap asking (lost_more ms m ∙ append-nil (lost_by ms)),
+          ap asking (repeated_more ms m) ∙ asking_both (repeated_by ms) (message ∷ []),
+          ap length (sent_more ms m ∙ ap (λ (xs : List Message). sent_by ms ++ xs) no_sends ∙ append-nil (sent_by ms)),
+          ap (λ k. 2 * (n - 1) * k) (unmarked (Repeat message) no_marks),
+        );
+        highest = λ i at r. omega (arith, before.highest i at r, unmarked (Repeat message) no_marks);
+        raising = raising_still (Repeat message) no_marks (before.bag ++ message ∷ [])
+            (All-push (RaisesTo (start + requests_in (marks_of ms))) before.bag message before.raising (All-contains (RaisesTo (start + requests_in (marks_of ms))) before.bag message before.raising there));
       }
 
 pub step_reached : LawsBelow → {Lossy Copied : Type 0} (n start : ℕ) (ms : List Move) (step : Step) (sends : List Message) (marks : List Mark) → Reached Lossy Copied n start ms → Allows Lossy Copied step → IsFit n ms step sends marks

@@ -4,6 +4,7 @@ pub mod Run
 pub mod Fitting
 pub mod Quiet
 pub mod Below
+pub mod AtNodes
 pub mod World
 pub mod MainTheorem
 pub mod Log

@@ -1,5 +1,5 @@
 //! What is true of every run of a world, for the crates above. Each function does nothing, and its contract is the law.
-ghost use Rattle.std.specs.Prelude.{◌≡◌, ◌≢◌, ◌<◌, ◌≤◌, ◌++◌, ◌∷◌, ◌↔◌, [], ℕ, List, Some, All, AllPairs, Contains, length, map};
+ghost use Rattle.std.specs.Prelude.{◌≡◌, ◌≢◌, ◌+◌, ◌-◌, ◌*◌, ◌<◌, ◌≤◌, ◌++◌, ◌∷◌, ◌↔◌, [], ℕ, List, Some, All, AllPairs, Contains, length, map};
 ghost use Rattle.ra_stamp.specs.declared.message.Message.{Message};
 ghost use Rattle.ra_stamp.specs.declared.mode.Mode.{Mode};
 ghost use Rattle.ra_stamp.specs.declared.entry.Entry.{Entry};
@@ -17,7 +17,8 @@ ghost use Rattle.ra_table.specs.Table.{LockTable, TableRun, MayEnter};
 ghost use Rattle.ra_world.specs.declared.step.Step.{Step};
 ghost use Rattle.ra_world.specs.Traffic.{Move, TakesEach, LeavesUnderWay, IsUnderWay, sent_by, put_in, put_by, repeated_by, taken_by, taken_in};
 ghost use Rattle.ra_world.specs.Numbers.{IsNumberedMark, IsNumberedMessage};
-ghost use Rattle.ra_world.specs.Quiet.{IsQuiet, IsBlocked, MeetsMessageCount};
+ghost use Rattle.ra_world.specs.AtNodes.{IsTableOf};
+ghost use Rattle.ra_world.specs.Quiet.{IsQuiet, IsBlocked, MeetsMessageCount, requests_in};
 ghost use Rattle.ra_world.specs.Below.{LawsBelow};
 ghost use Rattle.ra_world.specs.Run.{IsRun, IsFit, GoesOn, WorldRun, EndsWith, events_at, marks_of, happened_at, waiting_at_all, with_node};
 
@@ -112,6 +113,38 @@ pub fn marks_of_runs_are_table_runs()
 {
     laws_below();
     tables_of_one_run_have_the_same_entries();
+}
+
+/// The lock table of a run is what its nodes say at the end. On each name, a request that waits at its node is that
+/// node's waiting entry, and one that is granted is its holding entry. The table has no other entries.
+pub fn tables_of_runs_are_those_of_their_nodes()
+    ensures { (n start : ℕ) (moves : List Move) (nodes : ℕ → NodeState) (table : LockTable)
+        → IsNodeNumber n → IsRun n start moves → EndsWith n start moves nodes
+        → TableRun (marks_of moves) table → IsTableOf n nodes table }
+{
+    laws_below();
+    tables_of_one_run_have_the_same_entries();
+}
+
+/// At each moment, and whatever was lost, a run has sent at most two messages for each request and other node, and one
+/// more for each copy.
+pub fn runs_send_at_most_two_messages_for_each_request_and_other_node()
+    ensures with_copies { (n start : ℕ) (moves : List Move) → IsNodeNumber n → IsRun n start moves
+        → length (sent_by moves) ≤ 2 * (n - 1) * requests_in (marks_of moves) + length (repeated_by moves) }
+    ensures unrepeated { (n start : ℕ) (moves : List Move) → IsNodeNumber n → IsRun n start moves
+        → repeated_by moves ≡ [] → length (sent_by moves) ≤ 2 * (n - 1) * requests_in (marks_of moves) }
+{
+    laws_below();
+}
+
+/// No number rises above the start value and the requests made so far, at any node and on any name. So from 0, an ask is
+/// refused as `Exhausted` only after 2^64-1 requests.
+pub fn numbers_rise_at_most_by_the_requests()
+    ensures { (n start : ℕ) (moves : List Move) (nodes : ℕ → NodeState) (i : ℕ) (name : List ℕ)
+        → IsNodeNumber n → IsRun n start moves → EndsWith n start moves nodes → 1 ≤ i → i ≤ n
+        → (resource_at (nodes i) name).state.highest ≤ start + requests_in (marks_of moves) }
+{
+    laws_below();
 }
 
 /// After each run the messages under way are one list. Each of them has a number, and goes from one existing node to

@@ -24,10 +24,13 @@ pub use fitting::steps_that_fit_together_are_runs;
 pub use input::read_up_to;
 pub use laws::{
     marks_of_runs_are_numbered, marks_of_runs_are_table_runs, messages_of_runs_are_different,
-    messages_under_way_are_between_nodes, no_delivered_reply_is_a_stray, prefixes_of_runs_are_runs,
+    messages_under_way_are_between_nodes, no_delivered_reply_is_a_stray,
+    numbers_rise_at_most_by_the_requests, prefixes_of_runs_are_runs,
     quiet_runs_sent_two_messages_for_each_request_and_other_node, runs_are_determined,
-    runs_go_on_by_events, runs_go_on_where_steps_are_allowed, steps_elsewhere_leave_a_node,
-    two_nodes_never_hold_in_conflict, waiting_requests_are_blocked_in_quiet_runs,
+    runs_go_on_by_events, runs_go_on_where_steps_are_allowed,
+    runs_send_at_most_two_messages_for_each_request_and_other_node, steps_elsewhere_leave_a_node,
+    tables_of_runs_are_those_of_their_nodes, two_nodes_never_hold_in_conflict,
+    waiting_requests_are_blocked_in_quiet_runs,
 };
 pub use lines::{
     mark_line, mode_word, push_field, push_mark_line, push_number, report_text, text_of,
