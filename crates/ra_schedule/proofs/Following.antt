@@ -12,7 +12,8 @@ use Rattle.ra_schedule.specs.declared.error.DriveError.{DriveError}
 use Rattle.ra_schedule.specs.declared.error.DriveError.TheVariants.{TurnLimit, BadPlace, NotEnabled, Memory}
 use Rattle.ra_schedule.specs.Script.{ScriptState}
 use Rattle.ra_schedule.specs.Schedule.{steps_of, StandsFor, Picks, IsBadPlace, IsNotEnabled, Ends, Follows, Stops}
-use Rattle.ra_schedule.specs.Driving.{IsRefused, IsStopped, Answers, Records}
+use Rattle.ra_schedule.specs.Drive.{Answers}
+use Rattle.ra_schedule.specs.Driving.{IsRefused, IsStopped, Records}
 use Rattle.ra_schedule.specs.Below.{LawsBelow}
 use Rattle.ra_schedule.proofs.Lists.{split_last, at_place}
 use Rattle.ra_schedule.proofs.Waiting.{steps_of-append}
@@ -249,7 +250,7 @@ pub answers : LawsBelow → (script : ScriptState) (policy : Policy) (limit : �
     → IsNodeNumber script.nodes → IfOk result (Records script policy limit records) → IfErr result (IsStopped script policy limit)
     → Answers script policy limit result
 answers laws script policy limit records (Ok driven) count told none =
-    answers_ok laws script policy limit told.moves driven count told.follows told.ends told.within
+    answers_ok laws script policy limit told.moves driven count told.run.follows told.run.ends told.run.within
 answers laws script policy limit records (Err fault) count none told = answers_err laws script policy limit fault count told
 
 -- where two lists of moves follow a policy to its end, they are one

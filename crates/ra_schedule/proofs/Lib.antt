@@ -9,6 +9,7 @@ mod Naming
 mod Choosing
 mod PolicyGenerator
 mod Following
+mod ChoicesMade
 mod Turns
 mod EnabledFlags
 mod Elsewhere

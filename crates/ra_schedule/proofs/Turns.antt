@@ -21,9 +21,11 @@ use Rattle.ra_schedule.specs.declared.choice.Choice.TheVariants.{Client, Message
 use Rattle.ra_schedule.specs.declared.choice.Policy.{Policy}
 use Rattle.ra_schedule.specs.Script.{ScriptClient, ScriptState, client_at, op_at}
 use Rattle.ra_schedule.specs.Schedule.{steps_of, steps_in, steps_by, Enters, IsEnabled, IsAtPlace, StandsFor, Picks, Follows, IsFinished}
+use Rattle.ra_schedule.specs.Listing.{AreChoicesBy}
 use Rattle.ra_schedule.specs.Progress.{IsProgress, Tracks, OfEach, IsProgressAfter, AreCountable, AreDone, IsStuck, AreStuck, NoneEnters, recorded}
 use Rattle.ra_schedule.specs.PolicyState.{AreDraws, AreDrawsElsewhere, generator_at, generator_in, words_drawn, words_for}
 use Rattle.ra_schedule.specs.Driving.{IsDriven, IsReady, IsAtEnd, HasMade, Records}
+use Rattle.ra_schedule.proofs.ChoicesMade.{no_choices, choices_more}
 use Rattle.ra_schedule.specs.Below.{LawsBelow}
 use Rattle.ra_schedule.proofs.Waiting.{nobody_waits, goes_on}
 use Rattle.ra_schedule.proofs.Elsewhere.{flags_elsewhere}
@@ -61,8 +63,9 @@ module _ (script : ScriptState) (world : WorldState) (is : world ≡ record { co
 
   pub ready_none : (policy : Policy) (driver : Driver) → IsNodeNumber script.nodes → IsRun world.count world.start world.moves
       → Tracks script world driver.clients.items → driver.first ≡ 0 → generator_in driver.draws ≡ generator_at policy 0
-      → IfSome driver.draws (AreDraws script world.moves) → driver.steps.items ≡ [] → IsReady script policy world driver
-  ready_none policy driver nodes run tracks first drawn draws steps =
+      → IfSome driver.draws (AreDraws script world.moves) → driver.steps.items ≡ [] → driver.choices.items ≡ []
+      → IsReady script policy world driver
+  ready_none policy driver nodes run tracks first drawn draws steps choices =
       let run' : IsRun script.nodes 0 world.moves =
       subst (λ (s : ℕ). IsRun script.nodes s world.moves) tracks.start (subst (λ (n : ℕ). IsRun n world.start world.moves) tracks.count run) in
       record {
@@ -75,6 +78,7 @@ module _ (script : ScriptState) (world : WorldState) (is : world ≡ record { co
           steps = nothing_recorded driver.records driver.steps.items world.moves steps none_moved;
         };
         follows = subst (Follows script policy) (sym none_moved) (follows_none script policy (subst (IsRun script.nodes 0) none_moved run'));
+        choices = λ kept. no_choices script policy driver.choices.items world.moves choices none_moved;
         drawn = drawn ∙ ap (generator_at policy) (sym (none_drawn policy)) ∙ ap (λ (ms : List Move). generator_at policy (words_drawn policy ms)) (sym none_moved);
       }
 
@@ -204,10 +208,11 @@ one_longer moves next move is = ap length is ∙ lists.length-append moves (move
 
 -- the policy chose, and its choice was made
 pub ready_more : (script : ScriptState) (policy : Policy) (world next : WorldState) (driver chosen new : Driver) (choice : Choice)
-    → IsReady script policy world driver → Picks script policy world.moves choice
+    → IsReady script policy world driver → chosen.records ≡ driver.records → chosen.choices.items ≡ driver.choices.items
+    → Picks script policy world.moves choice
     → generator_in chosen.draws ≡ generator_at policy (words_drawn policy world.moves + words_for policy choice)
     → HasMade script choice world chosen next new → IsReady script policy next new
-ready_more script policy world next driver chosen new choice ready picks drawn made =
+ready_more script policy world next driver chosen new choice ready records choices picks drawn made =
     let (move, means, moves) = made.made in
     let count : words_drawn policy next.moves ≡ words_drawn policy world.moves + words_for policy choice =
     ap (words_drawn policy) moves ∙ more_drawn script policy world.moves move choice means in
@@ -215,6 +220,10 @@ ready_more script policy world next driver chosen new choice ready picks drawn m
       driven = made.driven;
       follows = subst (Follows script policy) (sym moves)
           (follows_more script policy world.moves move choice ready.follows picks means (subst (IsRun script.nodes 0) moves made.driven.run));
+      choices = λ kept.
+          let before : IsTrue chosen.records = sym made.records ∙ kept in
+          choices_more script policy driver.choices.items new.choices.items world.moves next.moves move choice
+          (ready.choices (sym records ∙ before)) picks means (made.choices before ∙ ap (λ (cs : List Choice). cs ++ choice ∷ []) choices) moves;
       drawn = made.drawn ∙ drawn ∙ ap (generator_at policy) (sym count);
     }
 
@@ -308,22 +317,26 @@ are_done script world clients steps tracks are done k d within =
 pub records_all : (script : ScriptState) (policy : Policy) (world : WorldState) (driver : Driver) (limit : ℕ) (records : Bool)
     (result : Result Driven DriveError) → IsAtEnd script policy world driver → length world.moves ≤ limit → driver.records ≡ records
     → IfOk result (λ driven. driven.steps.items ≡ driver.steps.items)
+    → IfOk result (λ driven. driven.choices.items ≡ driver.choices.items)
     → IfOk result (λ driven. driven.turns ≡ length world.moves)
     → IfOk result (λ driven. Reports script.nodes 0 world.moves driven.report)
     → IfOk result (λ driven. MainTheorem script.nodes driven.report)
     → IfOk result (λ driven. IsTrue driven.finished ↔ IsFinished script (steps_of world.moves) driven.report)
     → IfOk result (Records script policy limit records)
-records_all script policy world driver limit records (Err why) ends within same steps turns reports theorem finished = tt
-records_all script policy world driver limit records (Ok driven) ends within same steps turns reports theorem finished = record {
+records_all script policy world driver limit records (Err why) ends within same steps choices turns reports theorem finished = tt
+records_all script policy world driver limit records (Ok driven) ends within same steps choices turns reports theorem finished = record {
   moves = world.moves;
+  run = record {
+    follows = ends.follows;
+    ends = ends.ends;
+    within = within;
+    reports = reports;
+    main_theorem = theorem;
+    finished_is = finished;
+  };
   steps = steps ∙ ends.steps ∙ ap (λ (b : Bool). recorded b world.moves) same;
+  choices = λ kept. subst (λ (cs : List Choice). AreChoicesBy script policy cs world.moves) (sym choices) (ends.choices (same ∙ kept));
   turns = turns;
-  follows = ends.follows;
-  ends = ends.ends;
-  within = within;
-  reports = reports;
-  finished = finished;
-  main_theorem = theorem;
 }
 
 -- ---- A list that was lent whole comes back whole

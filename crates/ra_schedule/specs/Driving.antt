@@ -1,10 +1,9 @@
 -- How far the driver has come with a script, and how it ends. No public contract speaks of it.
-use Rattle.std.specs.Prelude.{◌≡◌, ◌≢◌, ◌⊎◌, ◌↔◌, ℕ, ◌+◌, ◌<◌, ◌≤◌, Bool, true, false, List, [], ◌∷◌, ◌++◌, length, Result, IsTrue, IfOk, IfErr, IsErrOf, IsOkUnless, IfSome}
+use Rattle.std.specs.Prelude.{◌≡◌, ◌⊎◌, ℕ, ◌+◌, ◌<◌, ◌≤◌, Bool, true, false, List, [], ◌∷◌, ◌++◌, length, Result, IsTrue, IfOk, IfErr, IfSome}
 use Rattle.ra_stamp.specs.NodeId.{IsNodeNumber}
 use Rattle.ra_world.specs.Traffic.{Move}
 use Rattle.ra_world.specs.Run.{IsRun}
-use Rattle.ra_world.specs.World.{WorldState, Reports}
-use Rattle.ra_world.specs.MainTheorem.{MainTheorem}
+use Rattle.ra_world.specs.World.{WorldState}
 use Rattle.ra_schedule.specs.declared.choice.Choice.{Choice}
 use Rattle.ra_schedule.specs.declared.choice.Policy.{Policy}
 use Rattle.ra_world.specs.declared.step.Step.{Step}
@@ -13,7 +12,9 @@ use Rattle.ra_schedule.specs.declared.drive_script.Driven.{Driven}
 use Rattle.ra_schedule.specs.declared.error.DriveError.{DriveError}
 use Rattle.ra_schedule.specs.declared.error.DriveError.TheVariants.{BadPlace, NotEnabled, Memory}
 use Rattle.ra_schedule.specs.Script.{ScriptState}
-use Rattle.ra_schedule.specs.Schedule.{steps_of, StandsFor, Picks, IsBadPlace, IsNotEnabled, Ends, Follows, Stops, IsFinished}
+use Rattle.ra_schedule.specs.Schedule.{StandsFor, Picks, IsBadPlace, IsNotEnabled, Ends, Follows, Stops}
+use Rattle.ra_schedule.specs.Listing.{AreChoicesBy}
+use Rattle.ra_schedule.specs.Drive.{IsWholeRun}
 use Rattle.ra_schedule.specs.Progress.{Tracks, AreStuck, recorded}
 use Rattle.ra_schedule.specs.PolicyState.{AreDraws, generator_at, generator_in, words_drawn}
 
@@ -27,10 +28,16 @@ pub record IsDriven (script : ScriptState) (world : WorldState) (driver : Driver
   pub draws : IfSome driver.draws (AreDraws script world.moves)
   pub steps : driver.steps.items ≡ recorded driver.records world.moves
 
--- the policy has come this far with the script, and its generator has given the words that were drawn
+-- the choices of the policy are recorded, if the driver records
+abbrev pub KeepsChoices : ScriptState → Policy → List Move → Driver → Type 0
+KeepsChoices script policy moves driver = IsTrue driver.records → AreChoicesBy script policy driver.choices.items moves
+
+-- the policy has come this far with the script, its choices are recorded, and its generator has given the words that
+-- were drawn
 pub record IsReady (script : ScriptState) (policy : Policy) (world : WorldState) (driver : Driver) : Type 0 where
   pub driven : IsDriven script world driver
   pub follows : Follows script policy world.moves
+  pub choices : KeepsChoices script policy world.moves driver
   pub drawn : generator_in driver.draws ≡ generator_at policy (words_drawn policy world.moves)
 
 -- the policy has no choice left
@@ -39,12 +46,14 @@ pub record IsAtEnd (script : ScriptState) (policy : Policy) (world : WorldState)
   pub follows : Follows script policy world.moves
   pub ends : Ends script policy world.moves
   pub steps : driver.steps.items ≡ recorded driver.records world.moves
+  pub choices : KeepsChoices script policy world.moves driver
 
--- the step of the choice was made
+-- the step of the choice was made, and the choice recorded
 pub record HasMade (script : ScriptState) (choice : Choice) (world : WorldState) (driver : Driver) (next : WorldState) (new : Driver) : Type 0 where
   pub driven : IsDriven script next new
   pub drawn : generator_in new.draws ≡ generator_in driver.draws
   pub records : new.records ≡ driver.records
+  pub choices : IsTrue driver.records → new.choices.items ≡ driver.choices.items ++ choice ∷ []
   pub made : (move : Move) × StandsFor script world.moves choice move.step × (next.moves ≡ world.moves ++ move ∷ [])
 
 -- after a turn that went on there is one more move; after any other turn no choice is left
@@ -93,24 +102,10 @@ abbrev pub IsStopped : ScriptState → Policy → ℕ → DriveError → Type 0
 IsStopped script policy limit fault = (fault ≡ Memory)
     ⊎ ((moves : List Move) × Follows script policy moves × Stops script policy limit moves fault)
 
--- what public contracts promise of refusals: one other than `Memory` comes only if its cause applies, and if a cause
--- applies, the answer is its refusal or `Memory`
-pub record Answers {X : Type 0} (script : ScriptState) (policy : Policy) (limit : ℕ) (result : Result X DriveError) : Type 0 where
-  pub refused : (cause : DriveError) → cause ≢ Memory → IsErrOf result cause
-      → (moves : List Move) × Follows script policy moves × Stops script policy limit moves cause
-  pub exact : (cause : DriveError) (moves : List Move) → Follows script policy moves → Stops script policy limit moves cause
-      → IsErrOf result cause ⊎ IsErrOf result Memory
-  pub allowed : (moves : List Move) → Follows script policy moves → Ends script policy moves → length moves ≤ limit
-      → IsOkUnless result Memory
-
 -- what is recorded of a policy that has no choice left
 pub record Records (script : ScriptState) (policy : Policy) (limit : ℕ) (records : Bool) (driven : Driven) : Type 0 where
   pub moves : List Move
+  pub run : IsWholeRun script policy limit moves driven.report driven.finished
   pub steps : driven.steps.items ≡ recorded records moves
+  pub choices : IsTrue records → AreChoicesBy script policy driven.choices.items moves
   pub turns : driven.turns ≡ length moves
-  pub follows : Follows script policy moves
-  pub ends : Ends script policy moves
-  pub within : length moves ≤ limit
-  pub reports : Reports script.nodes 0 moves driven.report
-  pub finished : IsTrue driven.finished ↔ IsFinished script (steps_of moves) driven.report
-  pub main_theorem : MainTheorem script.nodes driven.report

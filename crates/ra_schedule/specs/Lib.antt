@@ -6,7 +6,8 @@ pub mod Progress
 pub mod Enabled
 pub mod PolicyState
 pub mod Below
+pub mod Listing
+pub mod Drive
 pub mod Driving
 pub mod Survey
 pub mod Finding
-pub mod Listing

@@ -1,9 +1,8 @@
 -- What comes of a script under many seeds.
-use Rattle.std.specs.Prelude.{◌≡◌, ◌↔◌, ℕ, ◌+◌, ◌-◌, ◌≤◌, Bool, true, false, List, [], ◌∷◌, length, map, filter, flat_map, Option, Some, None, option_map, slice_get, All, Contains, IsTrue}
+use Rattle.std.specs.Prelude.{◌≡◌, ℕ, ◌+◌, ◌-◌, ◌≤◌, Bool, true, false, List, [], ◌∷◌, length, map, filter, flat_map, Option, Some, None, option_map, slice_get, All, Contains}
 use Rattle.std.specs.List.{position_from}
 use Rattle.ra_world.specs.declared.report.Report.{Report}
 use Rattle.ra_world.specs.Traffic.{Move}
-use Rattle.ra_world.specs.World.{Reports}
 use Rattle.ra_schedule.specs.declared.choice.Policy.{Policy}
 use Rattle.ra_schedule.specs.declared.choice.Policy.TheVariants.{Seeded, Faulty}
 use Rattle.ra_schedule.specs.declared.error.DriveError.TheVariants.{TurnLimit}
@@ -15,7 +14,8 @@ use Rattle.ra_schedule.specs.declared.outcomes.Spread.{Spread}
 use Rattle.ra_schedule.specs.declared.outcomes.Survey.{Survey}
 use Rattle.ra_schedule.specs.Faults.{FaultRates}
 use Rattle.ra_schedule.specs.Script.{ScriptState}
-use Rattle.ra_schedule.specs.Schedule.{steps_of, Follows, Ends, Stops, IsFinished}
+use Rattle.ra_schedule.specs.Schedule.{Follows, Stops}
+use Rattle.ra_schedule.specs.Drive.{IsWholeRun}
 
 -- the policy of chance by this seed, with faults or without
 abbrev pub chance : Option FaultRates → ℕ → Policy
@@ -26,12 +26,8 @@ chance (Some faults) seed = Faulty seed faults
 -- is finished
 pub record HasEnded (script : ScriptState) (policy : Policy) (limit : ℕ) (figures : Figures) (finished : Bool) : Type 0 where
   pub moves : List Move
-  pub follows : Follows script policy moves
-  pub ends : Ends script policy moves
-  pub within : length moves ≤ limit
   pub report : Report
-  pub reports : Reports script.nodes 0 moves report
-  pub finished_is : IsTrue finished ↔ IsFinished script (steps_of moves) report
+  pub run : IsWholeRun script policy limit moves report finished
   pub turns : figures.turns ≡ length moves
   pub messages : figures.messages ≡ report.sent
 

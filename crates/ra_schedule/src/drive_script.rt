@@ -1,17 +1,17 @@
-ghost use Rattle.std.specs.Prelude.{◌≡◌, ◌≢◌, ◌⊎◌, ◌↔◌, ◌≤◌, List, [], length, IsTrue, IsErrOf, IsOkUnless, IfOk, IfErr};
-ghost use Rattle.ra_world.specs.Traffic.{Move};
+ghost use Rattle.std.specs.Prelude.{◌≡◌, ◌↔◌, [], length, IsTrue, IsErrOf, IfOk, IfErr};
 ghost use Rattle.ra_world.specs.Run.{IsRun};
 ghost use Rattle.ra_world.specs.World.{Reports};
 ghost use Rattle.ra_world.specs.MainTheorem.{MainTheorem};
-ghost use Rattle.ra_schedule.specs.Schedule.{steps_of, Follows, Ends, Stops, IsFinished};
+ghost use Rattle.ra_schedule.specs.Schedule.{steps_of, IsFinished};
 ghost use Rattle.ra_schedule.specs.Progress.{Tracks, AreDone};
-ghost use Rattle.ra_schedule.specs.Driving.{Answers, Records, IsStopped, MayNeedMemory};
+ghost use Rattle.ra_schedule.specs.Drive.{IsRecording, IsSummary, Answers};
+ghost use Rattle.ra_schedule.specs.Driving.{Records, IsStopped, MayNeedMemory};
 ghost use Rattle.ra_schedule.specs.declared.error.DriveError.{DriveError};
 
 use crate::driver::Driver;
 use crate::laws::schedules_rest_on_runs;
 use crate::progress::Progress;
-use crate::{DriveError, Policy, Script};
+use crate::{Choices, DriveError, Policy, Script};
 use ra_world::{Report, Steps, World};
 use std::alloc::Global;
 
@@ -20,13 +20,15 @@ use std::alloc::Global;
 pub struct Recording {
     /// All steps, in order.
     pub steps: Steps,
-    /// What came of them.
+    /// The choices that the policy made, one for each step. As [`Policy::Listed`] they make the same run again.
+    pub choices: Choices,
+    /// What came of the steps.
     pub report: Report,
     /// Whether every operation is done, and nothing waits, is queued or under way.
     pub finished: bool,
 }
 
-/// What a policy made of a script, except for its steps.
+/// What a policy made of a script, except for its steps and choices.
 #[derive(Debug, Drop)]
 pub struct Summary {
     /// How many steps there were, one at each turn.
@@ -37,26 +39,27 @@ pub struct Summary {
     pub finished: bool,
 }
 
-/// What a driver made of a script, with the steps where they were to be recorded.
+/// What a driver made of a script, with the steps and choices if they were to be recorded.
 #[derive(Drop)]
 struct Driven {
     steps: Steps,
+    choices: Choices,
     turns: u64,
     report: Report,
     finished: bool,
 }
 
-/// Drives a cluster through a script, from numbers that begin at 0: at each turn the policy makes a choice, and what it
-/// stands for is done, until no choice is left. A turn costs time linear in the number of clients, on average, and that of
-/// `World::step_near`. Whether a client may ask takes time linear in the queue of the name that it asks for where there was no
-/// memory to know the clients of a long one. The steps take memory linear in the number of turns.
+/// Drives a cluster through a script, from numbers that begin at 0. At each turn the policy makes a choice, and what it stands
+/// for is done, until no choice is left. A turn costs time linear in the number of clients, on average, and that of
+/// `World::step_near`. Whether a client may ask takes time linear in the queue of the name that it asks for, if there was no
+/// memory to know the clients of a long one. The steps and choices take memory linear in the number of turns.
 ///
 /// # Errors
 ///
 /// The first that holds, at each turn:
 ///
 /// 1. `TurnLimit`: a choice is left after `limit` turns, also one that can't be made.
-/// 2. `BadPlace`: the choice names a client or a message that there is not.
+/// 2. `BadPlace`: the choice names a client or a message that does not exist.
 /// 3. `NotEnabled`: it names a client that has nothing left to do, waits, or would be refused.
 /// 4. `Memory`: memory ran out.
 pub fn drive(
@@ -65,37 +68,26 @@ pub fn drive(
     policy: &Policy,
     limit: u64,
 ) -> Result<Recording, DriveError>
-    // The steps are all that the policy chose until no choice was left, and the report is that of their run.
-    ensures ok { IfOk result (λ recording. (moves : List Move)
-        × (steps_of moves ≡ recording.steps.items)
-        × Follows script.now policy.now moves × Ends script.now policy.now moves × (length moves ≤ limit)
-        × Reports script.now.nodes 0 moves recording.report) }
-    ensures main_theorem { IfOk result (λ recording. MainTheorem script.now.nodes recording.report) }
-    ensures finished { IfOk result (λ recording.
-        IsTrue recording.finished ↔ IsFinished script.now recording.steps.items recording.report) }
-    // A refusal other than `Memory` comes where its cause stands, and where one stands nothing else is answered.
-    ensures refused { (cause : DriveError) → cause ≢ DriveError.Memory → IsErrOf result cause
-        → (moves : List Move) × Follows script.now policy.now moves × Stops script.now policy.now limit moves cause }
-    ensures exact { (cause : DriveError) (moves : List Move) → Follows script.now policy.now moves
-        → Stops script.now policy.now limit moves cause
-        → IsErrOf result cause ⊎ IsErrOf result DriveError.Memory }
-    ensures allowed { (moves : List Move) → Follows script.now policy.now moves → Ends script.now policy.now moves
-        → length moves ≤ limit → IsOkUnless result DriveError.Memory }
+    ensures ok { IfOk result (IsRecording script.now policy.now limit) }
+    ensures answers { Answers script.now policy.now limit result }
 {
     let Driven {
         steps,
+        choices,
         report,
         finished,
         ..
     } = drive_through(alloc, script, policy, limit, true)?;
     Ok(Recording {
         steps,
+        choices,
         report,
         finished,
     })
 }
 
-/// Does as [`drive`], and keeps no steps, so that it takes less time, and memory only for the world and for what it reports.
+/// Does as [`drive`], and keeps no steps and no choices. So it takes less time, and memory only for the world and for what it
+/// reports.
 ///
 /// # Errors
 ///
@@ -106,20 +98,8 @@ pub fn summarize(
     policy: &Policy,
     limit: u64,
 ) -> Result<Summary, DriveError>
-    // There are steps, which are all that the policy chose until no choice was left, and the report is that of their run.
-    ensures ok { IfOk result (λ summary. (moves : List Move)
-        × Follows script.now policy.now moves × Ends script.now policy.now moves × (length moves ≤ limit)
-        × (summary.turns ≡ length moves) × Reports script.now.nodes 0 moves summary.report
-        × (IsTrue summary.finished ↔ IsFinished script.now (steps_of moves) summary.report)) }
-    ensures main_theorem { IfOk result (λ summary. MainTheorem script.now.nodes summary.report) }
-    // A refusal other than `Memory` comes where its cause stands, and where one stands nothing else is answered.
-    ensures refused { (cause : DriveError) → cause ≢ DriveError.Memory → IsErrOf result cause
-        → (moves : List Move) × Follows script.now policy.now moves × Stops script.now policy.now limit moves cause }
-    ensures exact { (cause : DriveError) (moves : List Move) → Follows script.now policy.now moves
-        → Stops script.now policy.now limit moves cause
-        → IsErrOf result cause ⊎ IsErrOf result DriveError.Memory }
-    ensures allowed { (moves : List Move) → Follows script.now policy.now moves → Ends script.now policy.now moves
-        → length moves ≤ limit → IsOkUnless result DriveError.Memory }
+    ensures ok { IfOk result (IsSummary script.now policy.now limit) }
+    ensures answers { Answers script.now policy.now limit result }
 {
     let Driven {
         turns,
@@ -134,7 +114,7 @@ pub fn summarize(
     })
 }
 
-/// Drives a cluster through a script, and records the steps, or none.
+/// Drives a cluster through a script, and records the steps and choices, or none.
 ///
 /// # Errors
 ///
@@ -156,7 +136,7 @@ fn drive_through(
     drive_world(alloc, script, policy, limit, records, &mut world)
 }
 
-/// Drives a cluster in which nothing has happened yet through a script, and records the steps, or none.
+/// Drives a cluster in which nothing has happened yet through a script, and records the steps and choices, or none.
 ///
 /// # Errors
 ///
@@ -179,7 +159,8 @@ fn drive_world(
     let mut driver = Driver::open(alloc, script, policy, world, records)?;
     driver.finish(alloc, script, policy, world, limit)?;
     let steps = driver.steps;
-    driven_of(alloc, script, world, &driver.clients, steps)
+    let choices = driver.choices;
+    driven_of(alloc, script, world, &driver.clients, steps, choices)
 }
 
 /// Reports what a policy made of a script.
@@ -193,9 +174,11 @@ fn driven_of(
     world: &World,
     clients: &[Progress],
     steps: Steps,
+    choices: Choices,
 ) -> Result<Driven, DriveError>
     requires tracked { Tracks script.now world.now clients.now }
     ensures steps { IfOk result (λ driven. driven.steps.items ≡ steps.items) }
+    ensures choices { IfOk result (λ driven. driven.choices.items ≡ choices.items) }
     ensures turns { IfOk result (λ driven. driven.turns ≡ length world.now.moves) }
     ensures report { IfOk result (λ driven. Reports script.now.nodes 0 world.now.moves driven.report) }
     ensures main_theorem { IfOk result (λ driven. MainTheorem script.now.nodes driven.report) }
@@ -207,6 +190,7 @@ fn driven_of(
     let finished = has_nothing_left(&report) && are_done(script, clients);
     Ok(Driven {
         steps,
+        choices,
         turns: world.steps(),
         report,
         finished,

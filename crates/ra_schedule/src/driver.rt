@@ -1,5 +1,5 @@
 //! How far a cluster was driven.
-ghost use Rattle.std.specs.Prelude.{◌≡◌, ◌+◌, ◌++◌, ◌∷◌, [], ◌<◌, ◌≤◌, ◌^◌, ◌⊎◌, ℕ, List, length, IfOk, IfErr, IsErrOf, OnOk, OnErr};
+ghost use Rattle.std.specs.Prelude.{◌≡◌, ◌+◌, ◌++◌, ◌∷◌, [], ◌<◌, ◌≤◌, ◌^◌, ◌⊎◌, ℕ, List, length, IsTrue, IfOk, IfErr, IsErrOf, OnOk, OnErr};
 ghost use Rattle.ra_world.specs.Traffic.{Move};
 ghost use Rattle.ra_world.specs.Run.{IsRun, GoesOn};
 ghost use Rattle.ra_world.specs.declared.step.Step.{Step};
@@ -15,7 +15,7 @@ use crate::picking::{Picked, pick};
 use crate::progress::{
     Progress, first_entered, first_free, note_marks, note_step, opening_progress,
 };
-use crate::{Choice, DriveError, Policy, Script};
+use crate::{Choice, Choices, DriveError, Policy, Script};
 use ra_stamp::{Marks, Memory};
 use ra_world::{Step, Steps, World};
 use std::alloc::Global;
@@ -29,10 +29,12 @@ pub struct Driver {
     draws: Option<Draws>,
     /// Each client before this place waits or has nothing left to do, so that most turns need not look at all clients.
     first: u32,
-    /// Whether the steps are recorded.
+    /// Whether the steps and choices are recorded.
     records: bool,
-    /// The steps so far, where they are recorded.
+    /// The steps so far, if they are recorded.
     pub steps: Steps,
+    /// The choices that stand for these steps.
+    pub choices: Choices,
 }
 
 impl Driver {
@@ -55,12 +57,15 @@ impl Driver {
     {
         let clients = opening_progress(alloc, script.clients())?;
         let draws = Draws::of(alloc, policy, script, world, &clients)?;
+        let steps = Steps::new(alloc);
+        let choices = Choices::new(alloc);
         Ok(Driver {
             clients,
             draws,
             first: 0,
             records,
-            steps: Steps::new(alloc),
+            steps,
+            choices,
         })
     }
 
@@ -167,7 +172,7 @@ impl Driver {
         }
     }
 
-    /// Makes the step that a choice stands for. It is recorded before it is made, so that there is memory for the record.
+    /// Makes the step that a choice stands for. Both are recorded before the step is made, so that there is memory for the record.
     ///
     /// # Errors
     ///
@@ -188,7 +193,13 @@ impl Driver {
         ensures same { OnErr result (world.new ≡ world.old) }
     {
         schedules_rest_on_runs();
-        keep_step(&mut self.steps, self.records, step)?;
+        keep(
+            &mut self.steps,
+            &mut self.choices,
+            self.records,
+            choice,
+            step,
+        )?;
         let made = make(alloc, world, &mut self.clients, step, place_in(choice))?;
         let marks = made.as_slice();
         self.first = first_entered(marks, self.first);
@@ -197,17 +208,25 @@ impl Driver {
     }
 }
 
-/// Adds a step to those that are recorded, where any are.
+/// Adds a step and the choice that stands for it to those that are recorded, if any are.
 ///
 /// # Errors
 ///
 /// `Memory`: memory ran out.
-fn keep_step(steps: &mut Steps, records: bool, step: &Step) -> Result<(), Memory>
-    ensures { (moves : List Move) (move : Move) → move.step ≡ step.now → steps.old.items ≡ recorded records moves
+fn keep(
+    steps: &mut Steps,
+    choices: &mut Choices,
+    records: bool,
+    choice: Choice,
+    step: &Step,
+) -> Result<(), Memory>
+    ensures steps { (moves : List Move) (move : Move) → move.step ≡ step.now → steps.old.items ≡ recorded records moves
         → OnOk result (steps.new.items ≡ recorded records (moves ++ move ∷ [])) }
+    ensures choices { IsTrue records → OnOk result (choices.new.items ≡ choices.old.items ++ choice ∷ []) }
 {
     if records {
         steps.push(*step)?;
+        choices.push(choice)?;
     }
     Ok(())
 }

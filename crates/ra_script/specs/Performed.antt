@@ -1,16 +1,15 @@
 -- What `perform` and `perform_trace` make of their input.
-use Rattle.std.specs.Prelude.{◌≡◌, ◌≢◌, ◌↔◌, ℕ, ◌≤◌, List, [], ◌++◌, Bool, IsTrue, All, length, Ok, Err, codes}
+use Rattle.std.specs.Prelude.{◌≡◌, ◌≢◌, ℕ, List, [], ◌++◌, Bool, All, Ok, Err, codes}
 use Rattle.ra_stamp.specs.Sequence.{Listed as Listing}
 use Rattle.ra_world.specs.declared.report.Report.{Report}
 use Rattle.ra_world.specs.Traffic.{Move}
-use Rattle.ra_world.specs.World.{Reports}
-use Rattle.ra_world.specs.MainTheorem.{MainTheorem}
 use Rattle.ra_world.specs.Lines.{report_text}
 use Rattle.ra_schedule.specs.declared.choice.Choice.{Choice}
 use Rattle.ra_schedule.specs.declared.choice.Policy.{Policy}
-use Rattle.ra_schedule.specs.Listing.{AreChoicesOf}
+use Rattle.ra_schedule.specs.Drive.{IsWholeRun}
+use Rattle.ra_schedule.specs.Listing.{AreChoicesBy, AreChoicesOf}
 use Rattle.ra_schedule.specs.Script.{ScriptState}
-use Rattle.ra_schedule.specs.Schedule.{steps_of, Follows, Ends, Stops, IsFinished}
+use Rattle.ra_schedule.specs.Schedule.{Follows, Ends, Stops}
 use Rattle.ra_trace.specs.TraceText.{IsTrace}
 use Rattle.ra_script.specs.declared.format.Format.{Format}
 use Rattle.ra_script.specs.declared.format.Format.TheVariants.{Lines, Trace, Choices}
@@ -24,34 +23,30 @@ use Rattle.ra_script.specs.ScriptText.{script_of}
 abbrev pub turn_limit : ℕ
 turn_limit = 16777216
 
--- the output is one line, the words of choices that make these moves again
-pub record SaysChoices (script : ScriptState) (moves : List Move) (output : List ℕ) : Type 0 where
+-- the output is one line, the words of the policy's choices, which by themselves make these moves again
+pub record SaysChoices (policy : Policy) (script : ScriptState) (moves : List Move) (output : List ℕ) : Type 0 where
   pub choices : Listing Choice
+  pub by : AreChoicesBy script policy choices.items moves
   pub are : AreChoicesOf script choices moves
   pub text : List ℕ
   pub lists : Lists text choices.items
   pub line : output ≡ text ++ codes "\n"
 
--- what the output says of a run of a script: the lines of its report, its trace, or its choices
-abbrev pub Says : Format → ScriptState → List Move → Report → List ℕ → Type 0
-Says Lines script moves report output = output ≡ report_text report
-Says Trace script moves report output = IsTrace script.nodes 0 moves output
-Says Choices script moves report output = SaysChoices script moves output
+-- what the output says of a policy's run of a script: the lines of its report, its trace, or its choices
+abbrev pub Says : Format → Policy → ScriptState → List Move → Report → List ℕ → Type 0
+Says Lines policy script moves report output = output ≡ report_text report
+Says Trace policy script moves report output = IsTrace script.nodes 0 moves output
+Says Choices policy script moves report output = SaysChoices policy script moves output
 
 -- The output says in this format what came of the script that the input is, under this policy, which was followed to
--- its end. The main theorem holds of the report of this run.
+-- its end. `finished` says whether this run is finished.
 pub record IsPerformedAs (format : Format) (policy : Policy) (input output : List ℕ) (finished : Bool) : Type 0 where
   pub script : ScriptState
   pub script_is : script_of input ≡ Ok script
   pub moves : List Move
-  pub follows : Follows script policy moves
-  pub ends : Ends script policy moves
-  pub at_most : length moves ≤ turn_limit
   pub report : Report
-  pub reports : Reports script.nodes 0 moves report
-  pub main_theorem : MainTheorem script.nodes report
-  pub finished_is : IsTrue finished ↔ IsFinished script (steps_of moves) report
-  pub says : Says format script moves report output
+  pub run : IsWholeRun script policy turn_limit moves report finished
+  pub says : Says format policy script moves report output
 
 -- the same, and the output is the lines of the report
 abbrev pub IsPerformed : Policy → List ℕ → List ℕ → Bool → Type 0
@@ -61,16 +56,16 @@ IsPerformed policy input output finished = IsPerformedAs Lines policy input outp
 abbrev pub IsTraced : Policy → List ℕ → List ℕ → Bool → Type 0
 IsTraced policy input output finished = IsPerformedAs Trace policy input output finished
 
--- some choices make the policy's run again, and one of them cannot be written
+-- one of the choices of the policy's run cannot be written
 pub record HasNoWords (policy : Policy) (input : List ℕ) : Type 0 where
   pub script : ScriptState
   pub script_is : script_of input ≡ Ok script
   pub moves : List Move
   pub follows : Follows script policy moves
   pub ends : Ends script policy moves
-  pub choices : Listing Choice
-  pub are : AreChoicesOf script choices moves
-  pub wordless : All HasText choices.items → ⊥
+  pub choices : List Choice
+  pub are : AreChoicesBy script policy choices moves
+  pub wordless : All HasText choices → ⊥
 
 -- choices are to be written, and one of them cannot be
 abbrev pub Unwritten : Format → Policy → List ℕ → Type 0

@@ -6,7 +6,7 @@ ghost use Rattle.ra_script.specs.Performed.{IsPerformed, IsPerformedAs, IsTraced
 
 use crate::format::Format;
 use crate::{PerformError, choices_text, read_script};
-use ra_schedule::{Policy, Script, drive, list_choices, summarize};
+use ra_schedule::{Policy, Script, drive, summarize};
 use ra_stamp::Memory;
 use ra_trace::trace_text;
 use ra_world::{read_up_to, report_text, runs_are_determined, write_out};
@@ -86,7 +86,7 @@ fn end_line(text: &mut String) -> Result<(), Memory>
     Ok(())
 }
 
-/// Drives a cluster through a script by a policy, and returns the line of the choices by which the run is made again.
+/// Drives a cluster through a script by a policy, and returns the line of its choices, by which the run is made again.
 ///
 /// # Errors
 ///
@@ -102,16 +102,8 @@ fn choices_of(alloc: Global, policy: &Policy, script: &Script) -> Result<Printed
     ensures early { IfErr result (λ fault. fault ≢ PerformError.Write) }
     ensures unread { ¬ IsErrOf result PerformError.Read }
 {
-    runs_are_determined();
-    // What holds of each script is that it has 1 to 64 nodes.
-    let _nodes = script.nodes();
     let recording = drive(alloc, script, policy, MAX_TURNS)?;
-    // The steps are those of a run of the script, so they have choices. That is tested and not proved; where none were found, it would be
-    // answered as if memory had run out.
-    let Ok(Some(choices)) = list_choices(alloc, script, &recording.steps) else {
-        return Err(PerformError::Memory);
-    };
-    let mut text = choices_text(alloc, &choices)?;
+    let mut text = choices_text(alloc, &recording.choices)?;
     end_line(&mut text)?;
     Ok(Printed {
         text,
@@ -180,10 +172,10 @@ fn read_printed<R: Read>(
     make_printed(alloc, format, policy, &input)
 }
 
-/// Does as [`perform`], and writes what came of it in a format: the lines of the report, or the trace, as [`perform_trace`] does, or the
-/// choices by which the policy listed makes the run again, in their words on one line. So `--choices` with these words is the same run,
-/// whatever policy made it. To write the choices costs about three times what `perform` does, and for each message that is taken time
-/// linear in the number of those under way.
+/// Does as [`perform`], and writes what came of it in a format. This is the lines of the report, or the trace, as [`perform_trace`]
+/// does, or the policy's choices, in their words on one line. So `--policy listed --choices` with these words makes the same run
+/// again, whatever policy made it first. To write the choices costs about what `perform` does, plus time and memory linear in the
+/// number of turns.
 ///
 /// # Errors
 ///

@@ -5,7 +5,7 @@ use crate::alike::are_alike;
 use crate::helpers::r;
 use ra_schedule::{
     AddClientError, AddOpError, Choice, DriveError, Ending, Faults, NewScriptError, Observer, Op,
-    Outcome, Policy, Script, Survey, Tally, drive, first_seed, list_choices, summarize, survey,
+    Outcome, Policy, Script, Survey, Tally, drive, first_seed, summarize, survey,
 };
 use ra_stamp::{Entry, Mark, Memory, Mode, Name, NodeId, Stamp};
 use ra_world::{
@@ -560,19 +560,15 @@ const OLDEST: [Choice; 8] = [
     Choice::Client(2),
 ];
 
-/// Lists the choices of a run. If that is refused, returns whether memory ran out.
+/// Drives the two clients, and compares the choices that are recorded. If that is refused, returns whether memory ran out.
 fn try_listing(alloc: Global) -> Result<Tried, bool> {
     let Some(script) = two_lockers(alloc) else {
         return Err(true);
     };
-    let made = match drive(alloc, &script, &Policy::Oldest, 1_000) {
-        Ok(made) => made,
-        Err(fault) => return Err(fault == DriveError::Memory),
-    };
-    match list_choices(alloc, &script, &made.steps) {
-        Ok(Some(choices)) if choices.as_slice() == OLDEST.as_slice() => Ok(Tried::AtOnce),
+    match drive(alloc, &script, &Policy::Oldest, 1_000) {
+        Ok(made) if made.choices.as_slice() == OLDEST.as_slice() => Ok(Tried::AtOnce),
         Ok(_) => Ok(Tried::Wrong),
-        Err(Memory) => Err(true),
+        Err(fault) => Err(fault == DriveError::Memory),
     }
 }
 

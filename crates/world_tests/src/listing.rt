@@ -1,14 +1,12 @@
-//! The choices that make the steps of a run again, and the first seed that comes to an end.
+//! The choices of a run, and the first seed that comes to an end.
 use crate::drives::{Chooser, policy};
 use crate::helpers::{assert_rows, r};
 use Chooser::{Faulty, Newest, Oldest, Seeded};
 use Ending::{Finished, Stuck};
 use ra_schedule::{
-    Choice, Choices, Ending, Faults, Figures, Observer, Op, Outcome, Policy, Recording, Script,
-    drive, first_seed, list_choices, survey,
+    Choice, Ending, Figures, Observer, Op, Outcome, Script, drive, first_seed, survey,
 };
-use ra_stamp::{Memory, Mode, NodeId};
-use ra_world::{Step, Steps};
+use ra_stamp::{Memory, Mode};
 use std::alloc::Global;
 
 /// Adds a client at a node that locks `r` and unlocks it.
@@ -27,57 +25,6 @@ fn lockers(alloc: Global, clients: u16) -> Option<Script> {
         }
     }
     Some(script)
-}
-
-/// Returns whether listed choices make the steps of a recording and their report, within as many turns.
-fn make(alloc: Global, script: &Script, choices: Choices, recording: &Recording) -> bool {
-    let turns = choices.len();
-    match drive(alloc, script, &Policy::Listed(choices), turns) {
-        Ok(again) => {
-            again.steps.as_slice() == recording.steps.as_slice()
-                && again.report.marks.as_slice() == recording.report.marks.as_slice()
-                && again.finished == recording.finished
-        }
-        Err(_) => false,
-    }
-}
-
-/// Returns whether the choices of a policy's steps make its run of a script again.
-fn is_made_again(alloc: Global, script: &Script, policy: &Policy) -> bool {
-    let Ok(recording) = drive(alloc, script, policy, 10_000) else {
-        return false;
-    };
-    match list_choices(alloc, script, &recording.steps) {
-        Ok(Some(choices)) => make(alloc, script, choices, &recording),
-        _ => false,
-    }
-}
-
-/// Returns whether that holds for the random runs of a seed, without and with faults.
-fn seed_is_made_again(alloc: Global, script: &Script, seed: u64) -> bool {
-    let Some(faults) = Faults::new(100, 300) else {
-        return false;
-    };
-    is_made_again(alloc, script, &Policy::Seeded(seed))
-        && is_made_again(alloc, script, &Policy::Faulty { seed, faults })
-}
-
-/// Returns whether that holds for four clients with each of the first seeds, and with the policies that have no seed.
-fn runs_are_made_again(alloc: Global) -> bool {
-    let Some(script) = lockers(alloc, 4) else {
-        return false;
-    };
-    for seed in 0..20 {
-        if !seed_is_made_again(alloc, &script, seed) {
-            return false;
-        }
-    }
-    is_made_again(alloc, &script, &Policy::Oldest) && is_made_again(alloc, &script, &Policy::Newest)
-}
-
-#[test]
-fn the_choices_of_steps_make_them_again(rt: HostRuntime) {
-    assert!(rt; runs_are_made_again(rt.alloc()));
 }
 
 /// What chooses for four clients, and the choices of the run, each a letter and a digit.
@@ -125,10 +72,7 @@ fn is_listed(alloc: Global, row: &Listed) -> bool {
     let Ok(recording) = drive(alloc, &script, &policy, 10_000) else {
         return false;
     };
-    match list_choices(alloc, &script, &recording.steps) {
-        Ok(Some(choices)) => are_words(row.1, choices.as_slice()),
-        _ => false,
-    }
+    are_words(row.1, recording.choices.as_slice())
 }
 
 /// Returns how many rows hold, up to the first that does not.
@@ -142,7 +86,7 @@ fn are_listed(alloc: Global, rows: &[Listed]) -> usize {
 }
 
 /// The words were computed by a separate Python model of the algorithm, the policies and the generator PCG XSL RR
-/// 128/64, written from the rules in docs/ALGORITHM.md and docs/FORMATS.md.
+/// 128/64, written from the rules in docs/ALGORITHM.md and docs/FORMATS.md. Of equal messages, a choice names the one that was drawn.
 #[test]
 fn the_choices_of_a_run_are_those_of_a_model(rt: HostRuntime) {
     const ROWS: &[Listed] = &[
@@ -154,39 +98,17 @@ fn the_choices_of_a_run_are_those_of_a_model(rt: HostRuntime) {
             Seeded(19),
             "c4 c3 c1 m1 c2 m1 c3 m0 m0 m0 c4 m1 m0 c1 m0 c2",
         ),
-        Listed(Faulty(0, 100, 300), "c4 l0 c1 c2 m0 r0 c3 m0 c1 m1 m0"),
+        Listed(Faulty(0, 100, 300), "c4 l0 c1 c2 m0 r0 c3 m1 c1 m1 m0"),
         Listed(
             Faulty(1, 100, 300),
-            "c4 m0 m0 c1 c3 m0 c2 c4 r0 r0 m0 r1 l1 c1 l3 m1 r1 m1 l1 m0",
+            "c4 m0 m0 c1 c3 m0 c2 c4 r0 r0 m2 r2 l1 c1 l3 m1 r1 m2 l1 m0",
         ),
         Listed(
             Faulty(7, 100, 300),
-            "c4 c2 m0 m0 c3 m0 c1 c4 m1 r0 r0 r0 l0 r0 m0 m0 m0 c3 m1 m1 l0 c2 m0 c1",
+            "c4 c2 m0 m0 c3 m0 c1 c4 m1 r0 r0 r1 l3 r1 m0 m0 m0 c3 m1 m1 l0 c2 m0 c1",
         ),
     ];
     assert_rows(&rt, are_listed(rt.alloc(), ROWS), ROWS.len());
-}
-
-/// Returns whether this step of a client has no choices. The script of one client does not contain it.
-fn has_none(alloc: Global, client: u32, mode: Mode) -> bool {
-    let (Some(script), Some(node)) = (lockers(alloc, 1), NodeId::new(1)) else {
-        return false;
-    };
-    let name = r();
-    let mut steps = Steps::new(alloc);
-    let asks = Step::Ask {
-        node,
-        client,
-        name,
-        mode,
-    };
-    steps.push(asks).is_ok() && matches!(list_choices(alloc, &script, &steps), Ok(None))
-}
-
-#[test]
-fn steps_that_a_script_does_not_say_have_no_choices(rt: HostRuntime) {
-    assert!(rt; has_none(rt.alloc(), 1, Mode::Shared));
-    assert!(rt; has_none(rt.alloc(), 2, Mode::Exclusive));
 }
 
 /// Returns the first seed of a range with which one client of two nodes comes to this end within this many turns. It

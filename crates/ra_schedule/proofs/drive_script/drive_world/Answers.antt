@@ -10,7 +10,7 @@ returns-clause-ok c =
     let told = c.driven_of.ensures in
     let (ends, within) = c.in_ok-finish.ensures.ok in
     records_all c.args.script.now c.args.policy.now c.finish.new.world c.finish.new.self c.args.limit c.args.records c.driven_of.result
-    ends within (c.in_ok-finish.ensures.records ∙ c.in_ok-driver.ensures.records) told.steps told.turns told.report told.main_theorem told.finished
+    ends within (c.in_ok-finish.ensures.records ∙ c.in_ok-driver.ensures.records) told.steps told.choices told.turns told.report told.main_theorem told.finished
 
 pub returns-in_err-driver-clause-memory : goal.returns-in_err-driver-clause-memory
 returns-in_err-driver-clause-memory c is = inl (ap (λ (w : WorldState). w.moves) c.requires.opened)

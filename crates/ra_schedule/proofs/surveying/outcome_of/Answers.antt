@@ -4,4 +4,4 @@ use Rattle.ra_schedule.proofs.surveying.outcome_of.Goals as goal
 
 pub returns-in-Err-TurnLimit : goal.returns-in-Err-TurnLimit
 returns-in-Err-TurnLimit c =
-    c.summarize.ensures.refused TurnLimit (λ same. cc) (c.in-Err-TurnLimit.is ∙ ap Err c.in-Err-TurnLimit.field-0-is)
+    c.summarize.ensures.answers.refused TurnLimit (λ same. cc) (c.in-Err-TurnLimit.is ∙ ap Err c.in-Err-TurnLimit.field-0-is)

@@ -1,11 +1,6 @@
-use Rattle.std.proofs.Common.{◌≡◌, ◌↔◌, ◌++◌, ◌⊎◌, ℕ, List, All, Err, string_bytes, codes, sym, subst, ap, ◌∙◌, inl, inr}
-use Rattle.std.specs.Prelude.{IsTrue}
+use Rattle.std.proofs.Common.{◌≡◌, ◌⊎◌, ℕ, List, All, Err, string_bytes, sym, subst, inl, inr}
 use Rattle.std.proofs.lemmas.Result.{err_from_is_err_and}
-use Rattle.ra_world.specs.declared.step.Step.{Step}
-use Rattle.ra_world.specs.Traffic.{Move}
 use Rattle.ra_schedule.specs.declared.choice.Policy.{Policy}
-use Rattle.ra_schedule.specs.Listing.{AreChoicesOf}
-use Rattle.ra_schedule.specs.Schedule.{IsFinished}
 use Rattle.ra_script.specs.declared.error.ChoicesError.{ChoicesError}
 use Rattle.ra_script.specs.declared.error.ChoicesError.TheVariants as choices
 use Rattle.ra_script.specs.declared.format.Format.TheVariants.{Choices}
@@ -22,29 +17,17 @@ of_fault policy input fault P Q none (inr (is, holds)) = subst (λ (why : Choice
 
 pub returns-clause-ok : goal.returns-clause-ok
 returns-clause-ok c input script_is =
-    let script = c.args.script.now in
-    let recording = c.in_ok-recording.recording in
-    let choices = c.in-Ok-Some.choices in
-    let (moves, is, follows, ends, most, reports) = c.in_ok-recording.ensures.ok in
-    let listed = rw c.in-Ok-Some.field-0-is at c.in-Ok-Some.ensures in
-    let (others, same, are) = listed in
-    let equal : others ≡ moves =
-    c.runs_are_determined.ensures script.nodes 0 others moves c.nodes-nodes.ensures.script.count are.0.run follows.run (same ∙ sym is) in
+    let recording = c.in_ok-recording.ensures.ok in
     record {
-      script = script;
+      script = c.args.script.now;
       script_is = script_is;
-      moves = moves;
-      follows = follows;
-      ends = ends;
-      at_most = most;
-      report = recording.report;
-      reports = reports;
-      main_theorem = c.in_ok-recording.ensures.main_theorem;
-      finished_is = subst (λ (xs : List Step). IsTrue recording.finished ↔ IsFinished script xs recording.report) (sym is)
-          c.in_ok-recording.ensures.finished;
+      moves = recording.moves;
+      report = c.in_ok-recording.recording.report;
+      run = recording.run;
       says = record {
-        choices = choices;
-        are = subst (λ (xs : List Move). AreChoicesOf script choices xs) equal are;
+        choices = c.in_ok-recording.recording.choices;
+        by = recording.choices;
+        are = recording.again;
         text = string_bytes c.in_ok-text.text;
         lists = c.in_ok-text.ensures.ok;
         line = c.in_ok-end_line.ensures;
@@ -54,21 +37,16 @@ returns-clause-ok c input script_is =
 pub returns-in_err-text-clause-err : goal.returns-in_err-text-clause-err
 returns-in_err-text-clause-err c input script_is =
     let p = err_from_is_err_and c.from_residual-in_err-text.result c.from_residual-in_err-text.ensures.1 in
-    let script = c.args.script.now in
-    let choices = c.in-Ok-Some.choices in
-    let (moves, is, follows, ends, most, reports) = c.in_ok-recording.ensures.ok in
-    let listed = rw c.in-Ok-Some.field-0-is at c.in-Ok-Some.ensures in
-    let (others, same, are) = listed in
-    let equal : others ≡ moves =
-    c.runs_are_determined.ensures script.nodes 0 others moves c.nodes-nodes.ensures.script.count are.0.run follows.run (same ∙ sym is) in
-    let wordless : (All HasText choices.items → ⊥) → HasNoWords c.args.policy.now input = λ none. record {
-      script = script;
+    let recording = c.in_ok-recording.ensures.ok in
+    let items = c.in_ok-recording.recording.choices.items in
+    let wordless : (All HasText items → ⊥) → HasNoWords c.args.policy.now input = λ none. record {
+      script = c.args.script.now;
       script_is = script_is;
-      moves = moves;
-      follows = follows;
-      ends = ends;
-      choices = choices;
-      are = subst (λ (xs : List Move). AreChoicesOf script choices xs) equal are;
+      moves = recording.moves;
+      follows = recording.run.follows;
+      ends = recording.run.ends;
+      choices = items;
+      are = recording.choices;
       wordless = none;
     } in
-    rw (p.1, p.2) (of_fault c.args.policy.now input c.in_err-text.field-0.0 (All HasText choices.items → ⊥) _ wordless c.in_err-text.ensures.err)
+    rw (p.1, p.2) (of_fault c.args.policy.now input c.in_err-text.field-0.0 (All HasText items → ⊥) _ wordless c.in_err-text.ensures.err)

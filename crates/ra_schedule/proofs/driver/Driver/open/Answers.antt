@@ -16,4 +16,4 @@ returns-clause-ready c =
     ready_none c.args.script.now c.args.world.now c.requires.opened c.args.policy.now _ c.clients.ensures.script.count c.requires.run
     (tracks_none c.args.script.now c.args.world.now c.requires.opened c.in_ok-clients.clients.items
     (c.in_ok-clients.ensures ∙ ap (λ (n : ℕ). replicate n opening_progress) c.clients.ensures.value))
-    refl draws.generator draws.draws c.new.ensures
+    refl draws.generator draws.draws c.new-steps.ensures c.new-choices.ensures

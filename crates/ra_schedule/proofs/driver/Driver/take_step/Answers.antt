@@ -67,8 +67,9 @@ returns-clause-ok c =
           (subst (λ (list : List Progress). OfEach (IsProgressAfter move) clients.items list) (sym back) after')
           c.first_entered-self.ensures.not_past (subst (NoneEnters c.first_entered-self.result) told c.first_entered-self.ensures.none)
           c.note_step_in.ensures.draws
-          (c.in_ok-keep_step.ensures c.args.world.now.moves move this c.requires.driven.steps);
+          (c.in_ok-keep.ensures.steps c.args.world.now.moves move this c.requires.driven.steps);
       drawn = c.note_step_in.ensures.generator;
       records = refl;
+      choices = λ kept. c.in_ok-keep.ensures.choices kept;
       made = (move, means, ap (λ (w : WorldState). w.moves) next);
     }

@@ -20,7 +20,7 @@ returns-clause-ok c =
       one_longer c.args.world.now.moves c.follow.new.world.moves move moves,
       made.records,
       ready_more c.args.script.now c.args.policy.now c.args.world.now c.follow.new.world c.args.self.now _ c.follow.new.self c.in-Some.picked.choice
-          c.requires.ready c.in-Some.ensures.some c.in-Some.ensures.drawn made,
+          c.requires.ready refl refl c.in-Some.ensures.some c.in-Some.ensures.drawn made,
     )
 
 pub returns-in_err-follow-clause-memory : goal.returns-in_err-follow-clause-memory
