@@ -1,11 +1,11 @@
 //! What of a run is drawn, made by a world of its own from the lines of its trace: these have no line for a message that is sent, and
 //! only the nodes know which ones a step sends.
-use crate::cut::cut;
 use crate::part::Part;
 use crate::seat::Seat;
 use crate::stays::Stays;
 use crate::ways::{Fate, Moment, Start, Ways};
 use ra_stamp::{Mark, Memory, Message, Mode};
+use ra_text::cut;
 use ra_trace::Line;
 use ra_world::{MarklessWorld, Step};
 use std::alloc::Global;
@@ -168,11 +168,11 @@ impl Course {
     ) -> Result<(), Memory> {
         let mut rest = trace;
         for before in 0..part.to {
-            if rest.is_empty() {
+            // The last line of a trace ends with a line feed, too.
+            let (text, Some(after)) = cut(rest, b'\n') else {
                 break;
-            }
-            let (text, behind) = cut(b'\n', rest);
-            rest = behind;
+            };
+            rest = after;
             if let Some(line) = Line::parse(text) {
                 let number = before + 1;
                 self.take(alloc, world, number, &line, number >= part.from)?;

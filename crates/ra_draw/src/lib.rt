@@ -2,7 +2,6 @@
 #![tactic(auto)]
 
 mod course;
-mod cut;
 mod drawing;
 mod error;
 mod legend;

@@ -1,7 +1,7 @@
 //! How the text of a picture is written.
-use crate::cut::cut;
 use itoa::Buffer;
 use ra_stamp::{Memory, Name, NodeId};
+use ra_text::cut;
 use std::alloc::Global;
 
 /// The most letters of a name in a label. What a shape says in words has all of them.
@@ -75,10 +75,10 @@ impl Pen {
     pub fn write(&mut self, pattern: &str, pieces: &[Piece]) {
         let mut rest = pattern.as_bytes();
         for piece in pieces {
-            let (before, behind) = cut(b'$', rest);
+            let (before, after) = cut(rest, b'$');
             self.put(before);
             self.put_piece(piece);
-            rest = behind;
+            rest = after.unwrap_or(b"");
         }
         self.put(rest);
     }

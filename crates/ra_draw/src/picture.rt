@@ -3,7 +3,6 @@ ghost use Rattle.std.specs.Prelude.{◌≡◌, ◌++◌, IfOk, OnOk};
 ghost use Rattle.ra_draw.specs.Drawing.{IsPicture};
 
 use crate::course::Course;
-use crate::cut::cut;
 use crate::legend::{LEGEND, LOOKS};
 use crate::page::Page;
 use crate::part::Part;
@@ -12,6 +11,7 @@ use crate::pen::Piece::{Number, Text};
 use crate::shapes::Sheet;
 use crate::words::ending_of;
 use ra_stamp::Memory;
+use ra_text::cut;
 use ra_trace::Line;
 use std::alloc::Global;
 
@@ -117,7 +117,7 @@ fn opening_of(line: &Line) -> Option<(u16, u64)> {
 /// Returns what stands in the picture of a part of a trace, its attributes first.
 fn inner_of(alloc: Global, trace: &[u8], part: Part, totals: Totals) -> Result<Vec<u8>, Memory> {
     let mut sheet = Sheet::new(alloc);
-    let (first, _) = cut(b'\n', trace);
+    let (first, _) = cut(trace, b'\n');
     // A trace begins with a first line.
     if let Some(line) = Line::parse(first)
         && let Some((nodes, start)) = opening_of(&line)
