@@ -30,7 +30,7 @@ use Rattle.ra_world.proofs.Runs.{nothing_happened}
 -- ---- The next happening of a node
 
 -- so many happenings of a list are before one of this event
-record IsNext (happenings : List Happening) (before : ℕ) (event : Event) : Type 0 where
+record IsNextEvent (happenings : List Happening) (before : ℕ) (event : Event) : Type 0 where
   this : Happening
   later : List Happening
   is : this.event ≡ event
@@ -38,7 +38,7 @@ record IsNext (happenings : List Happening) (before : ℕ) (event : Event) : Typ
   with_this : take (suc before) happenings ≡ take before happenings ++ this ∷ []
 
 next_of : (events : List Event) (event : Event) (more : List Event) (happenings : List Happening)
-    → map (λ h. h.event) happenings ≡ events ++ event ∷ more → IsNext happenings (length events) event
+    → map (λ h. h.event) happenings ≡ events ++ event ∷ more → IsNextEvent happenings (length events) event
 next_of [] event more [] e = absurd (none_some e)
 next_of [] event more (h ∷ hs) e = record { this = h; later = hs; is = head_of e; parts = refl; with_this = refl }
 next_of (x ∷ events) event more [] e = absurd (none_some e)
@@ -59,7 +59,7 @@ events_more i prefix step = sym (flat_map_more (events_at i) [] prefix step)
 
 -- to what the node did of which it is an event
 done_more : (happenings : List Happening) (i : ℕ) (prefix : List Step) (step : Step) (event : Event) → events_at i step ≡ event ∷ []
-    → (next : IsNext happenings (length (flat_map (events_at i) prefix)) event)
+    → (next : IsNextEvent happenings (length (flat_map (events_at i) prefix)) event)
     → happened_by happenings i (prefix ++ step ∷ []) ≡ happened_by happenings i prefix ++ next.this ∷ []
 done_more happenings i prefix step event here next =
     let events = flat_map (events_at i) prefix in
@@ -207,7 +207,7 @@ module _
 
       -- the step is the next event of a node
       module _ (p : ℕ) (within : IsNode n p) (event : Event) (here : events_at p step ≡ event ∷ []) where
-        next : IsNext (happened p) (length (flat_map (events_at p) prefix)) event
+        next : IsNextEvent (happened p) (length (flat_map (events_at p) prefix)) event
         next = next_of (flat_map (events_at p) prefix) event (flat_map (events_at p) suffix) (happened p)
             (fit.events p within.0 within.1 ∙ ap (flat_map (events_at p)) parts ∙ flat_map-append (events_at p) prefix (step ∷ suffix)
             ∙ ap (λ (es : List Event). flat_map (events_at p) prefix ++ (es ++ flat_map (events_at p) suffix)) here)

@@ -2,7 +2,7 @@
 use Rattle.std.proofs.Common.{◌≡◌, ◌≢◌, ◌⊎◌, ◌↔◌, ℕ, ◌+◌, ◌-◌, ◌<◌, ◌≤◌, List, [], ◌∷◌, ◌++◌, map, length, take, drop, get_or, refl, sym, ap, ◌∙◌, subst, arith, inl, inr}
 use Rattle.std.specs.Prelude.{slice_get}
 use Rattle.std.proofs.lemmas.List.{take_more, take-append-drop}
-use Rattle.std.proofs.lemmas.Option.{slice_get_past, slice_get_read, none-some, same_Some}
+use Rattle.std.proofs.lemmas.Option.{slice_get_read}
 use Rattle.ra_stamp.specs.NodeId.{IsNodeNumber}
 use Rattle.ra_world.specs.declared.step.Step.{Step}
 use Rattle.ra_world.specs.declared.error.StepError.{StepError}
@@ -10,7 +10,7 @@ use Rattle.ra_world.specs.declared.error.StepError.TheVariants.{NoNode, NotUnder
 use Rattle.ra_world.specs.Traffic.{Move}
 use Rattle.ra_world.specs.Run.{IsRun, WorldRun, GoesOn}
 use Rattle.ra_world.specs.World.{WorldState, HasCause, HasMade}
-use Rattle.ra_world.specs.Refused.{IsRefusedAt, GoesThrough}
+use Rattle.ra_world.specs.Refused.{IsRefusedAt, StopsBefore}
 
 pub memory_or_not : (cause : StepError) → (cause ≡ Memory) ⊎ (cause ≢ Memory)
 memory_or_not NoNode = inr (λ e. cc)
@@ -60,18 +60,13 @@ module _
         }
 
 -- the next step can be made, and nothing changed when it was tried
-pub goes_on_there : (n start place : ℕ) (steps : List Step) (step : Step) (world new : WorldState) → HasMade n start (take place steps) world
-    → place < length steps → step ≡ get_or steps place step → GoesOn world.count world.start world.moves step → new ≡ world → GoesThrough n start steps new
-goes_on_there n start place steps step world new made inside is on same =
-    subst (GoesThrough n start steps) (sym same) (record {
+pub stops_before : (n start place : ℕ) (steps : List Step) (step : Step) (world new : WorldState) → HasMade n start (take place steps) world
+    → place < length steps → step ≡ get_or steps place step → GoesOn world.count world.start world.moves step → new ≡ world → StopsBefore n start steps new
+stops_before n start place steps step world new made inside is on same =
+    subst (StopsBefore n start steps) (sym same) (record {
       place = place;
       made = made;
-      goes_on = λ other at. subst (GoesOn n start world.moves) (same_Some step other (sym (slice_get_read steps (length steps) place step refl inside is) ∙ at))
-          (of_world n start world (λ k s. GoesOn k s world.moves step) made.count made.start_is on);
+      step = step;
+      step_is = slice_get_read steps (length steps) place step refl inside is;
+      goes_on = of_world n start world (λ k s. GoesOn k s world.moves step) made.count made.start_is on;
     })
-
--- all steps were made
-pub goes_to_the_end : (n start place : ℕ) (steps : List Step) (world : WorldState) → HasMade n start (take place steps) world → length steps ≤ place
-    → GoesThrough n start steps world
-goes_to_the_end n start place steps world made past =
-    record { place = place; made = made; goes_on = λ step at. absurd (none-some step (sym (slice_get_past steps place past) ∙ at)) }

@@ -1,7 +1,9 @@
 -- How a world keeps its run: the nodes at its end, and the messages that it leaves under way. No public contract speaks
 -- of it.
 use Rattle.std.specs.Prelude.{◌≡◌, ◌⊎◌, ℕ, ◌-◌, List, length, slice_index_or, Result, Ok, Err}
+use Rattle.ra_stamp.specs.Sequence.{Listed}
 use Rattle.ra_stamp.specs.declared.message.Message.{Message}
+use Rattle.ra_stamp.specs.declared.entry.Mark.{Mark}
 use Rattle.ra_stamp.specs.NodeId.{IsNodeNumber}
 use Rattle.ra_node.specs.Node.{NodeState, opening_node}
 use Rattle.ra_world.specs.Traffic.{Move, LeavesUnderWay}
@@ -11,6 +13,8 @@ use Rattle.ra_node.specs.declared.outcome.Outcome.{Outcome}
 use Rattle.ra_world.specs.declared.step.Step.{Step}
 use Rattle.ra_world.specs.declared.error.StepError.{StepError}
 use Rattle.ra_world.specs.declared.error.StepError.TheVariants.{Memory}
+use Rattle.ra_world.specs.declared.report.Report.{Report}
+use Rattle.ra_world.specs.declared.report.Figures.{Figures}
 use Rattle.ra_world.specs.declared.world.WorldOf.TheInside.{Inside}
 
 -- the nodes by their numbers, from 1; any other number means nothing
@@ -31,6 +35,20 @@ world_of {keeps} w = record { count = length w.nodes.items; start = w.start; mov
 -- what is true of the fields: the moves are a run, and the nodes and the messages are those at its end
 abbrev pub IsKept : {keeps : ℕ} → Inside keeps → Type 0
 IsKept {keeps} w = Keeps w.start w.nodes.items w.under_way.items w.log.moves
+
+-- the report of these figures and marks
+abbrev pub report_with : Figures → Listed Mark → Report
+report_with figures marks =
+    record {
+      marks = marks;
+      sent = figures.sent;
+      requests = figures.requests;
+      under_way = figures.under_way;
+      lost = figures.lost;
+      repeated = figures.repeated;
+      waiting = figures.waiting;
+      queued = figures.queued;
+    }
 
 -- a step could be made but for lack of memory, and it is one that may need memory, or no further step can be counted
 pub record IsShort (w : WorldState) (step : Step) (cause : StepError) : Type 0 where

@@ -1,4 +1,5 @@
--- Which refusal of a step a refusal of its node is, and at which place a list of steps is refused.
+-- Which refusal of a step a refusal of its node is, which refusal of a run a refusal of its world is, and at which place a
+-- list of steps is refused.
 use Rattle.std.specs.Prelude.{◌≡◌, ℕ, ◌-◌, ◌≤◌, List, Some, map, take, slice_get}
 use Rattle.ra_node.specs.declared.error.AskError.{AskError}
 use Rattle.ra_node.specs.declared.error.AskError.TheVariants as ask
@@ -8,9 +9,18 @@ use Rattle.ra_world.specs.declared.step.Step.{Step}
 use Rattle.ra_world.specs.declared.error.NodeRefusal.TheVariants.{Busy, Exhausted, NotHeld}
 use Rattle.ra_world.specs.declared.error.StepError.{StepError}
 use Rattle.ra_world.specs.declared.error.StepError.TheVariants.{Node, Memory}
+use Rattle.ra_world.specs.declared.error.NewError.{NewError}
+use Rattle.ra_world.specs.declared.error.NewError.TheVariants as new
+use Rattle.ra_world.specs.declared.error.RunError.{RunError}
+use Rattle.ra_world.specs.declared.error.RunError.TheVariants as run
 use Rattle.ra_world.specs.Traffic.{Move}
 use Rattle.ra_world.specs.Run.{IsRun, WorldRun, GoesOn}
 use Rattle.ra_world.specs.World.{WorldState, HasCause, HasMade}
+
+-- the refusal of a run that the refusal to make its world becomes
+abbrev pub refusal_of_new : NewError → RunError
+refusal_of_new new.BadCount = run.BadCount
+refusal_of_new new.Memory = run.Memory
 
 -- the refusal of a step that a refusal of its node's ask becomes
 abbrev pub refusal_of_ask : AskError → StepError
@@ -34,8 +44,10 @@ pub record IsRefusedAt (n start : ℕ) (steps : List Step) (place : ℕ) (cause 
   pub because : HasCause n start moves step cause
   pub no_run : WorldRun n start (take place steps) → ⊥
 
--- a world has made the first of these steps, and if one is left, the next one can be made
-pub record GoesThrough (n start : ℕ) (steps : List Step) (world : WorldState) : Type 0 where
+-- a world has made the steps before one of these, and it can make that one
+pub record StopsBefore (n start : ℕ) (steps : List Step) (world : WorldState) : Type 0 where
   pub place : ℕ
   pub made : HasMade n start (take place steps) world
-  pub goes_on : (step : Step) → slice_get steps place ≡ Some step → GoesOn n start world.moves step
+  pub step : Step
+  pub step_is : slice_get steps place ≡ Some step
+  pub goes_on : GoesOn n start world.moves step

@@ -1,4 +1,4 @@
-ghost use Rattle.std.specs.Prelude.{◌≡◌};
+ghost use Rattle.std.specs.Prelude.{◌≡◌, ◌≢◌};
 ghost use Rattle.ra_world.specs.declared.error.NewError.TheVariants as new;
 ghost use Rattle.ra_world.specs.declared.error.StepError.TheVariants as step;
 ghost use Rattle.ra_world.specs.declared.error.RunError.TheVariants as run;
@@ -100,6 +100,32 @@ impl From<Memory> for NewError {
 
     fn from(_refused: Memory) -> NewError {
         NewError::Memory
+    }
+}
+
+impl RunError {
+    /// Returns why a run ends at the step of this place, counted from 1, which is refused for this cause.
+    pub fn at(place: u64, cause: StepError) -> RunError
+        ensures memory { cause ≡ StepError.Memory → result ≡ RunError.Memory }
+        ensures refused { cause ≢ StepError.Memory → result ≡ RunError.Refused place cause }
+    {
+        match cause {
+            StepError::Memory => RunError::Memory,
+            cause => RunError::Refused { place, cause },
+        }
+    }
+}
+
+impl From<NewError> for RunError {
+    ghost use Rattle.ra_world.specs.Refused.{refusal_of_new};
+
+    ghost from_gives = { λ a e. e ≡ refusal_of_new a };
+
+    fn from(refused: NewError) -> RunError {
+        match refused {
+            NewError::BadCount => RunError::BadCount,
+            NewError::Memory => RunError::Memory,
+        }
     }
 }
 

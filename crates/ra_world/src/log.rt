@@ -109,6 +109,13 @@ impl<const KEEPS_MARKS: u8> Log<KEEPS_MARKS> {
         &self.marks
     }
 
+    /// Takes the marks of the steps, in order, out of the log if they are kept.
+    pub fn into_marks(self) -> Marks
+        ensures { KEEPS_MARKS ≡ 1 → result.items ≡ marks_of self.entry.moves }
+    {
+        self.marks
+    }
+
     /// Makes room for one step with this many marks. The cost is linear in the marks that are kept where the room has to
     /// grow, which, as it doubles, is amortized constant for each mark added.
     ///

@@ -1,3 +1,6 @@
+ghost use Rattle.std.specs.Prelude.{◌≡◌};
+ghost use Rattle.ra_world.specs.Keeping.{report_with};
+
 use ra_stamp::Marks;
 
 /// What came of a run.
@@ -19,4 +22,34 @@ pub struct Report {
     pub waiting: u128,
     /// How many clients are queued at their nodes.
     pub queued: u128,
+}
+
+/// The figures of a report: all but its marks.
+#[derive(Clone, Copy)]
+pub struct Figures {
+    pub sent: u128,
+    pub requests: u128,
+    pub under_way: u128,
+    pub lost: u128,
+    pub repeated: u128,
+    pub waiting: u128,
+    pub queued: u128,
+}
+
+impl Figures {
+    /// Makes the report of these figures and marks.
+    pub fn with_marks(self, marks: Marks) -> Report
+        ensures { result ≡ report_with self marks }
+    {
+        Report {
+            marks,
+            sent: self.sent,
+            requests: self.requests,
+            under_way: self.under_way,
+            lost: self.lost,
+            repeated: self.repeated,
+            waiting: self.waiting,
+            queued: self.queued,
+        }
+    }
 }

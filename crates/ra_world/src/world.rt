@@ -7,6 +7,7 @@ use crate::keeping::{
 };
 use crate::log::Log;
 use crate::numbering::{is_held_by, opening_nodes, place_of, queued_at, waiting_at};
+use crate::report::Figures;
 use crate::{NewError, NodeRefusal, Report, Step, StepError, runs_go_on_where_steps_are_allowed};
 use ra_bag::Bag;
 use ra_node::{Node, Outcome, ReceiveError, events_keep_a_node_consistent};
@@ -185,7 +186,7 @@ impl<const KEEPS_MARKS: u8> WorldOf<KEEPS_MARKS> {
         self.log.len()
     }
 
-    /// Returns how many requests were made. It does not allocate. (A report does, since it copies all marks.)
+    /// Returns how many requests were made. It does not allocate. (`report` does, since it copies all marks.)
     pub fn requests(&self) -> u128
         ensures value { result ≡ requests_in (marks_of self.now.moves) }
         ensures run { IsRun self.now.count self.now.start self.now.moves }
@@ -371,7 +372,10 @@ impl<const KEEPS_MARKS: u8> WorldOf<KEEPS_MARKS> {
 
 impl WorldOf<1> {
     ghost use Rattle.ra_stamp.specs.NodeId.{IsNodeNumber};
-    ghost use Rattle.ra_world.specs.Run.{IsRun};
+    ghost use Rattle.ra_stamp.specs.Sequence.{Listed};
+    ghost use Rattle.ra_stamp.specs.declared.entry.Mark.{Mark};
+    ghost use Rattle.ra_world.specs.Run.{IsRun, marks_of};
+    ghost use Rattle.ra_world.specs.Keeping.{report_with};
     ghost use Rattle.ra_world.specs.World.{Reports};
     ghost use Rattle.ra_world.specs.MainTheorem.{MainTheorem};
 
@@ -386,13 +390,37 @@ impl WorldOf<1> {
         ensures count { IsNodeNumber self.now.count }
         ensures main_theorem { IfOk result (MainTheorem self.now.count) }
     {
-        kept_runs_go_on();
         reports_meet_the_main_theorem();
+        let figures = self.figures();
         let marks = copy_of(alloc, self.log.marks())?;
+        Ok(figures.with_marks(marks))
+    }
+
+    /// Ends the world, and reports what came of its steps, as `report` does. The marks are moved and not copied, so it takes
+    /// no memory. The cost is linear in the number of nodes, beside what it takes to give the world's memory back.
+    pub fn into_report(self) -> Report
+        ensures report { Reports self.count self.start self.moves result }
+        ensures run { IsRun self.count self.start self.moves }
+        ensures count { IsNodeNumber self.count }
+        ensures main_theorem { MainTheorem self.count result }
+    {
+        reports_meet_the_main_theorem();
+        let figures = self.figures();
+        let marks = self.log.into_marks();
+        figures.with_marks(marks)
+    }
+
+    /// Returns the figures of a report. It does not allocate. The cost is linear in the number of nodes.
+    fn figures(&self) -> Figures
+        ensures figures { (marks : Listed Mark) → marks.items ≡ marks_of self.now.moves
+            → Reports self.now.count self.now.start self.now.moves (report_with result marks) }
+        ensures run { IsRun self.now.count self.now.start self.now.moves }
+        ensures count { IsNodeNumber self.now.count }
+    {
+        kept_runs_go_on();
         // There are at most as many queued clients as steps, so their count fits.
         let _steps = self.log.len();
-        Ok(Report {
-            marks,
+        Figures {
             sent: self.log.sent(),
             requests: self.log.requests(),
             under_way: u128::from(self.under_way.len()),
@@ -400,6 +428,6 @@ impl WorldOf<1> {
             repeated: u128::from(self.log.repeated()),
             waiting: waiting_at(&self.nodes),
             queued: queued_at(&self.nodes),
-        })
+        }
     }
 }

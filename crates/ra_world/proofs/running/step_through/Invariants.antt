@@ -1,6 +1,6 @@
 use Rattle.std.proofs.Common.{take}
 use Rattle.ra_world.specs.World.{HasMade}
-use Rattle.ra_world.proofs.running.report_after.Given as goal
+use Rattle.ra_world.proofs.running.step_through.Given as goal
 
 -- the steps so far
 abbrev pub invariant-loop-place : goal.invariant-loop-place

@@ -1,8 +1,8 @@
 use Rattle.std.proofs.Common.{◌≡◌, ◌+◌, ℕ, sym, subst, refl, inl, inr, arith}
 use Rattle.ra_world.specs.declared.error.StepError.{StepError}
 use Rattle.ra_world.specs.Refused.{IsRefusedAt}
-use Rattle.ra_world.proofs.Refusing.{memory_or_not, no_run, refused_there, goes_on_there, goes_to_the_end}
-use Rattle.ra_world.proofs.running.report_after.Goals as goal
+use Rattle.ra_world.proofs.Refusing.{memory_or_not, no_run, refused_there, stops_before}
+use Rattle.ra_world.proofs.running.step_through.Goals as goal
 
 pub returns-in-Err-clause-refused : goal.returns-in-Err-clause-refused
 returns-in-Err-clause-refused c place cause is =
@@ -11,9 +11,9 @@ returns-in-Err-clause-refused c place cause is =
     let made = c.loop-place.invariant in
     let told = c.in-Err.ensures in
     elim (memory_or_not c.in-Err.cause) [
-      | inl same ↦ let ends = c.refused_at.ensures.memory same in cc
+      | inl same ↦ let ends = c.at.ensures.memory same in cc
       | inr other ↦
-          let ends = c.refused_at.ensures.refused other in
+          let ends = c.at.ensures.refused other in
           let here : place ≡ c.loop-place.place + 1 = cc in
           let this : c.in-Err.cause ≡ cause = cc in
           let why = (told.refused c.in-Err.cause other).0 refl in
@@ -29,7 +29,7 @@ returns-in-Err-clause-allowed c run =
     let law = c.prefixes_of_runs_are_runs.ensures in
     let all = c.args.steps.now in
     elim (memory_or_not c.in-Err.cause) [
-      | inl same ↦ c.refused_at.ensures.memory same
+      | inl same ↦ c.at.ensures.memory same
       | inr other ↦
           absurd (no_run law.steps law.step c.args.world.now.count c.args.world.now.start c.loop-place.place all c.index-steps-place.result c.loop-place.world
           c.loop-place.invariant c.loop-place-test.true c.index-steps-place.is (λ on. other (c.in-Err.ensures.allowed.1 on)) run)
@@ -39,11 +39,7 @@ pub returns-in-Err-clause-memory : goal.returns-in-Err-clause-memory
 returns-in-Err-clause-memory c is =
     elim (memory_or_not c.in-Err.cause) [
       | inl same ↦
-          goes_on_there c.args.world.now.count c.args.world.now.start c.loop-place.place c.args.steps.now c.index-steps-place.result c.loop-place.world c.step.new.self
+          stops_before c.args.world.now.count c.args.world.now.start c.loop-place.place c.args.steps.now c.index-steps-place.result c.loop-place.world c.step.new.self
           c.loop-place.invariant c.loop-place-test.true c.index-steps-place.is (c.in-Err.ensures.allowed.0 same) c.in-Err.ensures.err
-      | inr other ↦ let ends = c.refused_at.ensures.refused other in absurd cc
+      | inr other ↦ let ends = c.at.ensures.refused other in absurd cc
     ]
-
-pub returns-in_err-report-clause-memory : goal.returns-in_err-report-clause-memory
-returns-in_err-report-clause-memory c is =
-    goes_to_the_end c.args.world.now.count c.args.world.now.start c.loop-place.place c.args.steps.now c.loop-place.world c.loop-place.invariant (omega arith)

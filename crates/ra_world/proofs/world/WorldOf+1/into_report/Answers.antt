@@ -1,0 +1,15 @@
+use Rattle.std.proofs.Common.{refl, sym, ap, ◌∙◌, subst}
+use Rattle.ra_world.specs.Run.{marks_of}
+use Rattle.ra_world.specs.World.{WorldState, Reports}
+use Rattle.ra_world.proofs.world.WorldOf+1.into_report.Goals as goal
+
+pub returns-clause-report : goal.returns-clause-report
+returns-clause-report c =
+    let s = c.args.self in
+    let kept = c.into_marks-marks.ensures refl ∙ ap (λ (w : WorldState). marks_of w.moves) c.self.view_is in
+    subst (Reports s.count s.start s.moves) (sym c.with_marks.ensures) (c.figures-figures.ensures.figures c.into_marks-marks.result kept)
+
+pub returns-clause-main_theorem : goal.returns-clause-main_theorem
+returns-clause-main_theorem c =
+    let s = c.args.self in
+    c.reports_meet_the_main_theorem.ensures s.count s.start s.moves c.with_marks.result c.figures-figures.ensures.count c.figures-figures.ensures.run (returns-clause-report c)
