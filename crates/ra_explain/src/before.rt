@@ -1,8 +1,8 @@
 //! What the marks before a line of a text say of one name.
 use crate::claim::{Claim, note_mark};
 use crate::lines::{is_one_line, next_line};
-use crate::note::Note;
 use ra_stamp::{Entry, Mark, Name};
+use ra_text::Note;
 use ra_trace::Line;
 use std::alloc::Global;
 

@@ -1,10 +1,10 @@
 //! Which choice of a list can't be made in a script.
-use crate::note::Note;
 use crate::script::{run_of, script_in};
 use crate::standing::RunEnd;
 use ra_schedule::{Choice, Choices, Policy, Script};
 use ra_script::{ChoicesError, read_choices};
 use ra_stamp::Memory;
+use ra_text::Note;
 use std::alloc::Global;
 
 /// Returns the policy of the first `count` choices.

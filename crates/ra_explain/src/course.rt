@@ -1,7 +1,7 @@
 //! The run of a trace, as far as its lines go.
 use crate::lines::{is_one_line, next_line};
-use crate::note::Note;
 use ra_stamp::{Mark, Marks};
+use ra_text::Note;
 use ra_trace::Line;
 use ra_world::{MarklessWorld, Step, StepError};
 use std::alloc::Global;

@@ -1,7 +1,7 @@
 //! Which mark is due at a line of a trace.
 use crate::course::Course;
-use crate::note::Note;
 use ra_stamp::Mark;
+use ra_text::Note;
 use ra_world::mark_line;
 use std::alloc::Global;
 

@@ -1,9 +1,9 @@
 //! Which names a script leaves locked.
 use crate::held::{Lock, held_at_end};
-use crate::note::Note;
 use crate::script::script_in;
 use ra_schedule::Script;
 use ra_stamp::Memory;
+use ra_text::Note;
 use std::alloc::Global;
 
 /// The most clients that a note names, and the most names of each.

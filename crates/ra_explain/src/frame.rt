@@ -2,9 +2,9 @@
 use crate::digits::{byte_at, no_name_byte, part};
 use crate::frame_field::{Field, fields_of, place_of};
 use crate::hexadecimal::first_line;
-use crate::note::Note;
 use ra_frame::FrameError;
 use ra_stamp::Memory;
+use ra_text::Note;
 use std::alloc::Global;
 
 /// What a name may contain.

@@ -1,6 +1,6 @@
 //! Why an input is not a line of hexadecimal digits.
-use crate::note::Note;
 use ra_stamp::Memory;
+use ra_text::{Note, cut};
 use std::alloc::Global;
 
 /// The most bytes that a line may have, without its line feed.
@@ -8,12 +8,8 @@ const MAX_LINE: usize = 256;
 
 /// Returns the first line of an input, without its line feed, and whether nothing follows it.
 pub fn first_line(input: &[u8]) -> (&[u8], bool) {
-    for (place, byte) in input.iter().enumerate() {
-        if *byte == b'\n' {
-            return (&input[..place], place + 1 == input.len());
-        }
-    }
-    (input, true)
+    let (line, after) = cut(input, b'\n');
+    (line, matches!(after, None | Some(b"")))
 }
 
 /// Returns the place and the value of the first byte that is not a hexadecimal digit, or `None`.

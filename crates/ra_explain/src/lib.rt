@@ -21,7 +21,6 @@ mod line_form;
 mod line_text;
 mod lines;
 mod not_under_way;
-mod note;
 mod obstacle;
 mod order;
 mod refused_step;

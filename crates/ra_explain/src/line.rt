@@ -2,11 +2,11 @@
 use crate::due::push_due;
 use crate::line_text::{push_mark_text, push_trace_text};
 use crate::not_under_way::push_not_under_way;
-use crate::note::Note;
 use crate::obstacle::push_obstacle;
 use crate::refused_step::push_refused;
 use crate::tail::{Tail, tail_of};
 use ra_stamp::Memory;
+use ra_text::Note;
 use ra_trace::{Cause, MarkCause, Version};
 use std::alloc::Global;
 

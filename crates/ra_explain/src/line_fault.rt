@@ -1,20 +1,9 @@
 //! Which field of a line of a trace or mark log is wrong, and what it may contain.
 use crate::line_field::LineField;
 use crate::line_form::{LineForm, form_of};
-use crate::note::Note;
+use ra_text::{Note, cut};
 use ra_trace::Version;
 use std::alloc::Global;
-
-/// Returns the next field, without the space before it, and what follows it, or `None` if no field is left.
-fn next_field(rest: &[u8]) -> Option<(&[u8], &[u8])> {
-    let (_, fields) = rest.split_first()?;
-    for (place, byte) in fields.iter().enumerate() {
-        if *byte == b' ' {
-            return Some((&fields[..place], &fields[place..]));
-        }
-    }
-    Some((fields, &fields[fields.len()..]))
-}
 
 /// Adds what a field contains and what it must be.
 fn push_wrong(note: &mut Note, field: LineField, text: &[u8], version: Option<Version>) {
@@ -51,30 +40,31 @@ fn push_field(
     !is_right
 }
 
-/// Adds what is wrong after the words of a line of this form, and returns whether anything is.
-fn push_behind_words(
+/// Adds what is wrong with the fields of a line of this form, and returns whether anything is.
+fn push_fields(
     alloc: Global,
     note: &mut Note,
     form: &LineForm,
-    behind_words: &[u8],
+    fields: Option<&[u8]>,
     version: Option<Version>,
 ) -> bool {
-    let mut rest = behind_words;
+    let mut rest = fields;
     for field in form.fields {
-        let Some((text, behind)) = next_field(rest) else {
+        let Some(left) = rest else {
             push_missing(note, form, *field);
             return true;
         };
+        let (text, after) = cut(left, b' ');
         if push_field(alloc, note, *field, text, version) {
             return true;
         }
-        rest = behind;
+        rest = after;
     }
-    if !rest.is_empty() {
+    if rest.is_some() {
         note.push("too many fields: expected ");
         form.push(note);
     }
-    !rest.is_empty()
+    rest.is_some()
 }
 
 /// Adds which field of a line is wrong in this version and what it may contain, and returns whether one is. Adds
@@ -88,7 +78,7 @@ pub fn push_line_fault(
     version: Option<Version>,
 ) -> bool {
     match form_of(forms, line) {
-        Some((form, rest)) => push_behind_words(alloc, note, form, rest, version),
+        Some((form, fields)) => push_fields(alloc, note, form, fields, version),
         None => false,
     }
 }

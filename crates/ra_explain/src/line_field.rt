@@ -1,5 +1,5 @@
 //! The fields of the lines of traces and mark logs, and what they may contain.
-use crate::note::Note;
+use ra_text::Note;
 use ra_trace::{Line, Version};
 use std::alloc::Global;
 

@@ -1,6 +1,6 @@
 //! The forms of the lines of traces and of mark logs.
 use crate::line_field::LineField;
-use crate::note::Note;
+use ra_text::Note;
 
 /// How the lines of a kind are made: by these words, and then these fields, with one space before each.
 #[derive(Clone, Copy)]
@@ -118,13 +118,13 @@ pub const STEP_FORMS: &[LineForm] = &[
 ];
 
 impl LineForm {
-    /// Returns what stands behind the words in a line of this form, with the space before it, or `None` where the line has other words.
-    fn behind_words<'a>(&self, line: &'a [u8]) -> Option<&'a [u8]> {
-        let rest = line.strip_prefix(self.words.as_bytes())?;
-        if matches!(rest.first(), None | Some(b' ')) {
-            Some(rest)
-        } else {
-            None
+    /// Returns the fields of a line of this form, or `None` inside if nothing follows its words. Returns `None` if the line has
+    /// other words.
+    fn fields_in<'a>(&self, line: &'a [u8]) -> Option<Option<&'a [u8]>> {
+        match line.strip_prefix(self.words.as_bytes())? {
+            [] => Some(None),
+            [b' ', fields @ ..] => Some(Some(fields)),
+            _ => None,
         }
     }
 
@@ -138,14 +138,14 @@ impl LineForm {
     }
 }
 
-/// Returns the form of these that the words of a line have, and what stands behind them, with the space before it.
+/// Returns which of these forms the words of a line have, and its fields, or `None` if nothing follows the words.
 pub fn form_of<'a>(
     forms: &'static [LineForm],
     line: &'a [u8],
-) -> Option<(&'static LineForm, &'a [u8])> {
+) -> Option<(&'static LineForm, Option<&'a [u8]>)> {
     for form in forms {
-        if let Some(rest) = form.behind_words(line) {
-            return Some((form, rest));
+        if let Some(fields) = form.fields_in(line) {
+            return Some((form, fields));
         }
     }
     None

@@ -2,8 +2,8 @@
 use crate::hint::{AT_FIRST, AT_LATER, AT_MARKS, hint_at};
 use crate::line_fault::push_line_fault;
 use crate::line_form::{FIRST_FORMS, MARK_FORMS, STEP_FORMS, form_of};
-use crate::note::Note;
 use crate::tail::Tail;
+use ra_text::Note;
 use ra_trace::Version;
 use std::alloc::Global;
 

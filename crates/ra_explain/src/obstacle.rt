@@ -2,8 +2,8 @@
 use crate::before::{Before, entry_of, last_line_with, mark_in};
 use crate::claim::Claim;
 use crate::line::LineCause;
-use crate::note::Note;
 use ra_stamp::{Entry, Mark};
+use ra_text::Note;
 use ra_trace::MarkCause;
 use std::alloc::Global;
 

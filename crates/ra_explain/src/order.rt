@@ -1,9 +1,9 @@
 //! Why threads may not run a script, and where in the script the reason is.
 use crate::held::{Held, Lock, held_at_end};
-use crate::note::Note;
 use crate::script::script_in;
 use ra_schedule::{Op, Script};
 use ra_stamp::Memory;
+use ra_text::Note;
 use std::alloc::Global;
 
 /// Returns the first operation of a client that locks a name while it holds that name or a greater one, and the first

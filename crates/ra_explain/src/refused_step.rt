@@ -2,8 +2,8 @@
 use crate::before::Before;
 use crate::claim::Claim;
 use crate::course::Course;
-use crate::note::Note;
 use ra_stamp::{Name, NodeId};
+use ra_text::Note;
 use ra_trace::Line;
 use ra_world::{NodeRefusal, Step, StepError};
 use std::alloc::Global;

@@ -1,7 +1,7 @@
 //! The script of a text of which something is said, and its runs.
-use crate::note::Note;
 use ra_schedule::{DriveError, Policy, Script, Summary, summarize};
 use ra_script::{MAX_TURNS, ScriptError, read_script};
+use ra_text::Note;
 use std::alloc::Global;
 
 /// Returns the script of a text, or `None` where it is none. Where memory ran out the note keeps that.

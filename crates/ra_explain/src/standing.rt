@@ -1,8 +1,8 @@
 //! The states of the clients of a script when a run of it ends.
 use crate::claim::{Claim, claims_after};
-use crate::note::Note;
 use ra_schedule::{Choice, Choices, Op, Policy, Script};
 use ra_stamp::{Entry, Mark, Mode, Name};
+use ra_text::Note;
 use ra_world::Report;
 use std::alloc::Global;
 

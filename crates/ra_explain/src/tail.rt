@@ -1,4 +1,5 @@
 //! The end of what was read of a text.
+use ra_text::cut;
 
 /// The line of a text at which the reading ended.
 #[derive(Clone, Copy)]
@@ -11,13 +12,14 @@ pub struct Tail<'a> {
     pub is_after_end: bool,
 }
 
-/// Returns what stands after the last line feed of some bytes, or all where there is none.
+/// Returns what follows the last line feed of some bytes, or all bytes if there is none. The cost is linear in the bytes.
 fn last_line(bytes: &[u8]) -> &[u8] {
     let mut line = bytes;
-    for (place, byte) in bytes.iter().enumerate() {
-        if *byte == b'\n' {
-            line = &bytes[place + 1..];
-        }
+    for _ in 0..bytes.len() {
+        let (_, Some(after)) = cut(line, b'\n') else {
+            break;
+        };
+        line = after;
     }
     line
 }

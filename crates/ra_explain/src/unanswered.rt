@@ -3,9 +3,9 @@ use crate::digits::{byte_at, part};
 use crate::frame::push_field;
 use crate::frame_field::{Field, fields_of, place_of};
 use crate::hexadecimal::first_line;
-use crate::note::Note;
 use ra_frame::FrameError;
 use ra_stamp::Memory;
+use ra_text::Note;
 use std::alloc::Global;
 
 /// Why a node does not answer a frame.

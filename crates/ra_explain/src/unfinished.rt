@@ -1,10 +1,10 @@
 //! Which clients wait for which others at the end of a run.
 use crate::claim::Claim;
-use crate::note::Note;
 use crate::script::{run_of, script_in};
 use crate::standing::{RunEnd, Standing};
 use ra_schedule::{Policy, Script};
 use ra_stamp::{Entry, Memory, Name, NodeId};
+use ra_text::Note;
 use ra_world::Report;
 use std::alloc::Global;
 

@@ -1,11 +1,11 @@
 //! Explains to a person, on one line, why a text is not a script. No clause covers what is said.
 use crate::ScriptError;
 use crate::document::{ClientRef, DocumentRef, document_of};
-use crate::note::Note;
 use crate::reading::{MAX_TEXT, add_op};
 use crate::shape_note::say_shape;
 use ra_schedule::Script;
 use ra_stamp::{Memory, NodeId};
+use ra_text::Note;
 use std::alloc::Global;
 use toml::Table;
 
@@ -14,7 +14,7 @@ fn say_toml(alloc: Global, note: &mut Note, text: &str, fault: &toml::de::Error)
     note.refuse_if(fault.is_memory());
     note.push("the script is not valid TOML: ");
     match format!(in alloc; "{fault}") {
-        Ok(said) => note.push_lines(said.trim_end()),
+        Ok(said) => note.lines(said.trim_end()),
         Err(_) => note.refuse_if(true),
     }
     if text.starts_with("trace ") {
@@ -36,9 +36,12 @@ fn op_text(fault: ScriptError) -> &'static str {
 /// Says that an operation of a client is refused, and why.
 fn say_refused(note: &mut Note, client: usize, place: usize, op: &str, fault: ScriptError) {
     note.refuse_if(fault == ScriptError::Memory);
-    note.push_number("client ", client, ", operation ");
-    note.push_number("", place, ", ");
-    note.push_shown(op);
+    note.push("client ");
+    note.number(client);
+    note.push(", operation ");
+    note.number(place);
+    note.push(", ");
+    note.quoted_text(op);
     note.push(op_text(fault));
 }
 
@@ -56,8 +59,11 @@ fn say_ops(note: &mut Note, script: &mut Script, client: usize, ops: &[&str]) {
 fn say_client(alloc: Global, note: &mut Note, script: &mut Script, client: usize, ops: &[&str]) {
     let count = ops.len();
     if count > Script::MAX_OPS {
-        note.push_number("client ", client, " has ");
-        note.push_number("", count, " operations: at most 1024 are allowed");
+        note.push("client ");
+        note.number(client);
+        note.push(" has ");
+        note.number(count);
+        note.push(" operations: at most 1024 are allowed");
         return;
     }
     note.refuse_if(script.add_client(alloc, 1).is_err());
@@ -78,9 +84,13 @@ fn say_clients(alloc: Global, note: &mut Note, script: &mut Script, clients: &[C
 fn say_node(note: &mut Note, nodes: u16, clients: &[ClientRef<'_>]) {
     for (place, client) in clients.iter().enumerate() {
         if client.node_up_to(nodes).is_none() {
-            note.push_number("client ", place + 1, ": node is ");
-            note.push_number("", client.node, ": must be 1 to ");
-            note.push_number("", nodes, ", the value of nodes");
+            note.push("client ");
+            note.number(place + 1);
+            note.push(": node is ");
+            note.number(client.node);
+            note.push(": must be 1 to ");
+            note.number(nodes);
+            note.push(", the value of nodes");
             return;
         }
     }
@@ -101,12 +111,16 @@ fn say_all_clients(alloc: Global, note: &mut Note, nodes: u16, clients: &[Client
 /// Says what is wrong with a document that has the shape of a script, if anything is.
 fn say_document(alloc: Global, note: &mut Note, document: &DocumentRef<'_>) {
     let Some(nodes) = document.nodes_up_to(NodeId::MAX) else {
-        note.push_number("nodes is ", document.nodes, ": must be 1 to 64");
+        note.push("nodes is ");
+        note.number(document.nodes);
+        note.push(": must be 1 to 64");
         return;
     };
     let count = document.clients.len();
     if count == 0 || count > Script::MAX_CLIENTS {
-        note.push_number("the number of clients is ", count, ": must be 1 to 64");
+        note.push("the number of clients is ");
+        note.number(count);
+        note.push(": must be 1 to 64");
         return;
     }
     say_all_clients(alloc, note, nodes, &document.clients);
@@ -151,8 +165,11 @@ fn say_bytes(alloc: Global, note: &mut Note, text: &[u8]) {
         Ok(text) => say_text(alloc, note, text),
         Err(fault) => {
             let (line, column) = place_behind(text.get(..fault.valid_up_to()).unwrap_or(b""));
-            note.push_number("the script is not valid UTF-8 at line ", line, "");
-            note.push_number(", column ", column, " (counted in bytes)");
+            note.push("the script is not valid UTF-8 at line ");
+            note.number(line);
+            note.push(", column ");
+            note.number(column);
+            note.push(" (counted in bytes)");
         }
     }
 }

@@ -8,7 +8,6 @@ mod error;
 mod explaining;
 mod finding;
 mod format;
-mod note;
 mod operation;
 mod performing;
 mod reading;

@@ -1,7 +1,7 @@
 //! Explains to a person why a document does not have the shape of a script. No clause covers what is said.
 use crate::ScriptError;
 use crate::document::{array_at, client_of, integer_at};
-use crate::note::Note;
+use ra_text::Note;
 use std::alloc::Global;
 use toml::value::Array;
 use toml::{Table, Value};
@@ -44,7 +44,7 @@ fn array_in<'a>(
 ) -> Option<&'a Array> {
     if let Some(key) = unknown_key(table, integer, array) {
         note.push("unknown key ");
-        note.push_shown(key);
+        note.quoted_text(key);
         note.push(": ");
         note.push(known);
         return None;
@@ -64,7 +64,9 @@ fn array_in<'a>(
 fn say_ops(note: &mut Note, ops: &Array) {
     for (place, op) in ops.iter().enumerate() {
         if op.as_str().is_none() {
-            note.push_number("operation ", place + 1, " is not a string: ");
+            note.push("operation ");
+            note.number(place + 1);
+            note.push(" is not a string: ");
             note.push(CLIENT);
             return;
         }
@@ -88,7 +90,9 @@ fn say_clients(alloc: Global, note: &mut Note, clients: &Array) {
     for (place, client) in clients.iter().enumerate() {
         if let Err(fault) = client_of(alloc, client) {
             note.refuse_if(fault == ScriptError::Memory);
-            note.push_number("client ", place + 1, ": ");
+            note.push("client ");
+            note.number(place + 1);
+            note.push(": ");
             say_client(note, client);
             return;
         }
