@@ -3,9 +3,9 @@ use Rattle.std.proofs.Common.{ℕ, ◌-◌, ◌≤◌, cond, get_or, length, Som
 use Rattle.std.specs.Prelude.{IsTrue}
 use Rattle.std.specs.FinSet as set
 use Rattle.ra_automaton.specs.declared.automaton.Automaton.TheInside.{Inside}
-use Rattle.ra_automaton.specs.Words.{set_of}
+use Rattle.ra_automaton.specs.NodeSet.{set_of}
 use Rattle.ra_automaton.specs.View.{IsKept}
-use Rattle.ra_automaton.proofs.WordLemmas.{get-map_of}
+use Rattle.ra_automaton.proofs.NodeSetLemmas.{get-map_of}
 
 -- a deferred node has a place among the numbers
 pub deferred_within : (a : Inside) → IsKept a → (node : ℕ) → IsTrue (set.contains (set_of a.deferred) node) → node ≤ length a.numbers.items

@@ -1,6 +1,6 @@
 pub mod Apart
 mod Ranges
-mod WordLemmas
+mod NodeSetLemmas
 mod Tables
 pub mod Opening
 mod Sent

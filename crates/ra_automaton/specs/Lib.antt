@@ -1,6 +1,6 @@
 pub mod State
 pub mod Steps
-pub mod Words
+pub mod NodeSet
 pub mod View
 pub mod Cases
 pub mod Memory

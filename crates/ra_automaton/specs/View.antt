@@ -2,7 +2,7 @@
 use Rattle.std.specs.Prelude.{◌≡◌, length}
 use Rattle.ra_automaton.specs.declared.automaton.Automaton.TheInside.{Inside}
 use Rattle.ra_automaton.specs.State.{State, IsConsistent}
-use Rattle.ra_automaton.specs.Words.{set_of, map_of}
+use Rattle.ra_automaton.specs.NodeSet.{set_of, map_of}
 
 -- the state of these fields: the awaited and the deferred nodes are the bits of two words, and the numbers of the
 -- deferred ones are in a list

@@ -1,15 +1,15 @@
 ghost use Rattle.std.specs.Prelude.{◌≡◌, ◌≢◌, ◌+◌, ◌<◌, ◌≤◌, ◌⊎◌, ◌↔◌, max, true, false};
-ghost use Rattle.std.specs.Prelude.{IsTrue, IsErrOf, IfOk, IfErr, OnOk, OnErr};
+ghost use Rattle.std.specs.Prelude.{IsTrue, IsErrOf, IfOk, OnOk, OnErr};
 
 use crate::cases::{
-    Answer, Doing, Effect, answer_when_idle, answer_when_inside, answer_when_waiting, compare,
+    Answer, Effect, PhaseKind, answer_when_idle, answer_when_inside, answer_when_waiting, compare,
     effect_of_reply,
 };
-use crate::numbers::{fill, number_of, zeros};
+use crate::node_set::{all_but, contains, is_only, remove};
+use crate::numbers::{insert_number, number_of, zeros};
 use crate::sends::{push_replies, push_requests};
-use crate::words::{all_but, contains, is_only, remove};
 use crate::{LeaveError, NewError, Phase, Reaction, ReceiveError, RequestError};
-use ra_stamp::{Message, Messages, Mode, Name, NodeId, Stamp};
+use ra_stamp::{Memory, Message, Messages, Mode, Name, NodeId, Stamp};
 use std::alloc::Global;
 use std::marker::Model;
 
@@ -162,6 +162,31 @@ impl Automaton {
         if sender == self.me || sender.get() > self.nodes {
             return Err(ReceiveError::Stranger);
         }
+        Ok(self.receive_addressed(alloc, message)?)
+    }
+
+    /// Takes a message as `receive` does, if it is already known to be for this node, from another one, and about this
+    /// resource.
+    ///
+    /// # Errors
+    ///
+    /// `Memory`: memory ran out, for a REPLY that was to go out at once. The automaton is then as before.
+    #[inline(always)]
+    pub fn receive_addressed(
+        &mut self,
+        alloc: Global,
+        message: &Message,
+    ) -> Result<Reaction, Memory>
+        requires name { name_of message.now ≡ self.old.name }
+        requires addressed { IsAddressed self.old message.now }
+        ensures ok { IfOk result (λ reaction.
+            ReceiveStep self.old message.now reaction.sends.items reaction.entered self.new) }
+        ensures enters { IfOk result (λ reaction. IsTrue reaction.entered ↔ LetsEnter self.old message.now) }
+        ensures consistent { IsConsistent self.new }
+        ensures memory_only_for_reply { OnErr result (IsRepliedAtOnce self.old message.now) }
+        ensures err { OnErr result (self.new ≡ self.old) }
+    {
+        prove!(message.to() == self.me);
         match *message {
             Message::Request {
                 from,
@@ -199,13 +224,18 @@ impl Automaton {
         if !self.is_inside() {
             return Err(LeaveError::NotHeld);
         }
-        let mut sent = Messages::new(alloc);
-        push_replies(&mut sent, self.me, self.name, self.deferred, &self.numbers)?;
+        let mut replies = Messages::new(alloc);
+        push_replies(
+            &mut replies,
+            self.me,
+            self.name,
+            self.deferred,
+            &self.numbers,
+        )?;
         self.end();
-        let entered = false;
         Ok(Reaction {
-            sends: sent,
-            entered,
+            sends: replies,
+            entered: false,
         })
     }
 
@@ -251,8 +281,7 @@ impl Automaton {
         ensures value { result ≡ self.now.phase }
         ensures consistent { IsConsistent self.now }
     {
-        let Automaton { phase, .. } = self;
-        *phase
+        self.phase
     }
 
     /// Returns the highest number that the node has met, 0 to 2^64-1. It does not allocate.
@@ -260,8 +289,7 @@ impl Automaton {
         ensures value { result ≡ self.now.highest }
         ensures consistent { IsConsistent self.now }
     {
-        let Automaton { highest, .. } = self;
-        *highest
+        self.highest
     }
 
     /// Returns the resource's name. It does not allocate.
@@ -373,19 +401,22 @@ impl Automaton {
     }
 
     /// Takes a REQUEST of another node. Returns the messages that go out.
+    ///
+    /// # Errors
+    ///
+    /// `Memory`: memory ran out, for a REPLY that was to go out at once. The automaton is then as before.
     fn take_request(
         &mut self,
         alloc: Global,
         other: NodeId,
         wanted: Mode,
         seq: u64,
-    ) -> Result<Messages, ReceiveError>
+    ) -> Result<Messages, Memory>
         requires { IsOther self.old other }
         ensures ok { IfOk result (λ sends. Defers self.old other seq wanted sends.items self.new
             ⊎ RepliesAtOnce self.old other seq wanted sends.items self.new) }
         ensures err { OnErr result (self.new ≡ self.old) }
-        ensures memory { IfErr result (λ fault. (fault ≡ ReceiveError.Memory)
-            × (OwnGoesFirst self.old.phase self.old.me other seq wanted → ⊥)) }
+        ensures memory { OnErr result (OwnGoesFirst self.old.phase self.old.me other seq wanted → ⊥) }
     {
         let mut sends = Messages::new(alloc);
         match self.answer(other, wanted, seq) {
@@ -397,22 +428,22 @@ impl Automaton {
                     seq,
                 };
                 sends.push(reply)?;
-                self.meet(seq);
+                self.observe(seq);
             }
-            Answer::Defer => self.put_off(other, seq),
+            Answer::Defer => self.defer(other, seq),
         }
         Ok(sends)
     }
 
-    /// Raises the highest number to one that came.
-    fn meet(&mut self, seq: u64)
+    /// Raises the highest number to that of a REQUEST, if it is lower.
+    fn observe(&mut self, seq: u64)
         ensures { self.new ≡ record self.old { highest = max self.old.highest seq } }
     {
         self.highest = self.highest.max(seq);
     }
 
     /// Defers the REPLY to another node. Of two requests of one node the greater number counts.
-    fn put_off(&mut self, other: NodeId, seq: u64)
+    fn defer(&mut self, other: NodeId, seq: u64)
         requires other { IsOther self.old other }
         requires busy { self.old.phase ≢ Phase.Idle }
         requires numbered { 1 ≤ seq }
@@ -426,7 +457,7 @@ impl Automaton {
             None => seq,
             Some(before) => before.max(seq),
         };
-        self.deferred = fill(self.deferred, &mut self.numbers, other, later);
+        self.deferred = insert_number(self.deferred, &mut self.numbers, other, later);
         self.highest = self.highest.max(seq);
     }
 
@@ -441,15 +472,15 @@ impl Automaton {
         let awaited = contains(self.awaited, other);
         let others = !is_only(self.awaited, other);
         match self.phase {
-            Phase::Idle => effect_of_reply(Doing::Nothing, false, awaited, others),
+            Phase::Idle => effect_of_reply(PhaseKind::Idle, false, awaited, others),
             Phase::Waiting { seq, .. } => effect_of_reply(
-                Doing::Waits,
+                PhaseKind::Waiting,
                 seq == number,
                 awaited,
                 others,
             ),
             Phase::Inside { seq, .. } => effect_of_reply(
-                Doing::Holds,
+                PhaseKind::Inside,
                 seq == number,
                 awaited,
                 others,

@@ -406,33 +406,30 @@ fn answer_when_shared_intent_exclusive_holds(wanted: Mode, comparison: Compariso
     }
 }
 
-/// What a node is doing, without the number and the mode of its request.
+/// A phase without the number and the mode of the request.
 #[derive(Clone, Copy)]
-pub enum Doing {
-    /// It is idle.
-    Nothing,
-    /// It waits.
-    Waits,
-    /// It is inside.
-    Holds,
+pub enum PhaseKind {
+    Idle,
+    Waiting,
+    Inside,
 }
 
-/// Returns what a REPLY leads to, by what the node is doing, whether the REPLY has the number of its request,
-/// whether it awaits the sender, and whether it awaits others too.
-pub fn effect_of_reply(doing: Doing, numbered: bool, awaited: bool, others: bool) -> Effect
+/// Returns what a REPLY leads to. That depends on the phase of the node, on whether the REPLY has the number of its
+/// request, on whether it awaits the sender, and on whether it awaits others too.
+pub fn effect_of_reply(phase: PhaseKind, numbered: bool, awaited: bool, others: bool) -> Effect
     ensures enter { result ≡ Effect.Enter
-        → (doing ≡ Doing.Waits) × (numbered ≡ true) × (awaited ≡ true) × (others ≡ false) }
+        → (phase ≡ PhaseKind.Waiting) × (numbered ≡ true) × (awaited ≡ true) × (others ≡ false) }
     ensures wait { result ≡ Effect.WaitOn
-        → (doing ≡ Doing.Waits) × (numbered ≡ true) × (awaited ≡ true) × (others ≡ true) }
+        → (phase ≡ PhaseKind.Waiting) × (numbered ≡ true) × (awaited ≡ true) × (others ≡ true) }
     ensures stray { result ≡ Effect.Stray
-        → doing ≡ Doing.Waits → numbered ≡ true → awaited ≡ true → ⊥ }
+        → phase ≡ PhaseKind.Waiting → numbered ≡ true → awaited ≡ true → ⊥ }
 {
-    table! { (doing, numbered, awaited, others);
-        (Doing::Nothing, _, _, _) => Stray;
-        (Doing::Holds, _, _, _) => Stray;
-        (Doing::Waits, false, _, _) => Stray;
-        (Doing::Waits, true, false, _) => Stray;
-        (Doing::Waits, true, true, true) => WaitOn;
-        (Doing::Waits, true, true, false) => Enter;
+    table! { (phase, numbered, awaited, others);
+        (PhaseKind::Idle, _, _, _) => Stray;
+        (PhaseKind::Inside, _, _, _) => Stray;
+        (PhaseKind::Waiting, false, _, _) => Stray;
+        (PhaseKind::Waiting, true, false, _) => Stray;
+        (PhaseKind::Waiting, true, true, true) => WaitOn;
+        (PhaseKind::Waiting, true, true, false) => Enter;
     }
 }

@@ -6,11 +6,11 @@ mod automaton;
 mod cases;
 mod error;
 mod laws;
+mod node_set;
 mod numbers;
 mod phase;
 mod reaction;
 mod sends;
-mod words;
 
 pub use automaton::Automaton;
 pub use error::{LeaveError, NewError, ReceiveError, RequestError};

@@ -2,9 +2,9 @@
 ghost use Rattle.std.specs.Prelude.{◌≡◌, ◌≤◌, IsTrue, length, IfOk};
 ghost use Rattle.std.specs.FinSet as set;
 ghost use Rattle.std.specs.FinMap as finmap;
-ghost use Rattle.ra_automaton.specs.Words.{set_of, map_of};
+ghost use Rattle.ra_automaton.specs.NodeSet.{set_of, map_of};
 
-use crate::words::{contains, insert, place_of};
+use crate::node_set::{contains, insert, place_of};
 use ra_stamp::{Memory, NodeId};
 use std::alloc::Global;
 
@@ -30,7 +30,7 @@ pub fn number_of(word: u64, numbers: &[u64], node: NodeId) -> Option<u64>
 
 /// Gives a node a number. Returns the word with the node put in.
 #[inline(always)]
-pub fn fill(word: u64, numbers: &mut [u64], node: NodeId, number: u64) -> u64
+pub fn insert_number(word: u64, numbers: &mut [u64], node: NodeId, number: u64) -> u64
     requires { node ≤ length numbers.old }
     ensures { map_of result numbers.new ≡ finmap.insert (map_of word numbers.old) node number }
 {

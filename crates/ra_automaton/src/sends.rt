@@ -3,10 +3,10 @@ ghost use Rattle.std.specs.Prelude.{◌≡◌, ℕ, ◌≤◌, ◌++◌, length,
 ghost use Rattle.std.specs.FinSet as set;
 ghost use Rattle.std.specs.FinMap as finmap;
 ghost use Rattle.ra_stamp.specs.NodeId.{IsNodeNumber};
-ghost use Rattle.ra_automaton.specs.Words.{set_of, map_of};
+ghost use Rattle.ra_automaton.specs.NodeSet.{set_of, map_of};
 ghost use Rattle.ra_automaton.specs.Steps.{others_of};
 
-use crate::words::contains;
+use crate::node_set::contains;
 use ra_stamp::{Memory, Message, Messages, Mode, Name, NodeId};
 
 /// Returns the node with a number that is known to be one.

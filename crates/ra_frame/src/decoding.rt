@@ -9,8 +9,8 @@ ghost use Rattle.ra_frame.specs.Faults as spec;
 ghost use Rattle.ra_frame.specs.Checked.{head_checks, numbers_checks, name_checks, name_in, clock_in, IsChecked};
 
 use crate::format::{
-    CLOCK, FROM, Format, KIND, MAX_NAME, NAME, NAME_LENGTH, NO_MODE, REPLY, REQUEST, SEQ,
-    VERSION_1, VERSION_2, mode_of,
+    CLOCK, FROM, Format, KIND, NAME, NAME_LENGTH, NO_MODE, REPLY, REQUEST, SEQ, VERSION_1,
+    VERSION_2, mode_of,
 };
 use crate::{Frame, FrameError};
 use ra_stamp::{Message, Name, NodeId};
@@ -132,7 +132,7 @@ fn name_fault(format: Format, bytes: &[u8]) -> Option<FrameError>
     let length = format.mode_place() + NAME_LENGTH;
     let name = format.mode_place() + NAME;
     first_failing! { bytes;
-        name, is_within(1, MAX_NAME, u64::from(bytes[length])) => NameLength;
+        name, is_within(1, Name::MAX_LEN as u64, u64::from(bytes[length])) => NameLength;
         name + usize::from(bytes[length]),
             are_name_bytes(&bytes[name..name + usize::from(bytes[length])]) => NameByte;
         name + usize::from(bytes[length]), bytes.len() == name + usize::from(bytes[length]) => Trailing;

@@ -3,18 +3,15 @@ ghost use Rattle.ra_frame.specs.Fits.{Fits};
 ghost use Rattle.ra_frame.specs.FrameText.{IsWrittenText};
 
 use crate::Frame;
-use crate::format::{NO_MODE, REPLY, REQUEST, VERSION_2, mode_byte};
+use crate::format::{Format, NAME, NO_MODE, REPLY, REQUEST, VERSION_2, mode_byte};
 use ra_stamp::{Memory, Message};
 use std::alloc::Global;
-
-/// How many bytes stand before the name.
-const HEAD: usize = 24;
 
 /// Returns the bytes of a frame that fits, in version 2: 24 and those of its name.
 ///
 /// # Errors
 ///
-/// `Memory`: there is none for the bytes.
+/// `Memory`: memory ran out.
 pub fn encode(alloc: Global, frame: &Frame) -> Result<Vec<u8>, Memory>
     requires { Fits frame.now }
     ensures { IfOk result (λ bytes. IsWrittenText bytes.items frame.now) }
@@ -28,7 +25,8 @@ pub fn encode(alloc: Global, frame: &Frame) -> Result<Vec<u8>, Memory>
     let to = frame.message.to().get().to_be_bytes();
     let name = frame.message.name();
     let name = name.bytes();
-    let mut bytes = Vec::with_capacity(alloc, HEAD + name.len())?;
+    let length = Format::V2.mode_place() + NAME + name.len();
+    let mut bytes = Vec::with_capacity(alloc, length)?;
     bytes.extend_from_slice(&[VERSION_2, kind, from[0], from[1], to[0], to[1], mode])?;
     bytes.extend_from_slice(&frame.message.seq().to_be_bytes())?;
     bytes.extend_from_slice(&clock.to_be_bytes())?;

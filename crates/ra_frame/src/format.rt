@@ -2,7 +2,7 @@ ghost use Rattle.std.specs.Prelude.{◌≡◌, ◌≤◌};
 ghost use Rattle.ra_frame.specs.FrameText as text;
 
 use Mode::{Exclusive, IntentExclusive, IntentShared, Shared, SharedIntentExclusive};
-use ra_stamp::Mode;
+use ra_stamp::{Mode, NodeId};
 
 /// The versions of frames, which differ in their nodes and modes. Nobody chooses one: all are read, and the newest is written.
 #[derive(Clone, Copy)]
@@ -16,7 +16,7 @@ pub enum Format {
 impl Format {
     ghost use Rattle.ra_frame.specs.Format as spec;
 
-    /// Returns where the receiver stands. It does not allocate.
+    /// Returns the place of the receiver. It does not allocate.
     pub fn to_place(self) -> usize
         ensures value { result ≡ spec.to_place self }
         ensures small { result ≤ 4 }
@@ -27,7 +27,7 @@ impl Format {
         }
     }
 
-    /// Returns where the mode stands. It does not allocate.
+    /// Returns the place of the mode. It does not allocate.
     pub fn mode_place(self) -> usize
         ensures value { result ≡ spec.mode_place self }
         ensures small { result ≤ 6 }
@@ -44,7 +44,7 @@ impl Format {
     {
         match self {
             Format::V1 => 16,
-            Format::V2 => 64,
+            Format::V2 => u64::from(NodeId::MAX),
         }
     }
 
@@ -74,26 +74,23 @@ pub const REPLY: u8 = 2;
 /// The mode byte of a REPLY, which has no mode.
 pub const NO_MODE: u8 = 0;
 
-/// Where the kind stands.
+/// The place of the kind.
 pub const KIND: usize = 1;
 
-/// Where the sender stands.
+/// The place of the sender.
 pub const FROM: usize = 2;
 
-/// How far behind the mode the sequence number begins.
+/// How far after the mode the sequence number begins.
 pub const SEQ: usize = 1;
 
-/// How far behind the mode the clock begins.
+/// How far after the mode the clock begins.
 pub const CLOCK: usize = 9;
 
-/// How far behind the mode the length of the name stands.
+/// How far after the mode the length of the name is.
 pub const NAME_LENGTH: usize = 17;
 
-/// How far behind the mode the name begins.
+/// How far after the mode the name begins.
 pub const NAME: usize = 18;
-
-/// The most bytes of a name.
-pub const MAX_NAME: u64 = 32;
 
 /// Returns the byte of the mode of a REQUEST. It does not allocate.
 pub fn mode_byte(mode: Mode) -> u8

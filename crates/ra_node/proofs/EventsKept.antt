@@ -104,18 +104,6 @@ event_room old new (Ask client name mode) sends marks h event = ask_event_room o
 event_room old new (Leave client name) sends marks h event = leave_event_room old client name sends marks new h event
 event_room old new (Receive message) sends marks h event = receive_event_room old message sends marks new event
 
-room_of_each : (nodes : ℕ) (event : Event) → 1 ≤ nodes → (sends_at_most nodes event ≤ 2 * nodes) × (marks_at_most event ≤ 3)
-room_of_each nodes (Ask client name mode) some = (omega arith, omega arith)
-room_of_each nodes (Leave client name) some = (omega arith, omega arith)
-room_of_each nodes (Receive message) some = (omega (arith, some), omega arith)
-
-pub event_room_of_all : (old new : NodeState) (event : Event) (sends : List Message) (marks : List Mark) → IsConsistentNode old → NodeEvent old event sends marks new
-    → (length sends ≤ 2 * old.nodes) × (length marks ≤ 3)
-event_room_of_all old new event sends marks h happens =
-    let room = event_room old new event sends marks h happens in
-    let most = room_of_each old.nodes event h.count.0 in
-    (omega (arith, room.0, most.0), omega (arith, room.1, most.1))
-
 pub event_marks : (old new : NodeState) (event : Event) (sends : List Message) (marks : List Mark) → IsConsistentNode old → IsConsistentNode new → NodeEvent old event sends marks new
     → All (IsMark old.me (name_of_event event)) marks
 event_marks old new (Ask client name mode) sends marks h after event = ask_event_marks old client name mode sends marks new h event

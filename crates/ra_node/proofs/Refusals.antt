@@ -5,6 +5,7 @@ use Rattle.std.proofs.lemmas.Bool.{true≢false}
 use Rattle.ra_stamp.specs.declared.entry.Entry.{Entry}
 use Rattle.ra_stamp.specs.declared.entry.Mark.{Mark}
 use Rattle.ra_stamp.specs.declared.message.Message.{Message}
+use Rattle.ra_stamp.specs.declared.mode.Mode.{Mode}
 use Rattle.ra_automaton.specs.State.{IsConsistent}
 use Rattle.ra_automaton.specs.Steps.{greatest_number}
 use Rattle.ra_node.specs.declared.error.AskError.{AskError}
@@ -12,9 +13,11 @@ use Rattle.ra_node.specs.declared.error.AskError.TheVariants as asking
 use Rattle.ra_node.specs.declared.error.LeaveError.{LeaveError}
 use Rattle.ra_node.specs.declared.error.LeaveError.TheVariants as leaving
 use Rattle.ra_node.specs.declared.outcome.Outcome.{Outcome}
-use Rattle.ra_node.specs.Faults.{IsLeaveRefusal}
+use Rattle.ra_node.specs.Faults.{IsAskRefusal, IsLeaveRefusal}
 use Rattle.ra_node.specs.Resource.{Resource, unmet, IsBusy, Holds}
-use Rattle.ra_node.specs.Turns.{MayAsk, LeaveTurn}
+use Rattle.ra_node.specs.Turns.{MayAsk, AskTurn, LeaveTurn}
+use Rattle.ra_node.specs.Node.{NodeState, resource_at}
+use Rattle.ra_node.specs.Events.{AskEvent}
 
 -- ---- A client asks
 
@@ -37,6 +40,9 @@ busy_apart e = cc
 exhausted_apart : asking.Memory ≡ asking.Exhausted → ⊥
 exhausted_apart e = cc
 
+busy_is_not_exhausted : asking.Busy ≡ asking.Exhausted → ⊥
+busy_is_not_exhausted e = cc
+
 same_error : {X E : Type 0} (e f : E) → IsErrOf {T = X} (Err e) f → e ≡ f
 same_error e f h = cc
 
@@ -47,29 +53,55 @@ ok_apart x e h = cc
 none_left : (r : Resource) (client : ℕ) → MayAsk r client → r.state.highest ≡ greatest_number → ⊥
 none_left r client may is = omega (arith, may.number_left, is)
 
--- a client that may ask is refused only because memory ran out
-pub asked_tells : {X : Type 0} (result : Result X AskError) (r : Resource) (client : ℕ) (P : X → Type 0) (Same : Type 0) → MayAsk r client → MatchResult result P (λ fault. (fault ≡ asking.Memory) × Same) → AskTells result r client
-asked_tells (Ok x) r client P Same may ended =
-    record {
-      busy = (λ e. absurd (ok_apart x asking.Busy e), λ busy. absurd (may.not_busy busy));
-      exhausted = (λ e. absurd (ok_apart x asking.Exhausted e), λ h. absurd (none_left r client may h.1));
-      allowed = (λ _. may, λ _. tt);
-    }
-asked_tells (Err fault) r client P Same may ended =
-    record {
-      busy = (λ e. absurd (busy_apart (sym ended.0 ∙ same_error fault asking.Busy e)), λ busy. absurd (may.not_busy busy));
-      exhausted = (λ e. absurd (exhausted_apart (sym ended.0 ∙ same_error fault asking.Exhausted e)), λ h. absurd (none_left r client may h.1));
-      allowed = (λ _. may, λ _. ended.0);
-    }
+module _ {X : Type 0} (r : Resource) (client : ℕ) where
+  -- a client that may ask has asked, or memory ran out
+  ok_tells : (x : X) → MayAsk r client → AskTells (Ok x) r client
+  ok_tells x may =
+      record {
+        busy = (λ e. absurd (ok_apart x asking.Busy e), λ busy. absurd (may.not_busy busy));
+        exhausted = (λ e. absurd (ok_apart x asking.Exhausted e), λ h. absurd (none_left r client may h.1));
+        allowed = (λ _. may, λ _. tt);
+      }
 
--- a client that may not ask is refused for that
-pub refused_tells : {X : Type 0} (fault : AskError) (r : Resource) (client : ℕ) → MayAskTells (Err fault) r client → AskTells {X = X} (Err fault) r client
-refused_tells fault r client tells =
-    record {
-      busy = (λ e. tells.busy.0 (ap Err (same_error fault asking.Busy e)), λ busy. ap Err (same_error fault asking.Busy (tells.busy.1 busy)));
-      exhausted = (λ e. tells.exhausted.0 (ap Err (same_error fault asking.Exhausted e)), λ h. ap Err (same_error fault asking.Exhausted (tells.exhausted.1 h)));
-      allowed = (λ e. absurd (tells.no_memory (ap Err e)), λ may. absurd (true≢false (sym (tells.allowed.1 may))));
-    }
+  pub refusal_tells : (fault : AskError) → IsAskRefusal r client fault → AskTells {X = X} (Err fault) r client
+  refusal_tells asking.Busy busy =
+      record {
+        busy = (λ _. busy, λ _. refl);
+        exhausted = (λ e. absurd (busy_is_not_exhausted (same_error asking.Busy asking.Exhausted e)), λ h. absurd (h.0 busy));
+        allowed = (λ e. absurd (busy_apart (sym e)), λ may. absurd (may.not_busy busy));
+      }
+  refusal_tells asking.Exhausted none =
+      record {
+        busy = (λ e. absurd (busy_is_not_exhausted (sym (same_error asking.Exhausted asking.Busy e))), λ busy. absurd (none.0 busy));
+        exhausted = (λ _. none, λ _. refl);
+        allowed = (λ e. absurd (exhausted_apart (sym e)), λ may. absurd (none_left r client may none.1));
+      }
+  refusal_tells asking.Memory may =
+      record {
+        busy = (λ e. absurd (busy_apart (same_error asking.Memory asking.Busy e)), λ busy. absurd (may.not_busy busy));
+        exhausted = (λ e. absurd (exhausted_apart (same_error asking.Memory asking.Exhausted e)), λ h. absurd (none_left r client may h.1));
+        allowed = (λ _. may, λ _. refl);
+      }
+
+-- what the end of an ask at a slot tells
+pub turn_tells : (result : Result Outcome AskError) (old : Resource) (client : ℕ) (mode : Mode) (new : Resource) (Same : Type 0)
+    → MatchResult result (λ o. AskTurn old client mode o.sends.items o.marks.items new × IsConsistent new.state) (λ fault. IsAskRefusal old client fault × Same) → AskTells result old client
+turn_tells (Ok x) old client mode new Same ended = ok_tells old client x ended.0.0
+turn_tells (Err fault) old client mode new Same ended = refusal_tells old client fault ended.0
+
+-- and at a node
+pub event_tells : (result : Result Outcome AskError) (old now new : NodeState) → old ≡ now → (name : List ℕ) (client : ℕ) (mode : Mode) (Same : Type 0)
+    → MatchResult result (λ o. AskEvent old client name mode o.sends.items o.marks.items new) (λ fault. IsAskRefusal (resource_at old name) client fault × Same) → AskTells result (resource_at now name) client
+event_tells (Ok x) old now new is name client mode Same ended =
+    subst (λ (n : NodeState). AskTells {X = Outcome} (Ok x) (resource_at n name) client) is (ok_tells (resource_at old name) client x ended.turn.0)
+event_tells (Err fault) old now new is name client mode Same ended =
+    subst (λ (n : NodeState). AskTells {X = Outcome} (Err fault) (resource_at n name) client) is (refusal_tells (resource_at old name) client fault ended.0)
+
+-- why a client may not ask
+pub ask_refusal : (fault : AskError) (r : Resource) (client : ℕ) → MayAskTells (Err fault) r client → IsAskRefusal r client fault
+ask_refusal asking.Busy r client tells = tells.busy.0 refl
+ask_refusal asking.Exhausted r client tells = tells.exhausted.0 refl
+ask_refusal asking.Memory r client tells = absurd (tells.no_memory refl)
 
 -- ---- A resource that nothing was about yet
 
@@ -85,13 +117,10 @@ module _ (r : Resource) (me nodes : ℕ) (name : List ℕ) (start client : ℕ) 
       let highest : r.state.highest ≡ greatest_number = ap (λ (x : Resource). x.state.highest) is ∙ at in
       record {
         allowed = (λ e. absurd (true≢false (sym e)), λ may. absurd (none_left r client may highest));
-        busy = (λ e. absurd (busy_is_not_exhausted e), λ busy. absurd (nobody_is_busy r me nodes name start client is busy));
+        busy = (λ e. absurd (busy_is_not_exhausted (sym (same_error asking.Exhausted asking.Busy e))), λ busy. absurd (nobody_is_busy r me nodes name start client is busy));
         exhausted = (λ _. (nobody_is_busy r me nodes name start client is, highest), λ _. refl);
         no_memory = λ e. exhausted_apart (sym (same_error asking.Exhausted asking.Memory e));
       }
-    where
-      busy_is_not_exhausted : IsErrOf {T = Unit {0}} (Err asking.Exhausted) asking.Busy → ⊥
-      busy_is_not_exhausted e = cc
 
   -- one is left
   pub unmet_is_free : start < greatest_number → MayAskTells (Ok tt) r client

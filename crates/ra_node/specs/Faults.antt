@@ -1,5 +1,5 @@
--- Which refusal of a node a refusal of its automaton becomes, and why a client does not leave.
-use Rattle.std.specs.Prelude.{ℕ}
+-- Which refusal of a node a refusal of its automaton becomes, and why a client does not ask or leave.
+use Rattle.std.specs.Prelude.{◌≡◌, ℕ}
 use Rattle.ra_stamp.specs.declared.entry.Entry.{Entry}
 use Rattle.ra_automaton.specs.declared.error.RequestError.{RequestError}
 use Rattle.ra_automaton.specs.declared.error.RequestError.TheVariants as request
@@ -9,7 +9,9 @@ use Rattle.ra_node.specs.declared.error.AskError.{AskError}
 use Rattle.ra_node.specs.declared.error.AskError.TheVariants as asking
 use Rattle.ra_node.specs.declared.error.LeaveError.{LeaveError}
 use Rattle.ra_node.specs.declared.error.LeaveError.TheVariants as leaving
-use Rattle.ra_node.specs.Resource.{Resource, Holds}
+use Rattle.ra_automaton.specs.Steps.{greatest_number}
+use Rattle.ra_node.specs.Resource.{Resource, Holds, IsBusy}
+use Rattle.ra_node.specs.Turns.{MayAsk}
 
 -- the refusal of an ask that a refusal of the automaton's request becomes
 abbrev pub ask_error_of : RequestError → AskError
@@ -21,6 +23,12 @@ ask_error_of request.Memory = asking.Memory
 abbrev pub leave_error_of : LeaveRefusal → LeaveError
 leave_error_of leave.NotHeld = leaving.NotHeld
 leave_error_of leave.Memory = leaving.Memory
+
+-- a client does not ask if it is busy, if no number is left, or if it may ask and memory runs out
+abbrev pub IsAskRefusal : Resource → ℕ → AskError → Type 0
+IsAskRefusal r client asking.Busy = IsBusy r client
+IsAskRefusal r client asking.Exhausted = (IsBusy r client → ⊥) × (r.state.highest ≡ greatest_number)
+IsAskRefusal r client asking.Memory = MayAsk r client
 
 -- a client does not leave if it does not hold, or if it does and memory runs out
 abbrev pub IsLeaveRefusal : Resource → ℕ → LeaveError → Type 0

@@ -1,7 +1,7 @@
-pub mod Faults
 pub mod Queue
 pub mod Resource
 pub mod Turns
+pub mod Faults
 pub mod HandedOver
 pub mod Node
 pub mod Events

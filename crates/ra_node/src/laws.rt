@@ -1,5 +1,5 @@
 //! What is true of the events of a node, for the crates above. Each function does nothing, and its contract is the law.
-ghost use Rattle.std.specs.Prelude.{◌≡◌, ◌≢◌, ◌≤◌, ◌*◌, ◌++◌, ◌∷◌, ◌↔◌, [], ℕ, List, All, length};
+ghost use Rattle.std.specs.Prelude.{◌≡◌, ◌≢◌, ◌≤◌, ◌++◌, ◌∷◌, ◌↔◌, [], ℕ, List, All, length};
 ghost use Rattle.std.specs.FinMap as map;
 ghost use Rattle.ra_stamp.specs.declared.entry.Entry.{Entry};
 ghost use Rattle.ra_stamp.specs.declared.entry.Mark.{Mark};
@@ -55,9 +55,6 @@ pub fn events_keep_a_node_consistent()
     ensures marks { (old new : NodeState) (event : Event) (sends : List Message) (marks : List Mark)
         → IsConsistentNode old → IsForThisNode old event → NodeEvent old event sends marks new
         → All (IsMark old.me (name_of_event event)) marks }
-    ensures room { (old new : NodeState) (event : Event) (sends : List Message) (marks : List Mark)
-        → IsConsistentNode old → NodeEvent old event sends marks new
-        → (length sends ≤ 2 * old.nodes) × (length marks ≤ 3) }
     ensures room_by_event { (old new : NodeState) (event : Event) (sends : List Message) (marks : List Mark)
         → IsConsistentNode old → NodeEvent old event sends marks new
         → (length sends ≤ sends_at_most old.nodes event) × (length marks ≤ marks_at_most event) }

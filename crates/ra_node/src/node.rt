@@ -82,11 +82,11 @@ fn put(slots: &mut IndexMap<Name, Slot>, name: Name, slot: Slot)
     requires { 1 ≤ spare slots.old }
     ensures { Finds slots.old.entries slots.new.entries name slot }
 {
-    let_go(slots.insert(name, slot).unwrap());
+    drop_slot(slots.insert(name, slot).unwrap());
 }
 
 /// Drops a slot, if there is one. All that a slot owns is freed here, and in no other function.
-fn let_go(_slot: Option<Slot>) {}
+fn drop_slot(_slot: Option<Slot>) {}
 
 impl Node {
     ghost use Rattle.ra_automaton.specs.State.{IsForNode};
@@ -97,6 +97,7 @@ impl Node {
     ghost use Rattle.ra_node.specs.Turns.{MayAsk};
     ghost use Rattle.ra_node.specs.Node.{opening_node, resource_at, waiting_count, queued_count, IsConsistentNode};
     ghost use Rattle.ra_node.specs.Events.{AskEvent, LeaveEvent, ReceiveEvent};
+    ghost use Rattle.ra_node.specs.Faults.{IsAskRefusal};
     ghost use Rattle.ra_node.specs.Memory.{BringsNothing};
 
     /// Makes node `me` of `nodes`, which has met nothing yet. The highest number of each resource begins at `start`, 0
@@ -162,7 +163,6 @@ impl Node {
         ensures allowed { IsOkUnless result AskError.Memory ↔ MayAsk (resource_at self.old name) client }
         ensures err { OnErr result (self.new ≡ self.old) }
     {
-        self.may_ask(client, &name)?;
         // The totals have room, since there are fewer than 2^64 names.
         prove!(self.slots.len() < usize::MAX);
         match self.slots.get_mut(&name) {
@@ -351,11 +351,14 @@ impl Node {
         self.slots.get(name)
     }
 
-    /// Asks for a name that the node has not met yet, for a client that may ask.
+    /// Asks for a name that the node has not met yet.
     ///
     /// # Errors
     ///
-    /// `Memory`: the node is as before.
+    /// The first that holds, and the node is as before:
+    ///
+    /// 1. `Exhausted`: no number is left.
+    /// 2. `Memory`: memory ran out.
     fn ask_first(
         &mut self,
         alloc: Global,
@@ -363,13 +366,15 @@ impl Node {
         name: Name,
         mode: Mode,
     ) -> Result<Outcome, AskError>
-        requires first { map.get self.old.resources name ≡ None }
-        requires allowed { MayAsk (resource_at self.old name) client }
+        requires { map.get self.old.resources name ≡ None }
         ensures asked { MatchResult result
             (λ outcome. AskEvent self.old client name mode outcome.sends.items outcome.marks.items self.new)
-            (λ fault. (fault ≡ AskError.Memory) × (self.new ≡ self.old)) }
+            (λ fault. IsAskRefusal (resource_at self.old name) client fault × (self.new ≡ self.old)) }
         ensures consistent { IsConsistentNode self.new }
     {
+        if self.start == u64::MAX {
+            return Err(AskError::Exhausted);
+        }
         let slots = &mut self.slots;
         let first = first_slot(slots, alloc, self.me, self.nodes, name, self.start);
         let Ok(mut slot) = first else {
@@ -378,7 +383,7 @@ impl Node {
         let outcome = match slot.ask(alloc, client, mode) {
             Ok(outcome) => outcome,
             Err(fault) => {
-                let_go(Some(slot));
+                drop_slot(Some(slot));
                 return Err(fault);
             }
         };
@@ -417,7 +422,7 @@ impl Node {
         let outcome = match slot.receive(alloc, message) {
             Ok(outcome) => outcome,
             Err(fault) => {
-                let_go(Some(slot));
+                drop_slot(Some(slot));
                 return Err(fault);
             }
         };

@@ -11,7 +11,7 @@ use std::collections::VecDeque;
 use std::marker::Model;
 
 /// Where no more clients than these are queued, they are looked through.
-const FEW: usize = 16;
+const MAX_LINEAR_SCAN: usize = 16;
 
 /// A queue of clients, the first one next. Contracts see the list.
 ///
@@ -107,7 +107,7 @@ fn learn_last(known: &mut IndexSet<u32>, clients: &VecDeque<Queued>, last: &Queu
 {
     if !known.is_empty() {
         learn(known, last.client);
-    } else if clients.len() > FEW {
+    } else if clients.len() > MAX_LINEAR_SCAN {
         learn_all(known, clients);
     }
 }

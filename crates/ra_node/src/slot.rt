@@ -41,7 +41,7 @@ impl Slot {
     ghost use Rattle.ra_automaton.specs.Steps.{greatest_number, LetsEnter};
     ghost use Rattle.ra_node.specs.Resource.{unmet, holder_of, Holds, IsBusy, waiting_at, ClientFits, clients_of};
     ghost use Rattle.ra_node.specs.Turns.{MayAsk, AskTurn, AsksAtOnce, QueuesUp, LeaveTurn, LeavesToNobody, LeavesToNext, ReceiveTurn, next_entry};
-    ghost use Rattle.ra_node.specs.Faults.{IsLeaveRefusal};
+    ghost use Rattle.ra_node.specs.Faults.{IsAskRefusal, IsLeaveRefusal};
     ghost use Rattle.ra_node.specs.HandedOver.{IsHandedOver};
     ghost use Rattle.ra_node.specs.Memory.{BringsNothingTo};
 
@@ -138,20 +138,24 @@ impl Slot {
         Ok(())
     }
 
-    /// Asks for a client, which may ask: its request is made where nobody uses the resource, and else the client queues, in
-    /// amortized constant time on average, or in time linear in the length of the queue where there was no memory to know its
-    /// clients.
+    /// Asks for a client: its request is made if nobody uses the resource, and otherwise the client queues. The cost of a
+    /// client that queues is constant, amortized and on average. It is linear in the length of the queue if there was no
+    /// memory to index its clients.
     ///
     /// # Errors
     ///
-    /// `Memory`: the resource is as before.
+    /// The first that holds, after which the resource is as before:
+    ///
+    /// 1. `Busy`: the client waits, is queued or holds here.
+    /// 2. `Exhausted`: no number is left.
+    /// 3. `Memory`: memory ran out.
     pub fn ask(&mut self, alloc: Global, client: u32, mode: Mode) -> Result<Outcome, AskError>
-        requires { MayAsk self.old client }
         ensures { MatchResult result
             (λ outcome. AskTurn self.old client mode outcome.sends.items outcome.marks.items self.new
             × IsConsistent self.new.state)
-            (λ fault. (fault ≡ AskError.Memory) × (self.new ≡ self.old)) }
+            (λ fault. IsAskRefusal self.old client fault × (self.new ≡ self.old)) }
     {
+        self.may_ask(client)?;
         if self.automaton.phase() == Phase::Idle {
             self.ask_at_once(alloc, client, mode)
         } else {
@@ -329,15 +333,8 @@ impl Slot {
             (λ fault. (fault ≡ ReceiveError.Memory) × (self.new ≡ self.old)) }
         ensures brings { OnErr result (BringsNothingTo self.old message.now → ⊥) }
     {
-        let Ok(mut marks) = self.marks_by(alloc, message) else {
-            return Err(ReceiveError::Memory);
-        };
-        let reaction = match self.automaton.receive(alloc, message) {
-            Ok(reaction) => reaction,
-            Err(ReceiveError::Memory) => return Err(ReceiveError::Memory),
-            // The message is for this node and from another one.
-            Err(ReceiveError::WrongNode | ReceiveError::Stranger) => unreachable!(),
-        };
+        let mut marks = self.marks_by(alloc, message)?;
+        let reaction = self.automaton.receive_addressed(alloc, message)?;
         if reaction.entered {
             if let Some(entry) = self.holder() {
                 push_reserved(&mut marks, Mark::Entered(entry));

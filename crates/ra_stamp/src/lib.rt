@@ -2,6 +2,7 @@
 #![tactic(auto)]
 
 mod entry;
+mod ghost_list;
 mod laws;
 mod memory;
 mod message;
@@ -12,6 +13,7 @@ mod sequence;
 mod stamp;
 
 pub use entry::{Entry, Mark, Marks};
+pub use ghost_list::GhostList;
 pub use laws::{conflict_is_symmetric, equal_is_same, stamps_are_totally_ordered};
 pub use memory::Memory;
 pub use message::{Message, Messages};

@@ -12,4 +12,3 @@ pub mod Joined
 pub mod Kept
 pub mod Checked
 mod Refused
-mod Walks

@@ -1,5 +1,4 @@
 use ra_stamp::Memory;
-use std::alloc::AllocError;
 use thiserror::Error;
 
 /// Why a request was refused.
@@ -37,17 +36,6 @@ pub enum EnterError {
     Earlier,
     /// Memory ran out.
     Memory,
-}
-
-impl From<AllocError> for EnterError {
-    ghost use Rattle.std.specs.Prelude.{◌≡◌};
-    ghost use Rattle.ra_table.specs.declared.error.EnterError.TheVariants.{Memory};
-
-    ghost from_gives = { λ _ error. error ≡ Memory };
-
-    fn from(_refused: AllocError) -> EnterError {
-        EnterError::Memory
-    }
 }
 
 impl From<Memory> for EnterError {

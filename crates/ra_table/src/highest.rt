@@ -1,14 +1,13 @@
 //! The highest number granted so far on each name.
-ghost use Rattle.std.specs.Prelude.{◌≡◌, ◌≤◌, ◌↔◌, ◌++◌, ◌∷◌, [], List, Any, IsTrue};
-ghost use Rattle.indexmap.specs.IndexMap.{spare};
-ghost use Rattle.ra_table.specs.Highest.{AreHighest};
+ghost use Rattle.std.specs.Prelude.{◌≡◌, ◌≤◌, ◌↔◌, ◌++◌, ◌∷◌, [], List, Any, IsTrue, OnOk};
+ghost use Rattle.ra_table.specs.Highest.{AreHighest, HasRoomFor};
 
 use indexmap::IndexMap;
-use ra_stamp::{Entry, Name};
+use ra_stamp::{Entry, Memory, Name};
 
 /// Returns whether the highest number on the entry's name is the entry's or a greater one, in expected constant
 /// time.
-pub fn reaches_number_of(highest: &IndexMap<Name, u64>, entry: &Entry) -> bool
+pub fn is_at_most_granted(highest: &IndexMap<Name, u64>, entry: &Entry) -> bool
     ensures { (granted : List Entry) → AreHighest highest.now.entries granted
         → IsTrue result
         ↔ Any (λ x. (x.name ≡ entry.now.name) × (entry.now.stamp.seq ≤ x.stamp.seq)) granted }
@@ -19,14 +18,29 @@ pub fn reaches_number_of(highest: &IndexMap<Name, u64>, entry: &Entry) -> bool
     }
 }
 
-/// Raises the highest number on the entry's name to the entry's, where it is lower or there is none, in expected
-/// constant time. It does not allocate.
+/// Makes room for a number on this name, if it has none yet. The cost is constant on average.
+///
+/// # Errors
+///
+/// `Memory`: memory ran out.
+pub fn make_room(highest: &mut IndexMap<Name, u64>, name: &Name) -> Result<(), Memory>
+    ensures same { highest.new.entries ≡ highest.old.entries }
+    ensures ok { OnOk result (HasRoomFor highest.new name.now) }
+{
+    if highest.get(name).is_none() {
+        highest.reserve(1)?;
+    }
+    Ok(())
+}
+
+/// Raises the highest number on the entry's name to the entry's, if it is lower or there is none, in expected constant
+/// time. It does not allocate.
 pub fn raise(highest: &mut IndexMap<Name, u64>, entry: &Entry)
-    requires { 1 ≤ spare highest.old }
+    requires { HasRoomFor highest.old entry.now.name }
     ensures { (granted : List Entry) → AreHighest highest.old.entries granted
         → AreHighest highest.new.entries (granted ++ entry.now ∷ []) }
 {
-    if !reaches_number_of(highest, entry) {
+    if !is_at_most_granted(highest, entry) {
         // There is room for it.
         highest.insert(entry.name, entry.stamp.seq).unwrap();
     }

@@ -7,7 +7,6 @@ mod highest;
 mod lanes;
 mod laws;
 mod lists;
-mod past;
 mod table;
 
 pub use error::{EnterError, LeaveError, RequestError};

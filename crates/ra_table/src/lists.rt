@@ -45,7 +45,7 @@ pub fn has_excluding(list: &[Entry], entry: &Entry) -> bool
 }
 
 /// Returns whether another entry excludes this entry and is earlier.
-fn goes_before(other: &Entry, entry: &Entry) -> bool
+fn excludes_and_precedes(other: &Entry, entry: &Entry) -> bool
     ensures { IsTrue result ↔ (Excludes other.now entry.now × IsEarlier other.now.stamp entry.now.stamp) }
 {
     excludes(other, entry) && other.stamp < entry.stamp
@@ -56,7 +56,7 @@ pub fn has_earlier(list: &[Entry], entry: &Entry) -> bool
     ensures { IsTrue result ↔ Any (λ x. Excludes x entry.now × IsEarlier x.stamp entry.now.stamp) list.now }
 {
     for other in list {
-        if goes_before(other, entry) {
+        if excludes_and_precedes(other, entry) {
             return true;
         }
     }

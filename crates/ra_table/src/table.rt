@@ -6,12 +6,11 @@ ghost use Rattle.ra_table.specs.Laws.{IsConflictFree};
 ghost use Rattle.ra_table.specs.Lanes.{on_name, StandsAt};
 
 use crate::error::{EnterError, LeaveError, RequestError};
-use crate::highest::{raise, reaches_number_of};
+use crate::highest::{is_at_most_granted, make_room, raise};
 use crate::lanes::Lanes;
 use crate::lists::{has_earlier, has_excluding, has_node_of, place_of};
-use crate::past::Past;
 use indexmap::IndexMap;
-use ra_stamp::{Entry, Memory, Name};
+use ra_stamp::{Entry, GhostList, Memory, Name};
 use std::alloc::Global;
 use std::marker::Model;
 
@@ -28,7 +27,7 @@ pub struct Table {
     /// The entries that wait and hold.
     lanes: Lanes,
     /// The entries granted so far, for proofs alone.
-    granted: Past<Entry>,
+    granted: GhostList<Entry>,
     /// The highest number granted so far on each name.
     highest: IndexMap<Name, u64>,
 }
@@ -57,7 +56,7 @@ impl Table {
     {
         Ok(Table {
             lanes: Lanes::new(alloc),
-            granted: Past::new(),
+            granted: GhostList::new(),
             highest: IndexMap::new(alloc),
         })
     }
@@ -116,7 +115,7 @@ impl Table {
         ensures exclusive { IsConflictFree self.new.holding }
     {
         let place = self.check_enter(entry)?;
-        self.highest.reserve(1)?;
+        make_room(&mut self.highest, &entry.name)?;
         // This is the last that can be refused.
         self.lanes.grant(place, entry)?;
         self.granted = self.granted.and(entry);
@@ -203,7 +202,7 @@ impl Table {
         if self.is_node_busy(entry) {
             return Err(RequestError::NodeBusy);
         }
-        if reaches_number_of(&self.highest, entry) {
+        if is_at_most_granted(&self.highest, entry) {
             return Err(RequestError::NotAbove);
         }
         Ok(())

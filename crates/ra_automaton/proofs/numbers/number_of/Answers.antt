@@ -1,7 +1,7 @@
 use Rattle.std.proofs.Common.{◌≡◌, ℕ, ◌-◌, true, false, cond, get_or, Some, None, sym, ap, ◌∙◌}
 use Rattle.std.specs.FinSet as set
-use Rattle.ra_automaton.specs.Words.{set_of}
-use Rattle.ra_automaton.proofs.WordLemmas.{get-map_of}
+use Rattle.ra_automaton.specs.NodeSet.{set_of}
+use Rattle.ra_automaton.proofs.NodeSetLemmas.{get-map_of}
 use Rattle.ra_automaton.proofs.numbers.number_of.Goals as goal
 
 pub returns-then-contains : goal.returns-then-contains

@@ -3,8 +3,8 @@ use Rattle.std.specs.List.{range_with_len}
 use Rattle.std.specs.FinSet as set
 use Rattle.ra_stamp.specs.declared.message.Message.{Message}
 use Rattle.ra_stamp.specs.declared.message.Message.TheVariants.{Reply}
-use Rattle.ra_automaton.specs.Words.{has_bit, nodes_of, set_of}
-use Rattle.ra_automaton.proofs.WordLemmas.{contains-set_of, nodes_of-within, entries-map_of}
+use Rattle.ra_automaton.specs.NodeSet.{has_bit, nodes_of, set_of}
+use Rattle.ra_automaton.proofs.NodeSetLemmas.{contains-set_of, nodes_of-within, entries-map_of}
 use Rattle.ra_automaton.proofs.Sent.{to_passing, to_failing, map-entries}
 use Rattle.ra_automaton.proofs.sends.push_replies.Goals as goal
 use Rattle.ra_automaton.proofs.sends.push_replies.Goals.{then-contains+in_ok-push, else-contains}

@@ -1,7 +1,7 @@
 use Rattle.std.proofs.Common.{◌≡◌, ◌-◌, ◌++◌, map, filter, get_or}
 use Rattle.std.specs.List.{range_with_len}
 use Rattle.ra_stamp.specs.declared.message.Message.TheVariants.{Reply}
-use Rattle.ra_automaton.specs.Words.{has_bit}
+use Rattle.ra_automaton.specs.NodeSet.{has_bit}
 use Rattle.ra_automaton.proofs.sends.push_replies.Given as goal
 
 abbrev pub invariant-loop-place : goal.invariant-loop-place

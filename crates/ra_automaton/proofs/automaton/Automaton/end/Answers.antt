@@ -4,7 +4,7 @@ use Rattle.ra_automaton.specs.declared.phase.Phase.TheVariants.{Idle}
 use Rattle.ra_automaton.specs.State.{State, IsConsistent, IsInside}
 use Rattle.ra_automaton.specs.View.{state_of}
 use Rattle.ra_automaton.proofs.Consistent.{consistent_end}
-use Rattle.ra_automaton.proofs.WordLemmas.{map_of-zero}
+use Rattle.ra_automaton.proofs.NodeSetLemmas.{map_of-zero}
 use Rattle.ra_automaton.proofs.automaton.Automaton.end.Goals as goal
 
 pub invariant_of-self : goal.invariant_of-self

@@ -4,7 +4,7 @@ use Rattle.ra_automaton.specs.declared.phase.Phase.TheVariants.{Inside}
 use Rattle.ra_automaton.specs.State.{State, IsConsistent, entered_phase}
 use Rattle.ra_automaton.specs.View.{state_of}
 use Rattle.ra_automaton.proofs.Consistent.{consistent_enters}
-use Rattle.ra_automaton.proofs.WordLemmas.{set_of-zero}
+use Rattle.ra_automaton.proofs.NodeSetLemmas.{set_of-zero}
 use Rattle.ra_automaton.proofs.automaton.Automaton.enter.Goals as goal
 
 pub invariant_of-self : goal.invariant_of-self

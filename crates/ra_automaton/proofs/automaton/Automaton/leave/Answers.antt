@@ -5,7 +5,7 @@ use Rattle.ra_stamp.specs.declared.message.Message.TheVariants.{Reply}
 use Rattle.ra_automaton.specs.declared.error.LeaveError.TheVariants.{Memory}
 use Rattle.ra_automaton.specs.declared.reaction.Reaction.{Reaction}
 use Rattle.ra_automaton.specs.State.{State, IsConsistent, IsInside}
-use Rattle.ra_automaton.specs.Words.{map_of}
+use Rattle.ra_automaton.specs.NodeSet.{map_of}
 use Rattle.ra_automaton.proofs.Consistent.{consistent_end, inside_is}
 use Rattle.ra_automaton.proofs.Kept.{deferred_within}
 use Rattle.ra_automaton.proofs.Refusals.{left_tells}

@@ -2,7 +2,7 @@ use Rattle.std.proofs.Common.{subst, sym, ◌∙◌, rules}
 use Rattle.ra_stamp.specs.NodeId.{IsNodeNumber}
 use Rattle.ra_automaton.specs.State.{IsConsistent, opening}
 use Rattle.ra_automaton.proofs.Opening.{opening_is_consistent}
-use Rattle.ra_automaton.proofs.WordLemmas.{set_of-zero, map_of-zero}
+use Rattle.ra_automaton.proofs.NodeSetLemmas.{set_of-zero, map_of-zero}
 use Rattle.ra_automaton.proofs.automaton.Automaton.new.Goals as goal
 
 pub invariant_of-result : goal.invariant_of-result

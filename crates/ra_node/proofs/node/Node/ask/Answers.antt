@@ -1,42 +1,16 @@
-use Rattle.std.proofs.Common.{rules, ◌≡◌, ℕ, ◌/◌, ◌^◌, List, length, Result, Err, IfOk, OnErr, refl, sym, ap, subst, arith}
+use Rattle.std.proofs.Common.{rules, ◌≡◌, ℕ, ◌/◌, ◌^◌, List, length, IfOk, OnErr, refl, sym, ap, subst, arith}
 use Rattle.indexmap.specs.IndexMap.{IndexMap}
-use Rattle.ra_node.specs.declared.error.AskError.{AskError}
 use Rattle.ra_node.specs.declared.outcome.Outcome.{Outcome}
 use Rattle.ra_node.specs.Resource.{Resource, waiting_at}
-use Rattle.ra_node.specs.Turns.{MayAsk}
 use Rattle.ra_node.specs.Node.{NodeState, resource_at}
 use Rattle.ra_node.specs.Events.{AskEvent}
 use Rattle.ra_node.proofs.After.{asked_at, kept_as, same_view, seen_from}
 use Rattle.ra_node.proofs.NodeLemmas.{found, absent_in}
-use Rattle.ra_node.proofs.Refusals.{AskTells, asked_tells, refused_tells}
+use Rattle.ra_node.proofs.Refusals.{AskTells, turn_tells, event_tells}
 use Rattle.ra_node.proofs.Totals.{part, through, one_at_most, few_wait, few_queue}
 use Rattle.ra_node.proofs.node.Node.ask.Goals as goal
 
--- ---- The client may not ask
-
-refused : (c : goal.After-from_residual) → AskTells c.from_residual.result (resource_at c.args.self.now c.args.name) c.args.client
-refused c =
-    let fault = c.in_err-may_ask.field-0.0 in
-    let told = c.in_err-may_ask.ensures in
-    let is : c.from_residual.result ≡ Err fault = search rules in
-    let r = resource_at c.args.self.now c.args.name in
-    subst (λ (result : Result Outcome AskError). AskTells result r c.args.client) (sym is) (refused_tells fault r c.args.client (record { allowed = told.allowed; busy = told.busy; exhausted = told.exhausted; no_memory = told.no_memory }))
-
-pub returns-in_err-may_ask-clause-busy : goal.returns-in_err-may_ask-clause-busy
-returns-in_err-may_ask-clause-busy c = (refused c).busy
-
-pub returns-in_err-may_ask-clause-exhausted : goal.returns-in_err-may_ask-clause-exhausted
-returns-in_err-may_ask-clause-exhausted c = (refused c).exhausted
-
-pub returns-in_err-may_ask-clause-allowed : goal.returns-in_err-may_ask-clause-allowed
-returns-in_err-may_ask-clause-allowed c = (refused c).allowed
-
 -- ---- At a slot
-
-pub ask-outcome-requires : goal.ask-outcome-requires
-ask-outcome-requires c =
-    let n = c.self.inside in
-    subst (λ (r : Resource). MayAsk r c.args.client) (sym (found n.me n.nodes n.start n.slots.entries c.args.self.now c.self.view_is c.args.name c.in-Some.slot.now c.in-Some.ensures.value)) (search rules)
 
 pub overflow_sub-waiting : goal.overflow_sub-waiting
 overflow_sub-waiting c =
@@ -87,7 +61,10 @@ pub returns-in-Some-clause-consistent : goal.returns-in-Some-clause-consistent
 returns-in-Some-clause-consistent c = (invariant_of-self c).consistent
 
 tells : (c : goal.After-self-in-Some-2-1) → AskTells c.ask-outcome.result (resource_at c.args.self.now c.args.name) c.args.client
-tells c = asked_tells c.ask-outcome.result (resource_at c.args.self.now c.args.name) c.args.client _ _ (c.in_ok-may_ask.ensures.allowed.0 refl) c.ask-outcome.ensures
+tells c =
+    let n = c.self.inside in
+    let here = found n.me n.nodes n.start n.slots.entries c.args.self.now c.self.view_is c.args.name c.in-Some.slot.now c.in-Some.ensures.value in
+    subst (λ (r : Resource). AskTells c.ask-outcome.result r c.args.client) here (turn_tells c.ask-outcome.result c.in-Some.slot.now c.args.client c.args.mode _ _ c.ask-outcome.ensures)
 
 pub returns-in-Some-clause-busy : goal.returns-in-Some-clause-busy
 returns-in-Some-clause-busy c = (tells c).busy
@@ -106,14 +83,8 @@ invariant_of-self-in-None c =
     let none = c.get_mut.follows.holds-at-none in
     kept_as n (record n { slots = c.get_mut.follows.lender-at-none }) refl (ap (λ (m : IndexMap (List ℕ) Resource _). m.entries) none) c.self.invariant
 
-pub ask_first-requires-clause-first : goal.ask_first-requires-clause-first
-ask_first-requires-clause-first c = absent_in c.self.inside.slots c.get_mut.follows.lender-at-none c.args.name c.get_mut.follows.holds-at-none c.in-None.ensures.value
-
-pub ask_first-requires-clause-allowed : goal.ask_first-requires-clause-allowed
-ask_first-requires-clause-allowed c =
-    let n = c.self.inside in
-    let view = same_view n.me n.nodes n.start n.slots.entries c.get_mut.follows.lender-at-none.entries c.args.self.now (ap (λ (m : IndexMap (List ℕ) Resource _). m.entries) c.get_mut.follows.holds-at-none) c.self.view_is in
-    subst (λ (m : NodeState). MayAsk (resource_at m c.args.name) c.args.client) (sym view) (c.in_ok-may_ask.ensures.allowed.0 refl)
+pub ask_first-requires : goal.ask_first-requires
+ask_first-requires c = absent_in c.self.inside.slots c.get_mut.follows.lender-at-none c.args.name c.get_mut.follows.holds-at-none c.in-None.ensures.value
 
 first_seen : (c : goal.After-ask_first) → IfOk c.ask_first.result (λ o. AskEvent c.args.self.now c.args.client c.args.name c.args.mode o.sends.items o.marks.items c.ask_first.new.self) × OnErr c.ask_first.result (c.ask_first.new.self ≡ c.args.self.now)
 first_seen c =
@@ -129,7 +100,10 @@ pub returns-in-None-clause-err : goal.returns-in-None-clause-err
 returns-in-None-clause-err c = (first_seen c).1
 
 first_tells : (c : goal.After-ask_first) → AskTells c.ask_first.result (resource_at c.args.self.now c.args.name) c.args.client
-first_tells c = asked_tells c.ask_first.result (resource_at c.args.self.now c.args.name) c.args.client _ _ (c.in_ok-may_ask.ensures.allowed.0 refl) c.ask_first.ensures.asked
+first_tells c =
+    let n = c.self.inside in
+    let view = same_view n.me n.nodes n.start n.slots.entries c.get_mut.follows.lender-at-none.entries c.args.self.now (ap (λ (m : IndexMap (List ℕ) Resource _). m.entries) c.get_mut.follows.holds-at-none) c.self.view_is in
+    event_tells c.ask_first.result _ c.args.self.now c.ask_first.new.self view c.args.name c.args.client c.args.mode _ c.ask_first.ensures.asked
 
 pub returns-in-None-clause-busy : goal.returns-in-None-clause-busy
 returns-in-None-clause-busy c = (first_tells c).busy

@@ -1,8 +1,31 @@
-use Rattle.std.proofs.Common.{ℕ, ◌/◌, ◌^◌, length, refl, ap, ◌∙◌, arith}
+use Rattle.std.proofs.Common.{rules, ℕ, ◌<◌, ◌/◌, ◌^◌, length, refl, sym, ap, ◌∙◌, subst, arith}
+use Rattle.ra_automaton.specs.Steps.{greatest_number}
+use Rattle.ra_node.specs.declared.error.AskError.TheVariants.{Exhausted}
+use Rattle.ra_node.specs.Faults.{IsAskRefusal}
 use Rattle.ra_node.specs.Resource.{Resource, waiting_at}
-use Rattle.ra_node.proofs.After.{first_asked, kept_as, same_view}
+use Rattle.ra_node.specs.Node.{resource_at, IsConsistentNode}
+use Rattle.ra_node.proofs.After.{first_asked, kept_as, same_view, unmet_here}
+use Rattle.ra_node.proofs.Refusals.{ask_refusal, unmet_is_exhausted, unmet_is_free}
 use Rattle.ra_node.proofs.Totals.{sum_at, come, one_at_most, few_wait, few_queue}
 use Rattle.ra_node.proofs.node.Node.ask_first.Goals as goal
+use Rattle.ra_node.proofs.node.Node.ask_first.Goals.{Then-self}
+
+-- ---- No number is left
+
+exhausted : (c : Then-self) → IsAskRefusal (resource_at c.args.self.now c.args.name) c.args.client Exhausted
+exhausted c =
+    let n = c.self.inside in
+    let r = resource_at c.args.self.now c.args.name in
+    let here = unmet_here n.me n.nodes n.start n.slots.entries c.args.self.now c.args.name c.self.view_is c.requires in
+    ask_refusal Exhausted r c.args.client (unmet_is_exhausted r n.me n.nodes c.args.name n.start c.args.client (sym here) c.if-self.true)
+
+pub returns-then-self-clause-asked : goal.returns-then-self-clause-asked
+returns-then-self-clause-asked c = (exhausted c, refl)
+
+pub returns-then-self-clause-consistent : goal.returns-then-self-clause-consistent
+returns-then-self-clause-consistent c = subst IsConsistentNode c.self.view_is c.self.invariant.consistent
+
+-- ---- A number is left
 
 pub invariant_of-self : goal.invariant_of-self
 invariant_of-self c =
@@ -12,7 +35,9 @@ invariant_of-self c =
 pub returns-in_default-clause-asked : goal.returns-in_default-clause-asked
 returns-in_default-clause-asked c =
     let n = c.self.inside in
-    (refl, same_view n.me n.nodes n.start n.slots.entries c.first_slot-first.new.slots.entries c.args.self.now c.first_slot-first.ensures.same c.self.view_is)
+    let below : n.start < greatest_number = search rules in
+    let here = unmet_here n.me n.nodes n.start n.slots.entries c.args.self.now c.args.name c.self.view_is c.requires in
+    ((unmet_is_free (resource_at c.args.self.now c.args.name) n.me n.nodes c.args.name n.start c.args.client (sym here) below).allowed.0 refl, same_view n.me n.nodes n.start n.slots.entries c.first_slot-first.new.slots.entries c.args.self.now c.first_slot-first.ensures.same c.self.view_is)
 
 pub returns-in_default-clause-consistent : goal.returns-in_default-clause-consistent
 returns-in_default-clause-consistent c = (invariant_of-self c).consistent
@@ -25,7 +50,8 @@ invariant_of-self-in-Err c =
 pub returns-in-Err-clause-asked : goal.returns-in-Err-clause-asked
 returns-in-Err-clause-asked c =
     let n = c.self.inside in
-    (c.in-Err.ensures.0, same_view n.me n.nodes n.start n.slots.entries c.first_slot-first.new.slots.entries c.args.self.now c.first_slot-first.ensures.same c.self.view_is)
+    let here = unmet_here n.me n.nodes n.start n.slots.entries c.args.self.now c.args.name c.self.view_is c.requires in
+    (subst (λ (r : Resource). IsAskRefusal r c.args.client c.in-Err.fault) (c.in-Ok.ensures.made.0 ∙ here) c.in-Err.ensures.0, same_view n.me n.nodes n.start n.slots.entries c.first_slot-first.new.slots.entries c.args.self.now c.first_slot-first.ensures.same c.self.view_is)
 
 pub returns-in-Err-clause-consistent : goal.returns-in-Err-clause-consistent
 returns-in-Err-clause-consistent c = (invariant_of-self-in-Err c).consistent
@@ -50,10 +76,10 @@ invariant_of-self-2 c =
     let same = c.first_slot-first.ensures.same in
     let name = c.args.name in
     let ended = c.in-Ok-ask.ensures in
-    let more = λ (f : Resource → ℕ). come f n.me n.nodes n.start n.slots.entries slots slots' now name c.ask.new.self c.self.view_is same c.requires.first c.put.ensures in
+    let more = λ (f : Resource → ℕ). come f n.me n.nodes n.start n.slots.entries slots slots' now name c.ask.new.self c.self.view_is same c.requires c.put.ensures in
     let was = c.self.invariant in
     record {
-      consistent = (first_asked n.me n.nodes n.start n.slots.entries slots now c.self.view_is was.consistent same name c.requires.first c.in-Ok.slot c.ask.new.self c.in-Ok.ensures.made.0 slots' c.put.ensures c.args.client c.args.mode _ _ ended.0 ended.1).0;
+      consistent = (first_asked n.me n.nodes n.start n.slots.entries slots now c.self.view_is was.consistent same name c.requires c.in-Ok.slot c.ask.new.self c.in-Ok.ensures.made.0 slots' c.put.ensures c.args.client c.args.mode _ _ ended.0 ended.1).0;
       waiting = omega (arith, was.waiting, more waiting_at, c.waiting.ensures);
       queued = omega (arith, was.queued, more (λ r. length r.queue), c.queued.ensures);
       counted = omega (arith, was.counted, more (λ r. length r.queue / 2 ^ 64), c.queued.ensures, c.queued.type_inv);
@@ -63,7 +89,7 @@ pub returns-clause-asked : goal.returns-clause-asked
 returns-clause-asked c =
     let n = c.self.inside in
     let ended = c.in-Ok-ask.ensures in
-    (first_asked n.me n.nodes n.start n.slots.entries c.first_slot-first.new.slots.entries c.args.self.now c.self.view_is c.self.invariant.consistent c.first_slot-first.ensures.same c.args.name c.requires.first c.in-Ok.slot c.ask.new.self c.in-Ok.ensures.made.0
+    (first_asked n.me n.nodes n.start n.slots.entries c.first_slot-first.new.slots.entries c.args.self.now c.self.view_is c.self.invariant.consistent c.first_slot-first.ensures.same c.args.name c.requires c.in-Ok.slot c.ask.new.self c.in-Ok.ensures.made.0
     c.put.new.slots.entries c.put.ensures c.args.client c.args.mode _ _ ended.0 ended.1).1
 
 pub returns-clause-consistent : goal.returns-clause-consistent

@@ -28,7 +28,7 @@ returns-clause-exclusive c = stays_conflict_free c.args.self.now _ (Entered c.ar
 pub invariant_of-self-2 : goal.invariant_of-self-2
 invariant_of-self-2 c =
     let e = c.args.entry.now in
-    let are : AreHighest c.reserve.new.self.entries c.self.inside.granted.items = subst (λ (ns : List (List ℕ × ℕ)). AreHighest ns c.self.inside.granted.items) (sym c.reserve.ensures.entries) c.self.invariant.are_highest in
+    let are : AreHighest c.make_room.new.highest.entries c.self.inside.granted.items = subst (λ (ns : List (List ℕ × ℕ)). AreHighest ns c.self.inside.granted.items) (sym c.make_room.ensures.same) c.self.invariant.are_highest in
     record {
       conflict_free = returns-clause-exclusive c;
       are_highest = subst (AreHighest c.raise.new.highest.entries) (sym c.and-self-inside.ensures) (c.raise.ensures c.self.inside.granted.items are);
@@ -81,36 +81,36 @@ returns-in_err-place-clause-exclusive c = c.in_err-place.ensures.exclusive
 -- ---- It may be granted, and there is no memory for its name's highest number
 
 pub invariant_of-self : goal.invariant_of-self
-invariant_of-self c = kept_as _ _ _ _ _ _ refl refl c.reserve.ensures.entries c.self.invariant
+invariant_of-self c = kept_as _ _ _ _ _ _ refl refl c.make_room.ensures.same c.self.invariant
 
-pub returns-in_err-reserve-clause-exclusive : goal.returns-in_err-reserve-clause-exclusive
-returns-in_err-reserve-clause-exclusive c = c.self.invariant.conflict_free
+pub returns-in_err-make_room-clause-exclusive : goal.returns-in_err-make_room-clause-exclusive
+returns-in_err-make_room-clause-exclusive c = c.self.invariant.conflict_free
 
-pub returns-in_err-reserve-clause-err : goal.returns-in_err-reserve-clause-err
-returns-in_err-reserve-clause-err c =
-    on_err c.from_residual-in_err-reserve.result _ (same_table c.self.inside.lanes c.self.inside.lanes c.self.inside.granted.items c.self.inside.granted.items c.args.self.now refl refl c.self.view_is)
+pub returns-in_err-make_room-clause-err : goal.returns-in_err-make_room-clause-err
+returns-in_err-make_room-clause-err c =
+    on_err c.from_residual-in_err-make_room.result _ (same_table c.self.inside.lanes c.self.inside.lanes c.self.inside.granted.items c.self.inside.granted.items c.args.self.now refl refl c.self.view_is)
 
-no_number : (c : goal.After-from_residual-in_err-reserve) → EnterTells c.from_residual-in_err-reserve.result c.args.self.now c.args.entry.now
+no_number : (c : goal.After-from_residual-in_err-make_room) → EnterTells c.from_residual-in_err-make_room.result c.args.self.now c.args.entry.now
 no_number c =
-    let memory : IfErr c.from_residual-in_err-reserve.result (λ fault. fault ≡ Memory) = search rules in
-    enter_made c.from_residual-in_err-reserve.result c.args.self.now c.args.entry.now (c.in_ok-place.ensures.allowed.0 refl) memory
+    let memory : IfErr c.from_residual-in_err-make_room.result (λ fault. fault ≡ Memory) = search rules in
+    enter_made c.from_residual-in_err-make_room.result c.args.self.now c.args.entry.now (c.in_ok-place.ensures.allowed.0 refl) memory
 
-pub returns-in_err-reserve-clause-not_waiting : goal.returns-in_err-reserve-clause-not_waiting
-returns-in_err-reserve-clause-not_waiting c = (no_number c).not_waiting
+pub returns-in_err-make_room-clause-not_waiting : goal.returns-in_err-make_room-clause-not_waiting
+returns-in_err-make_room-clause-not_waiting c = (no_number c).not_waiting
 
-pub returns-in_err-reserve-clause-held : goal.returns-in_err-reserve-clause-held
-returns-in_err-reserve-clause-held c = (no_number c).held
+pub returns-in_err-make_room-clause-held : goal.returns-in_err-make_room-clause-held
+returns-in_err-make_room-clause-held c = (no_number c).held
 
-pub returns-in_err-reserve-clause-earlier : goal.returns-in_err-reserve-clause-earlier
-returns-in_err-reserve-clause-earlier c = (no_number c).earlier
+pub returns-in_err-make_room-clause-earlier : goal.returns-in_err-make_room-clause-earlier
+returns-in_err-make_room-clause-earlier c = (no_number c).earlier
 
-pub returns-in_err-reserve-clause-allowed : goal.returns-in_err-reserve-clause-allowed
-returns-in_err-reserve-clause-allowed c = (no_number c).allowed
+pub returns-in_err-make_room-clause-allowed : goal.returns-in_err-make_room-clause-allowed
+returns-in_err-make_room-clause-allowed c = (no_number c).allowed
 
 -- ---- none for it to hold
 
 pub invariant_of-self-in_err-grant : goal.invariant_of-self-in_err-grant
-invariant_of-self-in_err-grant c = kept_as _ _ _ _ _ _ (ap (λ (l : Standing). l.holding) c.in_err-grant.ensures.err) refl c.reserve.ensures.entries c.self.invariant
+invariant_of-self-in_err-grant c = kept_as _ _ _ _ _ _ (ap (λ (l : Standing). l.holding) c.in_err-grant.ensures.err) refl c.make_room.ensures.same c.self.invariant
 
 pub returns-in_err-grant-clause-exclusive : goal.returns-in_err-grant-clause-exclusive
 returns-in_err-grant-clause-exclusive c = (invariant_of-self-in_err-grant c).conflict_free
