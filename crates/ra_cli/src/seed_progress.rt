@@ -1,6 +1,6 @@
 //! What the user is told while many seeds take long.
 use crate::notes::write_line;
-use ra_schedule::{Figures, Observer, Outcome};
+use ra_schedule::{Figures, Observer, SeedOutcome};
 use std::alloc::Global;
 use std::io::Write;
 
@@ -54,15 +54,15 @@ impl<'a, N: Write> SeedProgress<'a, N> {
 }
 
 impl<'a, N: Write> Observer for SeedProgress<'a, N> {
-    fn ended(&mut self, seed: u64, outcome: Outcome) {
+    fn ended(&mut self, seed: u64, outcome: SeedOutcome) {
         let turns = match outcome {
-            Outcome::Finished(Figures { turns, .. }) | Outcome::Stuck(Figures { turns, .. }) =>
-                turns,
-            Outcome::Limit => WORK_OF_A_LINE,
+            SeedOutcome::Finished(Figures { turns, .. })
+            | SeedOutcome::Stuck(Figures { turns, .. }) => turns,
+            SeedOutcome::Limit => WORK_OF_A_LINE,
         };
         self.last = Some(seed);
         self.done = self.done.saturating_add(1);
-        if let Outcome::Finished(_) = outcome {
+        if let SeedOutcome::Finished(_) = outcome {
             self.finished = self.finished.saturating_add(1);
         }
         self.work = self

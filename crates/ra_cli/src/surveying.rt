@@ -8,7 +8,7 @@ ghost use Rattle.ra_cli.specs.Surveyed as spec;
 use crate::error::RunScriptError;
 use crate::running::script_from;
 use crate::survey_text::survey_text;
-use ra_schedule::{Ending, Faults, Observer, Script, Survey, survey};
+use ra_schedule::{Ending, Faults, Observer, Script, SeedRange, Survey, survey};
 use ra_script::{MAX_TURNS, Printed, find_trace};
 use ra_stamp::Memory;
 use ra_world::write_out;
@@ -38,7 +38,8 @@ fn counted_of<O: Observer>(
     ensures { (input : List ℕ) → script_of input ≡ Ok script.now
         → IfOk result (λ told. IsSurveyed faults first last input (string_bytes told.text) told.finished) }
 {
-    let counted = survey(alloc, script, faults, first, last, MAX_TURNS, observer)?;
+    let seeds = SeedRange { first, last };
+    let counted = survey(alloc, script, faults, seeds, MAX_TURNS, observer)?;
     let text = survey_text(alloc, &counted)?;
     Ok(Printed {
         text,
@@ -64,7 +65,8 @@ fn found_of<O: Observer>(
     ensures { (input : List ℕ) → script_of input ≡ Ok script.now
         → IfOk result (λ told. IsFound faults ending first last input (string_bytes told.text) told.finished) }
 {
-    if let Some(found) = find_trace(alloc, script, faults, ending, first, last, observer)? {
+    let seeds = SeedRange { first, last };
+    if let Some(found) = find_trace(alloc, script, faults, ending, seeds, observer)? {
         return Ok(found);
     }
     let text = String::from_str(alloc, "none\n")?;

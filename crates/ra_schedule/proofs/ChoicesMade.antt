@@ -1,13 +1,12 @@
 -- The choices of a policy, kept one after the other, make its run again.
-use Rattle.std.proofs.Common.{◌≡◌, ℕ, zero, suc, ◌+◌, Some, List, [], ◌∷◌, ◌++◌, length, slice_get, refl, sym, ap, ◌∙◌, subst, arith, inl, inr}
+use Rattle.std.proofs.Common.{◌≡◌, ℕ, zero, suc, ◌+◌, Some, List, [], ◌∷◌, ◌++◌, length, slice_get, refl, sym, ap, ◌∙◌, subst, inl, inr}
 use Rattle.std.proofs.lemmas.List as lists
 use Rattle.ra_stamp.specs.Sequence.{Listed as Listing}
-use Rattle.ra_world.specs.declared.step.Step.{Step}
 use Rattle.ra_world.specs.Traffic.{Move}
 use Rattle.ra_schedule.specs.declared.choice.Choice.{Choice}
 use Rattle.ra_schedule.specs.declared.choice.Policy.{Policy}
 use Rattle.ra_schedule.specs.Script.{ScriptState}
-use Rattle.ra_schedule.specs.Schedule.{StandsFor, Picks, Follows, Ends}
+use Rattle.ra_schedule.specs.Schedule.{StandsFor, Picks, Follows}
 use Rattle.ra_schedule.specs.Listing.{AreChoicesBy, AreChoicesOf}
 use Rattle.ra_schedule.proofs.Lists.{split_last}
 

@@ -18,4 +18,5 @@ mod NodesOfClients
 mod Unrepeated
 mod Tallying
 mod SurveySeeds
+mod ToldSeeds
 mod FirstSeed

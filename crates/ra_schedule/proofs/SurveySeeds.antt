@@ -1,7 +1,7 @@
 -- One more seed after those that were tried.
-use Rattle.std.proofs.Common.{◌≡◌, ◌⊎◌, ℕ, zero, suc, ◌+◌, ◌<◌, ◌≤◌, Option, Some, List, [], ◌∷◌, ◌++◌, length, slice_get, refl, sym, ap, subst, ◌∙◌, arith, inl, inr}
+use Rattle.std.proofs.Common.{◌≡◌, ◌⊎◌, ℕ, zero, suc, ◌+◌, ◌<◌, ◌≤◌, Option, Some, List, [], ◌∷◌, ◌++◌, length, slice_get, refl, sym, subst, ◌∙◌, arith, inl, inr}
 use Rattle.std.proofs.lemmas.List.{length-append}
-use Rattle.ra_schedule.specs.declared.outcomes.Outcome.{Outcome}
+use Rattle.ra_schedule.specs.declared.outcomes.SeedOutcome.{SeedOutcome}
 use Rattle.ra_schedule.specs.declared.outcomes.Survey.{Survey}
 use Rattle.ra_schedule.specs.Faults.{FaultRates}
 use Rattle.ra_schedule.specs.Script.{ScriptState}
@@ -10,7 +10,7 @@ use Rattle.ra_schedule.proofs.Choosing.{same_some}
 
 -- what came of the seeds before this one
 pub record SoFar (script : ScriptState) (faults : Option FaultRates) (limit first seed : ℕ) (survey : Survey) : Type 0 where
-  pub outcomes : List Outcome
+  pub outcomes : List SeedOutcome
   pub each : AreOutcomes script faults limit first outcomes
   pub seeds : first + length outcomes ≡ seed
   pub tallies : Tallies first outcomes survey
@@ -23,7 +23,7 @@ none_yet script faults limit first survey t = record {
   tallies = t;
 }
 
-at_end : (xs : List Outcome) (x : Outcome) (place : ℕ) (y : Outcome) → slice_get (xs ++ x ∷ []) place ≡ Some y
+at_end : (xs : List SeedOutcome) (x : SeedOutcome) (place : ℕ) (y : SeedOutcome) → slice_get (xs ++ x ∷ []) place ≡ Some y
     → (slice_get xs place ≡ Some y) ⊎ ((place ≡ length xs) × (y ≡ x))
 at_end [] x zero y e = inr (refl, same_some e refl)
 at_end [] x (suc place) y e = absurd cc
@@ -34,18 +34,24 @@ at_end (z ∷ xs) x (suc place) y e =
       | inr last ↦ inr (omega (arith, last.0), last.1)
     ]
 
-pub one_more_seed : (script : ScriptState) (faults : Option FaultRates) (limit first seed : ℕ) (survey new : Survey) (outcome : Outcome) → (so : SoFar script faults limit first seed survey)
+-- the outcomes of the seeds before this one, and its own
+pub outcomes_more : (script : ScriptState) (faults : Option FaultRates) (limit first seed : ℕ) (outcomes : List SeedOutcome) (outcome : SeedOutcome)
+    → AreOutcomes script faults limit first outcomes → first + length outcomes ≡ seed → IsOutcome script (chance faults seed) limit outcome
+    → AreOutcomes script faults limit first (outcomes ++ outcome ∷ [])
+outcomes_more script faults limit first seed outcomes outcome each seeds is place o e =
+    elim (at_end outcomes outcome place o e) [
+      | inl before ↦ each place o before
+      | inr last ↦
+          let there : first + place ≡ seed = omega (arith, last.0, seeds) in
+          subst (λ (s : ℕ). IsOutcome script (chance faults s) limit o) (sym there)
+          (subst (λ (p : SeedOutcome). IsOutcome script (chance faults seed) limit p) (sym last.1) is)
+    ]
+
+pub one_more_seed : (script : ScriptState) (faults : Option FaultRates) (limit first seed : ℕ) (survey new : Survey) (outcome : SeedOutcome) → (so : SoFar script faults limit first seed survey)
     → IsOutcome script (chance faults seed) limit outcome → Tallies first (so.outcomes ++ outcome ∷ []) new → SoFar script faults limit first (seed + 1) new
 one_more_seed script faults limit first seed survey new outcome so is t = record {
   outcomes = so.outcomes ++ outcome ∷ [];
-  each = λ place o e.
-      elim (at_end so.outcomes outcome place o e) [
-        | inl before ↦ so.each place o before
-        | inr last ↦
-            let there : first + place ≡ seed = omega (arith, last.0, so.seeds) in
-            subst (λ (s : ℕ). IsOutcome script (chance faults s) limit o) (sym there)
-            (subst (λ (p : Outcome). IsOutcome script (chance faults seed) limit p) (sym last.1) is)
-      ];
+  each = outcomes_more script faults limit first seed so.outcomes outcome so.each so.seeds is;
   seeds = omega (arith, so.seeds, length-append so.outcomes (outcome ∷ []));
   tallies = t;
 }

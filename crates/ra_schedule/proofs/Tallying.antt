@@ -1,5 +1,5 @@
 -- What is counted of outcomes, with one more at the end.
-use Rattle.std.proofs.Common.{◌≡◌, ◌⊎◌, ◌≤◌, ◌<◌, ◌^◌, ℕ, zero, suc, ◌+◌, min, max, Bool, true, false, cond, Option, Some, None, List, [], ◌∷◌, ◌++◌, length, map, refl, sym, ap, subst, ◌∙◌, arith, inl, inr}
+use Rattle.std.proofs.Common.{◌≡◌, ◌⊎◌, ◌≤◌, ◌<◌, ◌^◌, ℕ, zero, suc, ◌+◌, min, max, Bool, true, false, Option, Some, None, List, [], ◌∷◌, ◌++◌, length, map, refl, sym, ap, subst, ◌∙◌, arith, inl, inr}
 use Rattle.std.specs.Prelude.{All, Contains, filter, flat_map, option_map, IfSome}
 use Rattle.std.specs.List.{position_from}
 use Rattle.std.proofs.lemmas.Bool.{cases_Bool, cases_lt, cond-true, cond-false}
@@ -7,7 +7,7 @@ use Rattle.std.proofs.lemmas.List.{append-nil, length-append, map-append}
 use Rattle.std.proofs.lemmas.List.Concat.{flat_map-append}
 use Rattle.std.proofs.lemmas.List.Elements.{filter-append, All-push, Contains-append_left, Contains-push}
 use Rattle.ra_schedule.specs.declared.outcomes.Figures.{Figures}
-use Rattle.ra_schedule.specs.declared.outcomes.Outcome.{Outcome}
+use Rattle.ra_schedule.specs.declared.outcomes.SeedOutcome.{SeedOutcome}
 use Rattle.ra_schedule.specs.declared.outcomes.Tally.{Tally}
 use Rattle.ra_schedule.specs.declared.outcomes.Spread.{Spread}
 use Rattle.ra_schedule.specs.Survey.{tally_of, tally_with, figures_of, IsLeastAndMost}
@@ -69,10 +69,10 @@ none_passes test xs x fails =
 
 -- ---- The tally
 
-abbrev tally_from : (Outcome → Bool) → List Outcome → ℕ → Tally
+abbrev tally_from : (SeedOutcome → Bool) → List SeedOutcome → ℕ → Tally
 tally_from test outcomes seed = record { seeds = length (filter test outcomes); first = seed }
 
-more_by : (test : Outcome → Bool) (first : ℕ) (outcomes : List Outcome) (outcome : Outcome) (place : Option ℕ)
+more_by : (test : SeedOutcome → Bool) (first : ℕ) (outcomes : List SeedOutcome) (outcome : SeedOutcome) (place : Option ℕ)
     → position_from test first outcomes ≡ place → test outcome ≡ true
     → tally_of test first (outcomes ++ outcome ∷ []) ≡ Some (tally_with (tally_of test first outcomes) (first + length outcomes))
 more_by test first outcomes outcome None e passes =
@@ -91,11 +91,11 @@ more_by test first outcomes outcome (Some s) e passes =
     ∙ ap (λ t. Some (tally_with t seed)) (sym old))
 
 -- one more that passes
-pub one_more : (test : Outcome → Bool) (first : ℕ) (outcomes : List Outcome) (outcome : Outcome) → test outcome ≡ true
+pub one_more : (test : SeedOutcome → Bool) (first : ℕ) (outcomes : List SeedOutcome) (outcome : SeedOutcome) → test outcome ≡ true
     → tally_of test first (outcomes ++ outcome ∷ []) ≡ Some (tally_with (tally_of test first outcomes) (first + length outcomes))
 one_more test first outcomes outcome passes = more_by test first outcomes outcome (position_from test first outcomes) refl passes
 
-same_by : (test : Outcome → Bool) (first : ℕ) (outcomes : List Outcome) (outcome : Outcome) (place : Option ℕ)
+same_by : (test : SeedOutcome → Bool) (first : ℕ) (outcomes : List SeedOutcome) (outcome : SeedOutcome) (place : Option ℕ)
     → position_from test first outcomes ≡ place → test outcome ≡ false
     → tally_of test first (outcomes ++ outcome ∷ []) ≡ tally_of test first outcomes
 same_by test first outcomes outcome None e fails =
@@ -104,15 +104,15 @@ same_by test first outcomes outcome None e fails =
 same_by test first outcomes outcome (Some s) e fails =
     let all = outcomes ++ outcome ∷ [] in
     ap (option_map (tally_from test all)) (first_kept test first outcomes outcome s e)
-    ∙ (ap (λ (passed : List Outcome). Some (record { seeds = length passed; first = s })) (none_passes test outcomes outcome fails)
+    ∙ (ap (λ (passed : List SeedOutcome). Some (record { seeds = length passed; first = s })) (none_passes test outcomes outcome fails)
     ∙ sym (ap (option_map (tally_from test outcomes)) e))
 
 -- one more that does not pass
-pub no_more : (test : Outcome → Bool) (first : ℕ) (outcomes : List Outcome) (outcome : Outcome) → test outcome ≡ false
+pub no_more : (test : SeedOutcome → Bool) (first : ℕ) (outcomes : List SeedOutcome) (outcome : SeedOutcome) → test outcome ≡ false
     → tally_of test first (outcomes ++ outcome ∷ []) ≡ tally_of test first outcomes
 no_more test first outcomes outcome fails = same_by test first outcomes outcome (position_from test first outcomes) refl fails
 
-seeds_below : (test : Outcome → Bool) (outcomes : List Outcome) → length (filter test outcomes) ≤ length outcomes
+seeds_below : (test : SeedOutcome → Bool) (outcomes : List SeedOutcome) → length (filter test outcomes) ≤ length outcomes
 seeds_below test [] = omega arith
 seeds_below test (o ∷ os) =
     let rest = seeds_below test os in
@@ -124,7 +124,7 @@ seeds_below test (o ∷ os) =
 same_item : {X : Type 0} {a b : X} → Some a ≡ Some b → a ≡ b
 same_item e = cc
 
-below_by : (test : Outcome → Bool) (first seed : ℕ) (outcomes : List Outcome) (place : Option ℕ) → position_from test first outcomes ≡ place
+below_by : (test : SeedOutcome → Bool) (first seed : ℕ) (outcomes : List SeedOutcome) (place : Option ℕ) → position_from test first outcomes ≡ place
     → first + length outcomes ≡ seed → seed < 2 ^ 64 → (tally : Option Tally) → tally ≡ tally_of test first outcomes → IfSome tally (λ t. t.seeds < 2 ^ 64)
 below_by test first seed outcomes place e is small None t = tt
 below_by test first seed outcomes None e is small (Some tally) t =
@@ -135,12 +135,12 @@ below_by test first seed outcomes (Some s) e is small (Some tally) t =
     omega (arith, seeds, is, small, seeds_below test outcomes)
 
 -- no more passed than there were
-pub few_enough : (test : Outcome → Bool) (first seed : ℕ) (outcomes : List Outcome) → first + length outcomes ≡ seed → seed < 2 ^ 64
+pub few_enough : (test : SeedOutcome → Bool) (first seed : ℕ) (outcomes : List SeedOutcome) → first + length outcomes ≡ seed → seed < 2 ^ 64
     → (tally : Option Tally) → tally ≡ tally_of test first outcomes → IfSome tally (λ t. t.seeds < 2 ^ 64)
 few_enough test first seed outcomes is small tally t = below_by test first seed outcomes (position_from test first outcomes) refl is small tally t
 
 -- a tally that counted one more
-pub counts : (test : Outcome → Bool) (first seed : ℕ) (outcomes : List Outcome) (outcome : Outcome) (old new : Option Tally)
+pub counts : (test : SeedOutcome → Bool) (first seed : ℕ) (outcomes : List SeedOutcome) (outcome : SeedOutcome) (old new : Option Tally)
     → old ≡ tally_of test first outcomes → first + length outcomes ≡ seed → test outcome ≡ true → new ≡ Some (tally_with old seed)
     → new ≡ tally_of test first (outcomes ++ outcome ∷ [])
 counts test first seed outcomes outcome old new o is passes n =
@@ -151,7 +151,7 @@ pub number_is : (numbers : List ℕ) (a b : ℕ) (spread : Option Spread) → a 
 number_is numbers a b spread same kept = subst (λ (n : ℕ). IsLeastAndMost (numbers ++ n ∷ []) spread) same kept
 
 -- a figure of the runs that came to an end, with one more such run and with none
-pub one_number_more : (figure : Figures → ℕ) (outcomes : List Outcome) (outcome : Outcome) (figures : Figures) (spread : Option Spread) → figures_of outcome ≡ figures ∷ []
+pub one_number_more : (figure : Figures → ℕ) (outcomes : List SeedOutcome) (outcome : SeedOutcome) (figures : Figures) (spread : Option Spread) → figures_of outcome ≡ figures ∷ []
     → IsLeastAndMost (map figure (flat_map figures_of outcomes) ++ figure figures ∷ []) spread
     → IsLeastAndMost (map figure (flat_map figures_of (outcomes ++ outcome ∷ []))) spread
 one_number_more figure outcomes outcome figures spread is kept =
@@ -160,7 +160,7 @@ one_number_more figure outcomes outcome figures spread is kept =
     flat_map-append figures_of outcomes (outcome ∷ []) ∙ ap (λ fs. ended ++ fs) (append-nil (figures_of outcome) ∙ is) in
     subst (λ ns. IsLeastAndMost ns spread) (sym (ap (map figure) all ∙ map-append figure ended (figures ∷ []))) kept
 
-pub no_number_more : (figure : Figures → ℕ) (outcomes : List Outcome) (outcome : Outcome) (spread : Option Spread) → figures_of outcome ≡ []
+pub no_number_more : (figure : Figures → ℕ) (outcomes : List SeedOutcome) (outcome : SeedOutcome) (spread : Option Spread) → figures_of outcome ≡ []
     → IsLeastAndMost (map figure (flat_map figures_of outcomes)) spread → IsLeastAndMost (map figure (flat_map figures_of (outcomes ++ outcome ∷ []))) spread
 no_number_more figure outcomes outcome spread is kept =
     let ended = flat_map figures_of outcomes in

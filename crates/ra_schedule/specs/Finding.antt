@@ -3,19 +3,19 @@ use Rattle.std.specs.Prelude.{◌≡◌, ℕ, ◌+◌, ◌≤◌, ◌<◌, Bool,
 use Rattle.ra_schedule.specs.declared.choice.Policy.{Policy}
 use Rattle.ra_schedule.specs.declared.finding.Ending.{Ending}
 use Rattle.ra_schedule.specs.declared.finding.Ending.TheVariants.{Finished, Stuck}
-use Rattle.ra_schedule.specs.declared.outcomes.Outcome.{Outcome}
+use Rattle.ra_schedule.specs.declared.outcomes.SeedOutcome.{SeedOutcome}
 use Rattle.ra_schedule.specs.Faults.{FaultRates}
 use Rattle.ra_schedule.specs.Script.{ScriptState}
 use Rattle.ra_schedule.specs.Survey.{chance, is_finished, is_stuck, IsOutcome}
 
 -- whether a run with this outcome came to this end
-abbrev pub is_end : Ending → Outcome → Bool
+abbrev pub is_end : Ending → SeedOutcome → Bool
 is_end Finished outcome = is_finished outcome
 is_end Stuck outcome = is_stuck outcome
 
 -- whether a script comes to this end under a policy, within this many turns
 abbrev pub EndsSo : ScriptState → Policy → ℕ → Ending → Bool → Type 0
-EndsSo script policy limit ending holds = (outcome : Outcome) × IsOutcome script policy limit outcome × (is_end ending outcome ≡ holds)
+EndsSo script policy limit ending holds = (outcome : SeedOutcome) × IsOutcome script policy limit outcome × (is_end ending outcome ≡ holds)
 
 -- no seed from the first one on and before this one brings the script to this end
 abbrev pub NoneBefore : ScriptState → Option FaultRates → (limit : ℕ) → Ending → (first seed : ℕ) → Type 0

@@ -10,4 +10,5 @@ pub mod Listing
 pub mod Drive
 pub mod Driving
 pub mod Survey
+pub mod Telling
 pub mod Finding

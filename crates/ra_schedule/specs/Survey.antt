@@ -7,8 +7,8 @@ use Rattle.ra_schedule.specs.declared.choice.Policy.{Policy}
 use Rattle.ra_schedule.specs.declared.choice.Policy.TheVariants.{Seeded, Faulty}
 use Rattle.ra_schedule.specs.declared.error.DriveError.TheVariants.{TurnLimit}
 use Rattle.ra_schedule.specs.declared.outcomes.Figures.{Figures}
-use Rattle.ra_schedule.specs.declared.outcomes.Outcome.{Outcome}
-use Rattle.ra_schedule.specs.declared.outcomes.Outcome.TheVariants.{Finished, Stuck, Limit}
+use Rattle.ra_schedule.specs.declared.outcomes.SeedOutcome.{SeedOutcome}
+use Rattle.ra_schedule.specs.declared.outcomes.SeedOutcome.TheVariants.{Finished, Stuck, Limit}
 use Rattle.ra_schedule.specs.declared.outcomes.Tally.{Tally}
 use Rattle.ra_schedule.specs.declared.outcomes.Spread.{Spread}
 use Rattle.ra_schedule.specs.declared.outcomes.Survey.{Survey}
@@ -32,52 +32,52 @@ pub record HasEnded (script : ScriptState) (policy : Policy) (limit : ℕ) (figu
   pub messages : figures.messages ≡ report.sent
 
 -- what came of a script under a policy, within this many turns: finished, stuck, or a choice left at the limit
-abbrev pub IsOutcome : ScriptState → Policy → ℕ → Outcome → Type 0
+abbrev pub IsOutcome : ScriptState → Policy → ℕ → SeedOutcome → Type 0
 IsOutcome script policy limit (Finished figures) = HasEnded script policy limit figures true
 IsOutcome script policy limit (Stuck figures) = HasEnded script policy limit figures false
 IsOutcome script policy limit Limit = (moves : List Move) × Follows script policy moves × Stops script policy limit moves TurnLimit
 
 -- what came of a script under each seed, from this one on
-abbrev pub AreOutcomes : ScriptState → Option FaultRates → (limit first : ℕ) → List Outcome → Type 0
-AreOutcomes script faults limit first outcomes = (place : ℕ) (outcome : Outcome) → slice_get outcomes place ≡ Some outcome
+abbrev pub AreOutcomes : ScriptState → Option FaultRates → (limit first : ℕ) → List SeedOutcome → Type 0
+AreOutcomes script faults limit first outcomes = (place : ℕ) (outcome : SeedOutcome) → slice_get outcomes place ≡ Some outcome
     → IsOutcome script (chance faults (first + place)) limit outcome
 
 -- ---- Counted
 
 -- whether the run ended and is finished
-abbrev pub is_finished : Outcome → Bool
+abbrev pub is_finished : SeedOutcome → Bool
 is_finished (Finished figures) = true
 is_finished (Stuck figures) = false
 is_finished Limit = false
 
 -- whether the run ended and is not finished
-abbrev pub is_stuck : Outcome → Bool
+abbrev pub is_stuck : SeedOutcome → Bool
 is_stuck (Finished figures) = false
 is_stuck (Stuck figures) = true
 is_stuck Limit = false
 
 -- whether a choice was left at the limit of turns
-abbrev pub is_limit : Outcome → Bool
+abbrev pub is_limit : SeedOutcome → Bool
 is_limit (Finished figures) = false
 is_limit (Stuck figures) = false
 is_limit Limit = true
 
 -- the figures of a run, if it came to an end
-abbrev pub figures_of : Outcome → List Figures
+abbrev pub figures_of : SeedOutcome → List Figures
 figures_of (Finished figures) = figures ∷ []
 figures_of (Stuck figures) = figures ∷ []
 figures_of Limit = []
 
 -- how many turns were made, in each run that came to an end
-abbrev pub turns_of : List Outcome → List ℕ
+abbrev pub turns_of : List SeedOutcome → List ℕ
 turns_of outcomes = map (λ figures. figures.turns) (flat_map figures_of outcomes)
 
 -- how many messages were sent, in each run that came to an end
-abbrev pub messages_of : List Outcome → List ℕ
+abbrev pub messages_of : List SeedOutcome → List ℕ
 messages_of outcomes = map (λ figures. figures.messages) (flat_map figures_of outcomes)
 
 -- how many of the seeds from this one on came to such an end, and the first of them, if any did
-abbrev pub tally_of : (Outcome → Bool) → ℕ → List Outcome → Option Tally
+abbrev pub tally_of : (SeedOutcome → Bool) → ℕ → List SeedOutcome → Option Tally
 tally_of test first outcomes =
     option_map (λ seed. record { seeds = length (filter test outcomes); first = seed }) (position_from test first outcomes)
 
@@ -93,7 +93,7 @@ IsLeastAndMost numbers (Some spread) = Contains numbers spread.least × Contains
     × All (λ number. (spread.least ≤ number) × (number ≤ spread.most)) numbers
 
 -- the survey counts what came of the seeds from this one on
-pub record Tallies (first : ℕ) (outcomes : List Outcome) (survey : Survey) : Type 0 where
+pub record Tallies (first : ℕ) (outcomes : List SeedOutcome) (survey : Survey) : Type 0 where
   pub finished : survey.finished ≡ tally_of is_finished first outcomes
   pub stuck : survey.stuck ≡ tally_of is_stuck first outcomes
   pub limit : survey.limit ≡ tally_of is_limit first outcomes
@@ -102,7 +102,7 @@ pub record Tallies (first : ℕ) (outcomes : List Outcome) (survey : Survey) : T
 
 -- the survey of a script under chance, with faults or without, by each seed from the first to the last, both included
 pub record IsSurvey (script : ScriptState) (faults : Option FaultRates) (limit first last : ℕ) (survey : Survey) : Type 0 where
-  pub outcomes : List Outcome
+  pub outcomes : List SeedOutcome
   pub each : AreOutcomes script faults limit first outcomes
   pub all : length outcomes ≡ last + 1 - first
   pub tallies : Tallies first outcomes survey

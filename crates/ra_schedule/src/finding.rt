@@ -1,13 +1,13 @@
 //! The first seed by which a script comes to an end that is looked for.
-ghost use Rattle.std.specs.Prelude.{◌≡◌, IfOk};
-ghost use Rattle.ra_schedule.specs.Finding.{EndsSo, IsFirstSeed};
+ghost use Rattle.std.specs.Prelude.{◌≡◌, IfOk, OnErr};
+ghost use Rattle.ra_schedule.specs.Finding.{IsFirstSeed};
 ghost use Rattle.ra_schedule.specs.Finding as spec;
-ghost use Rattle.ra_schedule.specs.Survey.{chance};
+ghost use Rattle.ra_schedule.specs.Telling.{TellsSeeds, TellsSomeSeeds, tried};
 
 use crate::observer::Observer;
-use crate::outcomes::Outcome;
+use crate::outcomes::SeedOutcome;
 use crate::surveying::outcome_by;
-use crate::{Faults, Script};
+use crate::{Faults, Script, SeedRange};
 use ra_stamp::Memory;
 use std::alloc::Global;
 
@@ -21,62 +21,50 @@ pub enum Ending {
 }
 
 /// Returns whether this came of a run that comes to such an end. It does not allocate.
-fn is_end(ending: Ending, outcome: Outcome) -> bool
+fn is_end(ending: Ending, outcome: SeedOutcome) -> bool
     ensures { result ≡ spec.is_end ending outcome }
 {
     match ending {
-        Ending::Finished => matches!(outcome, Outcome::Finished(_)),
-        Ending::Stuck => matches!(outcome, Outcome::Stuck(_)),
+        Ending::Finished => matches!(outcome, SeedOutcome::Finished(_)),
+        Ending::Stuck => matches!(outcome, SeedOutcome::Stuck(_)),
     }
 }
 
-/// Returns whether a script comes to such an end by chance under a seed, within `limit` turns, and tells an observer what came of it.
+/// Looks for the least seed of a range by which a script comes to an end by chance, with faults or without, within `limit` turns. The
+/// observer is told of each seed up to that one. It costs what [`summarize`](crate::summarize) costs, for each of them.
 ///
 /// # Errors
 ///
-/// `Memory`: memory ran out.
-fn ends_so<O: Observer>(
-    alloc: Global,
-    script: &Script,
-    faults: &Option<Faults>,
-    seed: u64,
-    limit: u64,
-    ending: Ending,
-    observer: &mut O,
-) -> Result<bool, Memory>
-    ensures { IfOk result (EndsSo script.now (chance faults.now seed) limit ending) }
-{
-    let outcome = outcome_by(alloc, script, faults, seed, limit, observer)?;
-    Ok(is_end(ending, outcome))
-}
-
-/// Looks for the least seed from the first to the last, both of them included, by which a script comes to an end by chance, with faults or
-/// without, within `limit` turns. The observer is told of each seed up to that one. It costs what [`summarize`](crate::summarize) costs, for
-/// each of them.
-///
-/// # Errors
-///
-/// `Memory`: memory ran out.
+/// `Memory`: memory ran out at some seed. The observer was told of those before it.
 pub fn first_seed<O: Observer>(
     alloc: Global,
     script: &Script,
     faults: Option<Faults>,
     ending: Ending,
-    first: u64,
-    last: u64,
+    seeds: SeedRange,
     limit: u64,
     observer: &mut O,
 ) -> Result<Option<u64>, Memory>
-    ensures { IfOk result (IsFirstSeed script.now faults limit ending first last) }
+    ensures ok { IfOk result (IsFirstSeed script.now faults limit ending seeds.first seeds.last) }
+    ensures told { IfOk result (λ found. TellsSeeds script.now faults limit seeds.first (tried seeds.first seeds.last found)
+        (O.told observer.old) (O.told observer.new)) }
+    ensures err { OnErr result (TellsSomeSeeds script.now faults limit seeds.first seeds.last
+        (O.told observer.old) (O.told observer.new)) }
 {
+    let SeedRange { first, last } = seeds;
     if last < first {
         return Ok(None);
     }
     for seed in first..last {
-        if ends_so(alloc, script, &faults, seed, limit, ending, observer)? {
+        let outcome = outcome_by(alloc, script, &faults, seed, limit, observer)?;
+        if is_end(ending, outcome) {
             return Ok(Some(seed));
         }
     }
-    let found = ends_so(alloc, script, &faults, last, limit, ending, observer)?;
-    Ok(if found { Some(last) } else { None })
+    let outcome = outcome_by(alloc, script, &faults, last, limit, observer)?;
+    Ok(if is_end(ending, outcome) {
+        Some(last)
+    } else {
+        None
+    })
 }

@@ -16,6 +16,7 @@ mod picking;
 mod progress;
 mod rosters;
 mod script;
+mod seed_range;
 mod surveying;
 mod word_choice;
 
@@ -26,6 +27,7 @@ pub use faults::Faults;
 pub use finding::{Ending, first_seed};
 pub use laws::{policies_lead_to_one_run, policies_repeat_no_message};
 pub use observer::Observer;
-pub use outcomes::{Figures, Outcome, Spread, Survey, Tally};
+pub use outcomes::{Figures, SeedOutcome, Spread, Survey, Tally};
 pub use script::{Op, Script};
+pub use seed_range::SeedRange;
 pub use surveying::{chance, survey};

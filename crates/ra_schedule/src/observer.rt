@@ -1,13 +1,20 @@
-//! Who is told how it goes on with many seeds.
-use crate::Outcome;
+//! Who is told how far many seeds have come.
+ghost use Rattle.std.specs.Prelude.{[], ◌∷◌, List, Option, None};
+ghost use Rattle.ra_schedule.specs.Telling.{Told, Tells};
+
+use crate::SeedOutcome;
 
 /// Is told of the run by each of many seeds, since all together may take long.
 pub trait Observer {
-    /// Is called after the run of each seed, in their order, with what came of it.
-    fn ended(&mut self, seed: u64, outcome: Outcome);
+    // Each seed and its outcome that the observer was told, in order, if its contract tells them.
+    ghost told: { Self → Option (List Told) } = { λ _. None };
+
+    /// Is called after the run of each seed, in their order, with its outcome.
+    fn ended(&mut self, seed: u64, outcome: SeedOutcome)
+        ensures { Tells (told self.old) (told self.new) (record { seed = seed; outcome = outcome } ∷ []) };
 }
 
-/// The observer that passes over all.
+/// The observer that ignores everything.
 impl Observer for () {
-    fn ended(&mut self, _seed: u64, _outcome: Outcome) {}
+    fn ended(&mut self, _seed: u64, _outcome: SeedOutcome) {}
 }

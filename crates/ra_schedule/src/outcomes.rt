@@ -13,7 +13,7 @@ pub struct Figures {
 
 /// What came of a script under one seed.
 #[derive(Clone, Copy, Debug, PartialEq, Eq)]
-pub enum Outcome {
+pub enum SeedOutcome {
     /// Every operation is done, and nothing waits, is queued or under way.
     Finished(Figures),
     /// No choice was left before that.
@@ -98,25 +98,25 @@ pub fn no_survey() -> Survey
 }
 
 /// Counts what came of one more seed, the one after those that were counted.
-pub fn with_outcome(survey: Survey, seed: u64, outcome: Outcome) -> Survey
-    requires { (first : ℕ) × (outcomes : List Outcome) × Tallies first outcomes survey × (first + length outcomes ≡ seed) }
-    ensures { (first : ℕ) (outcomes : List Outcome) → Tallies first outcomes survey → first + length outcomes ≡ seed
+pub fn with_outcome(survey: Survey, seed: u64, outcome: SeedOutcome) -> Survey
+    requires { (first : ℕ) × (outcomes : List SeedOutcome) × Tallies first outcomes survey × (first + length outcomes ≡ seed) }
+    ensures { (first : ℕ) (outcomes : List SeedOutcome) → Tallies first outcomes survey → first + length outcomes ≡ seed
         → Tallies first (outcomes ++ outcome ∷ []) result }
 {
     match outcome {
-        Outcome::Finished(Figures { turns, messages }) => Survey {
+        SeedOutcome::Finished(Figures { turns, messages }) => Survey {
             finished: counted(survey.finished, seed),
             turns: widened(survey.turns, u128::from(turns)),
             messages: widened(survey.messages, messages),
             ..survey
         },
-        Outcome::Stuck(Figures { turns, messages }) => Survey {
+        SeedOutcome::Stuck(Figures { turns, messages }) => Survey {
             stuck: counted(survey.stuck, seed),
             turns: widened(survey.turns, u128::from(turns)),
             messages: widened(survey.messages, messages),
             ..survey
         },
-        Outcome::Limit => Survey {
+        SeedOutcome::Limit => Survey {
             limit: counted(survey.limit, seed),
             ..survey
         },

@@ -1,11 +1,12 @@
 //! A script under many seeds.
-ghost use Rattle.std.specs.Prelude.{◌≡◌, ℕ, List, IfOk};
+ghost use Rattle.std.specs.Prelude.{◌≡◌, ◌+◌, ◌-◌, ℕ, List, [], ◌∷◌, IfOk, OnOk, OnErr};
 ghost use Rattle.ra_schedule.specs.Survey.{IsOutcome, IsSurvey};
+ghost use Rattle.ra_schedule.specs.Telling.{Tells, TellsSeeds, TellsSomeSeeds};
 ghost use Rattle.ra_schedule.specs.Survey as spec;
 
 use crate::observer::Observer;
-use crate::outcomes::{Figures, Outcome, Survey, no_survey, with_outcome};
-use crate::{DriveError, Faults, Policy, Script, summarize};
+use crate::outcomes::{Figures, SeedOutcome, Survey, no_survey, with_outcome};
+use crate::{DriveError, Faults, Policy, Script, SeedRange, summarize};
 use ra_stamp::Memory;
 use std::alloc::Global;
 
@@ -29,7 +30,7 @@ pub fn outcome_of(
     script: &Script,
     policy: &Policy,
     limit: u64,
-) -> Result<Outcome, Memory>
+) -> Result<SeedOutcome, Memory>
     ensures { IfOk result (IsOutcome script.now policy.now limit) }
 {
     match summarize(alloc, script, policy, limit) {
@@ -39,12 +40,12 @@ pub fn outcome_of(
                 messages: summary.report.sent,
             };
             Ok(if summary.finished {
-                Outcome::Finished(figures)
+                SeedOutcome::Finished(figures)
             } else {
-                Outcome::Stuck(figures)
+                SeedOutcome::Stuck(figures)
             })
         }
-        Err(DriveError::TurnLimit) => Ok(Outcome::Limit),
+        Err(DriveError::TurnLimit) => Ok(SeedOutcome::Limit),
         // Chance takes only choices that can be made.
         Err(_) => Err(Memory),
     }
@@ -62,32 +63,39 @@ pub fn outcome_by<O: Observer>(
     seed: u64,
     limit: u64,
     observer: &mut O,
-) -> Result<Outcome, Memory>
-    ensures { IfOk result (IsOutcome script.now (spec.chance faults.now seed) limit) }
+) -> Result<SeedOutcome, Memory>
+    ensures ok { IfOk result (IsOutcome script.now (spec.chance faults.now seed) limit) }
+    ensures told { IfOk result (λ outcome.
+        Tells (O.told observer.old) (O.told observer.new) (record { seed = seed; outcome = outcome } ∷ [])) }
+    ensures err { OnErr result (observer.new ≡ observer.old) }
 {
     let outcome = outcome_of(alloc, script, &chance(*faults, seed), limit)?;
     observer.ended(seed, outcome);
     Ok(outcome)
 }
 
-/// Drives a cluster through a script by chance, with faults or without, under each seed from the first to the last, both of them
-/// included, each within `limit` turns, and counts what came of them. The observer is told of each. It costs what [`summarize`] costs, for
-/// each seed, and keeps nothing of a run but its figures.
+/// Drives a cluster through a script by chance, with faults or without, under each seed of a range, each within `limit` turns, and
+/// counts what came of them. The observer is told of each seed. It costs what [`summarize`] costs, for each seed, and keeps nothing
+/// of a run but its figures.
 ///
 /// # Errors
 ///
-/// `Memory`: memory ran out.
+/// `Memory`: memory ran out at some seed. The observer was told of those before it.
 pub fn survey<O: Observer>(
     alloc: Global,
     script: &Script,
     faults: Option<Faults>,
-    first: u64,
-    last: u64,
+    seeds: SeedRange,
     limit: u64,
     observer: &mut O,
 ) -> Result<Survey, Memory>
-    ensures { IfOk result (IsSurvey script.now faults limit first last) }
+    ensures ok { IfOk result (IsSurvey script.now faults limit seeds.first seeds.last) }
+    ensures told { OnOk result (TellsSeeds script.now faults limit seeds.first (seeds.last + 1 - seeds.first)
+        (O.told observer.old) (O.told observer.new)) }
+    ensures err { OnErr result (TellsSomeSeeds script.now faults limit seeds.first seeds.last
+        (O.told observer.old) (O.told observer.new)) }
 {
+    let SeedRange { first, last } = seeds;
     if last < first {
         return Ok(no_survey());
     }

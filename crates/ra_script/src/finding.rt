@@ -1,37 +1,40 @@
 //! The trace of the first run of a script that comes to an end that is looked for.
-ghost use Rattle.std.specs.Prelude.{◌≡◌, ℕ, List, Ok, IfOk, MatchOption, string_bytes};
+ghost use Rattle.std.specs.Prelude.{◌≡◌, ℕ, List, Option, Ok, IfOk, OnOk, MatchOption, string_bytes};
+ghost use Rattle.ra_schedule.specs.Finding.{IsFirstSeed};
+ghost use Rattle.ra_schedule.specs.Telling.{TellsSeeds, tried};
 ghost use Rattle.ra_script.specs.Finding.{IsFirstTrace, NoneEndsSo};
+ghost use Rattle.ra_script.specs.Performed.{turn_limit};
 ghost use Rattle.ra_script.specs.ScriptText.{script_of};
 
 use crate::performing::{MAX_TURNS, Printed, trace_of};
-use ra_schedule::{Ending, Faults, Observer, Script, chance, first_seed};
+use ra_schedule::{Ending, Faults, Observer, Script, SeedRange, chance, first_seed};
 use ra_stamp::Memory;
 use std::alloc::Global;
 
-/// Returns the trace of a script by the least seed from the first to the last, both of them included, by which it comes to an end by chance,
-/// with faults or without, each in at most 16,777,216 turns, or `None` where it does so by none of them. The observer is told of each seed up
-/// to it. The cost is that of the runs up to that one, and of [`perform_trace`](crate::perform_trace) for it.
+/// Returns the trace of a script by the least seed of a range by which it comes to an end by chance, with faults or without, each in at
+/// most 16,777,216 turns. It is `None` if no seed brings the script to that end. The observer is told of each seed that is tried. The
+/// cost is that of the runs up to that one, and of [`perform_trace`](crate::perform_trace) for it.
 ///
 /// # Errors
 ///
-/// `Memory`: memory ran out.
+/// `Memory`: memory ran out, at some seed or for the trace. The observer was told of the seeds that were tried.
 pub fn find_trace<O: Observer>(
     alloc: Global,
     script: &Script,
     faults: Option<Faults>,
     ending: Ending,
-    first: u64,
-    last: u64,
+    seeds: SeedRange,
     observer: &mut O,
 ) -> Result<Option<Printed>, Memory>
-    ensures { (input : List ℕ) → script_of input ≡ Ok script.now → IfOk result (λ found. MatchOption found
-        (NoneEndsSo faults ending first last input)
-        (λ printed. IsFirstTrace faults ending first last input (string_bytes printed.text) printed.finished)) }
+    ensures trace { (input : List ℕ) → script_of input ≡ Ok script.now → IfOk result (λ found. MatchOption found
+        (NoneEndsSo faults ending seeds.first seeds.last input)
+        (λ printed. IsFirstTrace faults ending seeds.first seeds.last input (string_bytes printed.text) printed.finished)) }
+    ensures told { OnOk result ((found : Option ℕ) × IsFirstSeed script.now faults turn_limit ending seeds.first seeds.last found
+        × TellsSeeds script.now faults turn_limit seeds.first (tried seeds.first seeds.last found)
+        (O.told observer.old) (O.told observer.new)) }
 {
     let again = copy_of(&faults);
-    let found = first_seed(
-        alloc, script, faults, ending, first, last, MAX_TURNS, observer,
-    )?;
+    let found = first_seed(alloc, script, faults, ending, seeds, MAX_TURNS, observer)?;
     let Some(seed) = found else {
         return Ok(None);
     };

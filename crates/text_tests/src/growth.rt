@@ -8,7 +8,7 @@ use ra_draw::{DrawError, Part, draw};
 use ra_explain::{
     LineCause, choices_note, line_note, order_note, script_end_note, unfinished_note,
 };
-use ra_schedule::{Ending, Policy};
+use ra_schedule::{Ending, Policy, SeedRange};
 use ra_script::{
     ChoicesError, Format, PerformError, ScriptError, find_trace, perform, perform_as,
     perform_trace, read_choices, read_script,
@@ -395,13 +395,16 @@ fn growth_of_a_performance_of_which_the_choices_are_written(rt: HostRuntime) {
     );
 }
 
+/// Three seeds.
+const SEEDS: SeedRange = SeedRange { first: 5, last: 7 };
+
 /// Finds the trace of the first of three seeds whose run finishes. If that is refused, returns whether memory ran out.
 fn try_first_trace(alloc: Global) -> Result<Tried, bool> {
     let script = match read_script(alloc, ONE_LOCK_SCRIPT.as_bytes()) {
         Ok(script) => script,
         Err(fault) => return Err(fault == ScriptError::Memory),
     };
-    match find_trace(alloc, &script, None, Ending::Finished, 5, 7, &mut ()) {
+    match find_trace(alloc, &script, None, Ending::Finished, SEEDS, &mut ()) {
         Ok(Some(found)) => Ok(tried_if(found.finished && found.text.as_str() == ONE_LOCK)),
         Ok(None) => Ok(Tried::Wrong),
         Err(Memory) => Err(true),
@@ -414,7 +417,7 @@ fn try_no_trace(alloc: Global) -> Result<Tried, bool> {
         Ok(script) => script,
         Err(fault) => return Err(fault == ScriptError::Memory),
     };
-    match find_trace(alloc, &script, None, Ending::Stuck, 5, 7, &mut ()) {
+    match find_trace(alloc, &script, None, Ending::Stuck, SEEDS, &mut ()) {
         Ok(found) => Ok(tried_if(found.is_none())),
         Err(Memory) => Err(true),
     }

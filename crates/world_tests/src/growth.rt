@@ -5,7 +5,7 @@ use crate::alike::are_alike;
 use crate::helpers::r;
 use ra_schedule::{
     AddClientError, AddOpError, Choice, DriveError, Ending, Faults, NewScriptError, Observer, Op,
-    Outcome, Policy, Script, Survey, Tally, drive, first_seed, summarize, survey,
+    Policy, Script, SeedOutcome, SeedRange, Survey, Tally, drive, first_seed, summarize, survey,
 };
 use ra_stamp::{Entry, Mark, Memory, Mode, Name, NodeId, Stamp};
 use ra_world::{
@@ -485,7 +485,7 @@ struct Count {
 }
 
 impl Observer for Count {
-    fn ended(&mut self, _seed: u64, _outcome: Outcome) {
+    fn ended(&mut self, _seed: u64, _outcome: SeedOutcome) {
         self.told = self.told.saturating_add(1);
     }
 }
@@ -511,13 +511,16 @@ fn is_of_three_seeds(found: &Survey) -> bool {
         && found.limit.is_none()
 }
 
+/// Three seeds.
+const SEEDS: SeedRange = SeedRange { first: 1, last: 3 };
+
 /// Surveys three seeds. If that is refused, returns whether memory ran out and the observer was not told of the last seed.
 fn try_survey(alloc: Global) -> Result<Tried, bool> {
     let Some(script) = two_lockers(alloc) else {
         return Err(true);
     };
     let mut count = Count { told: 0 };
-    match survey(alloc, &script, None, 1, 3, 1_000, &mut count) {
+    match survey(alloc, &script, None, SEEDS, 1_000, &mut count) {
         Ok(found) if is_of_three_seeds(&found) && count.told == 3 => Ok(Tried::AtOnce),
         Ok(_) => Ok(Tried::Wrong),
         Err(Memory) => Err(count.told < 3),
@@ -536,7 +539,15 @@ fn try_search(alloc: Global) -> Result<Tried, bool> {
         return Err(true);
     };
     let mut count = Count { told: 0 };
-    match first_seed(alloc, &script, None, Ending::Stuck, 1, 3, 1_000, &mut count) {
+    match first_seed(
+        alloc,
+        &script,
+        None,
+        Ending::Stuck,
+        SEEDS,
+        1_000,
+        &mut count,
+    ) {
         Ok(None) if count.told == 3 => Ok(Tried::AtOnce),
         Ok(_) => Ok(Tried::Wrong),
         Err(Memory) => Err(count.told < 3),

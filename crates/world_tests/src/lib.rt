@@ -44,6 +44,4 @@ mod seeds;
 #[cfg(test)]
 mod streams;
 #[cfg(test)]
-mod surveys;
-#[cfg(test)]
 mod worlds;

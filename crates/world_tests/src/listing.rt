@@ -4,7 +4,8 @@ use crate::helpers::{assert_rows, r};
 use Chooser::{Faulty, Newest, Oldest, Seeded};
 use Ending::{Finished, Stuck};
 use ra_schedule::{
-    Choice, Ending, Figures, Observer, Op, Outcome, Script, drive, first_seed, survey,
+    Choice, Ending, Figures, Observer, Op, Script, SeedOutcome, SeedRange, drive, first_seed,
+    survey,
 };
 use ra_stamp::{Memory, Mode};
 use std::alloc::Global;
@@ -120,8 +121,9 @@ fn first_of(
     last: u64,
     limit: u64,
 ) -> Result<Option<u64>, Memory> {
+    let seeds = SeedRange { first, last };
     match lockers(alloc, 1) {
-        Some(script) => first_seed(alloc, &script, None, ending, first, last, limit, &mut ()),
+        Some(script) => first_seed(alloc, &script, None, ending, seeds, limit, &mut ()),
         None => Err(Memory),
     }
 }
@@ -149,21 +151,24 @@ fn the_first_seed_of_an_end_is_found(rt: HostRuntime) {
 /// What an observer was told.
 #[derive(Drop)]
 struct Told {
-    ended: Vec<(u64, Outcome)>,
+    ended: Vec<(u64, SeedOutcome)>,
     is_whole: bool,
 }
 
 impl Observer for Told {
-    fn ended(&mut self, seed: u64, outcome: Outcome) {
+    fn ended(&mut self, seed: u64, outcome: SeedOutcome) {
         self.is_whole = self.is_whole && self.ended.push((seed, outcome)).is_ok();
     }
 }
 
 /// The outcome for one client of two nodes: it asks, its REQUEST and the REPLY are delivered, and it leaves.
-const ONE_LOCK: Outcome = Outcome::Finished(Figures {
+const ONE_LOCK: SeedOutcome = SeedOutcome::Finished(Figures {
     turns: 4,
     messages: 2,
 });
+
+/// Three seeds.
+const FIVE_TO_SEVEN: SeedRange = SeedRange { first: 5, last: 7 };
 
 /// Makes an observer that was told nothing.
 fn nothing_told(alloc: Global) -> Told {
@@ -177,7 +182,7 @@ fn nothing_told(alloc: Global) -> Told {
 fn a_survey_tells_what_came_of_each_seed(rt: HostRuntime) {
     let mut told = nothing_told(rt.alloc());
     let script = lockers(rt.alloc(), 1).expect(&rt, "the script of one client");
-    assert!(rt; survey(rt.alloc(), &script, None, 5, 7, 4, &mut told).is_ok());
+    assert!(rt; survey(rt.alloc(), &script, None, FIVE_TO_SEVEN, 4, &mut told).is_ok());
     assert!(rt; told.is_whole);
     assert!(rt; told.ended.as_slice() == [(5, ONE_LOCK), (6, ONE_LOCK), (7, ONE_LOCK)].as_slice());
 }
@@ -186,13 +191,35 @@ fn a_survey_tells_what_came_of_each_seed(rt: HostRuntime) {
 fn a_search_tells_what_came_of_each_seed_up_to_the_one_it_finds(rt: HostRuntime) {
     let mut told = nothing_told(rt.alloc());
     let script = lockers(rt.alloc(), 1).expect(&rt, "the script of one client");
-    let found = first_seed(rt.alloc(), &script, None, Finished, 5, 7, 4, &mut told);
+    let found = first_seed(
+        rt.alloc(),
+        &script,
+        None,
+        Finished,
+        FIVE_TO_SEVEN,
+        4,
+        &mut told,
+    );
     assert!(rt; matches!(found, Ok(Some(5))));
     assert!(rt; told.ended.as_slice() == [(5, ONE_LOCK)].as_slice());
-    let cut_off = first_seed(rt.alloc(), &script, None, Finished, 6, 7, 3, &mut told);
+    let six_and_seven = SeedRange { first: 6, last: 7 };
+    let cut_off = first_seed(
+        rt.alloc(),
+        &script,
+        None,
+        Finished,
+        six_and_seven,
+        3,
+        &mut told,
+    );
     assert!(rt; matches!(cut_off, Ok(None)));
     assert!(rt;
         told.ended.as_slice()
-            == [(5, ONE_LOCK), (6, Outcome::Limit), (7, Outcome::Limit)].as_slice()
+            == [
+                (5, ONE_LOCK),
+                (6, SeedOutcome::Limit),
+                (7, SeedOutcome::Limit)
+            ]
+            .as_slice()
     );
 }

@@ -1,4 +1,4 @@
-use Rattle.std.proofs.Common.{◌≡◌, Some, subst}
+use Rattle.std.proofs.Common.{subst}
 use Rattle.ra_schedule.specs.Survey.{IsLeastAndMost}
 use Rattle.ra_schedule.proofs.Tallying.{one_number, wider}
 use Rattle.ra_schedule.proofs.outcomes.widened.Goals as goal

@@ -1,4 +1,4 @@
-use Rattle.std.proofs.Common.{◌≡◌, true, false, ap, ◌∙◌, sym, arith}
+use Rattle.std.proofs.Common.{◌≡◌, ap, ◌∙◌, sym, arith}
 use Rattle.ra_schedule.specs.Survey.{is_finished, is_stuck, is_limit, figures_of, turns_of}
 use Rattle.ra_schedule.proofs.Tallying.{counts, few_enough, no_more, number_is, one_number_more, no_number_more}
 use Rattle.ra_schedule.proofs.outcomes.with_outcome.Goals as goal

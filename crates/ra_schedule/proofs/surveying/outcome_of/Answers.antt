@@ -1,4 +1,4 @@
-use Rattle.std.proofs.Common.{◌≡◌, Err, ap, ◌∙◌}
+use Rattle.std.proofs.Common.{Err, ap, ◌∙◌}
 use Rattle.ra_schedule.specs.declared.error.DriveError.TheVariants.{TurnLimit}
 use Rattle.ra_schedule.proofs.surveying.outcome_of.Goals as goal
 

@@ -1,4 +1,4 @@
-use Rattle.std.proofs.Common.{◌≡◌, ◌<◌, ◌++◌, length, string_bytes, arith}
+use Rattle.std.proofs.Common.{◌<◌, length, string_bytes, arith}
 use Rattle.std.proofs.lemmas.Result.{on_ok_weaker}
 use Rattle.ra_script.proofs.Words.{spelled_first, spelled_next}
 use Rattle.ra_script.proofs.spelling.push_next.Goals as goal
