@@ -228,12 +228,12 @@ place_in (move ∷ moves) (x ∷ prefix) line rest e =
 -- ---- What is right after a prefix
 
 -- the line may come next after these lines, which are a prefix in this version where they are not empty
-abbrev pub IsNext : Version → List Line → Line → Type 0
-IsNext version prefix (First named nodes start) = prefix ≡ []
-IsNext version prefix (Stepped step) = (n start : ℕ) × (moves : List Move) × IsTracePrefix version n start moves [] prefix × GoesOn n start moves step
-IsNext version prefix (Marked mark) =
+abbrev pub MayFollow : Version → List Line → Line → Type 0
+MayFollow version prefix (First named nodes start) = prefix ≡ []
+MayFollow version prefix (Stepped step) = (n start : ℕ) × (moves : List Move) × IsTracePrefix version n start moves [] prefix × GoesOn n start moves step
+MayFollow version prefix (Marked mark) =
     (n start : ℕ) × (moves : List Move) × (others : List Mark) × IsTracePrefix version n start moves (mark ∷ others) prefix × TableGoesOn (marks_in prefix) mark
-IsNext version prefix Last = (n start : ℕ) × (moves : List Move) × IsTracePrefix version n start moves [] prefix
+MayFollow version prefix Last = (n start : ℕ) × (moves : List Move) × IsTracePrefix version n start moves [] prefix
 
 -- a part of the marks of a run is a run of the lock table
 pub table_of_part : LawsBelow → (n start : ℕ) (moves : List Move) (prefix suffix : List Mark) → IsNodeNumber n → IsRun n start moves
@@ -262,9 +262,9 @@ All-prefix P (line ∷ prefix) rest h =
     All-cons P line prefix (All-head P line (prefix ++ rest) h) (All-prefix P prefix rest (All-tail P line (prefix ++ rest) h))
 
 next_step : LawsBelow → (version : Version) (n start : ℕ) (moves : List Move) (prefix : List Line) (line : Line) → IsNodeNumber n → IsRun n start moves
-    → All (IsLine version) (First version n start ∷ prefix) → AtStep moves prefix line → IsNext version (First version n start ∷ prefix) line
+    → All (IsLine version) (First version n start ∷ prefix) → AtStep moves prefix line → MayFollow version (First version n start ∷ prefix) line
 next_step laws version n start moves prefix line count run each s =
-    subst (IsNext version (First version n start ∷ prefix)) (sym s.line_is) (
+    subst (MayFollow version (First version n start ∷ prefix)) (sym s.line_is) (
       n,
       start,
       s.before,
@@ -288,7 +288,7 @@ lines_at_mark moves prefix line m =
     ∙ ap (λ (ls : List Line). before ++ Stepped m.move.step ∷ ls) own ∙ sym (flat_map-append move_lines m.before (m.move ∷ []))
 
 next_mark : LawsBelow → (version : Version) (n start : ℕ) (moves : List Move) (prefix : List Line) (line : Line) → IsNodeNumber n → IsRun n start moves
-    → All (IsLine version) (First version n start ∷ prefix) → AtMark moves prefix line → IsNext version (First version n start ∷ prefix) line
+    → All (IsLine version) (First version n start ∷ prefix) → AtMark moves prefix line → MayFollow version (First version n start ∷ prefix) line
 next_mark laws version n start moves prefix line count run each m =
     let here : IsTracePrefix version n start (m.before ++ m.move ∷ []) (m.mark ∷ m.others) (First version n start ∷ prefix) = record {
       count = count;
@@ -296,7 +296,7 @@ next_mark laws version n start moves prefix line count run each m =
       each = each;
       lines_are = ap (λ (ls : List Line). First version n start ∷ ls) (lines_at_mark moves prefix line m);
     } in
-    subst (IsNext version (First version n start ∷ prefix)) (sym m.line_is) (
+    subst (MayFollow version (First version n start ∷ prefix)) (sym m.line_is) (
       n,
       start,
       m.before ++ m.move ∷ [],
@@ -307,7 +307,7 @@ next_mark laws version n start moves prefix line count run each m =
 
 -- a line of a prefix may come next where it stands, and is not the last one
 pub record InPrefix (version : Version) (prefix : List Line) (line : Line) : Type 0 where
-  pub next : IsNext version prefix line
+  pub next : MayFollow version prefix line
   pub not_last : line ≢ Last
 
 pub in_prefix : LawsBelow → (version : Version) (n start : ℕ) (moves : List Move) (due : List Mark) (prefix : List Line) (line : Line) (rest : List Line)
@@ -315,7 +315,7 @@ pub in_prefix : LawsBelow → (version : Version) (n start : ℕ) (moves : List 
 in_prefix laws version n start moves due [] line rest whole =
     let b = begins version n start (flat_map move_lines moves) due (line ∷ rest) whole.lines_are in
     let first : line ≡ First version n start = let is = b.lines_are in cc in
-    record { next = subst (IsNext version []) (sym first) refl; not_last = λ last. let both : First version n start ≡ Last = sym first ∙ last in cc }
+    record { next = subst (MayFollow version []) (sym first) refl; not_last = λ last. let both : First version n start ≡ Last = sym first ∙ last in cc }
 in_prefix laws version n start moves due (x ∷ prefix) line rest whole =
     let are = whole.lines_are in
     let first : x ≡ First version n start = cc in
@@ -324,11 +324,11 @@ in_prefix laws version n start moves due (x ∷ prefix) line rest whole =
     subst (λ (l : Line). All (IsLine version) (l ∷ prefix)) first (All-prefix (IsLine version) (x ∷ prefix) (line ∷ rest) whole.each) in
     elim (place_in moves prefix line (rest ++ map Marked due) (behind ∙ append_assoc prefix (line ∷ rest) (map Marked due))) [
       | inl s ↦ record {
-        next = subst (λ (l : Line). IsNext version (l ∷ prefix) line) (sym first) (next_step laws version n start moves prefix line whole.count whole.run each s);
+        next = subst (λ (l : Line). MayFollow version (l ∷ prefix) line) (sym first) (next_step laws version n start moves prefix line whole.count whole.run each s);
         not_last = λ last. let both : Stepped s.move.step ≡ Last = sym s.line_is ∙ last in cc;
       }
       | inr m ↦ record {
-        next = subst (λ (l : Line). IsNext version (l ∷ prefix) line) (sym first) (next_mark laws version n start moves prefix line whole.count whole.run each m);
+        next = subst (λ (l : Line). MayFollow version (l ∷ prefix) line) (sym first) (next_mark laws version n start moves prefix line whole.count whole.run each m);
         not_last = λ last. let both : Marked m.mark ≡ Last = sym m.line_is ∙ last in cc;
       }
     ]
@@ -368,11 +368,11 @@ place_before_end (y ∷ prefix) line rest (x ∷ lines) final e =
 
 -- a line of a trace may come next where it stands
 pub next_in_trace : LawsBelow → (version : Version) (n start : ℕ) (moves : List Move) (text : List ℕ) (prefix : List Line) (line : Line) (rest : List Line)
-    → IsTraceIn version n start moves text → prefix ++ line ∷ rest ≡ trace_lines version n start moves → IsNext version prefix line
+    → IsTraceIn version n start moves text → prefix ++ line ∷ rest ≡ trace_lines version n start moves → MayFollow version prefix line
 next_in_trace laws version n start moves text prefix line rest trace e =
     let whole = prefix_of_trace version n start moves text trace in
     elim (place_before_end prefix line rest (First version n start ∷ flat_map move_lines moves) Last e) [
-      | inl h ↦ subst (λ (l : Line). IsNext version prefix l) (sym h.line_is)
+      | inl h ↦ subst (λ (l : Line). MayFollow version prefix l) (sym h.line_is)
           (n, start, moves, subst (IsTracePrefix version n start moves []) (sym h.prefix_is) whole)
       | inr h ↦ (in_prefix laws version n start moves [] prefix line h.rest (subst (IsTracePrefix version n start moves []) h.lines_are whole)).next
     ]

@@ -9,7 +9,7 @@ use Rattle.ra_trace.specs.declared.error.TraceError.{TraceError}
 use Rattle.ra_trace.specs.declared.error.TraceError.TheVariants.{Read, Limit, Memory}
 use Rattle.ra_trace.specs.declared.reading.LineEnd.TheVariants.{Feed, Input}
 use Rattle.ra_trace.specs.Reading.{IsOpenLine}
-use Rattle.ra_trace.specs.NextLine.{EndsPart, GoesOn, IsPart, TakesBytes, TakesPart}
+use Rattle.ra_trace.specs.NextLine.{EndsPart, ReadsSoFar, IsPart, TakesBytes, TakesPart}
 use Rattle.ra_trace.proofs.Ends.{NoFeed}
 
 none_before : (xs : List ℕ) (k : ℕ) → k ≤ length xs → ((j : ℕ) → j < k → get_or xs j 0 ≢ 10) → NoFeed (take k xs)
@@ -42,13 +42,13 @@ all_of_part most shown part part_is before =
 -- ---- With what bytes end
 
 pub ends_over : (left : ℕ) (old new : Option (List ℕ)) (bytes : List ℕ) → length bytes ≤ 128 → TakesBytes left old new bytes → EndsPart bytes true
-    → GoesOn left old new bytes (Ok (Some Feed))
+    → ReadsSoFar left old new bytes (Ok (Some Feed))
 ends_over left old new bytes short takes (before, none, is) =
     let long = ap length is ∙ length-append before (10 ∷ []) in
     (takes, (before, (none, omega (arith, long, short)), is))
 
 pub goes_on : (left : ℕ) (old new : Option (List ℕ)) (bytes : List ℕ) → length bytes ≤ 128 → length bytes ≢ 128 → TakesBytes left old new bytes → NoFeed bytes
-    → GoesOn left old new bytes (Ok None)
+    → ReadsSoFar left old new bytes (Ok None)
 goes_on left old new bytes short other takes none = (takes, (none, omega (arith, short, other)))
 
 -- ---- A byte, and a part
@@ -75,21 +75,21 @@ pub nothing_more : (old mid new : Option (List ℕ)) (before : List ℕ) → Con
 nothing_more old mid new before earlier later = subst (Consumes old new) (append-nil before) (Consumes-trans old mid new before [] earlier later)
 
 pub input_ends : (left : ℕ) (old mid new : Option (List ℕ)) (before : List ℕ) → Consumes old mid before → Consumes mid new [] → IsAtEnd new → IsOpenLine before
-    → length before ≤ left → GoesOn left old new before (Ok (Some Input))
+    → length before ≤ left → ReadsSoFar left old new before (Ok (Some Input))
 input_ends left old mid new before earlier later ended unended within = ((nothing_more old mid new before earlier later, within), (unended, ended))
 
 pub reader_fails : (left : ℕ) (old mid new : Option (List ℕ)) (before : List ℕ) (fault : TraceError) → fault ≡ Read → Consumes old mid before → Consumes mid new []
-    → IsOpenLine before → length before ≤ left → GoesOn left old new before (Err fault)
+    → IsOpenLine before → length before ≤ left → ReadsSoFar left old new before (Err fault)
 reader_fails left old mid new before fault is earlier later unended within =
-    subst (λ f. GoesOn left old new before (Err f)) (sym is) ((nothing_more old mid new before earlier later, within), unended)
+    subst (λ f. ReadsSoFar left old new before (Err f)) (sym is) ((nothing_more old mid new before earlier later, within), unended)
 
 pub passes_left : (left : ℕ) (old mid new : Option (List ℕ)) (before : List ℕ) (byte : ℕ) → Consumes old mid before → Consumes mid new (byte ∷ [])
-    → IsOpenLine before → length before ≡ left → GoesOn left old new before (Err Limit)
+    → IsOpenLine before → length before ≡ left → ReadsSoFar left old new before (Err Limit)
 passes_left left old mid new before byte earlier later unended same = (byte, Consumes-trans old mid new before (byte ∷ []) earlier later, same, unended)
 
 pub part_fails : (left most : ℕ) (old mid new : Option (List ℕ)) (before bytes : List ℕ) (fault : TraceError) → TakesPart most mid new before bytes (Err fault)
-    → Consumes old mid before → IsOpenLine before → length before ≤ left → GoesOn left old new bytes (Err fault)
+    → Consumes old mid before → IsOpenLine before → length before ≤ left → ReadsSoFar left old new bytes (Err fault)
 part_fails left most old mid new before bytes Read took earlier unended within =
-    subst (λ (bs : List ℕ). GoesOn left old new bs (Err Read)) (sym took.0) (reader_fails left old mid new before Read refl earlier took.1 unended within)
+    subst (λ (bs : List ℕ). ReadsSoFar left old new bs (Err Read)) (sym took.0) (reader_fails left old mid new before Read refl earlier took.1 unended within)
 part_fails left most old mid new before bytes Limit took earlier unended within = absurd took
 part_fails left most old mid new before bytes Memory took earlier unended within = absurd took

@@ -24,7 +24,7 @@ use Rattle.ra_trace.specs.Verdict.{IsTracePrefix, TableGoesOn, IsOfClient, IsOfM
 use Rattle.ra_trace.specs.Below.{LawsBelow}
 use Rattle.ra_trace.proofs.Lines.{begins_once, begins_in_one}
 use Rattle.ra_trace.proofs.Versions.{readable}
-use Rattle.ra_trace.proofs.Prefixes.{IsNext, not_empty, one_prefix, in_prefix, next_in_trace, no_trace, one_trace}
+use Rattle.ra_trace.proofs.Prefixes.{MayFollow, not_empty, one_prefix, in_prefix, next_in_trace, no_trace, one_trace}
 
 -- ---- What is wrong with a line that is there
 
@@ -183,7 +183,7 @@ one_cause laws prefix text why other p q =
 -- ---- A line that may come next is not wrong
 
 -- what is behind a line that may come next
-behind_next : (version : Version) (prefix : List Line) (line : Line) → IsNext version prefix line
+behind_next : (version : Version) (prefix : List Line) (line : Line) → MayFollow version prefix line
     → (IsFirst line × (prefix ≡ [])) ⊎ ((n start : ℕ) × (moves : List Move) × (due : List Mark) × IsTracePrefix version n start moves due prefix)
 behind_next version prefix (First named nodes from) next = inl (tt, next)
 behind_next version prefix (Stepped step) (n, start, moves, behind, goes) = inr (n, start, moves, [], behind)
@@ -191,7 +191,7 @@ behind_next version prefix (Marked mark) (n, start, moves, others, behind, goes)
 behind_next version prefix Last (n, start, moves, behind) = inr (n, start, moves, [], behind)
 
 -- a first line has none before it
-first_behind_nothing : (version : Version) (prefix : List Line) (line : Line) → IsNext version prefix line → IsFirst line → prefix ≡ []
+first_behind_nothing : (version : Version) (prefix : List Line) (line : Line) → MayFollow version prefix line → IsFirst line → prefix ≡ []
 first_behind_nothing version prefix (First named nodes from) next first = next
 first_behind_nothing version prefix (Stepped step) next first = absurd first
 first_behind_nothing version prefix (Marked mark) next first = absurd first
@@ -203,7 +203,7 @@ goes_on_too n start moves n' start' moves' step p q r g =
     subst (λ (ms : List Move). GoesOn n' start' ms step) r (subst (λ (s : ℕ). GoesOn n' s moves step) q (subst (λ (m : ℕ). GoesOn m start moves step) p g))
 
 next_is_not_blamed : LawsBelow → (version second : Version) (n start : ℕ) (moves : List Move) (due : List Mark) (prefix : List Line) (line : Line) (why : Cause)
-    → IsTracePrefix second n start moves due prefix → IsNext version prefix line → Blame n start moves due prefix line why → ⊥
+    → IsTracePrefix second n start moves due prefix → MayFollow version prefix line → Blame n start moves due prefix line why → ⊥
 next_is_not_blamed laws version second n start moves due prefix (First named nodes from) why behind next b = b
 next_is_not_blamed laws version second n start moves due prefix (Stepped step) why behind (n', start', moves', there, goes) b =
     let same = one_prefix laws version n' start' moves' [] second n start moves due prefix there behind in
@@ -220,7 +220,7 @@ next_is_not_blamed laws version second n start moves due prefix (Marked mark) wh
 next_is_not_blamed laws version second n start moves due prefix Last why behind (n', start', moves', there) b =
     b.0 (sym (one_prefix laws version n' start' moves' [] second n start moves due prefix there behind).left)
 
-next_has_line : LawsBelow → (version : Version) (prefix : List Line) (line : Line) (text rest : List ℕ) → IsNext version prefix line
+next_has_line : LawsBelow → (version : Version) (prefix : List Line) (line : Line) (text rest : List ℕ) → MayFollow version prefix line
     → BeginsWith version text line rest → HasNoLine prefix text → ⊥
 next_has_line laws version prefix line text rest next begins (inl (none, no_first)) =
     elim (behind_next version prefix line next) [
@@ -241,7 +241,7 @@ next_has_line laws version prefix line text rest next begins (inr (inr (second, 
       | inr (n', start', moves', due, behind) ↦ no_trace laws version n' start' moves' due second n start moves prefix behind whole
     ]
 
-next_is_not_wrong : LawsBelow → (version : Version) (prefix : List Line) (line : Line) (text rest : List ℕ) (why : Cause) → IsNext version prefix line
+next_is_not_wrong : LawsBelow → (version : Version) (prefix : List Line) (line : Line) (text rest : List ℕ) (why : Cause) → MayFollow version prefix line
     → BeginsWith version text line rest → IsWrong prefix text why → ⊥
 next_is_not_wrong laws version prefix line text rest why next begins w =
     elim (blamed prefix text why w) [
@@ -284,7 +284,7 @@ right_lines lines (inr (inr (version, n, start, moves, text, trace, are))) =
 -- a line among right ones may come next where it stands, and its version allows it
 record StandsThere (prefix : List Line) (line : Line) : Type 0 where
   version : Version
-  next : IsNext version prefix line
+  next : MayFollow version prefix line
   ranges : IsLine version line
 
 All-at : (P : Line → Type 0) (prefix : List Line) (line : Line) (rest : List Line) → All P (prefix ++ line ∷ rest) → P line

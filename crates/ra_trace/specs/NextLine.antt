@@ -56,10 +56,10 @@ TakesPart most old new before bytes (Err Limit) = ⊥
 TakesPart most old new before bytes (Err Memory) = ⊥
 
 -- these bytes of a line were taken so far: the line goes on, or it is over, or a fault occurred
-abbrev pub GoesOn : ℕ → Option (List ℕ) → Option (List ℕ) → List ℕ → Result (Option LineEnd) TraceError → Type 0
-GoesOn left old new bytes (Ok None) = TakesBytes left old new bytes × IsOpenLine bytes
-GoesOn left old new bytes (Ok (Some end)) = ReadsLine left old new bytes (Ok end)
-GoesOn left old new bytes (Err fault) = ReadsLine left old new bytes (Err fault)
+abbrev pub ReadsSoFar : ℕ → Option (List ℕ) → Option (List ℕ) → List ℕ → Result (Option LineEnd) TraceError → Type 0
+ReadsSoFar left old new bytes (Ok None) = TakesBytes left old new bytes × IsOpenLine bytes
+ReadsSoFar left old new bytes (Ok (Some end)) = ReadsLine left old new bytes (Ok end)
+ReadsSoFar left old new bytes (Err fault) = ReadsLine left old new bytes (Err fault)
 
 -- the line is over with its last byte, which is its line feed or its 128th byte
 abbrev pub IsOverLine : List ℕ → Type 0

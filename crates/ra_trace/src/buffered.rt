@@ -1,7 +1,7 @@
 //! The bytes of a line of a trace, taken from what a reader has in its buffer.
 ghost use Rattle.std.specs.Prelude.{◌≡◌, ◌≢◌, ℕ, ◌≤◌, ◌<◌, ◌+◌, List, Option, true, false, length, All, IfOk, IsNone};
 ghost use Rattle.std.specs.Io.KnownBytes.{Consumes};
-ghost use Rattle.ra_trace.specs.NextLine.{EndsPart, GoesOn, IsPart, ReadsLine, TakesBytes, TakesPart};
+ghost use Rattle.ra_trace.specs.NextLine.{EndsPart, ReadsSoFar, IsPart, ReadsLine, TakesBytes, TakesPart};
 ghost use Rattle.ra_trace.specs.Reading.{IsOpenLine};
 
 use crate::TraceError;
@@ -49,7 +49,7 @@ fn take_part<B: BufRead>(
 fn end_of(bytes: &LineBytes, is_over: bool) -> Option<LineEnd>
     requires { length bytes.now.items ≤ 128 }
     ensures ends { (left : ℕ) (old new : Option (List ℕ)) → TakesBytes left old new bytes.now.items
-        → EndsPart bytes.now.items is_over → GoesOn left old new bytes.now.items (Ok result) }
+        → EndsPart bytes.now.items is_over → ReadsSoFar left old new bytes.now.items (Ok result) }
     ensures over { is_over ≡ true → IsNone result → ⊥ }
 {
     if is_over {
@@ -74,7 +74,7 @@ fn take_byte<R: Read>(
     requires unended { IsOpenLine bytes.old.items }
     requires within { length bytes.old.items ≤ left }
     ensures taken { (old : Option (List ℕ)) → Consumes old (R.remaining reader.old) bytes.old.items
-        → GoesOn left old (R.remaining reader.new) bytes.new.items result }
+        → ReadsSoFar left old (R.remaining reader.new) bytes.new.items result }
     ensures grows { IfOk result (λ end. IsNone end → length bytes.old.items < length bytes.new.items) }
 {
     let Some(byte) = next_byte(reader)? else {
@@ -100,7 +100,7 @@ fn take_some<B: BufRead>(
     requires unended { IsOpenLine bytes.old.items }
     requires within { length bytes.old.items ≤ left }
     ensures taken { (old : Option (List ℕ)) → Consumes old (B.remaining reader.old) bytes.old.items
-        → GoesOn left old (B.remaining reader.new) bytes.new.items result }
+        → ReadsSoFar left old (B.remaining reader.new) bytes.new.items result }
     ensures grows { IfOk result (λ end. IsNone end → length bytes.old.items < length bytes.new.items) }
 {
     let most = left.min(MAX_LINE) - bytes.len();

@@ -56,6 +56,19 @@ impl From<Memory> for WriteTraceError {
     }
 }
 
+impl From<RunError> for WriteTraceError {
+    ghost use Rattle.ra_trace.specs.Writing.{refusal_of_run};
+
+    ghost from_gives = { λ a e. e ≡ refusal_of_run a };
+
+    fn from(refused: RunError) -> WriteTraceError {
+        match refused {
+            RunError::Memory => WriteTraceError::Memory,
+            refused => WriteTraceError::Run(refused),
+        }
+    }
+}
+
 impl From<WriteFault> for WriteTraceError {
     ghost from_gives = { λ _ e. e ≡ write.Write };
 

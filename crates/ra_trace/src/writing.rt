@@ -18,7 +18,7 @@ use crate::ranges::{mark_fits, step_fits};
 use crate::version::Version;
 use ra_stamp::{Marks, Memory, Message, Name, NodeId};
 use ra_world::{
-    NewError, RunError, Step, StepError, Steps, World, marks_of_runs_are_numbered,
+    MarklessWorld, RunError, Step, StepError, Steps, marks_of_runs_are_numbered,
     messages_under_way_are_between_nodes, mode_word, prefixes_of_runs_are_runs, push_field,
     push_mark_line, push_number, text_of, write_out,
 };
@@ -159,29 +159,17 @@ fn push_move(text: &mut String, step: &Step, marks: &Marks) -> Result<(), Memory
     push_marks(text, marks)
 }
 
-/// Returns why no trace is written where the step of this place is refused for this cause.
-fn refused_at(place: u64, cause: StepError) -> WriteTraceError
-    ensures memory { cause ≡ StepError.Memory → result ≡ WriteTraceError.Memory }
-    ensures refused { cause ≢ StepError.Memory → result ≡ WriteTraceError.Run (RunError.Refused place cause) }
-{
-    match cause {
-        StepError::Memory => WriteTraceError::Memory,
-        cause => WriteTraceError::Run(RunError::Refused { place, cause }),
-    }
-}
-
 /// Makes the world before the first step.
 ///
 /// # Errors
 ///
 /// `Run`: the number of nodes is not 1 to 64. `Memory`.
-fn opening_world(alloc: Global, nodes: u16, start: u64) -> Result<World, WriteTraceError>
+fn opening_world(alloc: Global, nodes: u16, start: u64) -> Result<MarklessWorld, WriteTraceError>
     ensures { Opens nodes start result }
 {
-    match World::new(alloc, nodes, start) {
+    match MarklessWorld::new(alloc, nodes, start) {
         Ok(world) => Ok(world),
-        Err(NewError::BadCount) => Err(WriteTraceError::Run(RunError::BadCount)),
-        Err(NewError::Memory) => Err(WriteTraceError::Memory),
+        Err(refused) => Err(WriteTraceError::from(RunError::from(refused))),
     }
 }
 
@@ -193,7 +181,7 @@ fn opening_world(alloc: Global, nodes: u16, start: u64) -> Result<World, WriteTr
 fn trace_step(
     alloc: Global,
     text: &mut String,
-    world: &mut World,
+    world: &mut MarklessWorld,
     place: usize,
     step: &Step,
 ) -> Result<(), WriteTraceError>
@@ -211,7 +199,7 @@ fn trace_step(
             push_move(text, step, &outcome.marks)?;
             Ok(())
         }
-        Err(cause) => Err(refused_at(place as u64 + 1, cause)),
+        Err(cause) => Err(WriteTraceError::from(RunError::at(place as u64 + 1, cause))),
     }
 }
 
@@ -223,7 +211,7 @@ fn trace_step(
 fn trace_steps(
     alloc: Global,
     text: &mut String,
-    world: &mut World,
+    world: &mut MarklessWorld,
     steps: &Steps,
 ) -> Result<(), WriteTraceError>
     ensures traced { (n start : ℕ) → HasTraced n start [] world.old (string_bytes text.old)
@@ -248,7 +236,7 @@ fn trace_steps(
 fn trace_run(
     alloc: Global,
     text: &mut String,
-    world: &mut World,
+    world: &mut MarklessWorld,
     nodes: u16,
     start: u64,
     steps: &Steps,

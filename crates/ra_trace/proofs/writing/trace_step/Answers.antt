@@ -1,4 +1,5 @@
-use Rattle.std.proofs.Common.{string_bytes, refl, inl, inr}
+use Rattle.std.proofs.Common.{string_bytes, refl, ap, ◌∙◌, inl, inr}
+use Rattle.ra_trace.specs.Writing.{refusal_of_run}
 use Rattle.ra_world.proofs.Refusing.{memory_or_not}
 use Rattle.ra_trace.proofs.Traced.{traced_more, stops_by}
 use Rattle.ra_trace.proofs.writing.trace_step.Goals as goal
@@ -12,9 +13,9 @@ returns-in_ok-push_move-in-Ok-clause-traced c n start steps inside is traced =
 pub returns-in-Err-clause-traced : goal.returns-in-Err-clause-traced
 returns-in-Err-clause-traced c n start steps inside is traced =
     let law = c.prefixes_of_runs_are_runs.ensures in
-    stops_by law.steps law.step n start c.args.place steps c.args.step.now c.args.world.now (string_bytes c.args.text.now) c.in-Err.cause c.refused_at.result
-    traced inside is (λ other. (c.in-Err.ensures.refused c.in-Err.cause other).0 refl) c.in-Err.ensures.allowed.1 c.refused_at.ensures.memory
-    c.refused_at.ensures.refused
+    stops_by law.steps law.step n start c.args.place steps c.args.step.now c.args.world.now (string_bytes c.args.text.now) c.in-Err.cause c.from.result
+    traced inside is (λ other. (c.in-Err.ensures.refused c.in-Err.cause other).0 refl) c.in-Err.ensures.allowed.1
+    (λ same. c.from.ensures ∙ ap refusal_of_run (c.at.ensures.memory same)) (λ other. c.from.ensures ∙ ap refusal_of_run (c.at.ensures.refused other))
 
 pub returns-in_err-push_move-in-Ok-clause-memory : goal.returns-in_err-push_move-in-Ok-clause-memory
 returns-in_err-push_move-in-Ok-clause-memory c is = c.in-Ok.ensures.allowed.0 tt
@@ -23,5 +24,5 @@ pub returns-in-Err-clause-memory : goal.returns-in-Err-clause-memory
 returns-in-Err-clause-memory c is =
     elim (memory_or_not c.in-Err.cause) [
       | inl memory ↦ c.in-Err.ensures.allowed.0 memory
-      | inr other ↦ let refused = c.refused_at.ensures.refused other in absurd cc
+      | inr other ↦ let refused = c.from.ensures ∙ ap refusal_of_run (c.at.ensures.refused other) in absurd cc
     ]
