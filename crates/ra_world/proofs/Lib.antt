@@ -35,7 +35,6 @@ mod DifferentDialogs
 mod DifferentTurns
 mod DifferentEvents
 mod DifferentRuns
-mod Walks
 mod LogCounts
 mod KeptRuns
 mod Bringing

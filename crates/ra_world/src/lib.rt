@@ -4,7 +4,6 @@
 
 mod error;
 mod fitting;
-mod history;
 mod input;
 mod keeping;
 mod laws;

@@ -6,9 +6,8 @@ ghost use Rattle.ra_world.specs.Quiet.{requests_in};
 ghost use Rattle.ra_world.specs.Log.{room_of};
 
 use crate::Step;
-use crate::history::History;
 use ra_node::Outcome;
-use ra_stamp::{Mark, Marks, Memory, Sequence};
+use ra_stamp::{GhostList, Mark, Marks, Memory, Sequence};
 use std::alloc::Global;
 use std::marker::Model;
 
@@ -29,7 +28,7 @@ pub struct Log<const KEEPS_MARKS: u8> {
     /// How many of the steps are repeats.
     repeated: u64,
     /// Each step with what came of it, for proofs alone.
-    made: History<Step, Outcome>,
+    made: GhostList<(Step, Outcome)>,
 }
 
 impl<const KEEPS_MARKS: u8> Model for Log<KEEPS_MARKS> {
@@ -63,7 +62,7 @@ impl<const KEEPS_MARKS: u8> Log<KEEPS_MARKS> {
             requests: 0,
             lost: 0,
             repeated: 0,
-            made: History::new(),
+            made: GhostList::new(),
         }
     }
 
@@ -146,7 +145,7 @@ impl<const KEEPS_MARKS: u8> Log<KEEPS_MARKS> {
         self.requests += u128::from(requests_of(outcome.marks.as_slice()));
         self.lost += losses_of(step);
         self.repeated += repeats_of(step);
-        self.made = self.made.and(step, outcome);
+        self.made = self.made.and_pair(step, outcome);
     }
 }
 
