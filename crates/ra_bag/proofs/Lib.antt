@@ -2,3 +2,4 @@ pub mod Emptied
 pub mod Taken
 pub mod Numbers
 pub mod Told
+pub mod Bits

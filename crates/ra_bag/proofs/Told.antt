@@ -117,7 +117,7 @@ first_emptied (slot ∷ slots) lt = refl
 
 -- ---- One slot after the other
 
-one_more : (slots : List (Option Message)) (ms : List Message) (i : ℕ) (m : Message) → i < length ms → get_or ms i m ≡ m
+pub one_more : (slots : List (Option Message)) (ms : List Message) (i : ℕ) (m : Message) → i < length ms → get_or ms i m ≡ m
     → (slots ++ map Some (take i ms)) ++ Some m ∷ [] ≡ slots ++ map Some (take (i + 1) ms)
 one_more slots ms i m lt is =
     append_assoc slots (map Some (take i ms)) (Some m ∷ [])

@@ -1,2 +1,3 @@
 pub mod Bag
 pub mod Places
+pub mod Filled

@@ -3,8 +3,10 @@ ghost use Rattle.std.specs.VecDeque.{deque_len, deque_capacity};
 ghost use Rattle.ra_stamp.specs.declared.message.Message.{Message};
 ghost use Rattle.ra_bag.specs.Bag.{TakesFirst, TakesOne, TakesAt, StandsIn, IsAt, messages_in, HasEmpty, FewEmpty};
 ghost use Rattle.ra_bag.specs.declared.found.Found.{Found};
+ghost use Rattle.ra_bag.specs.Filled.{KeepsShown};
 ghost use Rattle.ra_bag.specs.Places.{IsFirstSlot, IsTold};
 
+use crate::filled::Filled;
 use crate::found::Found;
 use crate::places::Places;
 use crate::slots::{
@@ -27,6 +29,8 @@ pub struct Bag {
     empty: u64,
     /// In which slots the messages are, to find them.
     places: Places,
+    /// Which slots have a message, to find the one at a place.
+    filled: Filled,
 }
 
 impl Model for Bag {
@@ -35,6 +39,7 @@ impl Model for Bag {
     ghost use Rattle.ra_stamp.specs.declared.message.Message.{Message};
     ghost use Rattle.ra_stamp.specs.Sequence.{Listed};
     ghost use Rattle.ra_bag.specs.Bag.{messages_in, HasEmpty, FewEmpty};
+    ghost use Rattle.ra_bag.specs.Filled.{KeepsShown};
     ghost use Rattle.ra_bag.specs.Places.{IsTold};
 
     ghost Value = { Listed Message };
@@ -43,7 +48,7 @@ impl Model for Bag {
         record { items = messages_in b.slots.items; spare = deque_capacity b.slots - deque_len b.slots } };
 
     ghost invariant = { λ b. HasEmpty b.slots.items b.empty × FewEmpty b.slots.items b.empty
-        × IsTold ⟦<Message as PartialEq>⟧.eq b.places b.slots.items };
+        × IsTold ⟦<Message as PartialEq>⟧.eq b.places b.slots.items × KeepsShown b.filled b.slots.items };
 }
 
 impl Bag {
@@ -59,6 +64,7 @@ impl Bag {
             slots: VecDeque::new(alloc),
             empty: 0,
             places: Places::new(alloc),
+            filled: Filled::new(alloc),
         })
     }
 
@@ -69,13 +75,16 @@ impl Bag {
         self.slots.len() as u64 - self.empty
     }
 
-    /// Returns the message at this place, counted from 0, or `None` past the end. It does not allocate. The cost is constant if no slot
-    /// is empty or the place is 0, and otherwise linear in the number of messages. Slots are emptied only after a message was looked for
-    /// among many.
+    /// Returns the message at this place, counted from 0, or `None` past the end. It does not allocate. The cost is
+    /// constant if no slot is empty. Otherwise a step looks at the bits of 64 slots. Only if there was no memory for
+    /// these bits, each slot up to this one is looked at.
     pub fn at(&self, place: u64) -> Option<Message>
         ensures { result ≡ slice_get self.now.items place }
     {
-        at(&self.slots, slot_at(&self.slots, self.empty, place))
+        at(
+            &self.slots,
+            slot_at(&self.slots, self.empty, &self.filled, place),
+        )
     }
 
     /// Returns whether a message that is equal to this one is under way. It does not allocate. The cost is constant on
@@ -103,11 +112,11 @@ impl Bag {
         ensures at { IfSome result (λ found. (place : ℕ) → found ≡ Found.At place
             → slice_get self.old.items place ≡ Some message.now) }
     {
-        let at_near = slot_at(&self.slots, self.empty, near);
+        let at_near = slot_at(&self.slots, self.empty, &self.filled, near);
         if has(&self.slots, at_near, message) {
             return Some(Found::At(near));
         }
-        let slot = first_of(&self.slots, &mut self.places, message)?;
+        let slot = first_of(&self.slots, &mut self.places, &mut self.filled, message)?;
         Some(Found::In(slot as u64))
     }
 
@@ -126,6 +135,7 @@ impl Bag {
     {
         self.slots.reserve(more as usize)?;
         self.places.learn_if_wanted(&self.slots);
+        self.filled.learn_if_wanted(&self.slots);
         Ok(())
     }
 
@@ -181,7 +191,9 @@ impl Bag {
     {
         make_room(&mut self.slots, messages.len())?;
         self.places.learn_if_wanted(&self.slots);
+        self.filled.learn_if_wanted(&self.slots);
         self.places.follow(self.slots.len(), messages);
+        self.filled.follow(self.slots.len(), messages);
         append(&mut self.slots, messages);
         Ok(())
     }
@@ -200,11 +212,12 @@ impl Bag {
         ensures left { IsNone result → self.new ≡ self.old }
         ensures spare { self.old.spare ≤ self.new.spare }
     {
-        let first = first_of(&self.slots, &mut self.places, message)?;
+        let first = first_of(&self.slots, &mut self.places, &mut self.filled, message)?;
         remove(
             &mut self.slots,
             &mut self.empty,
             &mut self.places,
+            &mut self.filled,
             first,
             message,
         );
@@ -215,9 +228,10 @@ impl Bag {
     /// one. It does not allocate.
     ///
     /// In the first case the cost is that of `at`, if the message was found at a place, and that of removing it.
-    /// Removing takes amortized constant time if the message is at an end, or if the bag knows in which slot each
-    /// message is and this is the first of equal ones. Otherwise it takes time linear in the distance from the nearer
-    /// end, and the bag has to learn the slots anew. In the second case the cost is that of `take`.
+    /// Removing takes amortized constant time if the message is at an end, or if the bag keeps a bit for each slot. It
+    /// learns these bits after a message was taken from between more than 64. Otherwise removing takes time linear in
+    /// the distance from the nearer end. If the message is not the first of equal ones, the bag has to learn anew in
+    /// which slot each message is. In the second case the cost is that of `take`.
     #[inline(always)]
     pub fn take_from(&mut self, found: Found, message: &Message)
         requires { Contains self.old.items message.now }
@@ -226,12 +240,13 @@ impl Bag {
             → TakesAt self.old.items place self.new.items }
         ensures spare { self.old.spare ≤ self.new.spare }
     {
-        let slot = slot_found(&self.slots, self.empty, found);
+        let slot = slot_found(&self.slots, self.empty, &self.filled, found);
         if has(&self.slots, slot, message) {
             remove(
                 &mut self.slots,
                 &mut self.empty,
                 &mut self.places,
+                &mut self.filled,
                 slot,
                 message,
             );
@@ -243,36 +258,54 @@ impl Bag {
 
 /// Returns the slot in which a message was found.
 #[inline(always)]
-fn slot_found(slots: &VecDeque<Option<Message>>, empty: u64, found: Found) -> usize
-    requires { HasEmpty slots.now.items empty }
+fn slot_found(slots: &VecDeque<Option<Message>>, empty: u64, filled: &Filled, found: Found) -> usize
+    requires count { HasEmpty slots.now.items empty }
+    requires shown { KeepsShown filled.now slots.now.items }
     ensures { (place : ℕ) → found ≡ Found.At place → IsAt slots.now.items place result }
 {
     match found {
-        Found::At(place) => slot_at(slots, empty, place),
+        Found::At(place) => slot_at(slots, empty, filled, place),
         Found::In(slot) => slot as usize,
     }
 }
 
 /// Returns the slot of the message at this place, or one past the end if there is no such place.
 #[inline(always)]
-fn slot_at(slots: &VecDeque<Option<Message>>, empty: u64, place: u64) -> usize
-    requires { HasEmpty slots.now.items empty }
+fn slot_at(slots: &VecDeque<Option<Message>>, empty: u64, filled: &Filled, place: u64) -> usize
+    requires count { HasEmpty slots.now.items empty }
+    requires shown { KeepsShown filled.now slots.now.items }
     ensures { IsAt slots.now.items place result }
 {
-    if empty > 0 {
-        return nth(slots, place);
+    if empty == 0 {
+        return place as usize;
     }
-    place as usize
+    slot_among(slots, filled, place)
+}
+
+/// Returns the slot of the message at this place, or one past the end if there is no such place. Some slots may be empty.
+fn slot_among(slots: &VecDeque<Option<Message>>, filled: &Filled, place: u64) -> usize
+    requires { KeepsShown filled.now slots.now.items }
+    ensures { IsAt slots.now.items place result }
+{
+    // The length is what says that the slots have numbers below 2^63.
+    let _len = slots.len();
+    if filled.is_kept() {
+        return filled.nth(place);
+    }
+    nth(slots, place)
 }
 
 /// Returns the first slot that has a message that is equal to this one.
 fn first_of(
     slots: &VecDeque<Option<Message>>,
     places: &mut Places,
+    filled: &mut Filled,
     message: &Message,
 ) -> Option<usize>
-    requires { IsTold ⟦<Message as PartialEq>⟧.eq places.old slots.now.items }
+    requires told { IsTold ⟦<Message as PartialEq>⟧.eq places.old slots.now.items }
+    requires shown { KeepsShown filled.old slots.now.items }
     ensures told { IsTold ⟦<Message as PartialEq>⟧.eq places.new slots.now.items }
+    ensures shown { KeepsShown filled.new slots.now.items }
     ensures some { IsSome result ↔ Contains (messages_in slots.now.items) message.now }
     ensures first { IfSome result (IsFirstSlot slots.now.items message.now) }
 {
@@ -284,6 +317,7 @@ fn first_of(
         return places.tell(message);
     }
     places.want(slots.len());
+    filled.want(slots.len());
     slot_of(slots, message)
 }
 
@@ -293,71 +327,90 @@ fn remove(
     slots: &mut VecDeque<Option<Message>>,
     empty: &mut u64,
     places: &mut Places,
+    filled: &mut Filled,
     slot: usize,
     message: &Message,
 )
     requires count { HasEmpty slots.old.items empty.old }
     requires told { IsTold ⟦<Message as PartialEq>⟧.eq places.old slots.old.items }
+    requires shown { KeepsShown filled.old slots.old.items }
     requires there { StandsIn slots.old.items message.now slot }
     ensures count { HasEmpty slots.new.items empty.new }
     ensures told { IsTold ⟦<Message as PartialEq>⟧.eq places.new slots.new.items }
+    ensures shown { KeepsShown filled.new slots.new.items }
     ensures few { FewEmpty slots.new.items empty.new }
     ensures items { messages_in slots.new.items
         ≡ messages_in (take slot slots.old.items) ++ messages_in (drop (suc slot) slots.old.items) }
     ensures len { deque_len slots.new ≤ deque_len slots.old }
     ensures capacity { deque_capacity slots.new ≡ deque_capacity slots.old }
 {
-    remove_slot(slots, empty, places, slot, message);
+    remove_slot(slots, empty, places, filled, slot, message);
     if *empty > slots.len() as u64 / 2 {
         close_up(slots);
         *empty = 0;
         places.forget();
+        filled.learn_anew(slots);
     }
 }
 
-/// Removes the slot of a message, or only empties it if the places of the others are known and would change.
+/// Removes the slot of a message, or only empties it if the message at a place is found all the same.
 #[inline(always)]
 fn remove_slot(
     slots: &mut VecDeque<Option<Message>>,
     empty: &mut u64,
     places: &mut Places,
+    filled: &mut Filled,
     slot: usize,
     message: &Message,
 )
     requires count { HasEmpty slots.old.items empty.old }
     requires told { IsTold ⟦<Message as PartialEq>⟧.eq places.old slots.old.items }
+    requires shown { KeepsShown filled.old slots.old.items }
     requires there { StandsIn slots.old.items message.now slot }
     ensures count { HasEmpty slots.new.items empty.new }
     ensures told { IsTold ⟦<Message as PartialEq>⟧.eq places.new slots.new.items }
+    ensures shown { KeepsShown filled.new slots.new.items }
     ensures items { messages_in slots.new.items
         ≡ messages_in (take slot slots.old.items) ++ messages_in (drop (suc slot) slots.old.items) }
     ensures len { deque_len slots.new ≤ deque_len slots.old }
     ensures capacity { deque_capacity slots.new ≡ deque_capacity slots.old }
 {
+    let len = slots.len();
     places.take(slot, message);
+    filled.unset(slot);
     if slot == 0 {
         take_first(slots);
         places.shift();
-        drop_leading(slots, empty, places);
-    } else if slot + 1 == slots.len() {
+        filled.drop_first();
+        drop_leading(slots, empty, places, filled);
+    } else if slot + 1 == len {
         // A caller that delivers the newest message takes the last one.
         take_last(slots);
-    } else if !places.are_known() {
-        take_out(slots, slot);
-    } else {
+    } else if filled.is_kept() {
         clear(slots, slot);
         *empty += 1;
+    } else {
+        take_out(slots, slot);
+        places.forget();
+        filled.want(len);
     }
 }
 
 /// Drops the empty slots before the first message, so that it is found without looking at them. Each slot is emptied
 /// only once, so the cost is amortized constant.
 #[inline(always)]
-fn drop_leading(slots: &mut VecDeque<Option<Message>>, empty: &mut u64, places: &mut Places)
+fn drop_leading(
+    slots: &mut VecDeque<Option<Message>>,
+    empty: &mut u64,
+    places: &mut Places,
+    filled: &mut Filled,
+)
     requires count { HasEmpty slots.old.items empty.old }
     requires told { IsTold ⟦<Message as PartialEq>⟧.eq places.old slots.old.items }
+    requires shown { KeepsShown filled.old slots.old.items }
     ensures count { HasEmpty slots.new.items empty.new }
     ensures told { IsTold ⟦<Message as PartialEq>⟧.eq places.new slots.new.items }
+    ensures shown { KeepsShown filled.new slots.new.items }
     ensures items { messages_in slots.new.items ≡ messages_in slots.old.items }
     ensures len { deque_len slots.new ≤ deque_len slots.old }
     ensures capacity { deque_capacity slots.new ≡ deque_capacity slots.old }
@@ -368,6 +421,7 @@ fn drop_leading(slots: &mut VecDeque<Option<Message>>, empty: &mut u64, places: 
         }
         take_first(slots);
         places.shift();
+        filled.drop_first();
         *empty -= 1;
     }
 }

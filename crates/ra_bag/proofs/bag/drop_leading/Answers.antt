@@ -2,6 +2,7 @@ use Rattle.std.proofs.Common.{rules, ◌≡◌, ◌≤◌, List, Option, ◌∷�
 use Rattle.ra_stamp.specs.declared.message.Message.{Message}
 use Rattle.ra_stamp.specs.contracts.message.MessagePartialEq.TheImpl.{eq-value}
 use Rattle.ra_bag.specs.Bag.{messages_in}
+use Rattle.ra_bag.specs.Filled.{KeepsShown}
 use Rattle.ra_bag.specs.Places.{IsTold}
 use Rattle.ra_bag.proofs.Emptied.{at_most}
 use Rattle.ra_bag.proofs.bag.drop_leading.Goals as goal
@@ -31,6 +32,8 @@ loop-preserved c =
       );
       told = subst (λ (l : List (Option Message)). IsTold eq-value.it c.shift.new.self l) (sym new)
           (c.shift.ensures (drop 1 slots) (subst (λ (l : List (Option Message)). IsTold eq-value.it c.loop.places l) starts held.told));
+      shown = subst (KeepsShown c.drop_first.new.self) (sym new)
+          (c.drop_first.ensures (drop 1 slots) (subst (KeepsShown c.loop.filled) starts held.shown));
       items = ap messages_in new ∙ sym (ap messages_in starts) ∙ held.items;
       len = omega (arith, held.len, c.take_first.ensures.len);
       capacity = c.take_first.ensures.capacity ∙ held.capacity;

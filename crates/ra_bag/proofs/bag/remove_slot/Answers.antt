@@ -1,10 +1,13 @@
-use Rattle.std.proofs.Common.{rules, ◌≡◌, ◌+◌, ◌-◌, List, Option, None, length, set, take, drop, sym, ap, ◌∙◌, subst, arith}
-use Rattle.std.proofs.lemmas.List.{length-set, length-take-le}
+use Rattle.std.proofs.Common.{rules, ◌≡◌, ◌≢◌, ◌<◌, ◌+◌, ◌-◌, ℕ, true, List, Option, Some, None, length, get_or, set, take, drop, sym, ap, ◌∙◌, subst, arith}
+use Rattle.std.specs.Option.{is_some}
+use Rattle.std.proofs.lemmas.List.{length-set, length-take-le, get_or_default}
 use Rattle.ra_stamp.specs.declared.message.Message.{Message}
 use Rattle.ra_bag.specs.Bag.{messages_in}
 use Rattle.ra_bag.proofs.Emptied.{emptied, removed, last_removed, length_without, one_less, one_emptied}
 use Rattle.ra_stamp.specs.contracts.message.MessagePartialEq.TheImpl.{eq-value}
+use Rattle.ra_bag.specs.Filled.{KeepsShown}
 use Rattle.ra_bag.specs.Places.{IsTold}
+use Rattle.ra_bag.proofs.Bits.{shown_without_last}
 use Rattle.ra_bag.proofs.Told.{told_without_last, first_emptied}
 use Rattle.ra_bag.proofs.bag.remove_slot.Goals as goal
 
@@ -20,26 +23,26 @@ returns-then-slot-len-clause-count c =
     (ap messages_in new ∙ last_removed old slot last)
     (omega (arith, last, ap length new, length-take-le slot old (omega (arith, last))))
 
-pub returns-then-not-are_known-clause-items : goal.returns-then-not-are_known-clause-items
-returns-then-not-are_known-clause-items c = ap messages_in c.take_out.ensures.items ∙ removed c.args.slots.now.items c.args.slot
+pub returns-else-is_kept-clause-items : goal.returns-else-is_kept-clause-items
+returns-else-is_kept-clause-items c = ap messages_in c.take_out.ensures.items ∙ removed c.args.slots.now.items c.args.slot
 
-pub returns-then-not-are_known-clause-count : goal.returns-then-not-are_known-clause-count
-returns-then-not-are_known-clause-count c =
+pub returns-else-is_kept-clause-count : goal.returns-else-is_kept-clause-count
+returns-else-is_kept-clause-count c =
     let old = c.args.slots.now.items in
     let there = c.requires.there in
     one_less old c.take_out.new.slots.items c.args.slot c.args.message.now c.args.empty.now there.0 there.1 c.requires.count
-    (returns-then-not-are_known-clause-items c)
+    (returns-else-is_kept-clause-items c)
     (ap (λ (l : List (Option Message)). length l + 1) c.take_out.ensures.items ∙ length_without old c.args.slot there.0)
 
-pub returns-else-not-are_known-clause-items : goal.returns-else-not-are_known-clause-items
-returns-else-not-are_known-clause-items c = ap messages_in c.clear.ensures.items ∙ emptied c.args.slots.now.items c.args.slot c.requires.there.0
+pub returns-then-is_kept-clause-items : goal.returns-then-is_kept-clause-items
+returns-then-is_kept-clause-items c = ap messages_in c.clear.ensures.items ∙ emptied c.args.slots.now.items c.args.slot c.requires.there.0
 
-pub returns-else-not-are_known-clause-count : goal.returns-else-not-are_known-clause-count
-returns-else-not-are_known-clause-count c =
+pub returns-then-is_kept-clause-count : goal.returns-then-is_kept-clause-count
+returns-then-is_kept-clause-count c =
     let old = c.args.slots.now.items in
     let there = c.requires.there in
     one_emptied old c.clear.new.slots.items c.args.slot c.args.message.now c.args.empty.now there.0 there.1 c.requires.count
-    (returns-else-not-are_known-clause-items c)
+    (returns-then-is_kept-clause-items c)
     (ap length c.clear.ensures.items ∙ length-set old c.args.slot None)
 
 -- ---- What is known of the slots
@@ -62,3 +65,41 @@ returns-then-slot-len-clause-told c =
     let taken = c.take.ensures old c.requires.there c.requires.told in
     subst (λ (l : List (Option Message)). IsTold eq-value.it c.take.new.self l) (sym (c.take_last.ensures.items ∙ ap (λ n. take n old) before))
     (told_without_last eq-value.it c.take.new.self old slot last taken)
+
+-- ---- Which slots have a message
+
+has_message : (slots : List (Option Message)) (i : ℕ) (m : Message) → i < length slots → get_or slots i (Some m) ≡ Some m → is_some (get_or slots i None) ≡ true
+has_message slots i m lt is = ap is_some (get_or_default slots i None (Some m) lt ∙ is)
+
+pub drop_leading-requires-clause-shown : goal.drop_leading-requires-clause-shown
+drop_leading-requires-clause-shown c =
+    let old = c.args.slots.now.items in
+    let there = c.requires.there in
+    let is_first : c.args.slot ≡ 0 = search rules in
+    let taken = c.unset.ensures old there.0 (has_message old c.args.slot c.args.message.now there.0 there.1) c.requires.shown in
+    subst (KeepsShown c.drop_first.new.self) (sym c.take_first.ensures.items)
+    (c.drop_first.ensures (drop 1 old)
+    (subst (KeepsShown c.unset.new.self) (ap (λ i. set old i None) is_first ∙ first_emptied old (omega (arith, there.0))) taken))
+
+pub returns-then-slot-len-clause-shown : goal.returns-then-slot-len-clause-shown
+returns-then-slot-len-clause-shown c =
+    let old = c.args.slots.now.items in
+    let slot = c.args.slot in
+    let there = c.requires.there in
+    let last : slot + 1 ≡ length old = search rules in
+    let before : length old - 1 ≡ slot = omega (arith, last) in
+    let taken = c.unset.ensures old there.0 (has_message old slot c.args.message.now there.0 there.1) c.requires.shown in
+    subst (KeepsShown c.unset.new.self) (sym (c.take_last.ensures.items ∙ ap (λ n. take n old) before))
+    (shown_without_last c.unset.new.self old slot last taken)
+
+pub returns-then-is_kept-clause-shown : goal.returns-then-is_kept-clause-shown
+returns-then-is_kept-clause-shown c =
+    let old = c.args.slots.now.items in
+    let there = c.requires.there in
+    subst (KeepsShown c.unset.new.self) (sym c.clear.ensures.items)
+    (c.unset.ensures old there.0 (has_message old c.args.slot c.args.message.now there.0 there.1) c.requires.shown)
+
+pub returns-else-is_kept-clause-shown : goal.returns-else-is_kept-clause-shown
+returns-else-is_kept-clause-shown c =
+    let gone : length c.unset.new.self.words.items ≢ 0 → ⊥ = search rules in
+    c.want.ensures c.take_out.new.slots.items (λ kept. absurd (gone kept))

@@ -1,0 +1,22 @@
+use Rattle.std.proofs.Common.{rules, ◌≡◌, ◌<◌, ◌+◌, ◌++◌, List, Option, Some, map, take, length, sym, ap, ◌∙◌, subst, arith}
+use Rattle.std.proofs.lemmas.List.{length-append, length-map, length-take-le}
+use Rattle.ra_stamp.specs.declared.message.Message.{Message}
+use Rattle.ra_bag.specs.Filled.{IsShown}
+use Rattle.ra_bag.proofs.Told.{one_more}
+use Rattle.ra_bag.proofs.filled.Filled.add_all.Goals as goal
+
+pub loop-message-preserved : goal.loop-message-preserved
+loop-message-preserved c =
+    let ms = c.args.messages.now in
+    let i = c.loop-message.message-index in
+    let lt : i < length ms = search rules in
+    let held = c.loop-message.invariant in
+    let next : c.in_ok-next.next ≡ c.loop-message.next + 1 = search rules in
+    record {
+      next = omega (arith, held.next, next);
+      shown = λ slots len shown.
+          subst (IsShown c.add.new.self) (one_more slots ms i c.message-item.result lt (sym c.message-item.is))
+          (c.in_ok-add.ensures (slots ++ map Some (take i ms))
+          (omega (arith, held.next, len, length-append slots (map Some (take i ms)), length-map (take i ms) Some, length-take-le i ms (omega (arith, lt))))
+          (held.shown slots len shown));
+    }
