@@ -1,12 +1,13 @@
 -- What a verdict on what was read says of the whole input.
-use Rattle.std.proofs.Common.{◌≡◌, ◌≢◌, ◌↔◌, ℕ, ◌≤◌, List, [], ◌∷◌, ◌++◌, length, Option, Some, None, Result, Ok, Err, refl, sym, ap, subst, ◌∙◌, inl, inr, append_assoc}
-use Rattle.std.specs.Prelude.{IfOk, IfSome, flat_map}
+use Rattle.std.proofs.Common.{◌≡◌, ◌≢◌, ◌↔◌, ℕ, ◌+◌, ◌≤◌, List, [], ◌∷◌, ◌++◌, length, Option, Some, None, Result, Ok, Err, refl, sym, ap, subst, ◌∙◌, arith, inl, inr, append_assoc}
+use Rattle.std.specs.Prelude.{IfOk, IfSome, IsErrOf, flat_map}
 use Rattle.std.specs.Io.KnownBytes.{Consumes}
 use Rattle.std.proofs.lemmas.List.{append-nil}
 use Rattle.ra_world.specs.Traffic.{Move, sent_by}
 use Rattle.ra_world.specs.Run.{marks_of}
 use Rattle.ra_world.specs.Quiet.{requests_in}
 use Rattle.ra_trace.specs.declared.error.TraceError.{TraceError}
+use Rattle.ra_trace.specs.declared.error.TraceError.TheVariants.{Read, Limit, Memory}
 use Rattle.ra_trace.specs.declared.line.Line.{Line}
 use Rattle.ra_trace.specs.declared.line.Line.TheVariants.{Stepped, Marked}
 use Rattle.ra_trace.specs.declared.verdict.Cause.{Cause}
@@ -16,7 +17,8 @@ use Rattle.ra_trace.specs.declared.verdict.Verdict.TheVariants.{Valid, Invalid}
 use Rattle.ra_trace.specs.declared.version.Version.{Version}
 use Rattle.ra_trace.specs.TraceText.{IsTraceIn, BeginsWith, line_text, trace_lines}
 use Rattle.ra_trace.specs.Verdict.{HasNoLine, IsWrong, IsVerdict, IsTraceOfTableRun}
-use Rattle.ra_trace.specs.Reading.{IsWhole, IsOver, Judges, Answers}
+use Rattle.ra_trace.specs.Check.{ChecksTrace}
+use Rattle.ra_trace.specs.Reading.{IsWhole, IsOver, Judges, ReadsOn, PassesLimit, StopsBehind, Answers}
 use Rattle.ra_trace.specs.NextLine.{IsOverLine}
 use Rattle.ra_trace.specs.Below.{LawsBelow}
 use Rattle.ra_trace.proofs.Ends.{begins_before}
@@ -180,9 +182,51 @@ trace_of_input laws one limit (Some input) new verdict j = λ version n start mo
     one input verdict (Valid (requests_in (marks_of moves)) (length (sent_by moves))) (verdict_of_bytes laws limit input new verdict j)
     (version, n, start, moves, trace, refl, refl)
 
--- ---- Answers
+-- ---- What each answer says of the input
 
-pub judged : (limit : ℕ) (old new : Option (List ℕ)) (result : Result Verdict TraceError) → Answers limit old new result
-    → IfOk result (Judges limit old new)
-judged limit old new (Ok verdict) answer = answer
-judged limit old new (Err fault) answer = tt
+if_judged : (limit : ℕ) (old new : Option (List ℕ)) (P : Verdict → Type 0) (result : Result Verdict TraceError) → Answers limit old new result
+    → ((verdict : Verdict) → Judges limit old new verdict → P verdict) → IfOk result P
+if_judged limit old new P (Ok verdict) answer each = each verdict answer
+if_judged limit old new P (Err fault) answer each = tt
+
+module _ (limit : ℕ) (old new : Option (List ℕ)) where
+  failed : (result : Result Verdict TraceError) → Answers limit old new result → IsErrOf result Read → ReadsOn limit old new
+  failed (Ok verdict) answer is = absurd cc
+  failed (Err Read) answer is = answer
+  failed (Err Limit) answer is = absurd cc
+  failed (Err Memory) answer is = absurd cc
+
+  passed : (result : Result Verdict TraceError) → Answers limit old new result → IsErrOf result Limit → PassesLimit limit old new
+  passed (Ok verdict) answer is = absurd cc
+  passed (Err Read) answer is = absurd cc
+  passed (Err Limit) answer is = answer
+  passed (Err Memory) answer is = absurd cc
+
+  stopped : (result : Result Verdict TraceError) → Answers limit old new result → IsErrOf result Memory → StopsBehind limit old new
+  stopped (Ok verdict) answer is = absurd cc
+  stopped (Err Read) answer is = absurd cc
+  stopped (Err Limit) answer is = absurd cc
+  stopped (Err Memory) answer is = answer
+
+  at_most : (result : Result Verdict TraceError) → Answers limit old new result → (taken : List ℕ) × (length taken ≤ limit + 1) × Consumes old new taken
+  at_most (Ok verdict) (prefix, rest, read, how, shows) = (flat_map line_text prefix ++ rest, omega (arith, read.at_most), read.taken)
+  at_most (Err Read) (prefix, rest, read, opened) = (flat_map line_text prefix ++ rest, omega (arith, read.at_most), read.taken)
+  at_most (Err Limit) (prefix, rest, byte, read, full, opened) = (flat_map line_text prefix ++ (rest ++ byte ∷ []), read.at_most, read.taken)
+  at_most (Err Memory) (prefix, begun, taken, most) = (flat_map line_text prefix, omega (arith, most), taken)
+
+  pub checked : LawsBelow → ((text : List ℕ) (a b : Verdict) → IsVerdict text a → IsVerdict text b → a ≡ b)
+      → (result : Result Verdict TraceError) → Answers limit old new result → ChecksTrace limit old new result
+  checked laws one result answer =
+      record {
+        ok = if_judged limit old new _ result answer (verdict_of_input laws limit old new);
+        valid = if_judged limit old new _ result answer (valid_input limit old new);
+        table = if_judged limit old new _ result answer (table_of_input laws limit old new);
+        judged = if_judged limit old new _ result answer (λ verdict j. j);
+        alone = if_judged limit old new _ result answer (alone limit old new);
+        exact = if_judged limit old new _ result answer (only_verdict laws one limit old new);
+        trace = if_judged limit old new _ result answer (trace_of_input laws one limit old new);
+        failed = failed result answer;
+        limit = passed result answer;
+        memory = stopped result answer;
+        at_most = at_most result answer;
+      }

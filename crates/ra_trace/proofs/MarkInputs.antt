@@ -14,6 +14,7 @@ use Rattle.ra_trace.specs.declared.marks_verdict.MarksVerdict.{MarksVerdict}
 use Rattle.ra_trace.specs.declared.marks_verdict.MarksVerdict.TheVariants.{Valid, Invalid}
 use Rattle.ra_trace.specs.NextLine.{IsOverLine}
 use Rattle.ra_trace.specs.Marks.{marks_text, grants_in, IsMarkRun, IsWrongMark, IsMarksVerdict}
+use Rattle.ra_trace.specs.Check.{ChecksLog}
 use Rattle.ra_trace.specs.MarksReading.{JudgesMarks, ReadsOnMarks, PassesMarksLimit, StopsBehindMarks, AnswersMarks}
 use Rattle.ra_trace.proofs.Ends.{begins_before}
 
@@ -131,58 +132,73 @@ run_of_input one limit (Some input) new verdict j = λ marks run is.
 -- ---- What each answer says of the input
 
 module _ (limit : ℕ) (old new : Option (List ℕ)) where
-  pub ok : (result : Result MarksVerdict TraceError) → AnswersMarks limit old new result
+  ok : (result : Result MarksVerdict TraceError) → AnswersMarks limit old new result
       → IfOk result (λ verdict. IfSome old (λ input. IsMarksVerdict input verdict))
   ok (Ok verdict) j = verdict_of_input limit old new verdict j
   ok (Err fault) j = tt
 
-  pub valid : (result : Result MarksVerdict TraceError) → AnswersMarks limit old new result
+  valid : (result : Result MarksVerdict TraceError) → AnswersMarks limit old new result
       → IfOk result (λ verdict. IfSome old (λ input. (requests grants : ℕ) → verdict ≡ Valid requests grants
       → (length input ≤ limit) × Consumes old new input))
   valid (Ok verdict) j = valid_input limit old new verdict j
   valid (Err fault) j = tt
 
-  pub judged : (result : Result MarksVerdict TraceError) → AnswersMarks limit old new result → IfOk result (JudgesMarks limit old new)
+  judged : (result : Result MarksVerdict TraceError) → AnswersMarks limit old new result → IfOk result (JudgesMarks limit old new)
   judged (Ok verdict) j = j
   judged (Err fault) j = tt
 
-  pub alone : (result : Result MarksVerdict TraceError) → AnswersMarks limit old new result
+  alone : (result : Result MarksVerdict TraceError) → AnswersMarks limit old new result
       → IfOk result (λ verdict. (taken : List ℕ) × IsMarksVerdict taken verdict × (length taken ≤ limit) × Consumes old new taken)
   alone (Ok verdict) j = alone_of limit old new verdict j
   alone (Err fault) j = tt
 
-  pub exact : IsOnly → (result : Result MarksVerdict TraceError) → AnswersMarks limit old new result
+  exact : IsOnly → (result : Result MarksVerdict TraceError) → AnswersMarks limit old new result
       → IfOk result (λ verdict. IfSome old (λ input. (other : MarksVerdict) → IsMarksVerdict input other ↔ (verdict ≡ other)))
   exact one (Ok verdict) j = only_verdict one limit old new verdict j
   exact one (Err fault) j = tt
 
-  pub run : IsOnly → (result : Result MarksVerdict TraceError) → AnswersMarks limit old new result
+  run : IsOnly → (result : Result MarksVerdict TraceError) → AnswersMarks limit old new result
       → IfOk result (λ verdict. IfSome old (λ input. (marks : List Mark) → IsMarkRun marks → input ≡ marks_text marks
       → verdict ≡ Valid (requests_in marks) (grants_in marks)))
   run one (Ok verdict) j = run_of_input one limit old new verdict j
   run one (Err fault) j = tt
 
-  pub failed : (result : Result MarksVerdict TraceError) → AnswersMarks limit old new result → IsErrOf result Read → ReadsOnMarks limit old new
+  failed : (result : Result MarksVerdict TraceError) → AnswersMarks limit old new result → IsErrOf result Read → ReadsOnMarks limit old new
   failed (Ok verdict) j is = absurd cc
   failed (Err Read) j is = j
   failed (Err Limit) j is = absurd cc
   failed (Err Memory) j is = absurd cc
 
-  pub passed : (result : Result MarksVerdict TraceError) → AnswersMarks limit old new result → IsErrOf result Limit → PassesMarksLimit limit old new
+  passed : (result : Result MarksVerdict TraceError) → AnswersMarks limit old new result → IsErrOf result Limit → PassesMarksLimit limit old new
   passed (Ok verdict) j is = absurd cc
   passed (Err Read) j is = absurd cc
   passed (Err Limit) j is = j
   passed (Err Memory) j is = absurd cc
 
-  pub stopped : (result : Result MarksVerdict TraceError) → AnswersMarks limit old new result → IsErrOf result Memory → StopsBehindMarks limit old new
+  stopped : (result : Result MarksVerdict TraceError) → AnswersMarks limit old new result → IsErrOf result Memory → StopsBehindMarks limit old new
   stopped (Ok verdict) j is = absurd cc
   stopped (Err Read) j is = absurd cc
   stopped (Err Limit) j is = absurd cc
   stopped (Err Memory) j is = j
 
-  pub at_most : (result : Result MarksVerdict TraceError) → AnswersMarks limit old new result
+  at_most : (result : Result MarksVerdict TraceError) → AnswersMarks limit old new result
       → (taken : List ℕ) × (length taken ≤ limit + 1) × Consumes old new taken
   at_most (Ok verdict) (marks, rest, read, how, shows) = (marks_text marks ++ rest, omega (arith, read.at_most), read.taken)
   at_most (Err Read) (marks, rest, read, opened) = (marks_text marks ++ rest, omega (arith, read.at_most), read.taken)
   at_most (Err Limit) (marks, rest, byte, read, full, opened) = (marks_text marks ++ (rest ++ byte ∷ []), read.at_most, read.taken)
   at_most (Err Memory) (marks, run, taken, most) = (marks_text marks, omega (arith, most), taken)
+
+  pub checked : IsOnly → (result : Result MarksVerdict TraceError) → AnswersMarks limit old new result → ChecksLog limit old new result
+  checked one result answer =
+      record {
+        ok = ok result answer;
+        valid = valid result answer;
+        judged = judged result answer;
+        alone = alone result answer;
+        exact = exact one result answer;
+        run = run one result answer;
+        failed = failed result answer;
+        limit = passed result answer;
+        memory = stopped result answer;
+        at_most = at_most result answer;
+      }

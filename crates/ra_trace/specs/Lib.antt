@@ -11,4 +11,5 @@ pub mod Along
 pub mod Writing
 pub mod Marks
 pub mod MarksReading
+pub mod Check
 pub mod MarksAlong

@@ -1,15 +1,9 @@
-ghost use Rattle.std.specs.Prelude.{◌≡◌, ◌↔◌, ◌<◌, ◌≤◌, ◌+◌, ◌-◌, ◌∷◌, ℕ, List, Option, [], length, true, false, IfOk, IfErr, IfSome, IsNone, IsErrOf};
-ghost use Rattle.std.specs.Io.KnownBytes.{Consumes, IsAtEnd};
-ghost use Rattle.ra_world.specs.Quiet.{requests_in};
-ghost use Rattle.ra_world.specs.Run.{marks_of};
-ghost use Rattle.ra_world.specs.Traffic.{Move, sent_by};
+ghost use Rattle.std.specs.Prelude.{◌≡◌, ◌≤◌, ◌-◌, ℕ, List, Option, length, IfOk};
 ghost use Rattle.ra_trace.specs.declared.verdict.Verdict.{Verdict};
 ghost use Rattle.ra_trace.specs.Along.{IsAlong, Judged, Opens, SomeTaken, Turns};
+ghost use Rattle.ra_trace.specs.Check.{ChecksTrace};
 ghost use Rattle.ra_trace.specs.NextLine.{EndsText};
-ghost use Rattle.ra_trace.specs.Reading.{Answers, Judges, ReadsOn, PassesLimit, StopsBehind};
-ghost use Rattle.ra_trace.specs.declared.version.Version.{Version};
-ghost use Rattle.ra_trace.specs.TraceText.{IsTraceIn};
-ghost use Rattle.ra_trace.specs.Verdict.{IsTraceOfTableRun, IsVerdict};
+ghost use Rattle.ra_trace.specs.Reading.{Answers};
 
 use crate::checker::Checker;
 use crate::laws::{each_text_has_one_verdict, traces_rest_on_runs};
@@ -184,7 +178,7 @@ fn verdict_of<R: Read, S: LineSource<R>>(
     }
 }
 
-/// Checks a text as `check_within` does, whose bytes come out of the reader in this way.
+/// Checks a text as `check_within` does, and takes the bytes from the reader in the way of `S`.
 ///
 /// # Errors
 ///
@@ -195,52 +189,27 @@ fn check_by<R: Read, S: LineSource<R>>(
     limit: u64,
 ) -> Result<Verdict, TraceError>
     requires { limit ≤ 16777216 }
-    // The verdict is that of the whole input, also where it is longer than what was read.
-    ensures ok { IfOk result (λ verdict. IfSome (R.remaining reader.old) (λ input. IsVerdict input verdict)) }
-    // Where the text is valid, it was read to its end, and is not longer than the limit.
-    ensures valid { IfOk result (λ verdict. IfSome (R.remaining reader.old) (λ input. (requests messages : ℕ)
-        → verdict ≡ Verdict.Valid requests messages
-        → (length input ≤ limit) × Consumes (R.remaining reader.old) (R.remaining reader.new) input)) }
-    // The marks of a valid text are a run of the lock table: no two conflicting entries on one name hold at once, and they are
-    // granted in the order of their stamps.
-    ensures table { IfOk result (λ verdict. IfSome (R.remaining reader.old) (λ input. (requests messages : ℕ)
-        → verdict ≡ Verdict.Valid requests messages → IsTraceOfTableRun input)) }
-    // How far it was read, and what was read shows the verdict.
-    ensures judged { IfOk result (Judges limit (R.remaining reader.old) (R.remaining reader.new)) }
-    // What was read has this verdict alone, too.
-    ensures alone { IfOk result (λ verdict. (taken : List ℕ) × IsVerdict taken verdict × (length taken ≤ limit)
-        × Consumes (R.remaining reader.old) (R.remaining reader.new) taken) }
-    // The text has no other verdict. So it is valid exactly where it is the trace of a run, with the counts of this run.
-    ensures exact { IfOk result (λ verdict. IfSome (R.remaining reader.old) (λ input. (other : Verdict)
-        → IsVerdict input other ↔ (verdict ≡ other))) }
-    ensures trace { IfOk result (λ verdict. IfSome (R.remaining reader.old) (λ input.
-        (version : Version) (n start : ℕ) (moves : List Move) → IsTraceIn version n start moves input
-        → verdict ≡ Verdict.Valid (requests_in (marks_of moves)) (length (sent_by moves)))) }
-
-    // No verdict was reached in what was read; and where memory ran out, what was read are right lines and nothing else.
-    ensures failed { IsErrOf result TraceError.Read → ReadsOn limit (R.remaining reader.old) (R.remaining reader.new) }
-    ensures limit { IsErrOf result TraceError.Limit → PassesLimit limit (R.remaining reader.old) (R.remaining reader.new) }
-    ensures memory { IsErrOf result TraceError.Memory → StopsBehind limit (R.remaining reader.old) (R.remaining reader.new) }
-    ensures at_most { (taken : List ℕ) × (length taken ≤ limit + 1)
-        × Consumes (R.remaining reader.old) (R.remaining reader.new) taken }
+    ensures { ChecksTrace limit (R.remaining reader.old) (R.remaining reader.new) result }
 {
     each_text_has_one_verdict();
     traces_rest_on_runs();
     verdict_of::<R, S>(alloc, reader, limit as usize)
 }
 
-/// Checks the text of a trace of either version: says that it is the trace of a run, or which line is the first wrong one and why.
-/// In version 1 a node above 16 is wrong, and so is a mode other than `S` and `X`, and a repeat, at the line in which it stands. It
-/// goes line by line, makes each step in a world of its own and each mark in a lock table, and believes neither. The verdict is given
-/// at the first wrong line, and nothing after that line is read: no byte after its line feed, none after its 128th byte, since
-/// each line is shorter, and where something stands after the last line, one byte of it. Of the text it keeps no more than the
-/// present line. It reads at most `limit + 1` bytes, each by a read of its own, so that a reader with a buffer is best; a byte past the
-/// limit is not looked at. No read that failed is tried again. The cost is linear in what is read, plus that of the steps and the
-/// marks, as `World::step` and `Table` say; to read a line takes no memory.
+/// Checks the text of a trace of either version. Returns that it is the trace of a run, with the counts of requests and
+/// messages, or which line is the first wrong one, and why. In version 1, a line with a node above 16, with a mode other than
+/// `S` and `X`, or of a repeat is wrong.
+///
+/// It goes line by line, makes each step in a world of its own and each mark in a lock table, and believes neither. The
+/// verdict comes at the first wrong line. Nothing is read after its line feed or its 128th byte, since each line is shorter;
+/// after the last line of a trace, one byte is read. It keeps no more of the text than the present line. It reads at most
+/// `limit + 1` bytes, each by a read of its own, so a reader with a buffer is best; a byte past the limit is not looked at.
+/// No read that failed is tried again. The cost is linear in what is read, plus that of the steps and the marks, as
+/// `World::step` and `Table` say. To read a line takes no memory.
 ///
 /// # Errors
 ///
-/// Where no verdict was reached before:
+/// If no verdict was reached before:
 ///
 /// 1. `Read`: the reader failed.
 /// 2. `Limit`: the text has more than `limit` bytes.
@@ -251,34 +220,7 @@ pub fn check_within<R: Read>(
     limit: u64,
 ) -> Result<Verdict, TraceError>
     requires { limit ≤ 16777216 }
-    // The verdict is that of the whole input, also where it is longer than what was read.
-    ensures ok { IfOk result (λ verdict. IfSome (R.remaining reader.old) (λ input. IsVerdict input verdict)) }
-    // Where the text is valid, it was read to its end, and is not longer than the limit.
-    ensures valid { IfOk result (λ verdict. IfSome (R.remaining reader.old) (λ input. (requests messages : ℕ)
-        → verdict ≡ Verdict.Valid requests messages
-        → (length input ≤ limit) × Consumes (R.remaining reader.old) (R.remaining reader.new) input)) }
-    // The marks of a valid text are a run of the lock table: no two conflicting entries on one name hold at once, and they are
-    // granted in the order of their stamps.
-    ensures table { IfOk result (λ verdict. IfSome (R.remaining reader.old) (λ input. (requests messages : ℕ)
-        → verdict ≡ Verdict.Valid requests messages → IsTraceOfTableRun input)) }
-    // How far it was read, and what was read shows the verdict.
-    ensures judged { IfOk result (Judges limit (R.remaining reader.old) (R.remaining reader.new)) }
-    // What was read has this verdict alone, too.
-    ensures alone { IfOk result (λ verdict. (taken : List ℕ) × IsVerdict taken verdict × (length taken ≤ limit)
-        × Consumes (R.remaining reader.old) (R.remaining reader.new) taken) }
-    // The text has no other verdict. So it is valid exactly where it is the trace of a run, with the counts of this run.
-    ensures exact { IfOk result (λ verdict. IfSome (R.remaining reader.old) (λ input. (other : Verdict)
-        → IsVerdict input other ↔ (verdict ≡ other))) }
-    ensures trace { IfOk result (λ verdict. IfSome (R.remaining reader.old) (λ input.
-        (version : Version) (n start : ℕ) (moves : List Move) → IsTraceIn version n start moves input
-        → verdict ≡ Verdict.Valid (requests_in (marks_of moves)) (length (sent_by moves)))) }
-
-    // No verdict was reached in what was read; and where memory ran out, what was read are right lines and nothing else.
-    ensures failed { IsErrOf result TraceError.Read → ReadsOn limit (R.remaining reader.old) (R.remaining reader.new) }
-    ensures limit { IsErrOf result TraceError.Limit → PassesLimit limit (R.remaining reader.old) (R.remaining reader.new) }
-    ensures memory { IsErrOf result TraceError.Memory → StopsBehind limit (R.remaining reader.old) (R.remaining reader.new) }
-    ensures at_most { (taken : List ℕ) × (length taken ≤ limit + 1)
-        × Consumes (R.remaining reader.old) (R.remaining reader.new) taken }
+    ensures { ChecksTrace limit (R.remaining reader.old) (R.remaining reader.new) result }
 {
     check_by::<R, ByBytes>(alloc, reader, limit)
 }
@@ -289,58 +231,20 @@ pub fn check_within<R: Read>(
 ///
 /// Those of `check_within`.
 pub fn check<R: Read>(alloc: Global, reader: &mut R) -> Result<Verdict, TraceError>
-    ensures ok { IfOk result (λ verdict. IfSome (R.remaining reader.old) (λ input. IsVerdict input verdict)) }
-    ensures valid { IfOk result (λ verdict. IfSome (R.remaining reader.old) (λ input. (requests messages : ℕ)
-        → verdict ≡ Verdict.Valid requests messages
-        → (length input ≤ 16777216) × Consumes (R.remaining reader.old) (R.remaining reader.new) input)) }
-    ensures table { IfOk result (λ verdict. IfSome (R.remaining reader.old) (λ input. (requests messages : ℕ)
-        → verdict ≡ Verdict.Valid requests messages → IsTraceOfTableRun input)) }
-    ensures judged { IfOk result (Judges 16777216 (R.remaining reader.old) (R.remaining reader.new)) }
-    ensures alone { IfOk result (λ verdict. (taken : List ℕ) × IsVerdict taken verdict × (length taken ≤ 16777216)
-        × Consumes (R.remaining reader.old) (R.remaining reader.new) taken) }
-    ensures exact { IfOk result (λ verdict. IfSome (R.remaining reader.old) (λ input. (other : Verdict)
-        → IsVerdict input other ↔ (verdict ≡ other))) }
-    ensures trace { IfOk result (λ verdict. IfSome (R.remaining reader.old) (λ input.
-        (version : Version) (n start : ℕ) (moves : List Move) → IsTraceIn version n start moves input
-        → verdict ≡ Verdict.Valid (requests_in (marks_of moves)) (length (sent_by moves)))) }
-
-    ensures failed { IsErrOf result TraceError.Read → ReadsOn 16777216 (R.remaining reader.old) (R.remaining reader.new) }
-    ensures limit { IsErrOf result TraceError.Limit → PassesLimit 16777216 (R.remaining reader.old) (R.remaining reader.new) }
-    ensures memory { IsErrOf result TraceError.Memory → StopsBehind 16777216 (R.remaining reader.old) (R.remaining reader.new) }
-    ensures at_most { (taken : List ℕ) × (length taken ≤ 16777217)
-        × Consumes (R.remaining reader.old) (R.remaining reader.new) taken }
+    ensures { ChecksTrace 16777216 (R.remaining reader.old) (R.remaining reader.new) result }
 {
     check_within(alloc, reader, MAX_TEXT)
 }
 
-/// Checks the text of a trace as `check` does, and takes from the buffer of the reader exactly what `check` reads: what stands in
-/// the buffer is looked through up to a line feed, and no byte after it is taken. It is the faster of the two. Where the text ends
-/// before its last line, the reader is asked once more by a read of one byte, after it showed nothing.
+/// Checks the text of a trace as `check` does, and takes from the buffer of the reader exactly what `check` reads. It looks
+/// through the buffer up to a line feed, and takes no byte after it. It is the faster of the two. If the text ends before
+/// its last line, the reader is asked once more by a read of one byte, after it showed nothing.
 ///
 /// # Errors
 ///
 /// Those of `check_within`.
 pub fn check_buffered<B: BufRead>(alloc: Global, reader: &mut B) -> Result<Verdict, TraceError>
-    ensures ok { IfOk result (λ verdict. IfSome (B.remaining reader.old) (λ input. IsVerdict input verdict)) }
-    ensures valid { IfOk result (λ verdict. IfSome (B.remaining reader.old) (λ input. (requests messages : ℕ)
-        → verdict ≡ Verdict.Valid requests messages
-        → (length input ≤ 16777216) × Consumes (B.remaining reader.old) (B.remaining reader.new) input)) }
-    ensures table { IfOk result (λ verdict. IfSome (B.remaining reader.old) (λ input. (requests messages : ℕ)
-        → verdict ≡ Verdict.Valid requests messages → IsTraceOfTableRun input)) }
-    ensures judged { IfOk result (Judges 16777216 (B.remaining reader.old) (B.remaining reader.new)) }
-    ensures alone { IfOk result (λ verdict. (taken : List ℕ) × IsVerdict taken verdict × (length taken ≤ 16777216)
-        × Consumes (B.remaining reader.old) (B.remaining reader.new) taken) }
-    ensures exact { IfOk result (λ verdict. IfSome (B.remaining reader.old) (λ input. (other : Verdict)
-        → IsVerdict input other ↔ (verdict ≡ other))) }
-    ensures trace { IfOk result (λ verdict. IfSome (B.remaining reader.old) (λ input.
-        (version : Version) (n start : ℕ) (moves : List Move) → IsTraceIn version n start moves input
-        → verdict ≡ Verdict.Valid (requests_in (marks_of moves)) (length (sent_by moves)))) }
-
-    ensures failed { IsErrOf result TraceError.Read → ReadsOn 16777216 (B.remaining reader.old) (B.remaining reader.new) }
-    ensures limit { IsErrOf result TraceError.Limit → PassesLimit 16777216 (B.remaining reader.old) (B.remaining reader.new) }
-    ensures memory { IsErrOf result TraceError.Memory → StopsBehind 16777216 (B.remaining reader.old) (B.remaining reader.new) }
-    ensures at_most { (taken : List ℕ) × (length taken ≤ 16777217)
-        × Consumes (B.remaining reader.old) (B.remaining reader.new) taken }
+    ensures { ChecksTrace 16777216 (B.remaining reader.old) (B.remaining reader.new) result }
 {
     check_by::<B, FromBuffer>(alloc, reader, MAX_TEXT)
 }

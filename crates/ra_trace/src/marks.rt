@@ -4,9 +4,10 @@ ghost use Rattle.std.specs.Io.KnownBytes.{Consumes};
 ghost use Rattle.ra_stamp.specs.declared.entry.Mark.{Mark};
 ghost use Rattle.ra_world.specs.Quiet.{requests_in};
 ghost use Rattle.ra_trace.specs.declared.marks_verdict.MarksVerdict.{MarksVerdict};
-ghost use Rattle.ra_trace.specs.Marks.{grants_in, IsMarkRun, IsMarksVerdict, marks_text};
+ghost use Rattle.ra_trace.specs.Check.{ChecksLog};
+ghost use Rattle.ra_trace.specs.Marks.{grants_in};
 ghost use Rattle.ra_trace.specs.MarksAlong.{IsAlongMarks, IsMissing, IsNewLog, JudgedLine, JudgedMark, SomeMarkTaken, TurnsMarks};
-ghost use Rattle.ra_trace.specs.MarksReading.{AnswersMarks, JudgesMarks, PassesMarksLimit, ReadsOnMarks, StopsBehindMarks};
+ghost use Rattle.ra_trace.specs.MarksReading.{AnswersMarks};
 
 use crate::laws::{each_mark_log_has_one_verdict, mark_logs_rest_on_tables};
 use crate::line::Line;
@@ -181,7 +182,28 @@ fn verdict_behind<R: Read, S: LineSource<R>>(
     }
 }
 
-/// Checks a log as `check_marks_within` does, whose bytes come out of the reader in this way.
+/// Returns the verdict of a text of at most `limit` bytes.
+///
+/// # Errors
+///
+/// `Read`, `Limit`, `Memory`.
+fn verdict_of<R: Read, S: LineSource<R>>(
+    alloc: Global,
+    reader: &mut R,
+    limit: usize,
+) -> Result<MarksVerdict, TraceError>
+    requires { limit ≤ 16777216 }
+    ensures { AnswersMarks limit (R.remaining reader.old) (R.remaining reader.new) result }
+{
+    mark_logs_rest_on_tables();
+    let mut log = Log::new(alloc)?;
+    let verdict = verdict_behind::<R, S>(reader, &mut log, limit);
+    // By a call, since to drop each of its parts here is long to prove.
+    drop(log);
+    verdict
+}
+
+/// Checks a log as `check_marks_within` does, and takes the bytes from the reader in the way of `S`.
 ///
 /// # Errors
 ///
@@ -192,28 +214,25 @@ fn check_by<R: Read, S: LineSource<R>>(
     limit: u64,
 ) -> Result<MarksVerdict, TraceError>
     requires { limit ≤ 16777216 }
-    ensures { AnswersMarks limit (R.remaining reader.old) (R.remaining reader.new) result }
+    ensures { ChecksLog limit (R.remaining reader.old) (R.remaining reader.new) result }
 {
-    mark_logs_rest_on_tables();
-    let mut log = Log::new(alloc)?;
-    let verdict = verdict_behind::<R, S>(reader, &mut log, limit as usize);
-    // By a call, since to drop each of its parts here is long to prove.
-    drop(log);
-    verdict
+    each_mark_log_has_one_verdict();
+    verdict_of::<R, S>(alloc, reader, limit as usize)
 }
 
-/// Checks a log of marks, lines as `request 1 7 r X 3`, `enter 1 7 r X 3` and `leave 1 7 r X 3`, each with node, client, name, mode and
-/// number as in traces of version 2: says that the marks are a run of the lock table, and how many requests and grants there are, or
-/// which line is the first wrong one and why. The empty text is valid. It goes line by line, and makes each mark in a lock table. The
-/// verdict is given at the first wrong line, and nothing after that line is read: no byte after its line feed, none after its 128th
-/// byte, since each line is shorter. What it keeps is the present line and the lock table, which grows with the names, and with the
-/// entries that wait and hold. It reads at most `limit + 1` bytes, each by a read of its own, so that a reader with a buffer is best; a
-/// byte past the limit is not looked at. No read that failed is tried again. The cost is linear in what is read, plus that of the
-/// marks, as `Table` says; to read a line takes no memory.
+/// Checks a log of marks: lines such as `request 1 7 r X 3`, `enter 1 7 r X 3` and `leave 1 7 r X 3`, each with node, client,
+/// name, mode and number as in traces of version 2. Returns that the marks are a run of the lock table, with the counts of
+/// requests and grants, or which line is the first wrong one, and why. The empty text is valid.
+///
+/// It goes line by line, and makes each mark in a lock table. The verdict comes at the first wrong line. Nothing is read
+/// after its line feed or its 128th byte, since each line is shorter. It keeps the present line and the lock table, which
+/// grows with the names and with the entries that wait and hold. It reads at most `limit + 1` bytes, each by a read of its
+/// own, so a reader with a buffer is best; a byte past the limit is not looked at. No read that failed is tried again. The
+/// cost is linear in what is read, plus that of the marks, as `Table` says. To read a line takes no memory.
 ///
 /// # Errors
 ///
-/// Where no verdict was reached before:
+/// If no verdict was reached before:
 ///
 /// 1. `Read`: the reader failed.
 /// 2. `Limit`: the text has more than `limit` bytes.
@@ -224,31 +243,8 @@ pub fn check_marks_within<R: Read>(
     limit: u64,
 ) -> Result<MarksVerdict, TraceError>
     requires { limit ≤ 16777216 }
-    // The verdict is that of the whole input, also where it is longer than what was read.
-    ensures ok { IfOk result (λ verdict. IfSome (R.remaining reader.old) (λ input. IsMarksVerdict input verdict)) }
-    // Where the marks are a run of the lock table, the input was read to its end, and is not longer than the limit.
-    ensures valid { IfOk result (λ verdict. IfSome (R.remaining reader.old) (λ input. (requests grants : ℕ)
-        → verdict ≡ MarksVerdict.Valid requests grants
-        → (length input ≤ limit) × Consumes (R.remaining reader.old) (R.remaining reader.new) input)) }
-    // How far it was read, and what was read shows the verdict.
-    ensures judged { IfOk result (JudgesMarks limit (R.remaining reader.old) (R.remaining reader.new)) }
-    // What was read has this verdict alone, too.
-    ensures alone { IfOk result (λ verdict. (taken : List ℕ) × IsMarksVerdict taken verdict × (length taken ≤ limit)
-        × Consumes (R.remaining reader.old) (R.remaining reader.new) taken) }
-    // The input has no other verdict. So it is valid exactly where its lines are the marks of a run of the lock table.
-    ensures exact { IfOk result (λ verdict. IfSome (R.remaining reader.old) (λ input. (other : MarksVerdict)
-        → IsMarksVerdict input other ↔ (verdict ≡ other))) }
-    ensures run { IfOk result (λ verdict. IfSome (R.remaining reader.old) (λ input. (marks : List Mark)
-        → IsMarkRun marks → input ≡ marks_text marks → verdict ≡ MarksVerdict.Valid (requests_in marks) (grants_in marks))) }
-
-    // No verdict was reached in what was read; and where memory ran out, what was read are the lines of a run and nothing else.
-    ensures failed { IsErrOf result TraceError.Read → ReadsOnMarks limit (R.remaining reader.old) (R.remaining reader.new) }
-    ensures limit { IsErrOf result TraceError.Limit → PassesMarksLimit limit (R.remaining reader.old) (R.remaining reader.new) }
-    ensures memory { IsErrOf result TraceError.Memory → StopsBehindMarks limit (R.remaining reader.old) (R.remaining reader.new) }
-    ensures at_most { (taken : List ℕ) × (length taken ≤ limit + 1)
-        × Consumes (R.remaining reader.old) (R.remaining reader.new) taken }
+    ensures { ChecksLog limit (R.remaining reader.old) (R.remaining reader.new) result }
 {
-    each_mark_log_has_one_verdict();
     check_by::<R, ByBytes>(alloc, reader, limit)
 }
 
@@ -258,30 +254,14 @@ pub fn check_marks_within<R: Read>(
 ///
 /// Those of `check_marks_within`.
 pub fn check_marks<R: Read>(alloc: Global, reader: &mut R) -> Result<MarksVerdict, TraceError>
-    ensures ok { IfOk result (λ verdict. IfSome (R.remaining reader.old) (λ input. IsMarksVerdict input verdict)) }
-    ensures valid { IfOk result (λ verdict. IfSome (R.remaining reader.old) (λ input. (requests grants : ℕ)
-        → verdict ≡ MarksVerdict.Valid requests grants
-        → (length input ≤ 16777216) × Consumes (R.remaining reader.old) (R.remaining reader.new) input)) }
-    ensures judged { IfOk result (JudgesMarks 16777216 (R.remaining reader.old) (R.remaining reader.new)) }
-    ensures alone { IfOk result (λ verdict. (taken : List ℕ) × IsMarksVerdict taken verdict × (length taken ≤ 16777216)
-        × Consumes (R.remaining reader.old) (R.remaining reader.new) taken) }
-    ensures exact { IfOk result (λ verdict. IfSome (R.remaining reader.old) (λ input. (other : MarksVerdict)
-        → IsMarksVerdict input other ↔ (verdict ≡ other))) }
-    ensures run { IfOk result (λ verdict. IfSome (R.remaining reader.old) (λ input. (marks : List Mark)
-        → IsMarkRun marks → input ≡ marks_text marks → verdict ≡ MarksVerdict.Valid (requests_in marks) (grants_in marks))) }
-
-    ensures failed { IsErrOf result TraceError.Read → ReadsOnMarks 16777216 (R.remaining reader.old) (R.remaining reader.new) }
-    ensures limit { IsErrOf result TraceError.Limit → PassesMarksLimit 16777216 (R.remaining reader.old) (R.remaining reader.new) }
-    ensures memory { IsErrOf result TraceError.Memory → StopsBehindMarks 16777216 (R.remaining reader.old) (R.remaining reader.new) }
-    ensures at_most { (taken : List ℕ) × (length taken ≤ 16777217)
-        × Consumes (R.remaining reader.old) (R.remaining reader.new) taken }
+    ensures { ChecksLog 16777216 (R.remaining reader.old) (R.remaining reader.new) result }
 {
     check_marks_within(alloc, reader, MAX_LOG)
 }
 
-/// Checks a log of marks as `check_marks` does, and takes from the buffer of the reader exactly what `check_marks` reads: what stands
-/// in the buffer is looked through up to a line feed, and no byte after it is taken. It is the faster of the two. At the end of the
-/// text the reader is asked once more by a read of one byte, after it showed nothing.
+/// Checks a log of marks as `check_marks` does, and takes from the buffer of the reader exactly what `check_marks` reads. It
+/// looks through the buffer up to a line feed, and takes no byte after it. It is the faster of the two. At the end of the
+/// text, after the reader showed nothing, it is asked once more by a read of one byte.
 ///
 /// # Errors
 ///
@@ -290,24 +270,7 @@ pub fn check_marks_buffered<B: BufRead>(
     alloc: Global,
     reader: &mut B,
 ) -> Result<MarksVerdict, TraceError>
-    ensures ok { IfOk result (λ verdict. IfSome (B.remaining reader.old) (λ input. IsMarksVerdict input verdict)) }
-    ensures valid { IfOk result (λ verdict. IfSome (B.remaining reader.old) (λ input. (requests grants : ℕ)
-        → verdict ≡ MarksVerdict.Valid requests grants
-        → (length input ≤ 16777216) × Consumes (B.remaining reader.old) (B.remaining reader.new) input)) }
-    ensures judged { IfOk result (JudgesMarks 16777216 (B.remaining reader.old) (B.remaining reader.new)) }
-    ensures alone { IfOk result (λ verdict. (taken : List ℕ) × IsMarksVerdict taken verdict × (length taken ≤ 16777216)
-        × Consumes (B.remaining reader.old) (B.remaining reader.new) taken) }
-    ensures exact { IfOk result (λ verdict. IfSome (B.remaining reader.old) (λ input. (other : MarksVerdict)
-        → IsMarksVerdict input other ↔ (verdict ≡ other))) }
-    ensures run { IfOk result (λ verdict. IfSome (B.remaining reader.old) (λ input. (marks : List Mark)
-        → IsMarkRun marks → input ≡ marks_text marks → verdict ≡ MarksVerdict.Valid (requests_in marks) (grants_in marks))) }
-
-    ensures failed { IsErrOf result TraceError.Read → ReadsOnMarks 16777216 (B.remaining reader.old) (B.remaining reader.new) }
-    ensures limit { IsErrOf result TraceError.Limit → PassesMarksLimit 16777216 (B.remaining reader.old) (B.remaining reader.new) }
-    ensures memory { IsErrOf result TraceError.Memory → StopsBehindMarks 16777216 (B.remaining reader.old) (B.remaining reader.new) }
-    ensures at_most { (taken : List ℕ) × (length taken ≤ 16777217)
-        × Consumes (B.remaining reader.old) (B.remaining reader.new) taken }
+    ensures { ChecksLog 16777216 (B.remaining reader.old) (B.remaining reader.new) result }
 {
-    each_mark_log_has_one_verdict();
     check_by::<B, FromBuffer>(alloc, reader, MAX_LOG)
 }
