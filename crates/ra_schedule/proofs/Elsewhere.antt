@@ -41,11 +41,11 @@ node_of_op : (node client : ℕ) (op : Op) → node_at (step_of node client op) 
 node_of_op node client (Lock name mode) = refl
 node_of_op node client (Unlock name) = refl
 
-another's : (node asker client : ℕ) (op : Op) → asker ≢ client → steps_in client (step_of node asker op) ≡ 0
+pub another's : (node asker client : ℕ) (op : Op) → asker ≢ client → steps_in client (step_of node asker op) ≡ 0
 another's node asker client (Lock name mode) apart = ap (λ b. if b then 1 else 0) (ne_eqb asker client apart)
 another's node asker client (Unlock name) apart = ap (λ b. if b then 1 else 0) (ne_eqb asker client apart)
 
-asks_not : (node asker client : ℕ) (op : Op) → asker ≢ client → Asks client (step_of node asker op) → ⊥
+pub asks_not : (node asker client : ℕ) (op : Op) → asker ≢ client → Asks client (step_of node asker op) → ⊥
 asks_not node asker client (Lock name mode) apart asks = apart asks
 asks_not node asker client (Unlock name) apart asks = asks
 

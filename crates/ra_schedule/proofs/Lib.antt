@@ -20,3 +20,16 @@ mod Tallying
 mod SurveySeeds
 mod ToldSeeds
 mod FirstSeed
+mod ClientTurns
+mod MovedNodes
+mod Standing
+mod StandingRuns
+mod Climbing
+mod NobodyQueued
+mod Enabling
+mod NoDeadlock
+mod TurnCounts
+mod TurnBound
+mod CarriedOn
+mod ThoroughPolicies
+mod Endings

@@ -24,6 +24,8 @@ use Rattle.ra_schedule.specs.Schedule.{steps_of, steps_in, steps_by, Enters, IsE
 use Rattle.ra_schedule.specs.Listing.{AreChoicesBy}
 use Rattle.ra_schedule.specs.Progress.{IsProgress, Tracks, OfEach, IsProgressAfter, AreCountable, AreDone, IsStuck, AreStuck, NoneEnters, recorded}
 use Rattle.ra_schedule.specs.PolicyState.{AreDraws, AreDrawsElsewhere, generator_at, generator_in, words_drawn, words_for}
+use Rattle.ra_schedule.specs.LockOrder.{IsOutOfOrder, IsUnreleased}
+use Rattle.ra_schedule.specs.Performing.{ChoosesItself, LosesNothing}
 use Rattle.ra_schedule.specs.Driving.{IsDriven, IsReady, IsAtEnd, HasMade, Records}
 use Rattle.ra_schedule.proofs.ChoicesMade.{no_choices, choices_more}
 use Rattle.ra_schedule.specs.Below.{LawsBelow}
@@ -313,6 +315,10 @@ are_done script world clients steps tracks are done k d within =
     let same : (slice_index_or clients k d).done ≡ length who.ops = stands ∙ ap (steps_by (k + 1)) (sym are) ∙ count in
     ap (option_map (λ (w : ScriptClient). length w.ops)) at ∙ ap Some (sym same)
 
+-- clients that take names in order, and give them back, finish
+abbrev pub WaitingEnds : ScriptState → Policy → Bool → Type 0
+WaitingEnds script policy finished = ChoosesItself policy → LosesNothing policy → (IsOutOfOrder script → ⊥) → (IsUnreleased script → ⊥) → IsTrue finished
+
 -- what is recorded where no choice is left
 pub records_all : (script : ScriptState) (policy : Policy) (world : WorldState) (driver : Driver) (limit : ℕ) (records : Bool)
     (result : Result Driven DriveError) → IsAtEnd script policy world driver → length world.moves ≤ limit → driver.records ≡ records
@@ -322,9 +328,10 @@ pub records_all : (script : ScriptState) (policy : Policy) (world : WorldState) 
     → IfOk result (λ driven. Reports script.nodes 0 world.moves driven.report)
     → IfOk result (λ driven. MainTheorem script.nodes driven.report)
     → IfOk result (λ driven. IsTrue driven.finished ↔ IsFinished script (steps_of world.moves) driven.report)
+    → IfOk result (λ driven. WaitingEnds script policy driven.finished)
     → IfOk result (Records script policy limit records)
-records_all script policy world driver limit records (Err why) ends within same steps choices turns reports theorem finished = tt
-records_all script policy world driver limit records (Ok driven) ends within same steps choices turns reports theorem finished = record {
+records_all script policy world driver limit records (Err why) ends within same steps choices turns reports theorem finished waiting = tt
+records_all script policy world driver limit records (Ok driven) ends within same steps choices turns reports theorem finished waiting = record {
   moves = world.moves;
   run = record {
     follows = ends.follows;
@@ -333,6 +340,7 @@ records_all script policy world driver limit records (Ok driven) ends within sam
     reports = reports;
     main_theorem = theorem;
     finished_is = finished;
+    waiting_ends = waiting;
   };
   steps = steps ∙ ends.steps ∙ ap (λ (b : Bool). recorded b world.moves) same;
   choices = λ kept. subst (λ (cs : List Choice). AreChoicesBy script policy cs world.moves) (sym choices) (ends.choices (same ∙ kept));

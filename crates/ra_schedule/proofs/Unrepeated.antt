@@ -36,7 +36,7 @@ is_client_or_message (client ∷ clients) places zero choice is = let same : Cli
 is_client_or_message (client ∷ clients) places (suc n) choice is = is_client_or_message clients places n choice is
 
 -- a word names no fault
-named_without_fault : (script : ScriptState) (moves : List Move) (word : ℕ) (choice : Choice) → IsNamedBy word script moves choice
+pub named_without_fault : (script : ScriptState) (moves : List Move) (word : ℕ) (choice : Choice) → IsNamedBy word script moves choice
     → IsWithoutFault choice
 named_without_fault script moves word choice (choices, (clients, left, are, leaves, all), is) =
     is_client_or_message clients (range_with_len 0 (length left)) (word % length choices) choice

@@ -1,5 +1,5 @@
 -- What comes of driving a cluster through a script.
-use Rattle.std.specs.Prelude.{◌≡◌, ◌≢◌, ◌⊎◌, ◌↔◌, ℕ, ◌≤◌, Bool, List, length, Result, IsTrue, IsErrOf, IsOkUnless}
+use Rattle.std.specs.Prelude.{◌≡◌, ◌≢◌, ◌⊎◌, ◌↔◌, ℕ, ◌<◌, ◌≤◌, Bool, List, length, Result, IsTrue, IsErrOf, IsOkUnless}
 use Rattle.ra_world.specs.declared.report.Report.{Report}
 use Rattle.ra_world.specs.Traffic.{Move}
 use Rattle.ra_world.specs.World.{Reports}
@@ -8,13 +8,16 @@ use Rattle.ra_schedule.specs.declared.choice.Policy.{Policy}
 use Rattle.ra_schedule.specs.declared.drive_script.Recording.{Recording}
 use Rattle.ra_schedule.specs.declared.drive_script.Summary.{Summary}
 use Rattle.ra_schedule.specs.declared.error.DriveError.{DriveError}
-use Rattle.ra_schedule.specs.declared.error.DriveError.TheVariants.{Memory}
+use Rattle.ra_schedule.specs.declared.error.DriveError.TheVariants.{TurnLimit, Memory}
 use Rattle.ra_schedule.specs.Script.{ScriptState}
-use Rattle.ra_schedule.specs.Schedule.{steps_of, Follows, Ends, Stops, IsFinished}
+use Rattle.ra_schedule.specs.LockOrder.{IsOutOfOrder, IsUnreleased}
+use Rattle.ra_schedule.specs.Performing.{ChoosesItself, LosesNothing, most_turns}
+use Rattle.ra_schedule.specs.Schedule.{steps_of, Follows, Ends, Stops, IsFinished, RepeatsNothing}
 use Rattle.ra_schedule.specs.Listing.{AreChoicesBy, AreChoicesOf}
 
 -- The moves are all that the policy chose until no choice was left, within the limit. This is the report of their run,
--- of which the main theorem holds, and whether the run is finished.
+-- of which the main theorem holds, and whether the run is finished. It is if the policy chooses by itself and loses no
+-- message, and each client takes names in ascending order and gives them all back.
 pub record IsWholeRun (script : ScriptState) (policy : Policy) (limit : ℕ) (moves : List Move) (report : Report) (finished : Bool) : Type 0 where
   pub follows : Follows script policy moves
   pub ends : Ends script policy moves
@@ -22,6 +25,7 @@ pub record IsWholeRun (script : ScriptState) (policy : Policy) (limit : ℕ) (mo
   pub reports : Reports script.nodes 0 moves report
   pub main_theorem : MainTheorem script.nodes report
   pub finished_is : IsTrue finished ↔ IsFinished script (steps_of moves) report
+  pub waiting_ends : ChoosesItself policy → LosesNothing policy → (IsOutOfOrder script → ⊥) → (IsUnreleased script → ⊥) → IsTrue finished
 
 -- the record of such a run: its steps, and its choices, which are the policy's and by themselves make the run again
 pub record IsRecording (script : ScriptState) (policy : Policy) (limit : ℕ) (recording : Recording) : Type 0 where
@@ -46,3 +50,9 @@ pub record Answers {X : Type 0} (script : ScriptState) (policy : Policy) (limit 
       → IsErrOf result cause ⊎ IsErrOf result Memory
   pub allowed : (moves : List Move) → Follows script policy moves → Ends script policy moves → length moves ≤ limit
       → IsOkUnless result Memory
+
+-- A script takes at most `most_turns` under a policy that repeats no message, so a limit above that is never reached. If
+-- the policy also chooses by itself, and the limit is at least that, only `Memory` is refused.
+pub record IsInTime {X : Type 0} (script : ScriptState) (policy : Policy) (limit : ℕ) (result : Result X DriveError) : Type 0 where
+  pub below_limit : RepeatsNothing policy → most_turns script < limit → IsErrOf result TurnLimit → ⊥
+  pub only_memory : RepeatsNothing policy → ChoosesItself policy → most_turns script ≤ limit → IsOkUnless result Memory

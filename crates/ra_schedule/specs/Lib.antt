@@ -1,11 +1,14 @@
 pub mod Script
 pub mod Seeds
 pub mod Faults
+pub mod LockOrder
 pub mod Schedule
+pub mod Performing
 pub mod Progress
 pub mod Enabled
 pub mod PolicyState
 pub mod Below
+pub mod BelowFinishing
 pub mod Listing
 pub mod Drive
 pub mod Driving

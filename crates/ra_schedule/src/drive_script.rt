@@ -2,13 +2,15 @@ ghost use Rattle.std.specs.Prelude.{◌≡◌, ◌↔◌, [], length, IsTrue, Is
 ghost use Rattle.ra_world.specs.Run.{IsRun};
 ghost use Rattle.ra_world.specs.World.{Reports};
 ghost use Rattle.ra_world.specs.MainTheorem.{MainTheorem};
+ghost use Rattle.ra_schedule.specs.Script.{IsScript};
 ghost use Rattle.ra_schedule.specs.Schedule.{steps_of, IsFinished};
 ghost use Rattle.ra_schedule.specs.Progress.{Tracks, AreDone};
-ghost use Rattle.ra_schedule.specs.Drive.{IsRecording, IsSummary, Answers};
+ghost use Rattle.ra_schedule.specs.Drive.{IsRecording, IsSummary, Answers, IsInTime};
 ghost use Rattle.ra_schedule.specs.Driving.{Records, IsStopped, MayNeedMemory};
 ghost use Rattle.ra_schedule.specs.declared.error.DriveError.{DriveError};
 
 use crate::driver::Driver;
+use crate::finishing::endings_rest_on_nodes_and_runs;
 use crate::laws::schedules_rest_on_runs;
 use crate::progress::Progress;
 use crate::{Choices, DriveError, Policy, Script};
@@ -70,6 +72,7 @@ pub fn drive(
 ) -> Result<Recording, DriveError>
     ensures ok { IfOk result (IsRecording script.now policy.now limit) }
     ensures answers { Answers script.now policy.now limit result }
+    ensures in_time { IsInTime script.now policy.now limit result }
 {
     let Driven {
         steps,
@@ -100,6 +103,7 @@ pub fn summarize(
 ) -> Result<Summary, DriveError>
     ensures ok { IfOk result (IsSummary script.now policy.now limit) }
     ensures answers { Answers script.now policy.now limit result }
+    ensures in_time { IsInTime script.now policy.now limit result }
 {
     let Driven {
         turns,
@@ -128,8 +132,10 @@ fn drive_through(
 ) -> Result<Driven, DriveError>
     ensures ok { IfOk result (Records script.now policy.now limit records) }
     ensures answers { Answers script.now policy.now limit result }
+    ensures in_time { IsInTime script.now policy.now limit result }
 {
     schedules_rest_on_runs();
+    endings_rest_on_nodes_and_runs();
     let Ok(mut world) = World::new(alloc, script.nodes(), 0) else {
         return Err(DriveError::Memory);
     };
@@ -149,6 +155,7 @@ fn drive_world(
     records: bool,
     world: &mut World,
 ) -> Result<Driven, DriveError>
+    requires fit { IsScript script.now }
     requires run { IsRun world.old.count world.old.start world.old.moves }
     requires opened { world.old ≡ record { count = script.now.nodes; start = 0; moves = [] } }
     ensures ok { IfOk result (Records script.now policy.now limit records) }
@@ -156,6 +163,7 @@ fn drive_world(
     // So a turn's refusal is never passed over because memory ran out at that turn.
     ensures memory { IsErrOf result DriveError.Memory → MayNeedMemory script.now policy.now limit world.new.moves }
 {
+    endings_rest_on_nodes_and_runs();
     let mut driver = Driver::open(alloc, script, policy, world, records)?;
     driver.finish(alloc, script, policy, world, limit)?;
     let steps = driver.steps;

@@ -25,6 +25,7 @@ mod Nodes
 mod Reached
 mod Steps
 mod Runs
+mod RequestCounts
 mod GoingOn
 mod Outcomes
 mod Numbered

@@ -18,9 +18,10 @@ ghost use Rattle.ra_world.specs.declared.step.Step.{Step};
 ghost use Rattle.ra_world.specs.Traffic.{Move, TakesEach, LeavesUnderWay, IsUnderWay, sent_by, put_in, put_by, repeated_by, taken_by, taken_in};
 ghost use Rattle.ra_world.specs.Numbers.{IsNumberedMark, IsNumberedMessage};
 ghost use Rattle.ra_world.specs.AtNodes.{IsTableOf};
+ghost use Rattle.ra_world.specs.Asked.{asks_by};
 ghost use Rattle.ra_world.specs.Quiet.{IsQuiet, IsBlocked, MeetsMessageCount, requests_in};
 ghost use Rattle.ra_world.specs.Below.{LawsBelow};
-ghost use Rattle.ra_world.specs.Run.{IsRun, IsFit, GoesOn, WorldRun, EndsWith, events_at, marks_of, happened_at, waiting_at_all, with_node};
+ghost use Rattle.ra_world.specs.Run.{IsRun, IsFit, GoesOn, WorldRun, EndsWith, events_at, marks_of, happened_at, waiting_at_all, queued_at_all, with_node};
 
 use crate::Step;
 use ra_automaton::steps_keep_a_state_consistent;
@@ -143,6 +144,16 @@ pub fn numbers_rise_at_most_by_the_requests()
     ensures { (n start : ℕ) (moves : List Move) (nodes : ℕ → NodeState) (i : ℕ) (name : List ℕ)
         → IsNodeNumber n → IsRun n start moves → EndsWith n start moves nodes → 1 ≤ i → i ≤ n
         → (resource_at (nodes i) name).state.highest ≤ start + requests_in (marks_of moves) }
+{
+    laws_below();
+}
+
+/// Each ask has made its request, or its client is queued: the requests made and the clients that are queued are together
+/// as many as the asks.
+pub fn asks_make_requests_or_are_queued()
+    ensures { (n start : ℕ) (moves : List Move) (nodes : ℕ → NodeState)
+        → IsNodeNumber n → IsRun n start moves → EndsWith n start moves nodes
+        → requests_in (marks_of moves) + queued_at_all n nodes ≡ asks_by moves }
 {
     laws_below();
 }

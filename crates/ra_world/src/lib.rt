@@ -22,9 +22,9 @@ pub use error::{NewError, NodeRefusal, ReadFault, RunError, StepError, WriteFaul
 pub use fitting::steps_that_fit_together_are_runs;
 pub use input::read_up_to;
 pub use laws::{
-    marks_of_runs_are_numbered, marks_of_runs_are_table_runs, messages_of_runs_are_different,
-    messages_under_way_are_between_nodes, no_delivered_reply_is_a_stray,
-    numbers_rise_at_most_by_the_requests, prefixes_of_runs_are_runs,
+    asks_make_requests_or_are_queued, marks_of_runs_are_numbered, marks_of_runs_are_table_runs,
+    messages_of_runs_are_different, messages_under_way_are_between_nodes,
+    no_delivered_reply_is_a_stray, numbers_rise_at_most_by_the_requests, prefixes_of_runs_are_runs,
     quiet_runs_sent_two_messages_for_each_request_and_other_node, runs_are_determined,
     runs_go_on_by_events, runs_go_on_where_steps_are_allowed,
     runs_send_at_most_two_messages_for_each_request_and_other_node, steps_elsewhere_leave_a_node,

@@ -1,0 +1,73 @@
+-- How scripts end, from the laws of nodes and of runs.
+use Rattle.std.proofs.Common.{◌≡◌, ◌≢◌, ℕ, ◌≤◌, ◌<◌, Bool, Result, Ok, Err, IfOk, List, [], length, refl, arith}
+use Rattle.std.specs.Prelude.{◌↔◌, IsErrOf, IsOkUnless, IsTrue}
+use Rattle.ra_world.specs.declared.report.Report.{Report}
+use Rattle.ra_world.specs.Traffic.{Move, lost_by}
+use Rattle.ra_world.specs.World.{Reports}
+use Rattle.ra_schedule.specs.declared.choice.Policy.{Policy}
+use Rattle.ra_schedule.specs.declared.drive_script.Driven.{Driven}
+use Rattle.ra_schedule.specs.declared.error.DriveError.{DriveError}
+use Rattle.ra_schedule.specs.declared.error.DriveError.TheVariants.{TurnLimit, BadPlace, NotEnabled, Memory}
+use Rattle.ra_schedule.specs.Script.{ScriptState, IsScript}
+use Rattle.ra_schedule.specs.Schedule.{steps_of, Ends, Follows, Stops, IsFinished, RepeatsNothing}
+use Rattle.ra_schedule.specs.Drive.{Answers, IsInTime}
+use Rattle.ra_schedule.specs.Below.{LawsBelow}
+use Rattle.ra_schedule.specs.LockOrder.{IsOutOfOrder, IsUnreleased}
+use Rattle.ra_schedule.specs.Performing.{Performs, IsAtRest, ChoosesItself, LosesNothing, most_turns}
+use Rattle.ra_schedule.specs.BelowFinishing.{LawsOfNodes, LawsOfRuns}
+use Rattle.ra_schedule.proofs.StandingRuns.{all_stand}
+use Rattle.ra_schedule.proofs.NoDeadlock.{finished}
+use Rattle.ra_schedule.proofs.TurnBound.{numbers_left}
+use Rattle.ra_schedule.proofs.Turns.{WaitingEnds}
+use Rattle.ra_schedule.proofs.ThoroughPolicies.{follows_performs, ends_at_rest, nothing_lost, turns_at_most, never_stops}
+
+module _ (nodes_laws : LawsOfNodes) (laws : LawsOfRuns) (script : ScriptState) (fit : IsScript script) (ordered : IsOutOfOrder script → ⊥) (released : IsUnreleased script → ⊥)
+    (moves : List Move) (report : Report) where
+  pub at_rest_is_finished : Performs script moves → lost_by moves ≡ [] → IsAtRest script moves → Reports script.nodes 0 moves report → IsFinished script (steps_of moves) report
+  at_rest_is_finished performs none_lost rest reports =
+      let all = all_stand nodes_laws laws script fit moves performs in
+      finished nodes_laws laws script fit ordered released moves performs.run (record { none_lost = none_lost; none_under_way = rest.none_under_way })
+      rest.none_enabled all (numbers_left laws script fit moves performs all.nodes all.ends) report reports
+
+  pub policy_finishes : (policy : Policy) → ChoosesItself policy → LosesNothing policy → Follows script policy moves → Ends script policy moves
+      → Reports script.nodes 0 moves report → IsFinished script (steps_of moves) report
+  policy_finishes policy itself unlost follows ends reports =
+      let left = laws.a_list script.nodes 0 moves fit.count follows.run in
+      at_rest_is_finished (follows_performs script policy moves follows) (nothing_lost script policy moves unlost follows)
+      (ends_at_rest script policy moves itself ends left.0 left.1) reports
+
+-- ---- What a driver answers
+
+pub waiting_ends : LawsOfNodes → LawsOfRuns → (script : ScriptState) → IsScript script → (policy : Policy) (moves : List Move) (result : Result Driven DriveError)
+    → Follows script policy moves → Ends script policy moves → IfOk result (λ driven. Reports script.nodes 0 moves driven.report)
+    → IfOk result (λ driven. IsTrue driven.finished ↔ IsFinished script (steps_of moves) driven.report) → IfOk result (λ driven. WaitingEnds script policy driven.finished)
+waiting_ends nodes_laws laws script fit policy moves (Err why) follows ends reports is = tt
+waiting_ends nodes_laws laws script fit policy moves (Ok driven) follows ends reports is = λ itself unlost ordered released.
+    is.1 (policy_finishes nodes_laws laws script fit ordered released moves driven.report policy itself unlost follows ends reports)
+
+no_ok : {X : Type 0} {x : X} {y : DriveError} → Ok x ≡ Err y → ⊥
+no_ok e = cc
+
+module _ (laws : LawsOfRuns) (below : LawsBelow) (script : ScriptState) (fit : IsScript script) (policy : Policy) (limit : ℕ) where
+  -- a policy that chooses by itself and repeats nothing is refused nothing but memory
+  only_memory : RepeatsNothing policy → ChoosesItself policy → most_turns script ≤ limit → (fault : DriveError)
+      → (fault ≢ Memory → (moves : List Move) × Follows script policy moves × Stops script policy limit moves fault) → fault ≡ Memory
+  only_memory unrepeated itself enough Memory refused = refl
+  only_memory unrepeated itself enough TurnLimit refused =
+      let (moves, follows, stops) = refused (λ e. cc) in
+      absurd (never_stops laws below script fit policy unrepeated itself limit enough moves TurnLimit follows stops)
+  only_memory unrepeated itself enough BadPlace refused =
+      let (moves, follows, stops) = refused (λ e. cc) in
+      absurd (never_stops laws below script fit policy unrepeated itself limit enough moves BadPlace follows stops)
+  only_memory unrepeated itself enough NotEnabled refused =
+      let (moves, follows, stops) = refused (λ e. cc) in
+      absurd (never_stops laws below script fit policy unrepeated itself limit enough moves NotEnabled follows stops)
+
+  pub in_time : (result : Result Driven DriveError) → Answers script policy limit result → IsInTime script policy limit result
+  in_time (Ok driven) answers = record { below_limit = λ unrepeated less is. no_ok is; only_memory = λ unrepeated itself enough. tt }
+  in_time (Err fault) answers = record {
+    below_limit = λ unrepeated less is.
+        let (moves, follows, stops) = answers.refused TurnLimit (λ e. cc) is in
+        omega (arith, less, stops.0, turns_at_most laws below script fit policy unrepeated moves follows);
+    only_memory = λ unrepeated itself enough. only_memory unrepeated itself enough fault (λ apart. answers.refused fault apart refl);
+  }

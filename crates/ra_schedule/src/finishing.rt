@@ -1,0 +1,91 @@
+//! How scripts end. Each function does nothing, and its contract is the law.
+ghost use Rattle.std.specs.Prelude.{◌≡◌, ◌≤◌, ◌+◌, ◌*◌, ◌++◌, [], ℕ, List, length};
+ghost use Rattle.ra_world.specs.declared.report.Report.{Report};
+ghost use Rattle.ra_world.specs.Traffic.{Move, lost_by, repeated_by};
+ghost use Rattle.ra_world.specs.World.{Reports};
+ghost use Rattle.ra_schedule.specs.declared.choice.Policy.{Policy};
+ghost use Rattle.ra_schedule.specs.declared.error.DriveError.{DriveError};
+ghost use Rattle.ra_schedule.specs.BelowFinishing.{LawsOfNodes, LawsOfRuns};
+ghost use Rattle.ra_schedule.specs.LockOrder.{IsOutOfOrder, IsUnreleased};
+ghost use Rattle.ra_schedule.specs.Performing.{Performs, IsAtRest, ChoosesItself, LosesNothing, most_turns};
+ghost use Rattle.ra_schedule.specs.Schedule.{steps_of, Follows, Ends, Stops, IsFinished, RepeatsNothing};
+ghost use Rattle.ra_schedule.specs.Script.{ScriptState, IsScript};
+
+use crate::laws::schedules_rest_on_runs;
+use ra_node::{
+    events_are_determined, events_go_on, events_keep_a_node_consistent, events_leave_other_names,
+};
+use ra_world::{
+    asks_make_requests_or_are_queued, marks_of_runs_are_table_runs,
+    messages_under_way_are_between_nodes, numbers_rise_at_most_by_the_requests,
+    prefixes_of_runs_are_runs, runs_go_on_where_steps_are_allowed,
+    runs_send_at_most_two_messages_for_each_request_and_other_node,
+    tables_of_runs_are_those_of_their_nodes, waiting_requests_are_blocked_in_quiet_runs,
+};
+
+/// What the laws on how scripts end are proved from: the laws of nodes and of runs, in one place.
+pub fn endings_rest_on_nodes_and_runs()
+    ensures nodes { LawsOfNodes }
+    ensures runs { LawsOfRuns }
+{
+    events_keep_a_node_consistent();
+    events_leave_other_names();
+    events_are_determined();
+    events_go_on();
+    prefixes_of_runs_are_runs();
+    messages_under_way_are_between_nodes();
+    runs_go_on_where_steps_are_allowed();
+    marks_of_runs_are_table_runs();
+    tables_of_runs_are_those_of_their_nodes();
+    waiting_requests_are_blocked_in_quiet_runs();
+    numbers_rise_at_most_by_the_requests();
+    runs_send_at_most_two_messages_for_each_request_and_other_node();
+    asks_make_requests_or_are_queued();
+}
+
+/// Clients that take names in ascending order and give them all back never deadlock, and no wake-up is lost: if nothing
+/// was lost and nothing more can happen, every operation is done, and nothing waits or is queued. This holds in whatever
+/// order the clients take their turns and the messages come, also if messages are repeated.
+pub fn ordered_scripts_finish()
+    ensures { (script : ScriptState) (moves : List Move) (report : Report) → IsScript script
+        → ¬ IsOutOfOrder script → ¬ IsUnreleased script
+        → Performs script moves → lost_by moves ≡ [] → IsAtRest script moves
+        → Reports script.nodes 0 moves report → IsFinished script (steps_of moves) report }
+{
+    endings_rest_on_nodes_and_runs();
+}
+
+/// A script takes few turns, in whatever order: one for each operation, two for each lock and other node, and at most
+/// three more for each message that is repeated. No script takes more than 8,323,072 without repeats. And each run can
+/// be carried on, without a loss or a repeat, until nothing more can happen.
+pub fn scripts_come_to_rest()
+    ensures turns { (script : ScriptState) (moves : List Move) → IsScript script → Performs script moves
+        → length moves ≤ most_turns script + 3 * length (repeated_by moves) }
+    ensures most { (script : ScriptState) → IsScript script → most_turns script ≤ 8323072 }
+    ensures carried_on { (script : ScriptState) (moves : List Move) → IsScript script → Performs script moves
+        → (rest : List Move) × Performs script (moves ++ rest) × IsAtRest script (moves ++ rest)
+        × (lost_by rest ≡ []) × (repeated_by rest ≡ []) }
+{
+    schedules_rest_on_runs();
+    endings_rest_on_nodes_and_runs();
+}
+
+/// What a policy makes of a script. Its moves are what the script says. If it chooses by itself and loses no message, a
+/// script of clients that take names in ascending order and give them all back is finished. If it repeats no message, it
+/// makes at most `most_turns` moves, and one that chooses by itself is refused nothing if the limit is at least that.
+pub fn policies_bring_scripts_to_rest()
+    ensures performs { (script : ScriptState) (policy : Policy) (moves : List Move) → Follows script policy moves
+        → Performs script moves }
+    ensures finished { (script : ScriptState) (policy : Policy) (moves : List Move) (report : Report) → IsScript script
+        → ¬ IsOutOfOrder script → ¬ IsUnreleased script → ChoosesItself policy → LosesNothing policy
+        → Follows script policy moves → Ends script policy moves → Reports script.nodes 0 moves report
+        → IsFinished script (steps_of moves) report }
+    ensures turns { (script : ScriptState) (policy : Policy) (moves : List Move) → IsScript script → RepeatsNothing policy
+        → Follows script policy moves → length moves ≤ most_turns script }
+    ensures in_time { (script : ScriptState) (policy : Policy) (limit : ℕ) (moves : List Move) (cause : DriveError)
+        → IsScript script → ChoosesItself policy → RepeatsNothing policy → most_turns script ≤ limit
+        → Follows script policy moves → ¬ Stops script policy limit moves cause }
+{
+    schedules_rest_on_runs();
+    endings_rest_on_nodes_and_runs();
+}
