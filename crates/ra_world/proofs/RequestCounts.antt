@@ -9,10 +9,11 @@ use Rattle.ra_stamp.specs.NodeId.{IsNodeNumber}
 use Rattle.ra_node.specs.declared.queued_client.Queued.{Queued}
 use Rattle.ra_node.specs.Resource.{Resource, unmet}
 use Rattle.ra_node.specs.Turns.{next_entry, EntersBy, AskTurn, LeaveTurn, ReceiveTurn}
-use Rattle.ra_node.specs.Node.{NodeState, opening_node, resource_at, with_resource, queued_count}
+use Rattle.ra_node.specs.Node.{NodeState, opening_node, resource_at, queued_count}
 use Rattle.ra_node.specs.Events.{Event, NodeEvent}
 use Rattle.ra_node.specs.Events.Event.{Ask as AskedFor, Leave as GivenBack, Receive as Received}
 use Rattle.ra_node.proofs.HandOverStep.{handed_marks}
+use Rattle.ra_node.proofs.Updates.{IsUpdate, receive_updates}
 use Rattle.ra_world.specs.declared.step.Step.{Step}
 use Rattle.ra_world.specs.declared.step.Step.TheVariants.{Ask, Leave, Deliver, Lose, Repeat}
 use Rattle.ra_world.specs.Below.{LawsBelow}
@@ -23,7 +24,7 @@ use Rattle.ra_world.specs.Run.{IsRun, IsFit, EndsWith, events_at, marks_of, queu
 use Rattle.ra_world.proofs.Moves.{allows_all, marks_more, requests_both, at_node, fits_split}
 use Rattle.ra_world.proofs.Protocol.{IsNode}
 use Rattle.ra_world.proofs.Balance.{marks_request}
-use Rattle.ra_world.proofs.WaitingCounts.{total, over, one_resource, one_node, none_counted, same_over}
+use Rattle.ra_world.proofs.WaitingCounts.{total, over, one_update, one_node, none_counted, same_over}
 use Rattle.ra_world.proofs.Nodes.{put_node, ends_after, left_alone}
 use Rattle.ra_world.proofs.Reached.{Reached, event_happened, was_under_way}
 use Rattle.ra_world.proofs.Runs.{every_run, same_ends, prefixes}
@@ -66,26 +67,27 @@ queued r = length r.queue
 none_queued : (me nodes : ℕ) (name : List ℕ) (start : ℕ) → queued (unmet me nodes name start) ≡ 0
 none_queued me nodes name start = refl
 
-put_counts : (old : NodeState) (name : List ℕ) (r : Resource) (marks : List Mark) (asks : ℕ) → requests_in marks + length r.queue ≡ length (resource_at old name).queue + asks
-    → requests_in marks + total queued (with_resource old name r) ≡ total queued old + asks
-put_counts old name r marks asks turn = omega (arith, turn, one_resource queued none_queued old name r)
+update_counts : (old new : NodeState) (name : List ℕ) (r : Resource) → IsUpdate old name r new → (marks : List Mark) (asks : ℕ) → requests_in marks + length r.queue ≡ length (resource_at old name).queue + asks
+    → requests_in marks + total queued new ≡ total queued old + asks
+update_counts old new name r update marks asks turn = omega (arith, turn, one_update queued none_queued old new name r update)
 
 ask_event : (old : NodeState) (client : ℕ) (name : List ℕ) (mode : Mode) (sends : List Message) (marks : List Mark) (new : NodeState)
     → NodeEvent old (AskedFor client name mode) sends marks new → requests_in marks + total queued new ≡ total queued old + 1
 ask_event old client name mode sends marks new e =
-    omega (arith, ap (total queued) e.new_is, put_counts old name e.resource marks 1 (ask_counts (resource_at old name) client mode sends marks e.resource e.turn))
+    update_counts old new name e.resource (inr e.new_is) marks 1 (ask_counts (resource_at old name) client mode sends marks e.resource e.turn)
 
 leave_event : (old : NodeState) (client : ℕ) (name : List ℕ) (sends : List Message) (marks : List Mark) (new : NodeState)
     → NodeEvent old (GivenBack client name) sends marks new → requests_in marks + total queued new ≡ total queued old
 leave_event old client name sends marks new e =
     let turn = leave_counts (resource_at old name) client sends marks e.resource e.turn in
-    omega (arith, ap (total queued) e.new_is, put_counts old name e.resource marks 0 (omega (arith, turn)))
+    omega (arith, update_counts old new name e.resource (inr e.new_is) marks 0 (omega (arith, turn)))
 
 receive_event : (old : NodeState) (message : Message) (sends : List Message) (marks : List Mark) (new : NodeState)
     → NodeEvent old (Received message) sends marks new → requests_in marks + total queued new ≡ total queued old
 receive_event old message sends marks new e =
     let turn = receive_counts (resource_at old (name_of message)) message sends marks e.resource e.turn in
-    omega (arith, ap (total queued) e.new_is, put_counts old (name_of message) e.resource marks 0 (omega (arith, turn)))
+    let update = receive_updates old new message sends marks e in
+    omega (arith, update_counts old new (name_of message) e.resource update marks 0 (omega (arith, turn)))
 
 -- ---- One more move
 
