@@ -3,13 +3,15 @@
 use crate::books::Call::{Ask, Receive};
 use crate::books::Step::Takes;
 use crate::books::{ASK, ASKS, Call, LEAVE, REPLIES, has, make};
-use crate::helpers::{r, request, sites_of};
+use crate::helpers::{books_of, r, request, sites_of};
 use crate::histories::Done::{At, Passes};
 use crate::histories::{Done, Granted, ONE, TWO, books_after, grants_of};
 use crate::plans::{TWO_WRITERS, script_of};
+use crate::steps::{have_ended, make_cluster, stopped};
 use ra_cluster::{
-    Book, BookError, CallError, Cluster, ClusterError, Gate, Grant, NewPostError, OpenGate, Post,
-    SendError, SettleError, Settled, Site, SiteError, Stop, is_cluster, run_cluster, settle,
+    Book, BookError, CallError, Cluster, ClusterError, Gate, Grant, Inbox, NewPostError, OpenGate,
+    Post, ScriptRun, SendError, SettleError, Settled, Site, SiteError, Stop, is_cluster,
+    is_site_of, run_cluster, run_threads, settle,
 };
 use ra_frame::Frame;
 use ra_schedule::Script;
@@ -17,8 +19,7 @@ use ra_stamp::{Entry, Mode, Name, NodeId};
 use ra_world::Step as WorldStep;
 use std::alloc::Global;
 use std::process::Abort;
-use std::sync::Wait;
-use std::thread;
+use std::sync::{Mutex, Wait};
 use std::thread::Threads;
 use test_support::{Tried, again, both};
 
@@ -399,6 +400,9 @@ fn call_at<R: Wait>(
     let [site] = sites else {
         return Err(false);
     };
+    if !is_site_of(site, sites) {
+        return Err(false);
+    }
     let mode = Mode::Exclusive;
     match act {
         Act::Locks => taken(site.lock(rt, alloc, 1, *name, mode, post, sites, &OpenGate)),
@@ -466,6 +470,7 @@ fn is_wanting(fault: SiteError) -> bool {
         WANTING
             | SiteError::Stopped(Stop::Memory)
             | SiteError::Stopped(Stop::Send)
+            | SiteError::Stopped(Stop::Spawn)
             | SiteError::Refused(BookError::Failed)
     )
 }
@@ -521,43 +526,17 @@ fn growth_of_a_whole_cluster(rt: HostRuntime) {
     end(&rt, again(try_whole(&rt, alloc), try_whole(&rt, alloc)));
 }
 
-/// Has two threads carry the frames of a cluster of two nodes while a client of node 1 works. If the client is not let
-/// in, or a thread is not started, returns whether memory ran out.
-fn try_between<R: Threads + Wait + Sync>(
-    rt: &R,
-    alloc: Global,
-    cluster: &Cluster<OpenGate>,
-    nodes: &[NodeId; 2],
-    name: &Name,
-) -> Result<Tried, bool> {
-    let [one, two] = nodes;
-    thread::scope(thread::scope_env(), rt, move |scope| {
-        let mut are_started = true;
-        for node in [one, two] {
-            let pump = move || cluster.pump(rt, alloc, *node);
-            are_started = are_started && scope.spawn(pump).is_ok();
-        }
-        let tried = if are_started {
-            try_work(rt, alloc, cluster, *one, *name)
-        } else {
-            Err(true)
-        };
-        cluster.close_post(rt);
-        tried
-    })
-}
-
 /// Makes a cluster of two nodes, has a client work at the first, and closes it. If the cluster cannot be made, or was
 /// stopped, returns whether memory ran out.
 fn try_two<R: Threads + Wait + Sync>(rt: &R, alloc: Global) -> Result<Tried, bool> {
-    let (Some(one), Some(two), Some(name)) = (NodeId::new(1), NodeId::new(2), r()) else {
+    let (Some(one), Some(name)) = (NodeId::new(1), r()) else {
         return Ok(Tried::Wrong);
     };
     let cluster = match Cluster::new(alloc, 2, 0, OpenGate) {
         Ok(cluster) => cluster,
         Err(fault) => return Err(fault == NewPostError::Memory),
     };
-    let tried = try_between(rt, alloc, &cluster, &[one, two], &name);
+    let tried = cluster.run(rt, alloc, || try_work(rt, alloc, &cluster, one, name));
     if cluster.close(alloc).len() == 2 {
         tried
     } else {
@@ -610,4 +589,99 @@ fn try_cluster<R: Threads + Wait + Sync>(rt: &R, alloc: Global) -> Result<Tried,
 fn growth_of_a_cluster(rt: HostRuntime) {
     let alloc = rt.alloc();
     end(&rt, again(try_cluster(&rt, alloc), try_cluster(&rt, alloc)));
+}
+
+/// Returns how many frames are left in the inbox at a place, that of the node with this number, which a new site of the
+/// node takes. The post has to be closed before. Returns `None` if memory ran out.
+fn frames_left<R: Wait>(rt: &R, alloc: Global, inbox: &Inbox, number: u16) -> Option<u64> {
+    let fresh = make_cluster(alloc, 3, 0, u64::MAX)?;
+    let site = fresh.sites.get(usize::from(number).wrapping_sub(1))?;
+    if !fresh.pump_at(rt, alloc, site, inbox, &OpenGate) || site.fault(rt) == Some(Stop::Memory) {
+        return None;
+    }
+    Some(site.events(rt))
+}
+
+/// Returns whether the frame for node 2 is lost, and that for node 3 either is the one that is left in its inbox, or is
+/// lost too.
+fn are_accounted_for(books: &[Book], left: u64) -> Tried {
+    let send = Stop::Send;
+    let ended = [stopped(send, 1), stopped(send, 0), stopped(send, 0)];
+    let Some(one) = books.first() else {
+        return Tried::Wrong;
+    };
+    match (have_ended(books, &ended), one.sent(0), one.sent(1)) {
+        (true, Some(two), Some(three)) if two.lost && !three.lost && left == 1 => Tried::AtOnce,
+        (true, Some(two), Some(three)) if two.lost && three.lost && left == 0 => Tried::Again,
+        _ => Tried::Wrong,
+    }
+}
+
+/// Has client 1 of node 1 of three lock `r`. The inbox of node 2 is gone, so at least the frame for node 2 is lost. If the
+/// client was refused, or what came of it cannot be looked at, returns whether memory ran out.
+fn try_losing<R: Wait>(rt: &R, alloc: Global) -> Result<Tried, bool> {
+    let (Some(name), Some(mut all)) = (r(), make_cluster(alloc, 3, 0, u64::MAX)) else {
+        return Err(true);
+    };
+    if all.inboxes.len() != 3 {
+        return Err(false);
+    }
+    drop(all.inboxes.remove(1));
+    let (Some(site), Some(inbox)) = (all.sites.first(), all.inboxes.get(1)) else {
+        return Err(false);
+    };
+    let mode = Mode::Exclusive;
+    let answer = all.lock_at(rt, alloc, site, 1, &name, mode, &OpenGate);
+    all.post.close(rt);
+    if answer != Err(SiteError::Stopped(Stop::Send)) {
+        return Err(answer == Err(WANTING));
+    }
+    let Some(left) = frames_left(rt, alloc, inbox, 3) else {
+        return Err(true);
+    };
+    match books_of(alloc, all.sites) {
+        Some(books) => Ok(are_accounted_for(&books, left)),
+        None => Err(true),
+    }
+}
+
+/// A frame for which there is no memory is flagged as lost, and the others of its event are sent.
+#[test]
+fn growth_of_lost_frames(rt: HostRuntime) {
+    let alloc = rt.alloc();
+    end(&rt, again(try_losing(&rt, alloc), try_losing(&rt, alloc)));
+}
+
+/// Has threads run a script of two writers, and looks at the grants that are kept. If not both are, returns whether the
+/// cluster was stopped because memory ran out.
+fn try_keeping<R: Threads + Wait + Sync>(rt: &R, alloc: Global) -> Result<Tried, bool> {
+    let (Some(script), Ok(cluster)) = (
+        script_of(alloc, 2, TWO_WRITERS),
+        Cluster::new(alloc, 2, 0, OpenGate),
+    ) else {
+        return Err(true);
+    };
+    let grants = Mutex::new(Vec::new(alloc));
+    let run = ScriptRun {
+        script: &script,
+        cluster: &cluster,
+        grants: &grants,
+    };
+    run_threads(rt, alloc, &run);
+    let kept = grants.into_inner().len();
+    let books = cluster.close(alloc);
+    match books.first() {
+        Some(one) => match one.fault() {
+            None if kept == 2 => Ok(Tried::AtOnce),
+            None => Ok(Tried::Wrong),
+            Some(stop) => Err(is_of_memory(ClusterError::Fault(stop))),
+        },
+        None => Err(false),
+    }
+}
+
+#[test]
+fn growth_of_the_grants_that_are_kept(rt: HostRuntime) {
+    let alloc = rt.alloc();
+    end(&rt, again(try_keeping(&rt, alloc), try_keeping(&rt, alloc)));
 }

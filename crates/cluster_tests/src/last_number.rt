@@ -27,7 +27,7 @@ fn locks<R: Wait>(
     gate: &Counting,
 ) -> Result<Grant, SiteError> {
     let mode = Mode::Exclusive;
-    site.lock(rt, alloc, client, *name, mode, &all.post, &all.sites, gate)
+    all.lock_at(rt, alloc, site, client, name, mode, gate)
 }
 
 /// Returns whether a client gives the name back.
@@ -40,8 +40,7 @@ fn unlocks<R: Wait>(
     all: &Cluster,
     gate: &Counting,
 ) -> bool {
-    site.unlock(rt, alloc, client, *name, &all.post, &all.sites, gate)
-        .is_ok()
+    all.unlock_at(rt, alloc, site, client, name, gate).is_ok()
 }
 
 /// Returns whether a client that comes once the last number was used is refused.

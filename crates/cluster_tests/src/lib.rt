@@ -7,6 +7,8 @@ mod books;
 #[cfg(test)]
 mod changed_frames;
 #[cfg(test)]
+mod clusters;
+#[cfg(test)]
 mod endings;
 #[cfg(test)]
 mod gates;
@@ -40,5 +42,7 @@ mod stops;
 mod threads;
 #[cfg(test)]
 mod waiting;
+#[cfg(test)]
+mod waiting_clusters;
 #[cfg(test)]
 mod whole;

@@ -168,15 +168,25 @@ fn a_strange_frame_stops_all_and_ends_the_pump(rt: HostRuntime) {
     let steps = [
         Sends(1, 5, 2),
         Sends(1, 1, 2),
-        // Closed, so that a pump which went on would end too, with an empty inbox.
+        // Closed, so that a pump that went on would end too, with an empty inbox.
         ClosesPost,
         Pumps(2),
-        HasLeft(1, 2, 1),
     ];
     let ended = [stopped(Stop::Refused, 0), stopped(Stop::Refused, 0)];
     assert_cluster_does(&rt, &steps, &ended);
-    // It ends where the post stays open, too.
+    // It also ends if the post stays open.
     let steps = [Sends(1, 5, 2), Pumps(2)];
+    assert_cluster_does(&rt, &steps, &ended);
+    // What came before it was received and answered.
+    let steps = [
+        Sends(1, 1, 2),
+        Sends(1, 5, 2),
+        Sends(1, 1, 2),
+        Pumps(2),
+        ClosesPost,
+        HasLeft(0, 1, 1),
+    ];
+    let ended = [stopped(Stop::Refused, 0), stopped(Stop::Refused, 1)];
     assert_cluster_does(&rt, &steps, &ended);
 }
 
@@ -193,10 +203,8 @@ fn the_pump_of_a_stopped_node_stops_no_other(rt: HostRuntime) {
         Stops(2, Stop::Gate),
         Sends(1, 1, 2),
         Sends(1, 1, 2),
-        ClosesPost,
+        // The post is open, so it ended at a frame.
         Pumps(2),
-        // It ended at the first frame.
-        HasLeft(1, 2, 1),
     ];
     let ended = [runs(0), stopped(Stop::Gate, 0)];
     assert_cluster_does(&rt, &steps, &ended);
@@ -256,10 +264,9 @@ fn a_closed_gate_lets_no_frame_in_and_ends_the_pump(rt: HostRuntime) {
     let steps = [
         Sends(1, 1, 2),
         Sends(1, 1, 2),
-        ClosesPost,
+        // The post is open, so it ended at a frame, and it asked the gate about no other.
         Pumps(2),
         HasStepped(1),
-        HasLeft(1, 2, 1),
     ];
     let ended = [stopped(Stop::Gate, 0), stopped(Stop::Gate, 0)];
     assert_does_from(&rt, 0, 0, &steps, &ended);

@@ -5,7 +5,8 @@ use Step::{
     RefusesToLock, RefusesToSend, RefusesToUnlock, Sends, Stops, Unlocks,
 };
 use ra_cluster::{
-    Book, BookEvent, BookKind, Inbox, OpenGate, Post, SendError, Site, SiteError, Stop,
+    Book, BookError, BookEvent, BookKind, Gate, Grant, Inbox, OpenGate, Post, SendError, Site,
+    SiteError, Stop, is_site_of,
 };
 use ra_frame::Frame;
 use ra_stamp::{Message, Mode, Name, NodeId};
@@ -89,6 +90,69 @@ pub struct Cluster {
     gate: Counting,
 }
 
+/// What the calls below answer if the sites are not as a site requires them, which no test expects.
+const NO_SITE: SiteError = SiteError::Refused(BookError::Stranger);
+
+impl Cluster {
+    /// Has a client lock a name at a site.
+    pub fn lock_at<R: Wait, G: Gate>(
+        &self,
+        rt: &R,
+        alloc: Global,
+        site: &Site,
+        client: u32,
+        name: &Name,
+        mode: Mode,
+        gate: &G,
+    ) -> Result<Grant, SiteError> {
+        if !is_site_of(site, &self.sites) {
+            return Err(NO_SITE);
+        }
+        site.lock(
+            rt,
+            alloc,
+            client,
+            *name,
+            mode,
+            &self.post,
+            &self.sites,
+            gate,
+        )
+    }
+
+    /// Has a client unlock a name at a site.
+    pub fn unlock_at<R: Wait, G: Gate>(
+        &self,
+        rt: &R,
+        alloc: Global,
+        site: &Site,
+        client: u32,
+        name: &Name,
+        gate: &G,
+    ) -> Result<(), SiteError> {
+        if !is_site_of(site, &self.sites) {
+            return Err(NO_SITE);
+        }
+        site.unlock(rt, alloc, client, *name, &self.post, &self.sites, gate)
+    }
+
+    /// Has a site take the frames from an inbox. Returns whether the sites are as it requires them.
+    pub fn pump_at<R: Wait, G: Gate>(
+        &self,
+        rt: &R,
+        alloc: Global,
+        site: &Site,
+        inbox: &Inbox,
+        gate: &G,
+    ) -> bool {
+        if !is_site_of(site, &self.sites) {
+            return false;
+        }
+        site.pump(rt, alloc, inbox, &self.post, &self.sites, gate);
+        true
+    }
+}
+
 /// Makes a cluster of this many nodes. Its numbers begin at `start`, and its gate lets `most` steps pass.
 pub fn make_cluster(alloc: Global, nodes: u16, start: u64, most: u64) -> Option<Cluster> {
     let sites = sites_of(alloc, nodes, start)?;
@@ -144,7 +208,7 @@ fn locks<R: Wait>(
         return false;
     };
     let mode = Mode::Exclusive;
-    match site.lock(rt, alloc, 1, name, mode, &all.post, &all.sites, &all.gate) {
+    match all.lock_at(rt, alloc, site, 1, &name, mode, &all.gate) {
         Ok(grant) => refusal.is_none() && entry(name, number, 1, mode, 1) == Some(grant.entry),
         Err(found) => refusal == Some(found),
     }
@@ -162,7 +226,7 @@ fn unlocks<R: Wait>(
     let Some(site) = site(&all.sites, number) else {
         return false;
     };
-    match site.unlock(rt, alloc, 1, name, &all.post, &all.sites, &all.gate) {
+    match all.unlock_at(rt, alloc, site, 1, &name, &all.gate) {
         Ok(()) => refusal.is_none(),
         Err(found) => refusal == Some(found),
     }
@@ -181,31 +245,34 @@ fn stops<R: Wait>(rt: &R, all: &Cluster, number: u16, stop: Stop) -> bool {
 fn pumps<R: Wait>(rt: &R, alloc: Global, all: &Cluster, number: u16) -> bool {
     let place = usize::from(number).wrapping_sub(1);
     match (site(&all.sites, number), all.inboxes.get(place)) {
-        (Some(site), Some(inbox)) => {
-            site.pump(rt, alloc, inbox, &all.post, &all.sites, &all.gate);
-            true
-        }
+        (Some(site), Some(inbox)) => all.pump_at(rt, alloc, site, inbox, &all.gate),
         _ => false,
     }
 }
 
-/// Makes a new site of one of this many nodes, which takes all frames that are left in an inbox. Returns how many
-/// events its book then has, and the first of them.
+/// Makes a new cluster of this many nodes, whose site of this node takes all frames that are left in an inbox, and sends
+/// through the new post. Returns how many events its book then has, and the first of them.
 fn taken<R: Wait>(
     rt: &R,
     alloc: Global,
-    me: NodeId,
+    number: u16,
     nodes: u16,
     inbox: &Inbox,
-    post: &Post,
 ) -> Option<(u64, Option<BookEvent>)> {
-    let site = Site::new(alloc, me, nodes, 0).ok()?;
-    site.pump(rt, alloc, inbox, post, &[], &OpenGate);
-    let book = site.close();
+    let fresh = make_cluster(alloc, nodes, 0, u64::MAX)?;
+    if !fresh.pump_at(rt, alloc, site(&fresh.sites, number)?, inbox, &OpenGate) {
+        return None;
+    }
+    let mut books = books_of(alloc, fresh.sites)?;
+    let place = usize::from(number).wrapping_sub(1);
+    if books.len() <= place {
+        return None;
+    }
+    let book = books.swap_remove(place);
     Some((book.events().len(), book.events().at(0)))
 }
 
-/// Does this for the inbox at a place, that of the node with this number. The site sends through a post of its own.
+/// Does this for the inbox at a place, that of the node with this number.
 fn taken_from<R: Wait>(
     rt: &R,
     alloc: Global,
@@ -213,11 +280,7 @@ fn taken_from<R: Wait>(
     place: usize,
     number: u16,
 ) -> Option<(u64, Option<BookEvent>)> {
-    let (inbox, me) = (all.inboxes.get(place)?, NodeId::new(number)?);
-    match Post::new(alloc, all.nodes) {
-        Ok((post, _inboxes)) => taken(rt, alloc, me, all.nodes, inbox, &post),
-        Err(_) => None,
-    }
+    taken(rt, alloc, number, all.nodes, all.inboxes.get(place)?)
 }
 
 /// Returns whether this many frames are left in the inbox at a place, that of the node with this number. The post has

@@ -41,7 +41,7 @@ fn locks<R: Wait, G: Gate>(
     gate: &G,
 ) -> Result<(), SiteError> {
     let mode = Mode::Exclusive;
-    site.lock(rt, alloc, 1, *name, mode, &all.post, &all.sites, gate)?;
+    all.lock_at(rt, alloc, site, 1, name, mode, gate)?;
     Ok(())
 }
 
@@ -53,8 +53,7 @@ fn refusal<R: Wait>(
     site: &Site,
     all: &Cluster,
 ) -> Option<SiteError> {
-    site.unlock(rt, alloc, 2, *name, &all.post, &all.sites, &OpenGate)
-        .err()
+    all.unlock_at(rt, alloc, site, 2, name, &OpenGate).err()
 }
 
 /// Returns whether a site comes to be stopped, for which it is looked many times.

@@ -1,36 +1,32 @@
-//! The threads that do a script, at sites that the test makes.
-use crate::helpers::{books_of, entry, in_a_thread, r, sites_of};
+//! The threads that do a script, in a cluster that the test makes.
+use crate::helpers::{entry, in_a_thread, r};
 use crate::plans::Does::{Locks, Shares, Unlocks};
 use crate::plans::{Client, USES_R, script_of};
 use crate::steps::{Ended, have_ended, runs, stopped};
-use ra_cluster::{Grant, OpenGate, Post, ScriptRun, Site, Stop, run_threads};
+use ra_cluster::{Cluster, Grant, OpenGate, ScriptRun, Stop, run_threads};
 use ra_schedule::Script;
-use ra_stamp::{Mode, Name};
+use ra_stamp::{Mode, Name, NodeId};
 use std::alloc::Global;
 use std::process::Abort;
 use std::sync::{Mutex, Wait};
 use std::thread::Threads;
 
-/// Has threads do a script at these sites, and returns the grants that are kept.
-fn run_at<R: Threads + Wait + Abort + Sync>(
+/// Has threads do a script in this cluster, and returns the grants that are kept.
+fn run_in<R: Threads + Wait + Abort + Sync>(
     rt: &R,
     alloc: Global,
     script: &Script,
-    sites: &[Site],
-) -> Option<Vec<Grant>> {
-    let (post, inboxes) = Post::new(alloc, script.nodes()).ok()?;
+    cluster: &Cluster<OpenGate>,
+) -> Vec<Grant> {
     let grants = Mutex::new(Vec::new(alloc));
     let run = ScriptRun {
         script,
-        sites,
-        post: &post,
+        cluster,
         grants: &grants,
-        gate: &OpenGate,
     };
     let run = &run;
-    let inboxes = &inboxes;
-    in_a_thread(rt, move || run_threads(rt, alloc, run, inboxes));
-    Some(grants.into_inner())
+    in_a_thread(rt, move || run_threads(rt, alloc, run));
+    grants.into_inner()
 }
 
 /// Returns whether the grants are those of the first two requests of client 1 at node 1, for `r` exclusively and then shared.
@@ -53,8 +49,8 @@ const USES_R_TWICE: Client = Client {
 fn keeps_both<R: Threads + Wait + Abort + Sync>(rt: &R, alloc: Global) -> Option<bool> {
     let name = r()?;
     let script = script_of(alloc, 2, &[USES_R_TWICE])?;
-    let sites = sites_of(alloc, 2, 0)?;
-    let grants = run_at(rt, alloc, &script, &sites)?;
+    let cluster = Cluster::new(alloc, 2, 0, OpenGate).ok()?;
+    let grants = run_in(rt, alloc, &script, &cluster);
     Some(are_both(&grants, name))
 }
 
@@ -63,25 +59,26 @@ fn each_grant_is_kept(rt: HostRuntime) {
     assert!(rt; keeps_both(&rt, rt.alloc()) == Some(true));
 }
 
-/// Has a client at this node of two use `r` at these sites. Returns whether no grant is kept, and the books have ended so then.
+/// Has a client at this node of two use `r` in this cluster. Returns whether no grant is kept and the books end as expected.
 fn ends_so<R: Threads + Wait + Abort + Sync>(
     rt: &R,
     alloc: Global,
     node: u16,
-    sites: Vec<Site>,
+    cluster: Cluster<OpenGate>,
     ended: &[Ended],
 ) -> Option<bool> {
     let script = script_of(alloc, 2, &[Client { node, ops: USES_R }])?;
-    let grants = run_at(rt, alloc, &script, &sites)?;
-    let books = books_of(alloc, sites)?;
+    let grants = run_in(rt, alloc, &script, &cluster);
+    let books = cluster.close(alloc);
     Some(grants.is_empty() && have_ended(&books, ended))
 }
 
 /// Returns whether a client of node 2, which is stopped, stops no other.
 fn stops_no_other<R: Threads + Wait + Abort + Sync>(rt: &R, alloc: Global) -> Option<bool> {
-    let sites = sites_of(alloc, 2, 0)?;
-    sites.get(1)?.stop(rt, Stop::Clock);
-    ends_so(rt, alloc, 2, sites, &[runs(0), stopped(Stop::Clock, 0)])
+    let cluster = Cluster::new(alloc, 2, 0, OpenGate).ok()?;
+    cluster.site(NodeId::new(2)?)?.stop(rt, Stop::Clock);
+    let ended = [runs(0), stopped(Stop::Clock, 0)];
+    ends_so(rt, alloc, 2, cluster, &ended)
 }
 
 #[test]
@@ -91,9 +88,9 @@ fn a_client_of_a_stopped_node_stops_no_other(rt: HostRuntime) {
 
 /// Returns whether a client of node 1 stops all where no number is left for any name.
 fn stops_all<R: Threads + Wait + Abort + Sync>(rt: &R, alloc: Global) -> Option<bool> {
-    let sites = sites_of(alloc, 2, u64::MAX)?;
+    let cluster = Cluster::new(alloc, 2, u64::MAX, OpenGate).ok()?;
     let ended = stopped(Stop::Exhausted, 0);
-    ends_so(rt, alloc, 1, sites, &[ended, ended])
+    ends_so(rt, alloc, 1, cluster, &[ended, ended])
 }
 
 #[test]

@@ -40,16 +40,7 @@ enum Then {
 fn let_others_sleep<R: Wait>(rt: &R, alloc: Global, name: &Name, site: &Site, all: &Cluster) {
     for _ in 0..300u32 {
         // Client 1 holds the name, so it is refused, which wakes nobody.
-        let _busy = site.lock(
-            rt,
-            alloc,
-            1,
-            *name,
-            Mode::Shared,
-            &all.post,
-            &all.sites,
-            &OpenGate,
-        );
+        let _busy = all.lock_at(rt, alloc, site, 1, name, Mode::Shared, &OpenGate);
         thread::yield_now();
     }
 }
@@ -69,9 +60,7 @@ fn goes_on<R: Wait>(
         let_others_sleep(rt, alloc, name, site, all);
     }
     let may_leave = matches!(then, Then::Stops)
-        || site
-            .unlock(rt, alloc, 1, *name, &all.post, &all.sites, &OpenGate)
-            .is_ok();
+        || all.unlock_at(rt, alloc, site, 1, name, &OpenGate).is_ok();
     // Where nothing else did, this ends the wait of client 2.
     if !matches!(then, Then::Leaves) || !may_leave {
         stop_all(rt, &all.sites, Stop::Refused);
@@ -94,15 +83,12 @@ fn locks_behind<R: Threads + Wait + Abort + Sync>(
     };
     let (x, gate, ended) = (Mode::Exclusive, Counting::open(), AtomicU64::new(0));
     let (gate, ended) = (&gate, &ended);
-    if site
-        .lock(rt, alloc, 1, *name, x, &all.post, &all.sites, gate)
-        .is_err()
-    {
+    if all.lock_at(rt, alloc, site, 1, name, x, gate).is_err() {
         return false;
     }
     thread::scope(thread::scope_env(), rt, move |scope| {
         let waits = scope.spawn(move || {
-            *there.lock(rt) = Some(site.lock(rt, alloc, 2, *name, x, &all.post, &all.sites, gate));
+            *there.lock(rt) = Some(all.lock_at(rt, alloc, site, 2, name, x, gate));
             ended.fetch_add(1, Ordering::SeqCst);
         });
         if waits.is_err() {
@@ -178,7 +164,7 @@ fn leaves_while_pumped<R: Threads + Wait + Abort + Sync>(
     thread::scope(thread::scope_env(), rt, move |scope| {
         for (site, inbox) in all.sites.iter().zip(all.inboxes.iter()) {
             let pumps = scope.spawn(move || {
-                site.pump(rt, alloc, inbox, &all.post, &all.sites, &OpenGate);
+                let _pumped = all.pump_at(rt, alloc, site, inbox, &OpenGate);
                 ended.fetch_add(1, Ordering::SeqCst);
             });
             if pumps.is_err() {
@@ -251,7 +237,7 @@ fn hammer<R: Wait>(
 ) {
     let x = Mode::Exclusive;
     for turn in 0..10_000u32 {
-        let Ok(grant) = site.lock(rt, alloc, 1, *name, x, &all.post, &all.sites, &OpenGate) else {
+        let Ok(grant) = all.lock_at(rt, alloc, site, 1, name, x, &OpenGate) else {
             return;
         };
         // It holds the name, and whoever waits for it would wait for ever.
@@ -262,7 +248,7 @@ fn hammer<R: Wait>(
         if closing == Some(turn) {
             all.post.close(rt);
         }
-        match site.unlock(rt, alloc, 1, *name, &all.post, &all.sites, &OpenGate) {
+        match all.unlock_at(rt, alloc, site, 1, name, &OpenGate) {
             Ok(()) => {}
             // The node is stopped, so that nobody else need be.
             Err(SiteError::Refused(BookError::Failed)) => return,
@@ -289,7 +275,7 @@ fn closes_under_traffic<R: Threads + Wait + Abort + Sync>(
         let mut closing = Some(CLOSING);
         for (site, inbox) in all.sites.iter().zip(all.inboxes.iter()) {
             let pumps = scope.spawn(move || {
-                site.pump(rt, alloc, inbox, &all.post, &all.sites, &OpenGate);
+                let _pumped = all.pump_at(rt, alloc, site, inbox, &OpenGate);
                 ended.fetch_add(1, Ordering::SeqCst);
             });
             let locks = scope.spawn(move || {

@@ -9,7 +9,7 @@ use Rattle.ra_schedule.specs.Script.{ScriptState}
 use Rattle.ra_schedule.specs.Survey.{IsSurvey}
 use Rattle.ra_script.specs.Performed.{turn_limit}
 use Rattle.ra_script.specs.ScriptText.{script_of}
-use Rattle.ra_cluster.specs.declared.cluster.ClusterError.{ClusterError}
+use Rattle.ra_cluster.specs.declared.cluster_run.ClusterError.{ClusterError}
 use Rattle.ra_cli.specs.declared.error.RunScriptError.{RunScriptError}
 use Rattle.ra_cli.specs.declared.error.RunScriptError.TheVariants as fault
 use Rattle.ra_cli.specs.ClusterRun.{RefusesRun}

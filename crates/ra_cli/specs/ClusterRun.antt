@@ -12,8 +12,8 @@ use Rattle.ra_schedule.specs.Script.{ScriptState}
 use Rattle.ra_script.specs.declared.error.ScriptError.{ScriptError}
 use Rattle.ra_script.specs.declared.error.ScriptError.TheVariants as text
 use Rattle.ra_script.specs.ScriptText.{script_of}
-use Rattle.ra_cluster.specs.declared.cluster.ClusterError.{ClusterError}
-use Rattle.ra_cluster.specs.declared.cluster.ClusterError.TheVariants as cluster
+use Rattle.ra_cluster.specs.declared.cluster_run.ClusterError.{ClusterError}
+use Rattle.ra_cluster.specs.declared.cluster_run.ClusterError.TheVariants as cluster
 use Rattle.ra_cluster.specs.LockOrder.{IsOutOfOrder, IsUnreleased}
 use Rattle.ra_cluster.specs.Plan.{MeetsPlan, IsQuietEnd, locks_of}
 use Rattle.ra_cli.specs.declared.error.RunScriptError.{RunScriptError}

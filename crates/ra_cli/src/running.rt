@@ -3,7 +3,7 @@ ghost use Rattle.std.specs.Prelude.{◌≡◌, ◌≢◌, ◌<◌, ◌≤◌, �
 ghost use Rattle.std.specs.Io.KnownBytes.{Consumes, Appends};
 ghost use Rattle.ra_world.specs.Lines as lines;
 ghost use Rattle.ra_script.specs.ScriptText.{script_of};
-ghost use Rattle.ra_cluster.specs.declared.cluster.ClusterError.{ClusterError};
+ghost use Rattle.ra_cluster.specs.declared.cluster_run.ClusterError.{ClusterError};
 ghost use Rattle.ra_cli.specs.ClusterRun.{IsClusterRun, RunsCluster, RefusesRun};
 
 use crate::error::RunScriptError;

@@ -3,13 +3,12 @@ use Rattle.std.proofs.Common.{◌≡◌, ◌≢◌, ◌⊎◌, ◌↔◌, Bool, 
 use Rattle.std.specs.Prelude.{AllPairs, IfOk, IfErr, IsErrAnd, IsErrOf, IsTrue, MatchResult}
 use Rattle.std.specs.List.{Any}
 use Rattle.ra_schedule.specs.Script.{ScriptState}
-use Rattle.ra_world.specs.declared.report.Report.{Report}
 use Rattle.ra_world.specs.Traffic.{Move}
 use Rattle.ra_world.specs.Run.{IsRun}
 use Rattle.ra_world.specs.World.{Reports}
 use Rattle.ra_world.specs.MainTheorem.{MainTheorem}
-use Rattle.ra_cluster.specs.declared.cluster.ClusterError.{ClusterError}
-use Rattle.ra_cluster.specs.declared.cluster.ClusterError.TheVariants.{OutOfOrder, Unreleased, Fault, Settle, PlanUnmet, Lost, UnderWay, Memory}
+use Rattle.ra_cluster.specs.declared.cluster_run.ClusterError.{ClusterError}
+use Rattle.ra_cluster.specs.declared.cluster_run.ClusterError.TheVariants.{OutOfOrder, Unreleased, Fault, Settle, PlanUnmet, Lost, UnderWay, Memory}
 use Rattle.ra_cluster.specs.declared.error.SettleError.{SettleError}
 use Rattle.ra_cluster.specs.declared.error.SettleError.TheVariants as settling
 use Rattle.ra_cluster.specs.declared.grant.Grant.{Grant}

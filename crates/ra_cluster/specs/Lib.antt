@@ -7,6 +7,7 @@ pub mod SettlingParts
 pub mod EventMerge
 pub mod Keys
 pub mod StopCauses
+pub mod Sites
 pub mod ClientGrant
 pub mod LockOrder
 pub mod Plan

@@ -6,8 +6,8 @@ use Rattle.ra_world.specs.Traffic.{Move}
 use Rattle.ra_world.specs.Run.{IsRun}
 use Rattle.ra_world.specs.World.{Reports}
 use Rattle.ra_world.specs.MainTheorem.{MainTheorem}
-use Rattle.ra_cluster.specs.declared.cluster.ClusterError.{ClusterError}
-use Rattle.ra_cluster.specs.declared.cluster.ClusterError.TheVariants.{OutOfOrder, Unreleased, Fault, Settle, PlanUnmet, Lost, UnderWay, Memory}
+use Rattle.ra_cluster.specs.declared.cluster_run.ClusterError.{ClusterError}
+use Rattle.ra_cluster.specs.declared.cluster_run.ClusterError.TheVariants.{OutOfOrder, Unreleased, Fault, Settle, PlanUnmet, Lost, UnderWay, Memory}
 use Rattle.ra_cluster.specs.declared.grant.Grant.{Grant}
 use Rattle.ra_cluster.specs.declared.settled.Settled.{Settled}
 use Rattle.ra_cluster.specs.declared.stop.Stop.{Stop}

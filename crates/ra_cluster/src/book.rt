@@ -358,7 +358,7 @@ impl Book {
     /// # Errors
     ///
     /// Those of `ask`, except for `Memory`.
-    fn check_ask(&self, client: u32, name: Name, mode: Mode) -> Result<u64, BookError>
+    pub(crate) fn check_ask(&self, client: u32, name: Name, mode: Mode) -> Result<u64, BookError>
         ensures checked { IsChecked self.now
             (λ clock. ComesNext self.now clock (BookKind.Asked client name mode)) result }
         ensures answers { AnswersAsk self.now client name mode result }

@@ -1,34 +1,41 @@
-ghost use Rattle.std.specs.Prelude.{All, IfOk};
-ghost use Rattle.ra_frame.specs.Fits.{Fits};
-
-use crate::{Book, BookError, Posted};
+use crate::BookError;
+use crate::desk::{Desk, Stepped};
+use crate::ticket::SharedTicket;
 use ra_stamp::{Mode, Name};
 use std::alloc::Global;
 
-/// A call of a book that steps its node.
-#[derive(Clone, Copy)]
-pub enum Call<'a> {
-    /// A client asks for a name.
-    Ask { client: u32, name: Name, mode: Mode },
+/// A call of a client.
+#[derive(Drop)]
+pub enum Call {
+    /// A client asks for a name, and its thread waits with this ticket. There is none if memory ran out.
+    Ask {
+        client: u32,
+        name: Name,
+        mode: Mode,
+        ticket: Option<SharedTicket>,
+    },
     /// A client leaves a name.
-    Leave { client: u32, name: Name },
-    /// The bytes of a frame come.
-    Receive(&'a [u8]),
+    Leave {
+        client: u32,
+        name: Name,
+    },
 }
 
-impl Call<'_> {
+impl Call {
     /// Makes the call.
     ///
     /// # Errors
     ///
-    /// Those of [`Book::ask`], [`Book::leave`] and [`Book::receive`].
-    pub fn make(&self, alloc: Global, book: &mut Book) -> Result<Posted, BookError>
-        ensures fits { IfOk result (λ posted. All Fits posted.frames.items) }
-    {
-        match *self {
-            Call::Ask { client, name, mode } => book.ask(alloc, client, name, mode),
-            Call::Leave { client, name } => book.leave(alloc, client, name),
-            Call::Receive(bytes) => book.receive(alloc, bytes),
+    /// Those of [`Desk::ask`] and [`Desk::leave`].
+    pub fn make(self, alloc: Global, desk: &mut Desk) -> Result<Stepped, BookError> {
+        match self {
+            Call::Ask {
+                client,
+                name,
+                mode,
+                ticket,
+            } => desk.ask(alloc, client, name, mode, ticket),
+            Call::Leave { client, name } => desk.leave(alloc, client, name),
         }
     }
 }

@@ -1,169 +1,330 @@
-ghost use Rattle.std.specs.Prelude.{◌≡◌, ◌↔◌, ℕ, ◌≤◌, ◌<◌, ◌+◌, ◌-◌, ◌*◌, List, map, IsErrOf, IfOk, IfSome, MatchResult, OnOk, vec_len, length};
-ghost use Rattle.ra_world.specs.Traffic.{Move};
-ghost use Rattle.ra_world.specs.Run.{IsRun};
-ghost use Rattle.ra_world.specs.World.{Reports};
-ghost use Rattle.ra_world.specs.MainTheorem.{MainTheorem};
-ghost use Rattle.ra_cluster.specs.LockOrder.{IsOutOfOrder, IsUnreleased};
-ghost use Rattle.ra_cluster.specs.Plan.{MeetsPlan, IsQuietEnd, locks_of};
-ghost use Rattle.ra_cluster.specs.Outcome.{IsDone, IsOfThreads};
+//! A whole cluster in one value.
+ghost use Rattle.std.specs.Prelude.{◌≡◌, ◌↔◌, ◌<◌, ◌≤◌, IfOk, IfSome, IsNone, IsErrOf, IsOkUnless, All, vec_len};
+ghost use Rattle.ra_stamp.specs.NodeId.{IsNodeNumber};
+ghost use Rattle.ra_cluster.specs.Book.{HasHistory};
+ghost use Rattle.ra_cluster.specs.ClientGrant.{IsGrantOf};
+ghost use Rattle.ra_cluster.specs.Settled.{IsCluster, start_of};
+ghost use Rattle.ra_cluster.specs.Sites.{AreSitesWith};
 
-use crate::lock_order::check_script;
-use crate::outcome::settle_script;
+use crate::site::stop_all;
 use crate::sites::make_sites;
-use crate::threads::{ScriptRun, run_threads};
-use crate::{Book, Gate, Grant, Post, Settled, Site, Stop};
-use ra_schedule::Script;
-use ra_stamp::Memory;
-use std::alloc::{AllocError, AllocFailed, Global};
-use std::sync::{Mutex, Wait};
+use crate::{Book, Gate, Grant, Inbox, NewPostError, Post, Site, SiteError, Stop};
+use ra_stamp::{Mode, Name, NodeId};
+use std::alloc::Global;
+use std::marker::Model;
+use std::sync::Wait;
+use std::thread;
 use std::thread::Threads;
 use thiserror::Error;
 
-/// Why threads did not bring a script to its end. It prints as its name.
+/// Why a call of a cluster failed.
 #[derive(Clone, Copy, Debug, PartialEq, Eq, Error)]
 #[error("{:?}", self)]
-pub enum ClusterError {
-    /// A client locks a name that is not above every name that it then holds.
-    OutOfOrder,
-    /// A client holds a name at its end.
-    Unreleased,
-    /// A node was stopped, for this cause.
-    #[error("Fault")]
-    Fault(Stop),
-    /// The nodes did not record a run of the cluster, or not one in which each grant was given exactly once.
-    Settle,
-    /// What became of the clients' requests is not what the script says.
-    PlanUnmet,
-    /// A message was lost.
-    Lost,
-    /// A message is still under way.
-    UnderWay,
-    /// Memory ran out.
-    Memory,
+pub enum CallError {
+    /// The cluster has no node with this number.
+    NoNode,
+    /// The call of the node's site failed.
+    #[error(transparent)]
+    Site(SiteError),
 }
 
-impl From<Memory> for ClusterError {
-    ghost use Rattle.ra_cluster.specs.declared.cluster.ClusterError.TheVariants.{Memory};
+/// What a client did while it held a name, and whether it gave the name back.
+#[derive(Debug, Drop)]
+pub struct Held<T> {
+    /// The grant of the name.
+    pub grant: Grant,
+    /// What the closure returned.
+    pub value: T,
+    /// Whether the name was given back. If not, the client still holds it.
+    pub unlocked: Result<(), SiteError>,
+}
 
-    ghost from_gives = { λ _ fault. fault ≡ Memory };
+/// The nodes of a cluster that run on the threads of one process: the sites of nodes 1 to n with one start, the post
+/// between them with its inboxes, and the gate that is asked before each step. Threads share it. Contracts see the
+/// number of nodes and the start.
+///
+/// While clients lock and unlock names, each node needs a thread that carries its frames: [`Cluster::run`] starts and ends
+/// these threads. At the end [`Cluster::close`] returns the books, which [`settle`](crate::settle) takes as they are.
+#[derive(Drop)]
+pub struct Cluster<G> {
+    start: u64,
+    sites: Vec<Site>,
+    post: Post,
+    inboxes: Vec<Inbox>,
+    /// Empty, with room for the book of each node, so that a cluster can be closed without allocating.
+    books: Vec<Book>,
+    gate: G,
+}
 
-    fn from(_refused: Memory) -> ClusterError {
-        ClusterError::Memory
+impl<G> Model for Cluster<G> {
+    ghost use Rattle.std.specs.Prelude.{◌≡◌, ◌≤◌, [], vec_len, vec_capacity};
+    ghost use Rattle.std.specs.List.{range_with_len};
+    ghost use Rattle.ra_stamp.specs.NodeId.{IsNodeNumber};
+    ghost use Rattle.ra_cluster.specs.Cluster.{ClusterState};
+
+    ghost Value = { ClusterState };
+
+    ghost view = { λ c. record { nodes = vec_len c.sites; start = c.start } };
+
+    ghost invariant = { λ c. IsNodeNumber (vec_len c.sites) × (c.sites.items ≡ range_with_len 1 (vec_len c.sites))
+        × (c.books.items ≡ []) × (vec_len c.sites ≤ vec_capacity c.books) };
+}
+
+impl<G: Gate + Drop> Cluster<G> {
+    /// Makes a cluster of this many nodes, in which nothing has happened yet. The highest number of each resource
+    /// begins at `start`, 0 to 2^64-1. The cost is linear in the number of nodes.
+    ///
+    /// # Errors
+    ///
+    /// The first that holds:
+    ///
+    /// 1. `BadCount`: the number of nodes is not 1 to 64.
+    /// 2. `Memory`: memory ran out.
+    pub fn new(alloc: Global, nodes: u16, start: u64, gate: G) -> Result<Cluster<G>, NewPostError>
+        ensures nodes { IfOk result (λ cluster. cluster.nodes ≡ nodes) }
+        ensures start { IfOk result (λ cluster. cluster.start ≡ start) }
+        ensures bad_count { IsErrOf result NewPostError.BadCount ↔ (IsNodeNumber nodes → ⊥) }
+        // Memory is the only other error.
+        ensures allowed { IsOkUnless result NewPostError.Memory ↔ IsNodeNumber nodes }
+    {
+        let (post, inboxes) = Post::new(alloc, nodes)?;
+        let Ok(sites) = make_sites(alloc, nodes, start) else {
+            return Err(NewPostError::Memory);
+        };
+        let mut books = Vec::new(alloc);
+        books.reserve(sites.len())?;
+        Ok(Cluster {
+            start,
+            sites,
+            post,
+            inboxes,
+            books,
+            gate,
+        })
     }
-}
 
-/// Runs a script by threads: one for each node and one for each client. A client's thread does the client's operations
-/// one after the other, at the client's site. Once the clients' threads have ended, the post is closed; once the nodes'
-/// threads have ended, the books settle. The numbers begin at 0. If the result is Ok, nobody waits or is queued, and no
-/// message was lost or repeated or is under way. There are as many requests as locks in the script, and with N nodes
-/// 2(N-1) times as many messages.
-///
-/// Nothing bounds how long the threads wait. Each client has to take its names in ascending order and to hold none at
-/// its end, since clients that take names in different orders can wait for each other forever.
-///
-/// The cost is that of [`run_threads`] and [`settle_script`]. Before them, for each lock of a client, the client's
-/// operations are searched up to the unlock.
-///
-/// # Errors
-///
-/// The first that holds, except that `Memory` may come before any but the first two:
-///
-/// 1. `OutOfOrder`: a client locks a name that is not above, by bytes, every name that it then holds. No thread was
-///    started.
-/// 2. `Unreleased`: a client holds a name at its end. No thread was started.
-/// 3. `Fault`: a node was stopped, with the cause at the lowest such node.
-/// 4. `Settle`: the books do not settle, or not with what the clients were granted.
-/// 5. `PlanUnmet`: the marks of a client are not those of its operations in order, or a client is queued.
-/// 6. `Lost`: a message was lost.
-/// 7. `UnderWay`: a message is under way.
-/// 8. `Memory`: memory ran out.
-pub fn run_cluster<R: Threads + Wait + Sync, G: Gate>(
-    rt: &R,
-    alloc: Global,
-    script: &Script,
-    gate: &G,
-) -> Result<Settled, ClusterError>
-    ensures out_of_order { IsErrOf result ClusterError.OutOfOrder ↔ IsOutOfOrder script.now }
-    ensures unreleased { IsErrOf result ClusterError.Unreleased
-        ↔ ((IsOutOfOrder script.now → ⊥) × IsUnreleased script.now) }
-    // The report is that of a run of the steps at the script's nodes, with numbers that begin at 0.
-    ensures run { IfOk result (λ settled. (moves : List Move)
-        × (map (λ move. move.step) moves ≡ settled.steps.items)
-        × IsRun script.now.nodes 0 moves × Reports script.now.nodes 0 moves settled.report) }
-    ensures main_theorem { IfOk result (λ settled. MainTheorem script.now.nodes settled.report) }
-    ensures plan { IfOk result (λ settled. MeetsPlan script.now settled.report.marks.items) }
-    ensures ended { IfOk result (λ settled. IsQuietEnd settled.report) }
-    ensures unrepeated { IfOk result (λ settled. settled.report.repeated ≡ 0) }
-    // No request waits, each lock of the script was requested, and in all two messages were sent for each lock and
-    // other node.
-    ensures none_waits { IfOk result (λ settled. settled.report.waiting ≡ 0) }
-    ensures requests { IfOk result (λ settled. settled.report.requests ≡ locks_of script.now) }
-    ensures count { IfOk result (λ settled. settled.report.sent
-        ≡ 2 * (script.now.nodes - 1) * locks_of script.now) }
-{
-    check_script(script)?;
-    run_in_order(rt, alloc, script, gate)
-}
-
-/// Runs a script that threads can run, and settles the books.
-///
-/// # Errors
-///
-/// Those of `run_cluster`, except for the first two.
-fn run_in_order<R: Threads + Wait + Sync, G: Gate>(
-    rt: &R,
-    alloc: Global,
-    script: &Script,
-    gate: &G,
-) -> Result<Settled, ClusterError>
-    ensures { MatchResult result (IsDone script.now) IsOfThreads }
-{
-    let (books, grants) = books_of(rt, alloc, script, gate)?;
-    settle_script(alloc, script, &books, &grants)
-}
-
-/// Runs a script by threads at sites of its own, and returns their books in order, and what the clients were granted.
-fn books_of<R: Threads + Wait + Sync, G: Gate>(
-    rt: &R,
-    alloc: Global,
-    script: &Script,
-    gate: &G,
-) -> Result<(Vec<Book>, Vec<Grant>), Memory> {
-    let sites = make_sites(alloc, script.nodes(), 0)?;
-    let grants = run_at(rt, alloc, script, &sites, gate)?;
-    let books = close_all(alloc, sites)?;
-    Ok((books, grants))
-}
-
-/// Runs a script by threads at these sites, with a post between them, and returns what the clients were granted.
-fn run_at<R: Threads + Wait + Sync, G: Gate>(
-    rt: &R,
-    alloc: Global,
-    script: &Script,
-    sites: &[Site],
-    gate: &G,
-) -> Result<Vec<Grant>, Memory> {
-    // A script has 1 to 64 nodes, so only `Memory` can come.
-    let Ok((post, inboxes)) = Post::new(alloc, script.nodes()) else {
-        return Err(Memory);
-    };
-    let grants = Mutex::new(Vec::new(alloc));
-    let run = ScriptRun {
-        script,
-        sites,
-        post: &post,
-        grants: &grants,
-        gate,
-    };
-    run_threads(rt, alloc, &run, &inboxes);
-    Ok(grants.into_inner())
-}
-
-/// Gives up the locks of all sites, and returns their books in order.
-fn close_all(alloc: Global, sites: Vec<Site>) -> Result<Vec<Book>, Memory> {
-    let mut books = Vec::new(alloc);
-    for site in sites {
-        books.push(site.close())?;
+    /// Returns how many nodes there are, 1 to 64. It does not allocate.
+    pub fn nodes(&self) -> u16
+        ensures { result ≡ self.now.nodes }
+    {
+        self.sites.len() as u16
     }
-    Ok(books)
+
+    /// Returns the site of a node, whose readers tell its state, or `None` if there is no such node. It does not
+    /// allocate.
+    pub fn site(&self, node: NodeId) -> Option<&Site>
+        ensures found { IfSome result (λ site. site.now ≡ node) }
+        ensures absent { IsNone result ↔ self.now.nodes < node }
+    {
+        self.sites.get(usize::from(node.get()) - 1)
+    }
+
+    /// Returns the site of a node, and all sites, or `None` if there is no such node.
+    fn site_among_all(&self, node: NodeId) -> Option<(&Site, &[Site])>
+        ensures found { IfSome result (λ found. found.0.now ≡ node) }
+        ensures all { IfSome result (λ found. AreSitesWith found.0.now found.1.now) }
+        ensures absent { IsNone result ↔ self.now.nodes < node }
+    {
+        match self.site(node) {
+            Some(site) => Some((site, self.sites.as_slice())),
+            None => None,
+        }
+    }
+
+    /// Returns the gate that is asked before each step.
+    pub(crate) fn gate(&self) -> &G {
+        &self.gate
+    }
+
+    /// Runs a thread in [`Cluster::pump`] for each node and, in this thread, the closure, in which clients may lock and
+    /// unlock names, also on threads of their own. When the closure has returned, closes the post, joins the threads of the
+    /// nodes, and returns what the closure returned. After that no frame is carried any more. If a thread cannot be started,
+    /// the cluster is stopped with `Spawn` and the closure is called all the same; then each call of a client is refused.
+    ///
+    /// The closure must not return before its clients' threads have ended, so start them in a scope or join them.
+    pub fn run<R: Threads + Wait + Sync, T, F: FnOnce() -> T>(
+        &self,
+        rt: &R,
+        alloc: Global,
+        clients: F,
+    ) -> T
+        requires { F.pre clients }
+        ensures { F.post clients result }
+    {
+        thread::scope(
+            thread::scope_env(),
+            rt,
+            move |pumps| -> T
+                requires { F.pre clients }
+                ensures { F.post clients result }
+            {
+                for number in 1..=self.nodes() {
+                    let pump = move || self.pump_number(rt, alloc, number);
+                    if pumps.spawn(pump).is_err() {
+                        self.stop(rt, Stop::Spawn);
+                    }
+                }
+                let value = clients();
+                self.close_post(rt);
+                value
+            },
+        )
+    }
+
+    /// Does what `pump` does for the node with this number.
+    fn pump_number<R: Wait>(&self, rt: &R, alloc: Global, number: u16) {
+        if let Some(node) = NodeId::new(number) {
+            self.pump(rt, alloc, node);
+        }
+    }
+
+    /// Asks for a name for a client of a node, and waits until the client holds it, as [`Site::lock`] does.
+    ///
+    /// # Errors
+    ///
+    /// The first that comes:
+    ///
+    /// 1. `NoNode`: the cluster has no such node.
+    /// 2. `Site`: as [`Site::lock`] says.
+    pub fn lock<R: Wait>(
+        &self,
+        rt: &R,
+        alloc: Global,
+        node: NodeId,
+        client: u32,
+        name: Name,
+        mode: Mode,
+    ) -> Result<Grant, CallError>
+        ensures node { IfOk result (λ grant. grant.entry.stamp.node ≡ node) }
+        ensures client { IfOk result (λ grant. grant.entry.client ≡ client) }
+        ensures name { IfOk result (λ grant. grant.entry.name ≡ name) }
+        ensures mode { IfOk result (λ grant. grant.entry.mode ≡ mode) }
+        ensures no_node { IsErrOf result CallError.NoNode ↔ self.now.nodes < node }
+    {
+        let Some((site, sites)) = self.site_among_all(node) else {
+            return Err(CallError::NoNode);
+        };
+        let (post, gate) = (&self.post, &self.gate);
+        match site.lock(rt, alloc, client, name, mode, post, sites, gate) {
+            Ok(grant) => Ok(grant),
+            Err(refused) => Err(CallError::Site(refused)),
+        }
+    }
+
+    /// Gives back the name that a client of a node holds, as [`Site::unlock`] does.
+    ///
+    /// # Errors
+    ///
+    /// The first that holds, and nothing was given back:
+    ///
+    /// 1. `NoNode`: the cluster has no such node.
+    /// 2. `Site`: as [`Site::unlock`] says.
+    pub fn unlock<R: Wait>(
+        &self,
+        rt: &R,
+        alloc: Global,
+        node: NodeId,
+        client: u32,
+        name: Name,
+    ) -> Result<(), CallError>
+        ensures no_node { IsErrOf result CallError.NoNode ↔ self.now.nodes < node }
+    {
+        let Some((site, sites)) = self.site_among_all(node) else {
+            return Err(CallError::NoNode);
+        };
+        let (post, gate) = (&self.post, &self.gate);
+        match site.unlock(rt, alloc, client, name, post, sites, gate) {
+            Ok(()) => Ok(()),
+            Err(refused) => Err(CallError::Site(refused)),
+        }
+    }
+
+    /// Locks a name as [`Cluster::lock`] does, calls the closure while the client holds it, and then unlocks it,
+    /// whatever the closure returned. If the unlock is refused the client still holds the name. Then
+    /// [`Cluster::unlock`] can be called again; unless that succeeds the cluster has to be stopped, or other clients
+    /// wait forever.
+    ///
+    /// # Errors
+    ///
+    /// Those of [`Cluster::lock`]. The closure was not called.
+    pub fn with_lock<R: Wait, T, F: FnOnce(Grant) -> T + Drop>(
+        &self,
+        rt: &R,
+        alloc: Global,
+        node: NodeId,
+        client: u32,
+        name: Name,
+        mode: Mode,
+        does: F,
+    ) -> Result<Held<T>, CallError>
+        requires { (grant : Grant) → IsGrantOf node client name mode grant → F.pre does grant }
+        ensures grant { IfOk result (λ held. IsGrantOf node client name mode held.grant) }
+        ensures done { IfOk result (λ held. F.post does held.grant held.value) }
+        ensures no_node { IsErrOf result CallError.NoNode ↔ self.now.nodes < node }
+    {
+        let Some((site, sites)) = self.site_among_all(node) else {
+            return Err(CallError::NoNode);
+        };
+        let (post, gate) = (&self.post, &self.gate);
+        let grant = match site.lock(rt, alloc, client, name, mode, post, sites, gate) {
+            Ok(grant) => grant,
+            Err(refused) => return Err(CallError::Site(refused)),
+        };
+        // The closure has a copy of its own.
+        let given = grant;
+        let value = does(given);
+        let unlocked = site.unlock(rt, alloc, client, name, post, sites, gate);
+        Ok(Held {
+            grant,
+            value,
+            unlocked,
+        })
+    }
+
+    /// Hands a node each frame that comes for it, until the post is closed, as [`Site::pump`] does. [`Cluster::run`] calls
+    /// it. It returns at once if there is no such node.
+    pub fn pump<R: Wait>(&self, rt: &R, alloc: Global, node: NodeId) {
+        let Some(inbox) = self.inboxes.get(usize::from(node.get()) - 1) else {
+            return;
+        };
+        if let Some((site, sites)) = self.site_among_all(node) {
+            site.pump(rt, alloc, inbox, &self.post, sites, &self.gate);
+        }
+    }
+
+    /// Stops each node for this cause, from node 1 up, as [`Site::stop`] does, and then closes the post, which ends the
+    /// threads in [`Cluster::pump`]. A frame that comes to the post later counts as lost. The cost is linear in the number
+    /// of nodes.
+    pub fn stop<R: Wait>(&self, rt: &R, stop: Stop) {
+        stop_all(rt, self.sites.as_slice(), stop);
+        self.close_post(rt);
+    }
+
+    /// Closes the post, so that the threads in [`Cluster::pump`] end, as [`Post::close`] does.
+    pub fn close_post<R: Wait>(&self, rt: &R) {
+        self.post.close(rt);
+    }
+
+    /// Consumes the cluster, and returns the books of its nodes in their order. They are a cluster, as
+    /// [`settle`](crate::settle) requires. It does not allocate. The cost is linear in the number of nodes.
+    pub fn close(self, alloc: Global) -> Vec<Book>
+        ensures cluster { IsCluster result.items }
+        ensures count { vec_len result ≡ self.nodes }
+        ensures start { start_of result.items ≡ self.start }
+        ensures histories { All HasHistory result.items }
+    {
+        let Cluster {
+            start,
+            sites,
+            post: _,
+            inboxes: _,
+            mut books,
+            gate: _,
+        } = self;
+        let nodes = sites.len() as u16;
+        for site in sites {
+            books.push_reserved(site.close_as(alloc, nodes, start));
+        }
+        books
+    }
 }

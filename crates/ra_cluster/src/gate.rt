@@ -2,14 +2,25 @@ use ra_stamp::{Entry, NodeId};
 
 /// What watches a cluster, and may stop it. The threads of the cluster share it.
 pub trait Gate: Sync {
-    /// Is called under the lock of this node, just before each ask, leave and receipt of its book. The answer `false` stops the
-    /// cluster, and the call is not made. It must call no site of the cluster, since that would wait for a lock that its own
-    /// thread has.
+    /// Is called under the lock of this node, just before each ask, leave and receipt of its book. The answer `false` stops
+    /// the cluster, and the call is not made. It must call no site of the cluster, since that would wait for a lock that its
+    /// own thread has.
     fn step(&self, node: NodeId) -> bool;
 
     /// Is called by the client threads of [`run_threads`](crate::run_threads), and so of [`run_cluster`](crate::run_cluster), after
     /// each grant, with no lock held. The answer `false` stops the cluster.
     fn inside(&self, entry: &Entry) -> bool;
+}
+
+/// A gate that is lent is a gate.
+impl<G: Gate> Gate for &G {
+    fn step(&self, node: NodeId) -> bool {
+        (**self).step(node)
+    }
+
+    fn inside(&self, entry: &Entry) -> bool {
+        (**self).inside(entry)
+    }
 }
 
 /// The gate that lets everything pass. Its calls do not allocate.

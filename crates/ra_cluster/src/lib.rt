@@ -6,20 +6,22 @@
 //!
 //! # What a service does
 //!
-//! - It makes a [`Cluster`], and starts a thread for each node, in [`Cluster::pump`].
-//! - Its own threads lock and unlock names with [`Cluster::with_lock`], or with [`Cluster::lock`] and
-//!   [`Cluster::unlock`], and end if a node is stopped.
-//! - At the end it closes the post, joins the threads of the nodes and closes the cluster, and [`settle`] shows the
-//!   run.
+//! - It makes a [`Cluster`], and has [`Cluster::run`] run its clients: a closure, which may start threads. While the
+//!   closure runs, each node has a thread that carries its frames.
+//! - The clients lock and unlock names with [`Cluster::with_lock`], or with [`Cluster::lock`] and [`Cluster::unlock`],
+//!   and end if a node is stopped.
+//! - At the end it closes the cluster, and [`settle`] shows the run.
 //!
-//! docs/EMBEDDING.md explains the shortest such program line by line, and also how to use a [`Site`] for each node and
-//! the [`Post`] by themselves. [`run_cluster`] does all of it for a script; [`run_threads`] and [`settle_script`] are
-//! its two halves, for a caller that makes the sites.
+//! docs/EMBEDDING.md explains the shortest such program line by line, and also how to start the threads of the nodes
+//! yourself, and how to use a [`Site`] for each node and the [`Post`] by themselves. [`run_cluster`] does all of it for
+//! a script; [`run_threads`] and [`settle_script`] are its two halves, for a caller that makes the cluster.
 #![tactic(auto)]
 
 mod book;
 mod call;
 mod cluster;
+mod cluster_run;
+mod desk;
 mod error;
 mod event;
 mod event_effect;
@@ -32,7 +34,6 @@ mod heard;
 mod keeping;
 mod keys;
 mod laws;
-mod letter;
 mod lock_order;
 mod losses;
 mod outcome;
@@ -44,14 +45,15 @@ mod settle_books;
 mod settled;
 mod settled_laws;
 mod site;
-mod site_cluster;
 mod sites;
 mod stop;
 mod stop_causes;
 mod threads;
+mod ticket;
 
 pub use book::Book;
-pub use cluster::{ClusterError, run_cluster};
+pub use cluster::{CallError, Cluster, Held};
+pub use cluster_run::{ClusterError, run_cluster};
 pub use error::{BookError, MarkLostError, SettleError};
 pub use event::{BookEvent, BookKind, Events};
 pub use event_effect::Posted;
@@ -65,6 +67,6 @@ pub use sent::{Frames, Sent};
 pub use settle_books::{is_cluster, settle};
 pub use settled::Settled;
 pub use site::{Site, SiteError};
-pub use site_cluster::{CallError, Cluster, Held};
+pub use sites::is_site_of;
 pub use stop::Stop;
 pub use threads::{ScriptRun, run_threads};

@@ -1,9 +1,8 @@
-ghost use Rattle.std.specs.Prelude.{◌≡◌, ◌↔◌, ◌≤◌, ◌<◌, ◌+◌, length, map, vec_len, IfOk, IsErrOf, IsOkUnless, MatchResult};
+ghost use Rattle.std.specs.Prelude.{◌≡◌, ◌↔◌, ◌≤◌, ◌<◌, ◌+◌, All, length, vec_len, IfOk, IfSome, IsErrOf, IsOkUnless, MatchResult};
 ghost use Rattle.ra_stamp.specs.NodeId.{IsNodeNumber};
 ghost use Rattle.ra_frame.specs.Fits.{Fits};
 
-use crate::letter::{FrameSender, Letter, send_to};
-use crossbeam_channel::{Receiver, unbounded};
+use crossbeam_channel::{Receiver, Sender, unbounded};
 use ra_frame::{Frame, encode};
 use ra_stamp::{Memory, NodeId};
 use std::alloc::{AllocError, AllocFailed, Global};
@@ -49,6 +48,12 @@ pub enum SendError {
     /// There is no memory for it, or no inbox of its node, or the inbox is gone.
     Refused,
 }
+
+/// How many frames a node takes from its inbox at most, before others have a turn at its lock.
+const MOST_AT_ONCE: u8 = 64;
+
+/// What takes the bytes of the frames for one node.
+type FrameSender = Sender<Vec<u8>>;
 
 /// Where the frames for one node come, each as its bytes.
 #[derive(Drop)]
@@ -119,23 +124,54 @@ impl Post {
         }
     }
 
-    /// Sends letters, each whether or not the ones before were sent; none where the post is closed. No close comes between them.
-    pub(crate) fn send_all<R: Wait>(&self, rt: &R, letters: &mut [Letter])
-        ensures { map (λ letter. letter.frame) letters.new ≡ map (λ letter. letter.frame) letters.old }
+    /// Sends frames one after the other, up to the first that is refused. Returns that one and those after it, which
+    /// were not tried, or `None` if all were sent. No close comes between two frames.
+    pub(crate) fn send_up_to<'a, R: Wait>(
+        &self,
+        rt: &R,
+        alloc: Global,
+        frames: &'a [Frame],
+    ) -> Option<(&'a Frame, &'a [Frame])>
+        requires { All Fits frames.now }
+        ensures fewer { IfSome result (λ left. length left.1.now < length frames.now) }
+        ensures fit { IfSome result (λ left. All Fits left.1.now) }
     {
         let senders = self.senders.read(rt);
-        let Some(senders) = senders.as_ref() else {
-            return;
-        };
-        for letter in letters {
-            letter.send(rt, senders);
+        for place in 0..frames.len() {
+            let frame = &frames[place];
+            let is_sent = match senders.as_ref() {
+                Some(senders) => send_frame(rt, alloc, senders, frame),
+                None => false,
+            };
+            if !is_sent {
+                return Some((frame, &frames[place + 1..]));
+            }
         }
+        None
     }
 
     /// Closes the post: no frame is sent from now on, and each inbox is closed once it is empty. It may wait for other calls
     /// of the post, and does not allocate.
     pub fn close<R: Wait>(&self, rt: &R) {
         *self.senders.write(rt) = None;
+    }
+}
+
+/// Sends the bytes of a frame to the inbox of its node. Returns whether that succeeded.
+fn send_frame<R: Wait>(rt: &R, alloc: Global, senders: &[FrameSender], frame: &Frame) -> bool
+    requires { Fits frame.now }
+{
+    match encode(alloc, frame) {
+        Ok(bytes) => send_to(rt, senders, frame.message.to(), bytes),
+        Err(Memory) => false,
+    }
+}
+
+/// Sends the bytes of a frame to the inbox of a node. Returns whether it took them.
+fn send_to<R: Wait>(rt: &R, senders: &[FrameSender], node: NodeId, bytes: Vec<u8>) -> bool {
+    match senders.get(usize::from(node.get()) - 1) {
+        Some(sender) => sender.send(rt, bytes).is_ok(),
+        None => false,
     }
 }
 
@@ -154,8 +190,28 @@ fn open_inbox(
 }
 
 impl Inbox {
-    /// Waits for the next frame, and returns its bytes, or `None` once the inbox is empty and the post closed.
-    pub(crate) fn next<R: Wait>(&self, rt: &R) -> Option<Vec<u8>> {
-        self.frames.recv(rt).ok()
+    /// Waits for the next frame, and puts its bytes into the list, and those of the frames that have come by then, up to
+    /// [`MOST_AT_ONCE`] in all. Returns `false` if the inbox is empty and the post closed. A frame for which the list has no
+    /// room stays in the inbox.
+    ///
+    /// # Errors
+    ///
+    /// `Memory`: there is no room for the first frame.
+    pub(crate) fn take<R: Wait>(&self, rt: &R, taken: &mut Vec<Vec<u8>>) -> Result<bool, Memory> {
+        taken.reserve(1)?;
+        let Ok(first) = self.frames.recv(rt) else {
+            return Ok(false);
+        };
+        taken.push_reserved(first);
+        for _ in 1..MOST_AT_ONCE {
+            if taken.reserve(1).is_err() {
+                break;
+            }
+            let Ok(next) = self.frames.try_recv(rt) else {
+                break;
+            };
+            taken.push_reserved(next);
+        }
+        Ok(true)
     }
 }

@@ -1,16 +1,17 @@
-ghost use Rattle.std.specs.Prelude.{◌≡◌, ◌↔◌, ◌≤◌, ◌<◌, ℕ, All, length, IfOk, IfSome, IsErrOf, IsOkUnless};
+ghost use Rattle.std.specs.Prelude.{◌≡◌, ◌↔◌, ◌≤◌, ◌<◌, ℕ, All, length, IfOk, IfSome, IsErrOf, IsOkUnless, IsTrue};
 ghost use Rattle.ra_stamp.specs.NodeId.{IsNodeNumber};
 ghost use Rattle.ra_frame.specs.Fits.{Fits};
 
 use crate::call::Call;
-use crate::letter::{Letter, letters_of};
+use crate::desk::{Desk, Stepped};
 use crate::stop_causes::stop_of;
-use crate::{Book, BookError, Gate, Grant, Inbox, NewError, Post, Posted, Stop};
+use crate::ticket::Ticket;
+use crate::{Book, BookError, Gate, Grant, Inbox, NewError, Post, Stop};
 use ra_frame::Frame;
-use ra_stamp::{Entry, Mark, Memory, Mode, Name, NodeId};
+use ra_stamp::{Entry, Memory, Mode, Name, NodeId};
 use std::alloc::Global;
 use std::marker::Model;
-use std::sync::{Condvar, Mutex, Wait};
+use std::sync::{Mutex, Wait};
 use thiserror::Error;
 
 /// Why a call of a site did not do what it is for. Both print the word of what they wrap, and some words are in both: after
@@ -27,21 +28,34 @@ pub enum SiteError {
     Stopped(Stop),
 }
 
-/// A node that threads share: its number, and its book under a lock. Contracts see the number.
+/// Why a node did not make a step.
+#[derive(Clone, Copy)]
+enum Halt {
+    /// The gate answered `false`.
+    Gate,
+    /// The book refused it.
+    Refused(BookError),
+}
+
+/// A node that threads share: its number, and its book under a lock, with the clients that wait. Contracts see the number.
 ///
-/// The calls that step the node take, beside what the book's call takes: the post that carries its frames, all sites of the
-/// cluster in the order of their nodes, this one among them, and the gate that watches. Under the lock they ask the gate and
-/// call the book; the frames are sent after the lock is given back. No thread ever has the locks of two books. A frame that
-/// the post does not take is flagged as lost, and then each site is stopped, which ends all waiting of clients at them.
+/// Besides what the book's call takes, `lock`, `unlock` and `pump` take the post that carries the frames, the sites of all
+/// nodes in order, and the gate that watches. Their contracts require these sites, since a lost frame has to stop them all;
+/// [`is_site_of`](crate::is_site_of) tests it. Under the lock these calls ask the gate and call the book. The frames are
+/// sent after the lock is given back, and no thread ever has the locks of two books. A frame that the post does not take is
+/// flagged as lost, and then each site is stopped, which ends the waits of all clients.
 ///
-/// Each such call costs what the book's call costs and the sending of the frames; where its event lets a client in, waking all
-/// clients that wait at the node, for whatever name; and for each frame that the post does not take, what [`Book::mark_lost`] costs.
+/// A client that waits has a ticket of its own. When an event lets it in, its thread is told by this ticket after the lock
+/// is given back, and no other thread is woken. A stop wakes all.
+///
+/// Each such call costs what the book's call costs and the sending of the frames; if its event lets a client in, time
+/// linear in the number of clients that wait at the node; and for each frame that the post does not take, what
+/// [`Book::mark_lost`] costs.
 #[derive(Drop)]
 pub struct Site {
     node: NodeId,
-    book: Mutex<Book>,
-    /// Tells those who wait that a client was let in, or that the node was stopped. Nothing else ends a wait.
-    turned: Condvar,
+    alloc: Global,
+    desk: Mutex<Desk>,
 }
 
 impl Model for Site {
@@ -55,6 +69,7 @@ impl Model for Site {
 impl Site {
     ghost use Rattle.ra_cluster.specs.Book.{HasHistory};
     ghost use Rattle.ra_cluster.specs.ClientGrant.{IsGrantOf};
+    ghost use Rattle.ra_cluster.specs.Sites.{AreSitesWith};
 
     /// Makes the site of node `me` of `nodes`, with a book in which nothing has happened yet. The highest number of each
     /// resource begins at `start`, 0 to 2^64-1, which is to be the same at all nodes. It does not allocate.
@@ -74,13 +89,19 @@ impl Site {
         let book = Book::new(alloc, me, nodes, start)?;
         Ok(Site {
             node: me,
-            book: Mutex::new(book),
-            turned: Condvar::new(),
+            alloc,
+            desk: Mutex::new(Desk::new(alloc, book)),
         })
     }
 
-    /// Asks for a name for a client, and waits until the client holds it, which is looked for before a fault. Nothing bounds
-    /// the wait, and clients that hold names while they ask for others may wait for each other for ever, unless all take
+    /// Returns the number of its node. It does not allocate.
+    pub fn node(&self) -> NodeId
+        ensures { result ≡ self.now }
+    {
+        self.node
+    }
+
+    /// Asks for a name for a client, and waits until the client holds it. Nothing bounds the wait, and clients that hold names while they ask for others may wait for each other for ever, unless all take
     /// their names in one order. A client that queues behind another of its node gets its number when its turn comes; where the last
     /// one, 2^64-1, was used by then, its turn never comes, and it waits until somebody stops the node.
     ///
@@ -90,9 +111,9 @@ impl Site {
     ///
     /// 1. `Stopped`: the gate answered `false`. Nothing was asked. The cause is the one that the node keeps, of an earlier stop
     ///    where there was one.
-    /// 2. `Refused`: the book refused it, as [`Book::ask`] says, with `Failed` where the node was stopped before. Nothing was
-    ///    asked.
-    /// 3. `Stopped`: the node was stopped while the client waited, and its request stands in the book.
+    /// 2. `Refused`: the book refused it, as [`Book::ask`] says, with `Failed` if the node was stopped before. Nothing was
+    ///    asked. `Memory` also comes if there is none for the wait.
+    /// 3. `Stopped`: the node was stopped before the client was let in, and its request stays in the book.
     pub fn lock<R: Wait, G: Gate>(
         &self,
         rt: &R,
@@ -104,14 +125,34 @@ impl Site {
         sites: &[Site],
         gate: &G,
     ) -> Result<Grant, SiteError>
+        requires { AreSitesWith self.now sites.now }
         ensures node { IfOk result (λ grant. grant.entry.stamp.node ≡ self.now) }
         ensures client { IfOk result (λ grant. grant.entry.client ≡ client) }
         ensures name { IfOk result (λ grant. grant.entry.name ≡ name) }
         ensures mode { IfOk result (λ grant. grant.entry.mode ≡ mode) }
     {
-        let call = Call::Ask { client, name, mode };
-        self.step(rt, alloc, &call, post, sites, gate)?;
-        self.wait_for_grant(rt, client, name, mode)
+        let Ok((mine, theirs)) = Ticket::pair(alloc) else {
+            let ticket = None;
+            let call = Call::Ask {
+                client,
+                name,
+                mode,
+                ticket,
+            };
+            return match self.step(rt, alloc, call, post, sites, gate) {
+                Ok(()) => Err(SiteError::Refused(BookError::Memory)),
+                Err(refused) => Err(refused),
+            };
+        };
+        let ticket = Some(theirs);
+        let call = Call::Ask {
+            client,
+            name,
+            mode,
+            ticket,
+        };
+        self.step(rt, alloc, call, post, sites, gate)?;
+        self.wait_for_grant(rt, &mine, client, name, mode)
     }
 
     /// Gives back the name that a client holds. It waits for locks alone.
@@ -132,13 +173,16 @@ impl Site {
         post: &Post,
         sites: &[Site],
         gate: &G,
-    ) -> Result<(), SiteError> {
+    ) -> Result<(), SiteError>
+        requires { AreSitesWith self.now sites.now }
+    {
         let call = Call::Leave { client, name };
-        self.step(rt, alloc, &call, post, sites, gate)
+        self.step(rt, alloc, call, post, sites, gate)
     }
 
     /// Hands the book each frame that comes into the inbox, until the post is closed and the inbox empty, or the book refuses
-    /// a frame, or the gate does. A refusal stops each site, for a cause that says which it was, unless the book was stopped
+    /// a frame, or the gate does. It takes frames that have come together from the inbox at once, and hands them to the book
+    /// under one taking of the lock; those after a refused one are dropped, and count as under way. A refusal stops each site, for a cause that says which it was, unless the book was stopped
     /// before. A stop does not end it by itself, but by the next frame: close the post.
     pub fn pump<R: Wait, G: Gate>(
         &self,
@@ -148,16 +192,25 @@ impl Site {
         post: &Post,
         sites: &[Site],
         gate: &G,
-    ) {
+    )
+        requires { AreSitesWith self.now sites.now }
+    {
+        let (mut taken, mut stepped) = (Vec::new(alloc), Vec::new(alloc));
         for _ in rt.forever() {
-            let Some(bytes) = inbox.next(rt) else {
-                return;
+            let received = match inbox.take(rt, &mut taken) {
+                Ok(true) => self.receive_all(rt, alloc, &taken, &mut stepped, gate),
+                Ok(false) => return,
+                Err(Memory) => Err(Halt::Refused(BookError::Memory)),
             };
-            let call = Call::Receive(bytes.as_slice());
-            if let Err(refused) = self.step(rt, alloc, &call, post, sites, gate) {
-                stop_after(rt, sites, refused);
+            for step in &stepped {
+                self.finish(rt, alloc, step, post, sites);
+            }
+            if let Err(halt) = received {
+                stop_after(rt, sites, self.halt(rt, halt, sites));
                 return;
             }
+            stepped.clear();
+            taken.clear();
         }
     }
 
@@ -165,35 +218,36 @@ impl Site {
     /// in by then, and who calls from then on, get `Stopped`, or `Refused` with `Failed`. Its pump ends when the post is closed.
     /// It waits for the lock, and does not allocate.
     pub fn stop<R: Wait>(&self, rt: &R, stop: Stop) {
-        let mut book = self.book.lock(rt);
-        book.fail(stop);
-        self.turned.notify_all();
+        let (cause, waiters) = self.desk.lock(rt).fail(self.alloc, stop);
+        for waiter in waiters {
+            waiter.ticket.tell(rt, Err(cause));
+        }
     }
 
     /// Returns the cause for which the node is stopped, or `None` where it goes on. As of each of these readers, it is so when the
     /// lock is had for it; it waits for the lock, and does not allocate.
     pub fn fault<R: Wait>(&self, rt: &R) -> Option<Stop> {
-        self.book.lock(rt).fault()
+        self.desk.lock(rt).book.fault()
     }
 
     /// Returns the request that is granted at this node on a name, or `None`.
     pub fn holder<R: Wait>(&self, rt: &R, name: &Name) -> Option<Entry> {
-        self.book.lock(rt).holder(name)
+        self.desk.lock(rt).book.holder(name)
     }
 
     /// Returns how many requests of this node wait for their replies, over all names.
     pub fn waiting<R: Wait>(&self, rt: &R) -> u64 {
-        self.book.lock(rt).node().waiting()
+        self.desk.lock(rt).book.node().waiting()
     }
 
     /// Returns how many clients of this node are queued, over all names.
     pub fn queued<R: Wait>(&self, rt: &R) -> u128 {
-        self.book.lock(rt).node().queued()
+        self.desk.lock(rt).book.node().queued()
     }
 
     /// Returns how many events the book of this node has.
     pub fn events<R: Wait>(&self, rt: &R) -> u64 {
-        self.book.lock(rt).events().len()
+        self.desk.lock(rt).book.events().len()
     }
 
     /// Gives up the lock, and returns the book. It does not allocate.
@@ -202,10 +256,10 @@ impl Site {
     {
         let Site {
             node: _,
-            book,
-            turned: _,
+            alloc: _,
+            desk,
         } = self;
-        let book = book.into_inner();
+        let book = desk.into_inner().book;
         // Each reader tells that the book has a history.
         let _me = book.me();
         book
@@ -243,98 +297,122 @@ impl Site {
         &self,
         rt: &R,
         alloc: Global,
-        call: &Call<'_>,
+        call: Call,
         post: &Post,
         sites: &[Site],
         gate: &G,
     ) -> Result<(), SiteError> {
-        let Some(answer) = self.call_book(rt, alloc, call, gate) else {
-            stop_all(rt, sites, Stop::Gate);
-            return Err(SiteError::Stopped(self.cause(rt)));
-        };
-        match answer {
-            Ok(posted) => {
-                self.send(rt, alloc, posted.frames.as_slice(), post, sites);
+        match self.call_desk(rt, alloc, call, gate) {
+            Ok(stepped) => {
+                self.finish(rt, alloc, &stepped, post, sites);
                 Ok(())
             }
-            Err(refused) => Err(SiteError::Refused(refused)),
+            Err(halt) => Err(self.halt(rt, halt, sites)),
         }
     }
 
-    /// Asks the gate and makes one call of the book, all under the lock. Returns what the book answers, or `None` where the
-    /// gate answers `false`.
-    fn call_book<R: Wait, G: Gate>(
+    /// Asks the gate and makes one call of the book, all under the lock.
+    ///
+    /// # Errors
+    ///
+    /// Why the call was not made.
+    fn call_desk<R: Wait, G: Gate>(
         &self,
         rt: &R,
         alloc: Global,
-        call: &Call<'_>,
+        call: Call,
         gate: &G,
-    ) -> Option<Result<Posted, BookError>>
-        ensures fits { IfSome result (λ answer. IfOk answer (λ posted. All Fits posted.frames.items)) }
-    {
-        let mut book = self.book.lock(rt);
+    ) -> Result<Stepped, Halt> {
+        let mut desk = self.desk.lock(rt);
         if !gate.step(self.node) {
-            return None;
+            return Err(Halt::Gate);
         }
-        let answer = call.make(alloc, &mut book);
-        if lets_in(&answer) {
-            self.turned.notify_all();
+        match call.make(alloc, &mut desk) {
+            Ok(stepped) => Ok(stepped),
+            Err(refused) => Err(Halt::Refused(refused)),
         }
-        Some(answer)
     }
 
-    /// Sends the frames of an event, each whether or not the ones before it were taken. Where one was not, each site is
-    /// stopped after the last.
+    /// Hands the book frames, and asks the gate before each, all under the lock. Puts what came of each into the list.
+    ///
+    /// # Errors
+    ///
+    /// Why one of them was not received. Those before it were.
+    fn receive_all<R: Wait, G: Gate>(
+        &self,
+        rt: &R,
+        alloc: Global,
+        taken: &[Vec<u8>],
+        stepped: &mut Vec<Stepped>,
+        gate: &G,
+    ) -> Result<(), Halt> {
+        let mut desk = self.desk.lock(rt);
+        for bytes in taken {
+            if stepped.reserve(1).is_err() {
+                return Err(Halt::Refused(BookError::Memory));
+            }
+            if !gate.step(self.node) {
+                return Err(Halt::Gate);
+            }
+            match desk.receive(alloc, bytes.as_slice()) {
+                Ok(step) => stepped.push_reserved(step),
+                Err(refused) => return Err(Halt::Refused(refused)),
+            }
+        }
+        Ok(())
+    }
+
+    /// Tells the client that an event let in, and sends the event's frames.
+    fn finish<R: Wait>(
+        &self,
+        rt: &R,
+        alloc: Global,
+        stepped: &Stepped,
+        post: &Post,
+        sites: &[Site],
+    ) {
+        if let Some((ticket, grant)) = &stepped.told {
+            ticket.tell(rt, Ok(*grant));
+        }
+        self.send(rt, alloc, stepped.frames.as_slice(), post, sites);
+    }
+
+    /// Returns what a call answers that was not made. If the gate stopped it, each site is stopped first.
+    fn halt<R: Wait>(&self, rt: &R, halt: Halt, sites: &[Site]) -> SiteError {
+        match halt {
+            Halt::Gate => {
+                stop_all(rt, sites, Stop::Gate);
+                SiteError::Stopped(self.cause(rt))
+            }
+            Halt::Refused(refused) => SiteError::Refused(refused),
+        }
+    }
+
+    /// Sends the frames of an event, and flags each that the post refuses as lost. If there was one, each site is stopped
+    /// after the last.
     fn send<R: Wait>(&self, rt: &R, alloc: Global, frames: &[Frame], post: &Post, sites: &[Site])
         requires { All Fits frames.now }
     {
         if frames.is_empty() {
             return;
         }
-        let are_sent = match letters_of(alloc, frames) {
-            Ok(mut letters) => {
-                post.send_all(rt, letters.as_mut_slice());
-                self.mark_unsent(rt, letters.as_slice())
-            }
-            // No frame is lost for lack of a list. A close may come between these.
-            Err(Memory) => self.send_each(rt, alloc, frames, post),
-        };
+        let mut left = frames;
+        let mut are_sent = true;
+        while let Some((refused, others)) = post.send_up_to(rt, alloc, left) {
+            self.mark_lost(rt, refused);
+            are_sent = false;
+            left = others;
+        }
         if !are_sent {
             stop_all(rt, sites, Stop::Send);
         }
     }
 
-    /// Sends frames one by one, and flags those that were not taken as lost. Returns whether all were.
-    fn send_each<R: Wait>(&self, rt: &R, alloc: Global, frames: &[Frame], post: &Post) -> bool
-        requires { All Fits frames.now }
-    {
-        let mut are_sent = true;
-        for frame in frames {
-            if post.send(rt, alloc, frame).is_err() {
-                self.mark_lost(rt, frame);
-                are_sent = false;
-            }
-        }
-        are_sent
-    }
-
-    /// Flags the frames of letters that were not sent as lost. Returns whether there are none.
-    fn mark_unsent<R: Wait>(&self, rt: &R, letters: &[Letter]) -> bool {
-        let mut are_sent = true;
-        for letter in letters {
-            if let Some(frame) = letter.unsent() {
-                self.mark_lost(rt, frame);
-                are_sent = false;
-            }
-        }
-        are_sent
-    }
-
     /// Flags a frame that the book sent as lost.
     fn mark_lost<R: Wait>(&self, rt: &R, frame: &Frame) {
-        let mut book = self.book.lock(rt);
+        let mut desk = self.desk.lock(rt);
         // The book sent it, and nobody else flags it.
-        let _ = book.mark_lost(frame);
+        let _ = desk.book.mark_lost(frame);
     }
 
     /// Returns the cause for which the node is stopped.
@@ -343,76 +421,45 @@ impl Site {
         self.fault(rt).unwrap_or(Stop::Gate)
     }
 
-    /// Waits until a client holds a name in a mode.
+    /// Waits until a client is told that it holds a name in a mode.
     ///
     /// # Errors
     ///
-    /// `Stopped`: the node is stopped, and the client does not hold it.
+    /// `Stopped`: the node was stopped before the client was let in.
     fn wait_for_grant<R: Wait>(
         &self,
         rt: &R,
+        ticket: &Ticket,
         client: u32,
         name: Name,
         mode: Mode,
     ) -> Result<Grant, SiteError>
         ensures { IfOk result (IsGrantOf self.now client name mode) }
     {
-        let mut book = self.book.lock(rt);
         for _ in rt.forever() {
-            if let Some(outcome) = self.outcome_in(&book, client, name, mode) {
-                return outcome;
+            match ticket.wait(rt) {
+                Ok(grant) => {
+                    // It is always so, but no contract can say what another thread told.
+                    if self.is_grant_of(&grant, client, name, mode) {
+                        return Ok(grant);
+                    }
+                }
+                Err(stop) => return Err(SiteError::Stopped(stop)),
             }
-            book = self.turned.wait(rt, book);
         }
         unreachable!()
     }
 
-    /// Returns what comes of a client's wait for a name, or `None` where it goes on.
-    fn outcome_in(
-        &self,
-        book: &Book,
-        client: u32,
-        name: Name,
-        mode: Mode,
-    ) -> Option<Result<Grant, SiteError>>
-        ensures { IfSome result (λ outcome. IfOk outcome (IsGrantOf self.now client name mode)) }
+    /// Returns whether this is a grant of a name in a mode to a client of this node.
+    fn is_grant_of(&self, grant: &Grant, client: u32, name: Name, mode: Mode) -> bool
+        ensures { IsTrue result → IsGrantOf self.now client name mode grant.now }
     {
-        // Where the grant and a fault both stand, the client has been let in, and the run that settles says so.
-        if let Some(grant) = self.grant_in(book, client, name, mode) {
-            return Some(Ok(grant));
-        }
-        let stop = book.fault()?;
-        Some(Err(SiteError::Stopped(stop)))
-    }
-
-    /// Returns the grant of a name to a client of this node, where the book has it.
-    fn grant_in(&self, book: &Book, client: u32, name: Name, mode: Mode) -> Option<Grant>
-        ensures { IfSome result (IsGrantOf self.now client name mode) }
-    {
-        let entry = book.holder(&name)?;
-        let is_granted = entry.stamp.node == self.node
+        let entry = &grant.entry;
+        entry.stamp.node == self.node
             && entry.client == client
             && entry.name == name
-            && entry.mode == mode;
-        if is_granted {
-            Some(Grant { entry })
-        } else {
-            None
-        }
+            && entry.mode == mode
     }
-}
-
-/// Returns whether a book's event let a client in.
-fn lets_in(answer: &Result<Posted, BookError>) -> bool {
-    let Ok(posted) = answer else {
-        return false;
-    };
-    for mark in posted.marks.as_slice() {
-        if matches!(mark, Mark::Entered(_)) {
-            return true;
-        }
-    }
-    false
 }
 
 /// Stops each site, in turn from node 1 up, with one lock at a time.

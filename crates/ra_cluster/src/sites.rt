@@ -1,10 +1,32 @@
 //! The sites of a whole cluster.
-ghost use Rattle.std.specs.Prelude.{◌≡◌, ◌++◌, ◌∷◌, [], IfOk, OnOk};
+ghost use Rattle.std.specs.Prelude.{◌≡◌, ◌↔◌, ◌++◌, ◌∷◌, [], length, IfOk, IsTrue, OnOk};
 ghost use Rattle.std.specs.List.{range_with_len};
+ghost use Rattle.ra_cluster.specs.Sites.{AreSitesWith};
 
 use crate::Site;
 use ra_stamp::{Memory, NodeId};
 use std::alloc::Global;
+
+/// Returns whether these are the sites of nodes 1 to n, in order, and the node of this site is one of them, as the calls of
+/// [`Site`] require. It does not allocate. The cost is linear in the number of sites.
+pub fn is_site_of(site: &Site, sites: &[Site]) -> bool
+    ensures { IsTrue result ↔ AreSitesWith site.now sites.now }
+{
+    usize::from(site.node().get()) <= sites.len() && are_in_order(sites)
+}
+
+/// Returns whether the sites are those of nodes 1 to n, in order.
+fn are_in_order(sites: &[Site]) -> bool
+    ensures { IsTrue result ↔ (sites.now ≡ range_with_len 1 (length sites.now)) }
+{
+    for place in 0..sites.len() {
+        // Nodes are counted from 1.
+        if usize::from(sites[place].node().get()) != place + 1 {
+            return false;
+        }
+    }
+    true
+}
 
 /// Makes the sites of a cluster of this many nodes, in the order of the nodes, whose numbers begin at `start`.
 ///

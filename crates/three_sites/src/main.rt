@@ -30,30 +30,21 @@ fn work<R: Wait>(
     Ok(held.grant)
 }
 
-/// Runs a thread for each node and, meanwhile, the two clients. Returns what the clients got, once all threads have
-/// ended.
+/// Runs the two clients, each on a thread of its own, while the nodes carry their frames. Returns what the clients got.
 fn run<R: Threads + Wait + Sync>(
     rt: &R,
     alloc: Global,
     cluster: &Cluster<OpenGate>,
-    nodes: &[NodeId; 3],
+    one: NodeId,
+    two: NodeId,
     name: Name,
 ) -> (Result<Grant, CallError>, Result<Grant, CallError>) {
-    let [one, two, _] = nodes;
-    thread::scope(thread::scope_env(), rt, |scope| {
-        for node in nodes {
-            let pump = move || cluster.pump(rt, alloc, *node);
-            if scope.spawn(pump).is_err() {
-                cluster.stop(rt, Stop::Spawn);
-            }
-        }
-        let grants = thread::join(
+    cluster.run(rt, alloc, || {
+        thread::join(
             rt,
-            || work(rt, alloc, cluster, *one, 7, name),
-            || work(rt, alloc, cluster, *two, 9, name),
-        );
-        cluster.close_post(rt);
-        grants
+            || work(rt, alloc, cluster, one, 7, name),
+            || work(rt, alloc, cluster, two, 9, name),
+        )
     })
 }
 
@@ -65,9 +56,9 @@ fn node(number: u16) -> Result<NodeId> {
 fn main(rt: HostRuntime) -> Result<()> {
     let alloc = rt.alloc();
     let disk = Name::new(b"disk")?;
-    let nodes = [node(1)?, node(2)?, node(3)?];
+    let (one, two) = (node(1)?, node(2)?);
     let cluster = Cluster::new(alloc, 3, 0, OpenGate)?;
-    let (first, second) = run(&rt, alloc, &cluster, &nodes, disk);
+    let (first, second) = run(&rt, alloc, &cluster, one, two, disk);
     // All threads have ended. Nothing was stopped unless something failed, so the books have no fault.
     let books = cluster.close(alloc);
     let settled = settle(alloc, &books, &[first?, second?])?;

@@ -1,5 +1,4 @@
-use Rattle.std.proofs.Common.{refl}
-use Rattle.ra_cluster.specs.declared.cluster.ClusterError.TheVariants.{OutOfOrder, Unreleased}
+use Rattle.ra_cluster.specs.declared.cluster_run.ClusterError.TheVariants.{OutOfOrder, Unreleased}
 use Rattle.ra_cluster.specs.Outcome.{RefusesSound}
 use Rattle.ra_cluster.proofs.Endings as done
 use Rattle.ra_cluster.proofs.outcome.settle_script.Goals as goal

@@ -1,8 +1,8 @@
 -- The sites are those of the nodes that the post has, and the list of the books has room for each.
-use Rattle.std.proofs.Common.{◌≡◌, ℕ, length, vec_len, refl, ap, ◌∙◌, sym, arith}
+use Rattle.std.proofs.Common.{◌≡◌, ℕ, vec_len, ap, ◌∙◌, sym, arith}
 use Rattle.std.specs.List.{range_with_len}
 use Rattle.ra_cluster.proofs.SiteNumbers.{count_of}
-use Rattle.ra_cluster.proofs.site_cluster.Cluster.new.Goals as goal
+use Rattle.ra_cluster.proofs.cluster.Cluster.new.Goals as goal
 
 pub invariant_of-result : goal.invariant_of-result
 invariant_of-result g c =

@@ -1,9 +1,9 @@
 -- Each site that is closed gives the book of the node after those that were closed.
-use Rattle.std.proofs.Common.{◌≡◌, ℕ, ◌+◌, ◌≤◌, List, [], ◌∷◌, length, vec_len, refl, ap, ◌∙◌, sym, arith}
-use Rattle.std.specs.Vec.Iter.{into_iter_items, into_iter_len}
+use Rattle.std.proofs.Common.{length, ap, ◌∙◌, arith}
+use Rattle.std.specs.Vec.Iter.{into_iter_items}
 use Rattle.ra_cluster.specs.Cluster.{ClusterState}
-use Rattle.ra_cluster.proofs.SiteNumbers.{Closes, IsClosed, next_within, closes_more, closes_all}
-use Rattle.ra_cluster.proofs.site_cluster.Cluster.close.Goals as goal
+use Rattle.ra_cluster.proofs.SiteNumbers.{next_within, closes_more, closes_all}
+use Rattle.ra_cluster.proofs.cluster.Cluster.close.Goals as goal
 
 pub close_as-requires-clause-member : goal.close_as-requires-clause-member
 close_as-requires-clause-member g c =

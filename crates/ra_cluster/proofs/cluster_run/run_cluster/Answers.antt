@@ -1,6 +1,6 @@
 use Rattle.ra_cluster.specs.Outcome.{IsOfThreads}
 use Rattle.ra_cluster.proofs.Endings as done
-use Rattle.ra_cluster.proofs.cluster.run_cluster.Goals as goal
+use Rattle.ra_cluster.proofs.cluster_run.run_cluster.Goals as goal
 
 pub returns-clause-run : goal.returns-clause-run
 returns-clause-run g c = done.run c.args.script.now IsOfThreads c.run_in_order.result c.run_in_order.ensures

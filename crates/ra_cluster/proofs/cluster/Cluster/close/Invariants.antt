@@ -2,7 +2,7 @@
 use Rattle.std.proofs.Common.{◌≡◌, ◌≤◌, ◌+◌, length, vec_len, vec_capacity}
 use Rattle.std.specs.Vec.Iter.{into_iter_items, into_iter_len}
 use Rattle.ra_cluster.proofs.SiteNumbers.{Closes}
-use Rattle.ra_cluster.proofs.site_cluster.Cluster.close.Given as goal
+use Rattle.ra_cluster.proofs.cluster.Cluster.close.Given as goal
 
 abbrev pub invariant-loop-site : goal.invariant-loop-site
 invariant-loop-site g l = record {

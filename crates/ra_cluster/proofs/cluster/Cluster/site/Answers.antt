@@ -1,7 +1,7 @@
 -- The site at the place of a node has its number.
-use Rattle.std.proofs.Common.{length, ◌+◌, arith, vec_len, ap, ◌∙◌, ◌≡◌}
+use Rattle.std.proofs.Common.{arith, vec_len, ◌∙◌}
 use Rattle.ra_cluster.proofs.SiteNumbers.{found_at}
-use Rattle.ra_cluster.proofs.site_cluster.Cluster.site.Goals as goal
+use Rattle.ra_cluster.proofs.cluster.Cluster.site.Goals as goal
 
 pub returns-clause-found : goal.returns-clause-found
 returns-clause-found g c =
