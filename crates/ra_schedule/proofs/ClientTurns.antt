@@ -1,5 +1,5 @@
 -- What one turn at a name makes of the clients there: who waits, is queued or holds.
-use Rattle.std.proofs.Common.{◌≡◌, ◌≢◌, ◌⊎◌, ◌↔◌, ℕ, zero, suc, ◌<◌, ◌≤◌, Bool, true, false, List, [], ◌∷◌, ◌++◌, All, map, Option, Some, None, refl, sym, ap, ◌∙◌, subst, append_assoc, arith, inl, inr}
+use Rattle.std.proofs.Common.{◌≡◌, ◌≢◌, ◌⊎◌, ◌↔◌, ℕ, zero, suc, Bool, true, false, List, [], ◌∷◌, ◌++◌, All, map, Option, Some, None, refl, sym, ap, ◌∙◌, subst, append_assoc, arith, inl, inr}
 use Rattle.std.specs.Prelude.{Contains, AllPairs, option_to_list}
 use Rattle.std.proofs.lemmas.Bool.{cases_eq}
 use Rattle.std.proofs.lemmas.List.{map-append}
@@ -12,11 +12,10 @@ use Rattle.ra_stamp.specs.declared.mode.Mode.{Mode}
 use Rattle.ra_automaton.specs.declared.phase.Phase.{Phase}
 use Rattle.ra_automaton.specs.declared.phase.Phase.TheVariants.{Idle, Waiting, Inside}
 use Rattle.ra_automaton.specs.State.{State}
-use Rattle.ra_automaton.specs.Steps.{greatest_number}
 use Rattle.ra_node.specs.declared.queued_client.Queued.{Queued}
 use Rattle.ra_node.specs.Resource.{Resource, Use, use_in, use_of, held_entry, Holds, IsBusy, clients_of, ClientFits, IsConsistentResource}
 use Rattle.ra_node.specs.Resource.Use.{Nobody, WaitsBy, HoldsBy}
-use Rattle.ra_node.specs.Turns.{request_marks, MayAsk, AskTurn, LeaveTurn, Leaves, ReceiveTurn, EntersBy}
+use Rattle.ra_node.specs.Turns.{request_marks, AskTurn, LeaveTurn, Leaves, ReceiveTurn, EntersBy}
 use Rattle.ra_node.specs.Carried.{MarksLead}
 use Rattle.ra_schedule.specs.Schedule.{Enters}
 

@@ -1,16 +1,21 @@
 -- How scripts end, from the laws of nodes and of runs.
-use Rattle.std.proofs.Common.{◌≡◌, ◌≢◌, ℕ, ◌≤◌, ◌<◌, Bool, Result, Ok, Err, IfOk, List, [], length, refl, arith}
-use Rattle.std.specs.Prelude.{◌↔◌, IsErrOf, IsOkUnless, IsTrue}
+use Rattle.std.proofs.Common.{◌≡◌, ◌≢◌, ℕ, ◌≤◌, true, Option, Some, None, Result, Ok, Err, IfOk, List, [], refl, arith}
+use Rattle.std.proofs.lemmas.Bool.{false≢true}
+use Rattle.std.specs.Prelude.{◌↔◌, IsTrue}
 use Rattle.ra_world.specs.declared.report.Report.{Report}
 use Rattle.ra_world.specs.Traffic.{Move, lost_by}
 use Rattle.ra_world.specs.World.{Reports}
 use Rattle.ra_schedule.specs.declared.choice.Policy.{Policy}
 use Rattle.ra_schedule.specs.declared.drive_script.Driven.{Driven}
+use Rattle.ra_schedule.specs.declared.outcomes.Outcome.{Outcome}
+use Rattle.ra_schedule.specs.declared.outcomes.Outcome.TheVariants.{Finished, Stuck, Limit}
 use Rattle.ra_schedule.specs.declared.error.DriveError.{DriveError}
 use Rattle.ra_schedule.specs.declared.error.DriveError.TheVariants.{TurnLimit, BadPlace, NotEnabled, Memory}
 use Rattle.ra_schedule.specs.Script.{ScriptState, IsScript}
 use Rattle.ra_schedule.specs.Schedule.{steps_of, Ends, Follows, Stops, IsFinished, RepeatsNothing}
 use Rattle.ra_schedule.specs.Drive.{Answers, IsInTime}
+use Rattle.ra_schedule.specs.Faults.{FaultRates}
+use Rattle.ra_schedule.specs.Survey.{chance, is_finished, IsOutcome}
 use Rattle.ra_schedule.specs.Below.{LawsBelow}
 use Rattle.ra_schedule.specs.LockOrder.{IsOutOfOrder, IsUnreleased}
 use Rattle.ra_schedule.specs.Performing.{Performs, IsAtRest, ChoosesItself, LosesNothing, most_turns}
@@ -71,3 +76,18 @@ module _ (laws : LawsOfRuns) (below : LawsBelow) (script : ScriptState) (fit : I
         omega (arith, less, stops.0, turns_at_most laws below script fit policy unrepeated moves follows);
     only_memory = λ unrepeated itself enough. only_memory unrepeated itself enough fault (λ apart. answers.refused fault apart refl);
   }
+
+-- ---- What comes of a seed
+
+chance_chooses : (faults : Option FaultRates) (seed : ℕ) → ChoosesItself (chance faults seed)
+chance_chooses None seed = tt
+chance_chooses (Some faults) seed = tt
+
+pub seed_finishes : LawsOfRuns → LawsBelow → (script : ScriptState) → IsScript script → (faults : Option FaultRates) (limit seed : ℕ) (outcome : Outcome)
+    → (IsOutOfOrder script → ⊥) → (IsUnreleased script → ⊥) → LosesNothing (chance faults seed) → RepeatsNothing (chance faults seed) → most_turns script ≤ limit
+    → IsOutcome script (chance faults seed) limit outcome → is_finished outcome ≡ true
+seed_finishes laws below script fit faults limit seed (Finished figures) ordered released unlost unrepeated enough came = refl
+seed_finishes laws below script fit faults limit seed (Stuck figures) ordered released unlost unrepeated enough came =
+    absurd (false≢true (came.run.waiting_ends (chance_chooses faults seed) unlost ordered released))
+seed_finishes laws below script fit faults limit seed Limit ordered released unlost unrepeated enough (moves, follows, stops) =
+    absurd (never_stops laws below script fit (chance faults seed) unrepeated (chance_chooses faults seed) limit enough moves TurnLimit follows stops)

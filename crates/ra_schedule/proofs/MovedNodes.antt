@@ -1,11 +1,7 @@
 -- What one more move of a run makes of the nodes: one of them takes an event, or all stay.
-use Rattle.std.proofs.Common.{◌≡◌, ◌≢◌, ◌⊎◌, ℕ, ◌≤◌, List, [], ◌∷◌, ◌++◌, map, refl, sym, ap, ◌∙◌, subst, inl, inr}
-use Rattle.std.proofs.lemmas.List.{append-nil}
-use Rattle.ra_stamp.specs.declared.message.Message.{Message}
-use Rattle.ra_stamp.specs.declared.entry.Mark.{Mark}
-use Rattle.ra_node.specs.Resource.{Resource}
-use Rattle.ra_node.specs.Node.{NodeState, opening_node, resource_at, IsConsistentNode}
-use Rattle.ra_node.specs.Events.{Event, Happening, name_of_event, NodeEvent, NodeEvents, IsForThisNode}
+use Rattle.std.proofs.Common.{◌≡◌, ◌≢◌, ℕ, ◌≤◌, List, [], ◌∷◌, ◌++◌, map, sym, ap, subst}
+use Rattle.ra_node.specs.Node.{NodeState, opening_node}
+use Rattle.ra_node.specs.Events.{Event, Happening, NodeEvent, NodeEvents}
 use Rattle.ra_world.specs.Traffic.{Move}
 use Rattle.ra_world.specs.Run.{events_at, happened_at, EndsWith}
 use Rattle.ra_world.proofs.Moves.{happens, happened_more, only_at}

@@ -1,15 +1,14 @@
 -- If nothing was lost, and nothing more can happen, each client of a script in order is done: of those that wait, each
 -- waits for a name that somebody holds who waits for a name above it.
-use Rattle.std.proofs.Common.{◌≡◌, ◌≢◌, ◌⊎◌, ◌↔◌, ℕ, zero, suc, ◌+◌, ◌<◌, ◌≤◌, Option, Some, None, List, [], ◌∷◌, ◌++◌, All, Contains, length, map, take, slice_get, refl, sym, ap, ◌∙◌, subst, append_assoc, arith, inl, inr}
+use Rattle.std.proofs.Common.{◌≡◌, ◌⊎◌, ℕ, zero, suc, ◌<◌, Option, Some, None, List, [], ◌∷◌, ◌++◌, Contains, length, map, slice_get, refl, sym, ap, ◌∙◌, subst, arith, inl, inr}
 use Rattle.std.specs.Prelude.{option_to_list}
 use Rattle.std.specs.Ordering.{nat_cmp}
-use Rattle.std.specs.declared.cmp.Ordering.{Ordering}
 use Rattle.std.specs.declared.cmp.Ordering.TheVariants.{Less, Equal, Greater}
 use Rattle.std.specs.Cmp.Lexicographic.{slice_cmp, nat_list_cmp_total}
 use Rattle.std.proofs.lemmas.Bool.{cases_eq, cases_lt, false≢true}
 use Rattle.std.proofs.lemmas.Cmp.{tied_itself}
-use Rattle.std.proofs.lemmas.List.{append-nil, take_at, same_from_push}
-use Rattle.std.proofs.lemmas.List.Elements.{All-nil, All-contains, Contains-append_left, Contains-append_right}
+use Rattle.std.proofs.lemmas.List.{append-nil}
+use Rattle.std.proofs.lemmas.List.Elements.{All-contains, Contains-append_left, Contains-append_right}
 use Rattle.ra_stamp.specs.declared.entry.Entry.{Entry}
 use Rattle.ra_stamp.specs.declared.mode.Mode.{Mode}
 use Rattle.ra_stamp.specs.Stamp.{IsEarlier}
@@ -21,24 +20,24 @@ use Rattle.ra_node.specs.declared.queued_client.Queued.{Queued}
 use Rattle.ra_node.specs.Resource.{Resource, Use, use_in, use_of, held_entry, IsBusy, ClientFits}
 use Rattle.ra_node.specs.Resource.Use.{Nobody, WaitsBy, HoldsBy}
 use Rattle.ra_node.specs.Node.{NodeState, opening_node, resource_at}
-use Rattle.ra_table.specs.Table.{LockTable, TableRun, Excludes}
+use Rattle.ra_table.specs.Table.{LockTable, TableRun}
 use Rattle.ra_world.specs.declared.report.Report.{Report}
 use Rattle.ra_world.specs.Traffic.{Move}
-use Rattle.ra_world.specs.Run.{IsRun, EndsWith, GoesOn, marks_of, happened_at, waiting_at_all, queued_at_all}
+use Rattle.ra_world.specs.Run.{IsRun, marks_of, happened_at}
 use Rattle.ra_world.specs.Quiet.{IsQuiet}
-use Rattle.ra_world.specs.AtNodes.{IsTableOf, IsEntryAt, IsOfNode}
+use Rattle.ra_world.specs.AtNodes.{IsTableOf, IsOfNode}
 use Rattle.ra_world.specs.World.{Reports}
 use Rattle.ra_schedule.specs.declared.script.Op.{Op}
 use Rattle.ra_schedule.specs.declared.script.Op.TheVariants.{Lock, Unlock}
-use Rattle.ra_schedule.specs.Script.{ScriptClient, ScriptState, client_at, IsScript, IsHeldAfter, Fits}
-use Rattle.ra_schedule.specs.Schedule.{steps_of, steps_by, step_of, IsWaiting, Enables, IsEnabled, IsFinished}
+use Rattle.ra_schedule.specs.Script.{ScriptClient, ScriptState, client_at, IsScript, IsHeldAfter}
+use Rattle.ra_schedule.specs.Schedule.{steps_of, IsWaiting, IsEnabled, IsFinished}
 use Rattle.ra_schedule.specs.LockOrder.{IsBelow, IsOutOfOrder, IsUnreleased}
 use Rattle.ra_schedule.specs.BelowFinishing.{LawsOfNodes, LawsOfRuns}
 use Rattle.ra_schedule.proofs.Enabling.{held_last, place_of_last, must_wait}
 use Rattle.ra_schedule.proofs.Held.{held_pushed}
-use Rattle.ra_schedule.proofs.ClientTurns.{HasIt, holder_stands, has_or_not}
+use Rattle.ra_schedule.proofs.ClientTurns.{HasIt, holder_stands}
 use Rattle.ra_schedule.proofs.MovedNodes.{IsNode}
-use Rattle.ra_schedule.proofs.Standing.{LastLocks, last_is_one, ClientStands}
+use Rattle.ra_schedule.proofs.Standing.{LastLocks}
 use Rattle.ra_schedule.proofs.StandingRuns.{AllStand, is_client}
 use Rattle.ra_schedule.proofs.Climbing.{climbed}
 use Rattle.ra_schedule.proofs.NobodyQueued.{nobody_queued}

@@ -1,6 +1,6 @@
 -- Where a client of a script stands: at the names that it locked and did not unlock since, at its own node. It holds
 -- each of them, except that one that waits does not hold the name that it locked last.
-use Rattle.std.proofs.Common.{◌≡◌, ◌≢◌, ◌⊎◌, ◌↔◌, ℕ, ◌+◌, ◌≤◌, Some, List, [], ◌∷◌, ◌++◌, length, slice_get, refl, sym, ap, ◌∙◌, subst, append_assoc, arith, inl, inr}
+use Rattle.std.proofs.Common.{◌≡◌, ◌⊎◌, ◌↔◌, ℕ, Some, List, [], ◌∷◌, ◌++◌, length, slice_get, refl, sym, ap, ◌∙◌, subst, append_assoc, arith, inl, inr}
 use Rattle.std.proofs.lemmas.Bool.{cases_eq}
 use Rattle.std.proofs.lemmas.List.{same_from_push, length-append}
 use Rattle.ra_stamp.specs.declared.mode.Mode.{Mode}
@@ -8,7 +8,6 @@ use Rattle.ra_stamp.specs.declared.entry.Mark.{Mark}
 use Rattle.ra_node.specs.Resource.{Resource, IsBusy}
 use Rattle.ra_node.specs.Node.{NodeState, resource_at}
 use Rattle.ra_node.proofs.Lookups.{same_or_apart}
-use Rattle.ra_world.specs.declared.step.Step.{Step}
 use Rattle.ra_world.specs.declared.step.Step.TheVariants.{Ask, Leave}
 use Rattle.ra_world.specs.Traffic.{Move}
 use Rattle.ra_schedule.specs.declared.script.Op.{Op}

@@ -1,20 +1,19 @@
 -- After each run in which the clients do what the script says, each of them stands where it should, and nobody else
 -- stands anywhere.
-use Rattle.std.proofs.Common.{◌≡◌, ◌≢◌, ◌⊎◌, ◌↔◌, ℕ, zero, suc, ◌+◌, ◌≤◌, ◌<◌, Option, Some, None, List, [], ◌∷◌, ◌++◌, All, Contains, length, slice_get, refl, sym, ap, ◌∙◌, subst, append_assoc, arith, inl, inr}
-use Rattle.std.specs.Prelude.{if◌then◌else◌, option_to_list, AllPairs}
+use Rattle.std.proofs.Common.{◌≡◌, ◌≢◌, ◌↔◌, ℕ, zero, suc, Some, List, [], ◌∷◌, ◌++◌, All, slice_get, refl, sym, ap, ◌∙◌, subst, append_assoc, arith, inl, inr}
+use Rattle.std.specs.Prelude.{if◌then◌else◌}
 use Rattle.std.proofs.lemmas.Bool.{cases_eq, eq-eqb}
 use Rattle.std.proofs.lemmas.Option.{slice_get_within, get_or_from_slice_get}
 use Rattle.std.proofs.lemmas.List.{append-nil}
 use Rattle.std.proofs.lemmas.List.Elements.{All-nil}
-use Rattle.ra_stamp.specs.declared.entry.Entry.{Entry}
 use Rattle.ra_stamp.specs.declared.entry.Mark.{Mark}
 use Rattle.ra_stamp.specs.declared.message.Message.{Message as Sent}
 use Rattle.ra_stamp.specs.declared.mode.Mode.{Mode}
 use Rattle.ra_stamp.specs.Message.{from_of, to_of, name_of}
 use Rattle.ra_stamp.specs.NodeId.{IsNodeNumber}
-use Rattle.ra_automaton.specs.State.{IsForNode, IsOtherNode}
-use Rattle.ra_node.specs.Resource.{Resource, IsBusy, Holds, use_of, unmet}
-use Rattle.ra_node.specs.Turns.{MayAsk, AskTurn, LeaveTurn, ReceiveTurn}
+use Rattle.ra_automaton.specs.State.{IsOtherNode}
+use Rattle.ra_node.specs.Resource.{Resource, IsBusy, use_of, unmet}
+use Rattle.ra_node.specs.Turns.{AskTurn, LeaveTurn, ReceiveTurn}
 use Rattle.ra_node.specs.Node.{NodeState, opening_node, resource_at, IsConsistentNode}
 use Rattle.ra_node.specs.Events.{Event, name_of_event, NodeEvent, IsForThisNode}
 use Rattle.ra_node.specs.Events.Event.{Ask as AskedFor, Leave as GivenBack, Receive as Received}
@@ -23,21 +22,21 @@ use Rattle.ra_node.proofs.Lookups.{nothing_met, resource_changed}
 use Rattle.ra_world.specs.declared.step.Step.{Step}
 use Rattle.ra_world.specs.declared.step.Step.TheVariants.{Ask, Leave, Deliver, Lose, Repeat}
 use Rattle.ra_world.specs.Traffic.{Move, IsUnderWay}
-use Rattle.ra_world.specs.Run.{IsRun, IsFit, EndsWith, events_at, GoesOn}
+use Rattle.ra_world.specs.Run.{IsRun, IsFit, EndsWith, events_at}
 use Rattle.ra_world.proofs.Moves.{at_node, fits_split}
 use Rattle.ra_schedule.specs.declared.script.Op.{Op}
 use Rattle.ra_schedule.specs.declared.script.Op.TheVariants.{Lock, Unlock}
 use Rattle.ra_schedule.specs.declared.choice.Choice.{Choice}
 use Rattle.ra_schedule.specs.declared.choice.Choice.TheVariants.{Client, Message, Lost, Repeated}
 use Rattle.ra_schedule.specs.Script.{ScriptClient, ScriptState, client_at, IsScript, IsScriptClient, IsHeldAfter}
-use Rattle.ra_schedule.specs.Schedule.{steps_of, steps_in, steps_by, step_of, Asks, IsWaiting, Enables, IsAtPlace, StandsFor}
+use Rattle.ra_schedule.specs.Schedule.{steps_of, steps_in, steps_by, step_of, Asks, IsWaiting, IsAtPlace, StandsFor}
 use Rattle.ra_schedule.specs.BelowFinishing.{LawsOfNodes, LawsOfRuns}
 use Rattle.ra_schedule.specs.Performing.{Performs}
 use Rattle.ra_schedule.proofs.Waiting.{nobody_waits}
 use Rattle.ra_schedule.proofs.Elsewhere.{another's, asks_not}
 use Rattle.ra_schedule.proofs.ClientTurns.{HasIt, IsSilent, StaysBy, holder_stands, asker_stands, asker_holds, others_ask, leaver_gone, others_leave, all_receive}
 use Rattle.ra_schedule.proofs.MovedNodes.{IsNode, Moved, moved, stays}
-use Rattle.ra_schedule.proofs.Standing.{ClientStands, ComesIn, Untouched, still, asked, left_it, where_is, at_same}
+use Rattle.ra_schedule.proofs.Standing.{ClientStands, Untouched, still, asked, left_it, where_is, at_same}
 
 -- the node is what it should be
 pub record IsThere (n i : ℕ) (node : NodeState) : Type 0 where

@@ -1,19 +1,17 @@
 -- Policies that choose by themselves: each of their choices can be made, and they end only if nothing more can happen.
-use Rattle.std.proofs.Common.{◌≡◌, ◌≢◌, ◌⊎◌, ℕ, zero, suc, ◌+◌, ◌-◌, ◌%◌, ◌<◌, ◌≤◌, Bool, true, false, Some, None, List, [], ◌∷◌, ◌++◌, All, length, map, slice_get, refl, sym, ap, ◌∙◌, subst, arith, inl, inr}
+use Rattle.std.proofs.Common.{◌≡◌, ◌≢◌, ◌⊎◌, ℕ, zero, suc, ◌+◌, ◌-◌, ◌%◌, ◌<◌, ◌≤◌, Bool, true, false, Some, List, [], ◌∷◌, ◌++◌, All, length, map, slice_get, refl, sym, ap, ◌∙◌, subst, arith, inl, inr}
 use Rattle.std.specs.Prelude.{Contains, nat_lt, if◌then◌else◌}
 use Rattle.std.specs.List.{range_with_len}
 use Rattle.std.proofs.lemmas.Bool.{cases_lt}
 use Rattle.std.proofs.lemmas.Bool.Decides.{nat_tests}
 use Rattle.std.proofs.lemmas.List.{length-append}
-use Rattle.std.proofs.lemmas.Option.{slice_get_within, get_or_from_slice_get, slice_get_cases}
+use Rattle.std.proofs.lemmas.Option.{slice_get_cases}
 use Rattle.std.proofs.lemmas.List.Elements.{All-head, All-tail}
 use Rattle.ra_stamp.specs.declared.message.Message.{Message as Sent}
 use Rattle.ra_world.specs.declared.step.Step.{Step}
 use Rattle.ra_world.specs.declared.step.Step.TheVariants.{Deliver, Lose, Repeat}
-use Rattle.ra_world.specs.Traffic.{Move, LeavesUnderWay, IsUnderWay, lost_in, lost_by, repeated_by}
+use Rattle.ra_world.specs.Traffic.{Move, LeavesUnderWay, lost_in, lost_by}
 use Rattle.ra_world.specs.Run.{IsRun, GoesOn}
-use Rattle.ra_schedule.specs.declared.script.Op.{Op}
-use Rattle.ra_schedule.specs.declared.script.Op.TheVariants.{Lock, Unlock}
 use Rattle.ra_schedule.specs.declared.choice.Choice.{Choice}
 use Rattle.ra_schedule.specs.declared.choice.Choice.TheVariants.{Client, Message, Lost, Repeated}
 use Rattle.ra_schedule.specs.declared.choice.Policy.{Policy}
@@ -24,10 +22,10 @@ use Rattle.ra_schedule.specs.Faults.{FaultRates}
 use Rattle.ra_schedule.specs.Script.{ScriptState, IsScript}
 use Rattle.ra_schedule.specs.Seeds.{word_of}
 use Rattle.ra_schedule.specs.PolicyState.{IsWithoutFault}
-use Rattle.ra_schedule.specs.Schedule.{steps_of, step_of, words_by, IsEnabled, IsFirstEnabled, LeavesMessages, IsAtPlace, StandsFor, AreEnabled, AreChoices, IsNamedBy, with_fault, Picks, RepeatsNothing, Ends, Follows, Stops}
+use Rattle.ra_schedule.specs.Schedule.{steps_of, words_by, IsEnabled, IsFirstEnabled, IsAtPlace, StandsFor, AreEnabled, IsNamedBy, with_fault, Picks, RepeatsNothing, Ends, Follows, Stops}
 use Rattle.ra_schedule.specs.Performing.{Performs, IsAtRest, ChoosesItself, LosesNothing, most_turns}
 use Rattle.ra_schedule.specs.Below.{LawsBelow}
-use Rattle.ra_schedule.specs.BelowFinishing.{LawsOfNodes, LawsOfRuns}
+use Rattle.ra_schedule.specs.BelowFinishing.{LawsOfRuns}
 use Rattle.ra_schedule.proofs.EnabledLists.{AreEnabledUpTo, none_so_far, one_more, no_more, these_are_all}
 use Rattle.ra_schedule.proofs.Naming.{names_client, names_message}
 use Rattle.ra_schedule.proofs.Choosing.{same_some, no_bad_place, not_refused}

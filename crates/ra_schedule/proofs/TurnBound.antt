@@ -1,22 +1,21 @@
 -- So the requests and the moves are few, and numbers never run out.
-use Rattle.std.proofs.Common.{◌≡◌, ℕ, zero, suc, ◌+◌, ◌-◌, ◌*◌, ◌<◌, ◌≤◌, List, [], ◌∷◌, All, length, refl, sym, ap, ◌∙◌, subst, arith}
+use Rattle.std.proofs.Common.{◌≡◌, ℕ, ◌+◌, ◌-◌, ◌*◌, ◌<◌, ◌≤◌, List, [], ◌∷◌, All, length, ap, arith}
 use Rattle.std.specs.Prelude.{sum_by}
-use Rattle.std.proofs.Math.Nat.{mul-le-mul_left, mul_comm}
+use Rattle.std.proofs.Math.Nat.{mul-le-mul_left}
 use Rattle.std.proofs.lemmas.List.Sums.{sum_by-cons}
 use Rattle.std.proofs.lemmas.List.Elements.{All-head, All-tail}
 use Rattle.ra_automaton.specs.Steps.{greatest_number}
 use Rattle.ra_node.specs.Node.{NodeState, resource_at}
-use Rattle.ra_world.specs.Traffic.{Move, sent_by, taken_by, repeated_by}
-use Rattle.ra_world.specs.Run.{IsRun, EndsWith, marks_of, queued_at_all}
+use Rattle.ra_world.specs.Traffic.{Move, repeated_by}
+use Rattle.ra_world.specs.Run.{EndsWith, marks_of}
 use Rattle.ra_world.specs.Quiet.{requests_in}
-use Rattle.ra_world.specs.Asked.{asks_by}
 use Rattle.ra_schedule.specs.declared.script.Op.{Op}
 use Rattle.ra_schedule.specs.declared.script.Op.TheVariants.{Lock, Unlock}
 use Rattle.ra_schedule.specs.Script.{ScriptClient, ScriptState, IsScript, IsScriptClient}
 use Rattle.ra_schedule.specs.Performing.{Performs, locks_in, locks_of, operations_of, most_turns}
 use Rattle.ra_schedule.specs.BelowFinishing.{LawsOfRuns}
 use Rattle.ra_schedule.proofs.MovedNodes.{IsNode}
-use Rattle.ra_schedule.proofs.TurnCounts.{steps_weight, asks_at_most, client_steps_at_most, moves_are, taken_at_most}
+use Rattle.ra_schedule.proofs.TurnCounts.{asks_at_most, client_steps_at_most, moves_are, taken_at_most}
 
 -- ---- The operations of a script
 

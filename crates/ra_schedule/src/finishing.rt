@@ -1,11 +1,14 @@
 //! How scripts end. Each function does nothing, and its contract is the law.
-ghost use Rattle.std.specs.Prelude.{◌≡◌, ◌≤◌, ◌+◌, ◌*◌, ◌++◌, [], ℕ, List, length};
+ghost use Rattle.std.specs.Prelude.{◌≡◌, ◌≤◌, ◌+◌, ◌*◌, ◌++◌, [], ℕ, List, Option, length, true};
 ghost use Rattle.ra_world.specs.declared.report.Report.{Report};
 ghost use Rattle.ra_world.specs.Traffic.{Move, lost_by, repeated_by};
 ghost use Rattle.ra_world.specs.World.{Reports};
 ghost use Rattle.ra_schedule.specs.declared.choice.Policy.{Policy};
 ghost use Rattle.ra_schedule.specs.declared.error.DriveError.{DriveError};
 ghost use Rattle.ra_schedule.specs.BelowFinishing.{LawsOfNodes, LawsOfRuns};
+ghost use Rattle.ra_schedule.specs.declared.outcomes.Outcome.{Outcome};
+ghost use Rattle.ra_schedule.specs.Faults.{FaultRates};
+ghost use Rattle.ra_schedule.specs.Survey.{chance, is_finished, IsOutcome};
 ghost use Rattle.ra_schedule.specs.LockOrder.{IsOutOfOrder, IsUnreleased};
 ghost use Rattle.ra_schedule.specs.Performing.{Performs, IsAtRest, ChoosesItself, LosesNothing, most_turns};
 ghost use Rattle.ra_schedule.specs.Schedule.{steps_of, Follows, Ends, Stops, IsFinished, RepeatsNothing};
@@ -85,6 +88,18 @@ pub fn policies_bring_scripts_to_rest()
     ensures in_time { (script : ScriptState) (policy : Policy) (limit : ℕ) (moves : List Move) (cause : DriveError)
         → IsScript script → ChoosesItself policy → RepeatsNothing policy → most_turns script ≤ limit
         → Follows script policy moves → ¬ Stops script policy limit moves cause }
+{
+    schedules_rest_on_runs();
+    endings_rest_on_nodes_and_runs();
+}
+
+/// By chance, without losses and repeats, each seed brings a script to its end within the limit, if that is at least
+/// `most_turns` and each client takes names in ascending order and gives them all back.
+pub fn seeds_finish_ordered_scripts()
+    ensures { (script : ScriptState) (faults : Option FaultRates) (limit seed : ℕ) (outcome : Outcome) → IsScript script
+        → ¬ IsOutOfOrder script → ¬ IsUnreleased script
+        → LosesNothing (chance faults seed) → RepeatsNothing (chance faults seed) → most_turns script ≤ limit
+        → IsOutcome script (chance faults seed) limit outcome → is_finished outcome ≡ true }
 {
     schedules_rest_on_runs();
     endings_rest_on_nodes_and_runs();

@@ -26,7 +26,10 @@ pub use drive_script::{Recording, Summary, drive, summarize};
 pub use error::{AddClientError, AddOpError, DriveError, NewScriptError};
 pub use faults::Faults;
 pub use finding::{Ending, first_seed};
-pub use finishing::{ordered_scripts_finish, policies_bring_scripts_to_rest, scripts_come_to_rest};
+pub use finishing::{
+    ordered_scripts_finish, policies_bring_scripts_to_rest, scripts_come_to_rest,
+    seeds_finish_ordered_scripts,
+};
 pub use laws::{policies_lead_to_one_run, policies_repeat_no_message};
 pub use observer::Observer;
 pub use outcomes::{Figures, SeedOutcome, Spread, Survey, Tally};
