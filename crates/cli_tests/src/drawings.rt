@@ -46,3 +46,10 @@ fn draw_wants_numbers_of_lines(rt: HostRuntime) {
     assert_answers(&rt, "ra draw --from one", ALONE, 2, "refused Usage\n");
     assert_answers(&rt, "ra draw --to -1", ALONE, 2, "refused Usage\n");
 }
+
+#[test]
+fn a_part_without_lines_is_refused(rt: HostRuntime) {
+    assert_answers(&rt, "ra draw --from 0", ALONE, 2, "refused Usage\n");
+    assert_answers(&rt, "ra draw --to 0", ALONE, 2, "refused Usage\n");
+    assert_answers(&rt, "ra draw --from 5 --to 4", ALONE, 2, "refused Usage\n");
+}

@@ -1,7 +1,8 @@
-//! Each growth refused: `ra` prints `refused Memory` and nothing else, with status 2, and does what it should when it is run again.
+//! If any growth is refused, `ra` prints `refused Memory` and nothing else, with status 2, and does what it should when it is
+//! run again. If memory runs out for a note alone, a shorter note is written in its place.
 use crate::frames::{ANSWER, REPLY, REQUEST};
 use crate::helpers::words_of;
-use ra_cli::{AnswerError, answer, serve};
+use ra_cli::{AnswerError, SeenReader, SeenWriter, answer, serve, serve_with_notes};
 use std::alloc::Global;
 use std::io;
 use std::io::Write;
@@ -44,6 +45,14 @@ impl Page {
     fn has(&self, text: &str) -> bool {
         match self.bytes.get(..self.taken) {
             Some(bytes) => bytes == text.as_bytes(),
+            None => false,
+        }
+    }
+
+    /// Returns whether what was taken begins with this text.
+    fn begins_with(&self, text: &str) -> bool {
+        match self.bytes.get(..self.taken) {
+            Some(bytes) => bytes.starts_with(text.as_bytes()),
             None => false,
         }
     }
@@ -148,6 +157,166 @@ fn growth_of_the_command_sim_with_a_trace(rt: HostRuntime) {
     end(
         &rt,
         again(first, try_line(&rt, "ra sim --trace", SCRIPT, TRACE)),
+    );
+}
+
+#[test]
+fn growth_of_the_command_sim_with_the_choices(rt: HostRuntime) {
+    let line = "ra sim --as-choices";
+    let first = try_line(&rt, line, SCRIPT, "c1 m0 m0 c1\n");
+    end(
+        &rt,
+        again(first, try_line(&rt, line, SCRIPT, "c1 m0 m0 c1\n")),
+    );
+}
+
+/// The client asks, has its answer and leaves, whatever the seed.
+#[test]
+fn growth_of_the_command_sim_with_many_seeds(rt: HostRuntime) {
+    let line = "ra sim --policy seeded --seeds 5..7";
+    let counted = "finished 3 first 5\nturns 4 4\nmessages 2 2\n";
+    let first = try_line(&rt, line, SCRIPT, counted);
+    end(&rt, again(first, try_line(&rt, line, SCRIPT, counted)));
+}
+
+#[test]
+fn growth_of_the_command_sim_with_the_first_finished_seed(rt: HostRuntime) {
+    let line = "ra sim --policy seeded --seeds 5..7 --find finished";
+    let first = try_line(&rt, line, SCRIPT, TRACE);
+    end(&rt, again(first, try_line(&rt, line, SCRIPT, TRACE)));
+}
+
+#[test]
+fn growth_of_the_version(rt: HostRuntime) {
+    let version = "ra 0.1.0 (frames 1 and 2, traces 1 and 2)\n";
+    let first = try_line(&rt, "ra --version", "", version);
+    end(
+        &rt,
+        again(first, try_line(&rt, "ra --version", "", version)),
+    );
+}
+
+/// Draws the trace. A picture of which the writer has no room for the end has its beginning.
+fn try_drawing<T: AllocGlobal + Threads + Wait + Sync>(rt: &T) -> Result<Tried, bool> {
+    let Some(words) = words_of(rt.alloc(), "ra draw", None) else {
+        return Err(true);
+    };
+    let (mut reader, mut page) = (TRACE.as_bytes(), Page::new());
+    match serve(rt, rt.alloc(), words.as_slice(), &mut reader, &mut page) {
+        1 if page.begins_with("<svg xmlns=\"http://www.w3.org/2000/svg\"") => Ok(Tried::AtOnce),
+        2 => Err(page.has("refused Memory\n")),
+        _ => Ok(Tried::Wrong),
+    }
+}
+
+#[test]
+fn growth_of_the_command_draw(rt: HostRuntime) {
+    let first = try_drawing(&rt);
+    end(&rt, again(first, try_drawing(&rt)));
+}
+
+/// A command of which something is said.
+#[derive(Clone, Copy)]
+struct Noted {
+    words: &'static str,
+    input: &'static str,
+    status: u8,
+    output: &'static str,
+    note: &'static str,
+    /// What is said in place of the note if there is no memory for it.
+    less: &'static str,
+}
+
+/// Runs `ra` on the words and the input. If memory runs out for the note alone, all else is as it should be.
+fn try_noted<T: AllocGlobal + Threads + Wait + Sync>(rt: &T, case: &Noted) -> Result<Tried, bool> {
+    let alloc = rt.alloc();
+    let Some(words) = words_of(alloc, case.words, None) else {
+        return Err(true);
+    };
+    let (mut output, mut notes) = (Page::new(), Page::new());
+    let mut reader = SeenReader::new(alloc, case.input.as_bytes());
+    let mut writer = SeenWriter::new(&mut output);
+    let status = serve_with_notes(
+        rt,
+        alloc,
+        words.as_slice(),
+        &mut reader,
+        &mut writer,
+        &mut notes,
+    );
+    if status == case.status && output.has(case.output) {
+        return if notes.has(case.note) {
+            Ok(Tried::AtOnce)
+        } else {
+            Err(notes.has(case.less))
+        };
+    }
+    Err(status == 2 && output.has("refused Memory\n") && notes.has("ra: out of memory\n"))
+}
+
+/// Ends a test of a command of which something is said.
+fn end_noted<T: AllocGlobal + Threads + Wait + Sync + Abort>(rt: &T, case: &Noted) {
+    let first = try_noted(rt, case);
+    end(rt, again(first, try_noted(rt, case)));
+}
+
+#[test]
+fn growth_of_a_note_on_a_wrong_line(rt: HostRuntime) {
+    end_noted(
+        &rt,
+        &Noted {
+            words: "ra check",
+            input: "trace 2 2 0\nask 3 1 r X\n",
+            status: 3,
+            output: "invalid 2 Refused\n",
+            note: "ra: line 2, 'ask 3 1 r X': there is no node 3: the highest node of the trace is 2\n",
+            less: "ra: line 2: the client may not ask or release here: the node does not exist, the client already waits, is queued or holds the name, it releases a name that it does not hold, or no number is left\n",
+        },
+    );
+}
+
+#[test]
+fn growth_of_a_note_on_a_frame(rt: HostRuntime) {
+    end_noted(
+        &rt,
+        &Noted {
+            words: ANSWER,
+            input: "0301",
+            status: 2,
+            output: "refused Version\n",
+            note: "ra: the version at offset 0 is 03: must be 01 or 02\n",
+            less: "ra: standard output says what came of it; no memory is left to say more\n",
+        },
+    );
+}
+
+#[test]
+fn growth_of_a_note_on_the_words(rt: HostRuntime) {
+    end_noted(
+        &rt,
+        &Noted {
+            words: "ra simm",
+            input: "",
+            status: 2,
+            output: "refused Usage\n",
+            note: "ra: unrecognized subcommand 'simm'; a similar subcommand exists: 'sim'; see ra --help\n",
+            less: "ra: out of memory\n",
+        },
+    );
+}
+
+#[test]
+fn growth_of_a_note_on_a_run(rt: HostRuntime) {
+    end_noted(
+        &rt,
+        &Noted {
+            words: "ra sim --policy listed --choices=c1",
+            input: SCRIPT,
+            status: 3,
+            output: "request 1 1 r X 1\nrequests 1\nmessages 1\nunder-way 1\nlost 0\nwaiting 1\nqueued 0\n",
+            note: "ra: the run did not finish: client 1 at node 1 waits for 'r' (X): no client blocks it, but a message is under way\n",
+            less: "ra: standard output says what came of it; no memory is left to say more\n",
+        },
     );
 }
 

@@ -33,6 +33,20 @@ const FIRST_STUCK: &[Noted] = &[Noted {
     note: "ra: the run did not finish: client 1 at node 1 waits for 'r' (X): no client blocks it, but a message was lost\n",
 }];
 
+/// Seeds of which some runs do not finish.
+const SOME_STUCK: &[Noted] = &[Noted {
+    words: "ra sim --policy faulty --lose 1000 --seeds 1..2",
+    input: ONE_CLIENT,
+    status: 3,
+    output: "stuck 2 first 1\nturns 2 2\nmessages 1 1\n",
+    note: "ra: the runs of some seeds did not finish: use --seed and --trace to see one of them\n",
+}];
+
+#[test]
+fn that_seeds_do_not_finish_is_said(rt: HostRuntime) {
+    assert_says(&rt, SOME_STUCK);
+}
+
 #[test]
 fn who_waits_by_the_first_stuck_seed_is_said(rt: HostRuntime) {
     assert_says(&rt, FIRST_STUCK);

@@ -79,6 +79,27 @@ const USAGES: &[Noted] = &[
         output: "refused Usage\n",
         note: "ra: --as-choices cannot be used with --trace, nor with --policy faulty unless --repeat is 0; see ra sim --help\n",
     },
+    Noted {
+        words: "ra draw --from 40 --to 30",
+        input: "",
+        status: 2,
+        output: "refused Usage\n",
+        note: "ra: --from must be at least 1, and at most --to; see ra draw --help\n",
+    },
+    Noted {
+        words: "ra -hV",
+        input: "",
+        status: 2,
+        output: "refused Usage\n",
+        note: "ra: -h and -V must be arguments of their own; see ra --help\n",
+    },
+    Noted {
+        words: "ra sim -hV",
+        input: "",
+        status: 2,
+        output: "refused Usage\n",
+        note: "ra: -h and -V must be arguments of their own; see ra sim --help\n",
+    },
     // If two arguments are wrong, the note names the fault that is checked first.
     Noted {
         words: "ra sim --policy faulty --seeds 1..9 --repeat 401",

@@ -9,3 +9,4 @@ mod Options
 mod Statuses
 mod Helping
 mod PictureLemmas
+mod TaskLemmas

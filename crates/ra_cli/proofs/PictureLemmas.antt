@@ -12,13 +12,13 @@ use Rattle.ra_cli.specs.Checks.{verdict_text}
 use Rattle.ra_cli.specs.Pictures.{IsDrawn}
 use Rattle.ra_cli.specs.Statuses.{IsPrinted, BreaksOff}
 
-same_input : (input taken : List ℕ) (new : Option (List ℕ)) → IsInput (Some input) new taken → input ≡ taken
+pub same_input : (input taken : List ℕ) (new : Option (List ℕ)) → IsInput (Some input) new taken → input ≡ taken
 same_input input taken None h = absurd h.reads.taken
 same_input input taken (Some rest) h =
     let nothing : rest ≡ [] = h.reads.ended (omega (arith, h.at_most)) in
     h.reads.taken ∙ (ap (λ (xs : List ℕ). taken ++ xs) nothing ∙ append-nil taken)
 
-verdict_of_input : (input taken : List ℕ) (new : Option (List ℕ)) (verdict : Verdict) → IsInput (Some input) new taken → IsVerdict taken verdict
+pub verdict_of_input : (input taken : List ℕ) (new : Option (List ℕ)) (verdict : Verdict) → IsInput (Some input) new taken → IsVerdict taken verdict
     → IsVerdict input verdict
 verdict_of_input input taken new verdict read is = subst (λ (xs : List ℕ). IsVerdict xs verdict) (sym (same_input input taken new read)) is
 

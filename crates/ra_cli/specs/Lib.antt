@@ -9,3 +9,4 @@ pub mod Pictures
 pub mod ClusterRun
 pub mod Surveyed
 pub mod Statuses
+pub mod Tasks

@@ -222,14 +222,17 @@ fn sim_task<'a>(sim: &ArgMatches<'a>) -> Option<Task<'a>>
     })
 }
 
-/// Returns the task of the command `draw`.
+/// Returns the task of the command `draw`, or `None` if no line is in its part, whatever the trace.
 fn draw_task<'a>(given: &ArgMatches<'a>) -> Option<Task<'a>>
     ensures help { IfSome result (λ task. OnHelp task ⊥) }
     ensures numbers { IfSome result (λ task. OnAnswer task (λ _ _. ⊥)) }
     ensures marks { IfSome result (λ task. (any : List (List ℕ)) → ChecksBy any task) }
 {
-    let from = given.get_one("from")?;
-    let to = given.get_one("to")?;
+    let from: u64 = given.get_one("from")?;
+    let to: u64 = given.get_one("to")?;
+    if from == 0 || from > to {
+        return None;
+    }
     Some(Task::Draw(Part { from, to }))
 }
 

@@ -1,7 +1,7 @@
 //! Hints for the user when nothing was refused but something may surprise: options that have no effect, names that stay
 //! locked, and, on a terminal, what the command waits for.
 use crate::command_line::{asks_for_help, has_word, text_of};
-use crate::notes::write_line;
+use crate::said::write_line;
 use crate::seen::Seen;
 use ra_explain::script_end_note;
 use std::alloc::Global;

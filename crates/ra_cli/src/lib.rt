@@ -16,6 +16,7 @@ mod outcome;
 mod places;
 mod refusal;
 mod running;
+mod said;
 mod seed_progress;
 mod seen;
 mod seen_writer;

@@ -1,12 +1,10 @@
-//! The texts of notes that depend on the cause alone, and not on the words or the input.
+//! The texts of notes that depend on neither the words nor what the input says.
+use crate::said::NO_MEMORY;
 use ra_cluster::{ClusterError, Stop};
-use ra_frame::FrameError;
-use ra_schedule::DriveError;
-use ra_script::ScriptError;
 use ra_trace::{Cause, MarkCause};
 
-/// What is said if memory ran out.
-pub const NO_MEMORY: &str = "out of memory";
+/// What is said if an explanation finds no memory. It is also said if an explanation finds nothing, which it never does.
+pub const UNEXPLAINED: &str = "standard output says what came of it; no memory is left to say more";
 
 /// What is said if the reader failed.
 pub const NO_INPUT: &str = "cannot read standard input";
@@ -24,110 +22,48 @@ pub const NO_TEXT: &str = "a command-line argument is not valid UTF-8";
 pub const NO_WORD: &str =
     "the choices of this run cannot be written: one repeats a message, or names a place of more than 9 digits";
 
-/// Returns what is said about bytes that are not a frame.
-pub fn frame_text(fault: FrameError) -> &'static str {
-    match fault {
-        FrameError::Short => "the frame is incomplete: it ends before its name does",
-        FrameError::Version => "the frame's version (offset 0) must be 01 or 02",
-        FrameError::Kind => "the frame's kind (offset 1) must be 01 (REQUEST) or 02 (REPLY)",
-        FrameError::From => {
-            "the frame's sender must be 1 to 16 in version 1, or 1 to 64 in version 2"
-        }
-        FrameError::To => {
-            "the frame's receiver must be 1 to 16 in version 1, or 1 to 64 in version 2"
-        }
-        FrameError::SameNode => "the frame's sender and receiver are the same node",
-        FrameError::Mode => {
-            "the frame's mode must be 00 or 01 in a version 1 REQUEST, 00 to 04 in a version 2 REQUEST, and 00 in a REPLY"
-        }
-        FrameError::Seq => "the frame's sequence number is 0: must be at least 1",
-        FrameError::Clock => "the frame's event clock must be 1 to 2^62",
-        FrameError::NameLength => "the length of the frame's name must be 1 to 32",
-        FrameError::NameByte => {
-            "the frame's name has a byte that is not allowed: names consist of A-Z, a-z, 0-9, _, - and ."
-        }
-        FrameError::Trailing => "the frame goes on after its name",
-    }
-}
+/// What is said if a trace or a mark log is too long.
+pub const TOO_MANY_BYTES: &str = "standard input has more than 16777216 bytes";
 
-/// Returns what is said about a text that is not a script.
-pub fn script_text(fault: ScriptError) -> &'static str {
-    match fault {
-        ScriptError::Toml => "the script is not valid UTF-8, or not valid TOML",
-        ScriptError::Shape => {
-            "a key of the script is missing, unknown or of the wrong type: expected nodes (an integer) and client (an array of tables), each with node (an integer) and ops (an array of strings)"
-        }
-        ScriptError::Nodes => "the script must have 1 to 64 nodes",
-        ScriptError::Clients => "the script must have 1 to 64 clients, each at one of its nodes",
-        ScriptError::Op => {
-            "the script has an invalid operation: expected S, X, IS, IX, SIX or U, a space and a name of 1 to 32 characters from A-Z, a-z, 0-9, _, - and ."
-        }
-        ScriptError::NotHeld => "a client of the script unlocks a name that it does not hold",
-        ScriptError::AlreadyHeld => "a client of the script locks a name that it already holds",
-        ScriptError::Limit => {
-            "the script has more than 65536 bytes, or a client with more than 1024 operations"
-        }
-        ScriptError::Memory => NO_MEMORY,
-    }
-}
+/// What is said if too many lines of a trace are to be drawn.
+pub const TOO_LONG: &str =
+    "the trace has more than 4096 lines to draw: choose a part with --from and --to";
 
-/// Returns what is said about a policy that can't go on.
-pub fn drive_text(fault: DriveError) -> &'static str {
-    match fault {
-        DriveError::TurnLimit => {
-            "the run is not over after 16777216 turns, the most that it may take"
-        }
-        DriveError::BadPlace => {
-            "--choices names a client that does not exist (clients count from 1) or a message that is not under way (places count from 0, in the order of sending)"
-        }
-        DriveError::NotEnabled => {
-            "--choices names a client that cannot go on at that point: it waits, or has nothing left to do"
-        }
-        DriveError::Memory => NO_MEMORY,
-    }
-}
+/// What is said if a run goes on for too long.
+pub const TOO_MANY_TURNS: &str =
+    "the run is not over after 16777216 turns, the most that it may take";
 
-/// Returns what is said about threads that did not bring a script to its end.
+/// What is said if the runs of some seeds did not finish.
+pub const SEEDS_LEFT: &str =
+    "the runs of some seeds did not finish: use --seed and --trace to see one of them";
+
+/// What is said if the threads of a cluster did what no script and no lack of memory or threads lets them do.
+const DEFECT: &str = "the threads did not record one run of the whole script: this is a bug in ra";
+
+/// Returns what is said about threads that did not bring a script to its end. For the two conditions that are checked before
+/// threads start, the place in the script is explained.
 pub fn cluster_text(fault: ClusterError) -> &'static str {
     match fault {
-        ClusterError::OutOfOrder => {
-            "a client of the script locks a name that does not sort after every name it holds, so clients could deadlock: lock names in ascending byte order, or run the script with ra sim"
-        }
-        ClusterError::Unreleased => {
-            "a client of the script never unlocks a name, so others could wait for it forever: unlock the name, or run the script with ra sim"
-        }
+        ClusterError::OutOfOrder | ClusterError::Unreleased => UNEXPLAINED,
         ClusterError::Fault(stop) => stop_text(stop),
-        ClusterError::Settle => "the nodes' books do not settle into a run: this is a bug in ra",
-        ClusterError::PlanUnmet => {
-            "the clients did not do what the script says: this is a bug in ra"
-        }
-        ClusterError::Lost => "a message was lost: this is a bug in ra",
-        ClusterError::UnderWay => {
-            "a message was still under way at the end: this is a bug in ra"
-        }
+        ClusterError::Settle
+        | ClusterError::PlanUnmet
+        | ClusterError::Lost
+        | ClusterError::UnderWay => DEFECT,
         ClusterError::Memory => NO_MEMORY,
     }
 }
 
 /// Returns what is said about the cause for which a node was stopped. `run_cluster` does not tell which node it was.
-/// Memory and threads belong to the whole process, so it is chance which node runs out of them first, and most other
-/// causes are defects of `ra`.
+/// Memory and threads belong to the whole process, so it is chance which node runs out of them first.
 fn stop_text(stop: Stop) -> &'static str {
     match stop {
         Stop::Memory => "a node was stopped: out of memory",
         Stop::Spawn => {
             "a node was stopped: cannot start a thread (each node and each client needs one)"
         }
-        Stop::Clock => "a node was stopped: its event clock would pass 2^62",
-        Stop::Exhausted => "a node was stopped: no sequence number is left for a name",
-        Stop::Send => "a node was stopped: it could not send a frame; this is a bug in ra",
-        Stop::Frame => {
-            "a node was stopped: it received bytes that are not a frame; this is a bug in ra"
-        }
-        Stop::Refused => {
-            "a node was stopped: it refused what it was asked to do; this is a bug in ra"
-        }
-        Stop::Gate => "a node was stopped by a gate; this is a bug in ra",
+        Stop::Clock | Stop::Exhausted | Stop::Send | Stop::Frame | Stop::Refused | Stop::Gate =>
+            "a node was stopped in a way that no script can cause: this is a bug in ra",
     }
 }
 

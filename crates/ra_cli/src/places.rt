@@ -15,6 +15,7 @@ use ra_explain::{
 use ra_schedule::{Policy, chance};
 use ra_script::{PerformError, explain_script};
 use ra_stamp::Memory;
+use ra_text::cut;
 use ra_trace::Version;
 use std::alloc::Global;
 
@@ -89,18 +90,17 @@ fn unfinished_place(
     }
 }
 
-/// Returns a text up to the end of one of its lines, counted from 1, and how many lines are in that.
+/// Returns a text up to the end of one of its lines, counted from 1, and how many lines that is.
 fn through_line(text: &[u8], line: u64) -> (&[u8], u64) {
-    let mut feeds: u64 = 0;
-    for (place, byte) in text.iter().enumerate() {
-        if *byte == b'\n' {
-            feeds = feeds.saturating_add(1);
-            if feeds == line {
-                return (text.get(..place + 1).unwrap_or(text), feeds);
-            }
-        }
+    let mut rest = text;
+    for feeds in 0..line {
+        let (_, Some(after)) = cut(rest, b'\n') else {
+            return (text, feeds);
+        };
+        rest = after;
     }
-    (text, feeds)
+    let read = text.len().saturating_sub(rest.len());
+    (text.get(..read).unwrap_or(text), line)
 }
 
 /// Returns the version that a trace names, where its first line is remembered.

@@ -1,5 +1,5 @@
 //! What the user is told while many seeds take long.
-use crate::notes::write_line;
+use crate::said::write_line;
 use ra_schedule::{Figures, Observer, SeedOutcome};
 use std::alloc::Global;
 use std::io::Write;

@@ -2,6 +2,7 @@
 ghost use Rattle.std.specs.Prelude.{◌≡◌};
 
 use arrayvec::ArrayVec;
+use ra_text::cut;
 use std::alloc::Global;
 use std::io;
 use std::io::{BufRead, Read};
@@ -34,16 +35,6 @@ fn has_kept(first: &mut Vec<u8>, more: &[u8]) -> bool {
     first
         .extend_from_slice(&more[..more.len().min(room)])
         .is_ok()
-}
-
-/// Returns what stands before the first line feed of some bytes, or all where there is none.
-fn up_to_feed(bytes: &[u8]) -> &[u8] {
-    for (place, byte) in bytes.iter().enumerate() {
-        if *byte == b'\n' {
-            return &bytes[..place];
-        }
-    }
-    bytes
 }
 
 impl Seen {
@@ -98,7 +89,8 @@ impl Seen {
         if self.is_over() {
             return Some(self.taken_line());
         }
-        Some(up_to_feed(self.line.as_slice()))
+        let (line, _) = cut(self.line.as_slice(), b'\n');
+        Some(line)
     }
 
     /// Returns whether the line before the last one was `end`.

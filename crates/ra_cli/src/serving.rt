@@ -1,16 +1,23 @@
-ghost use Rattle.std.specs.Prelude.{true, false, [], ◌++◌, None, ◌≢◌, ◌↔◌, Bool, IsErr, IsErrOf, IsTrue, IfOk, IfErr, IfNone, Option, ◌≡◌, ◌≤◌, ◌⊎◌, List, ℕ, Any, map, IfSome, string_bytes};
-ghost use Rattle.std.specs.Io.KnownBytes.{Consumes, Appends};
-ghost use Rattle.ra_cli.specs.Words.{HasMarksWord, IsHelpWord};
-ghost use Rattle.ra_cli.specs.Performs.{IsNamed, PerformsBy};
+ghost use Rattle.std.specs.Prelude.{true, false, [], ◌++◌, None, ◌≢◌, ◌↔◌, IsErr, IsTrue, IfOk, IfErr, IfNone, Option, ◌≡◌, ◌≤◌, ◌⊎◌, List, ℕ, Any, map, IfSome, string_bytes};
+ghost use Rattle.std.specs.Io.KnownBytes.{Appends};
+ghost use Rattle.ra_cli.specs.Words.{GivesNode, HasMarksWord, IsHelpWord};
+ghost use Rattle.ra_cli.specs.Answer.{Refuses};
+ghost use Rattle.ra_cli.specs.Performs.{IsNamed};
 ghost use Rattle.ra_cli.specs.Checks.{Checks, ChecksMarks, is_run, is_valid};
 ghost use Rattle.ra_cli.specs.Checks.{verdict_text as spec_text};
+ghost use Rattle.ra_trace.specs.declared.error.TraceError.{TraceError};
 ghost use Rattle.ra_trace.specs.declared.verdict.Verdict.{Verdict};
-ghost use Rattle.ra_cli.specs.Pictures.{IsDrawn, IsNoTrace};
+ghost use Rattle.ra_draw.specs.declared.error.DrawError.{DrawError};
+ghost use Rattle.ra_cli.specs.Pictures.{IsNoTrace};
 ghost use Rattle.ra_cli.specs.Statuses.{IsBroken, IsDone, IsPrinted, IsRefused, IsSaid, IsUnfinished};
 ghost use Rattle.ra_cli.specs.ClusterRun.{RunsCluster};
-ghost use Rattle.ra_cli.specs.Surveyed.{SurveysBy};
+ghost use Rattle.ra_cli.specs.Surveyed.{RefusesSurvey, SurveysBy};
+ghost use Rattle.ra_cli.specs.Tasks.{AnswersAs, DrawsPart, IsDoneBy, IsLeftBy, IsRefusedBy, IsRefusedFor, PerformsNamed, RefusesNamed, RefusesPart, Suits};
 ghost use Rattle.ra_script.specs.ChoicesText.{choices_of};
 ghost use Rattle.ra_schedule.specs.declared.choice.Policy.{Policy};
+ghost use Rattle.ra_cli.specs.declared.command_line.Task.{Task};
+ghost use Rattle.ra_cli.specs.declared.error.AnswerError.{AnswerError};
+ghost use Rattle.ra_cli.specs.declared.error.RunScriptError.{RunScriptError};
 ghost use Rattle.ra_cli.specs.declared.refusal.Refusal.{Refusal};
 ghost use Rattle.ra_cli.specs.Refusals.{IsOfReader, IsOfWriter, command_word, refused_line, word_of};
 
@@ -140,6 +147,29 @@ pub fn refuse_words_with_note<W: Write, N: Write>(
     status
 }
 
+/// Answers the reader's frame for this node of this many.
+fn respond<R: Read, W: Write>(
+    alloc: Global,
+    node: u16,
+    nodes: u16,
+    reader: &mut R,
+    writer: &mut W,
+) -> Outcome
+    ensures range { result.status ≤ 2 }
+    ensures answered { result.status ≡ 0 → AnswersAs node nodes (R.remaining reader.old) (R.remaining reader.new)
+        (W.contents writer.old) (W.contents writer.new) }
+    ensures refused { result.status ≡ 2 → IsRefusedFor (λ why. IfSome (R.remaining reader.old) (λ input.
+        (fault : AnswerError) × (why ≡ Refusal.Answer fault) × Refuses node nodes input fault))
+        (W.contents writer.old) (W.contents writer.new) }
+    ensures broken { (words : List (List ℕ)) → GivesNode words node nodes → result.status ≡ 1
+        → IsBroken words (R.remaining reader.old) (W.contents writer.old) (W.contents writer.new) }
+{
+    match answer(alloc, node, nodes, reader, writer) {
+        Ok(()) => Outcome::new(DONE, None),
+        Err(fault) => refuse(writer, Refusal::Answer(fault)),
+    }
+}
+
 /// Returns the policy of a name. The choices are read whatever the name, so that who wrote a wrong word is told.
 ///
 /// # Errors
@@ -162,7 +192,7 @@ pub fn policy_of(alloc: Global, name: PolicyName, choices: &str) -> Result<Polic
     })
 }
 
-/// Reads the choices, and drives a cluster through the script of the reader.
+/// Reads the choices, and drives a cluster through the reader's script under the policy of this name.
 fn simulate<R: Read, W: Write>(
     alloc: Global,
     name: PolicyName,
@@ -172,16 +202,16 @@ fn simulate<R: Read, W: Write>(
     writer: &mut W,
 ) -> Outcome
     ensures range { result.status ≤ 3 }
-    ensures done { result.status ≡ 0 → (policy : Policy) × IsNamed name choices.now policy
-        × PerformsBy policy format (R.remaining reader.old) (R.remaining reader.new)
+    ensures done { result.status ≡ 0 → PerformsNamed name choices.now format (R.remaining reader.old) (R.remaining reader.new)
         (W.contents writer.old) (W.contents writer.new) true }
-    ensures unfinished { result.status ≡ 3 → (policy : Policy) × IsNamed name choices.now policy
-        × PerformsBy policy format (R.remaining reader.old) (R.remaining reader.new)
-        (W.contents writer.old) (W.contents writer.new) false }
-    ensures refused { result.status ≡ 2 → IsRefused (W.contents writer.old) (W.contents writer.new) }
+    ensures unfinished { result.status ≡ 3 → PerformsNamed name choices.now format (R.remaining reader.old)
+        (R.remaining reader.new) (W.contents writer.old) (W.contents writer.new) false }
+    ensures refused { result.status ≡ 2 → IsRefusedFor
+        (λ why. IfSome (R.remaining reader.old) (λ input. RefusesNamed name choices.now format input why))
+        (W.contents writer.old) (W.contents writer.new) }
     ensures broken { (words : List (List ℕ)) → result.status ≡ 1
         → IsBroken words (R.remaining reader.old) (W.contents writer.old) (W.contents writer.new) }
-    // Choices that are not are refused before anything is read.
+    // A text that is not a list of choices is refused before anything is read.
     ensures choices_first { choices_of choices.now ≡ None → (1 ≤ result.status) × (reader.new ≡ reader.old) }
 {
     let policy = match policy_of(alloc, name, choices) {
@@ -220,7 +250,9 @@ fn survey_seeds<R: Read, W: Write, O: Observer>(
         (W.contents writer.old) (W.contents writer.new) true }
     ensures unfinished { result.status ≡ 3 → SurveysBy faults find first last (R.remaining reader.old) (R.remaining reader.new)
         (W.contents writer.old) (W.contents writer.new) false }
-    ensures refused { result.status ≡ 2 → IsRefused (W.contents writer.old) (W.contents writer.new) }
+    ensures refused { result.status ≡ 2 → IsRefusedFor (λ why. IfSome (R.remaining reader.old) (λ input.
+        (fault : RunScriptError) × (why ≡ Refusal.Cluster fault) × RefusesSurvey faults find first last input fault))
+        (W.contents writer.old) (W.contents writer.new) }
     ensures broken { (words : List (List ℕ)) → result.status ≡ 1
         → IsBroken words (R.remaining reader.old) (W.contents writer.old) (W.contents writer.new) }
 {
@@ -248,7 +280,8 @@ fn judge<R: BufRead, W: Write>(alloc: Global, reader: &mut R, writer: &mut W) ->
         (W.contents writer.old) (W.contents writer.new) true }
     ensures invalid { result.status ≡ 3 → Checks (R.remaining reader.old) (R.remaining reader.new)
         (W.contents writer.old) (W.contents writer.new) false }
-    ensures refused { result.status ≡ 2 → IsRefused (W.contents writer.old) (W.contents writer.new) }
+    ensures refused { result.status ≡ 2 → IsRefusedFor (λ why. (fault : TraceError) × (why ≡ Refusal.Check fault))
+        (W.contents writer.old) (W.contents writer.new) }
     ensures broken { (words : List (List ℕ)) → (HasMarksWord words → ⊥) → result.status ≡ 1
         → IsBroken words (R.remaining reader.old) (W.contents writer.old) (W.contents writer.new) }
 {
@@ -282,7 +315,8 @@ fn judge_marks<R: BufRead, W: Write>(alloc: Global, reader: &mut R, writer: &mut
         (W.contents writer.old) (W.contents writer.new) true }
     ensures invalid { result.status ≡ 3 → ChecksMarks (R.remaining reader.old) (R.remaining reader.new)
         (W.contents writer.old) (W.contents writer.new) false }
-    ensures refused { result.status ≡ 2 → IsRefused (W.contents writer.old) (W.contents writer.new) }
+    ensures refused { result.status ≡ 2 → IsRefusedFor (λ why. (fault : TraceError) × (why ≡ Refusal.Check fault))
+        (W.contents writer.old) (W.contents writer.new) }
     ensures broken { (words : List (List ℕ)) → HasMarksWord words → result.status ≡ 1
         → IsBroken words (R.remaining reader.old) (W.contents writer.old) (W.contents writer.new) }
 {
@@ -299,13 +333,14 @@ fn judge_marks<R: BufRead, W: Write>(alloc: Global, reader: &mut R, writer: &mut
     }
 }
 
-/// Prints the line of a text that is not drawn, since it is no trace: its first wrong line, and why.
+/// Prints the line for a text that is not drawn because it is not a trace: its first wrong line, and why.
 fn deny<W: Write>(alloc: Global, line: u64, cause: Cause, writer: &mut W) -> Outcome
     ensures range { result.status ≤ 3 }
     ensures not_done { 1 ≤ result.status }
     ensures denied { result.status ≡ 3
         → Appends (W.contents writer.old) (W.contents writer.new) (spec_text (Verdict.Invalid line cause)) }
-    ensures refused { result.status ≡ 2 → IsRefused (W.contents writer.old) (W.contents writer.new) }
+    ensures refused { result.status ≡ 2 → IsRefusedFor (λ why. why ≡ Refusal.Draw DrawError.Memory)
+        (W.contents writer.old) (W.contents writer.new) }
     ensures broken { (words : List (List ℕ)) (old : Option (List ℕ))
         → IfSome old (λ input. IsPrinted words input (spec_text (Verdict.Invalid line cause))) → result.status ≡ 1
         → IsBroken words old (W.contents writer.old) (W.contents writer.new) }
@@ -320,14 +355,17 @@ fn deny<W: Write>(alloc: Global, line: u64, cause: Cause, writer: &mut W) -> Out
     }
 }
 
-/// Draws a part of the trace of the reader, or writes the line of the verdict on it where it is not one.
+/// Draws a part of the reader's trace, or writes the line of the verdict if the input is not a trace.
 fn paint<R: Read, W: Write>(alloc: Global, part: Part, reader: &mut R, writer: &mut W) -> Outcome
     ensures range { result.status ≤ 3 }
-    ensures drawn { result.status ≡ 0 → IsDrawn (R.remaining reader.old) (R.remaining reader.new)
+    ensures drawn { result.status ≡ 0 → DrawsPart part (R.remaining reader.old) (R.remaining reader.new)
         (W.contents writer.old) (W.contents writer.new) }
     ensures no_trace { result.status ≡ 3 → IsNoTrace (R.remaining reader.old) (R.remaining reader.new)
         (W.contents writer.old) (W.contents writer.new) }
-    ensures refused { result.status ≡ 2 → IsRefused (W.contents writer.old) (W.contents writer.new) }
+    // Only a part that is too long is refused as such.
+    ensures refused { result.status ≡ 2 → IsRefusedFor (λ why. IfSome (R.remaining reader.old) (λ input.
+        (fault : DrawError) × (why ≡ Refusal.Draw fault) × RefusesPart part input fault))
+        (W.contents writer.old) (W.contents writer.new) }
     ensures broken { (words : List (List ℕ)) → result.status ≡ 1
         → IsBroken words (R.remaining reader.old) (W.contents writer.old) (W.contents writer.new) }
 {
@@ -338,56 +376,75 @@ fn paint<R: Read, W: Write>(alloc: Global, part: Part, reader: &mut R, writer: &
     }
 }
 
-/// Does what the words ask for but the command `cluster`, and returns what came of it. Where they ask for that it does nothing,
-/// and returns `None`. It waits for nobody but the reader and the writer.
-fn serve_alone<R: BufRead, W: Write, O: Observer>(
+/// Does a task that needs no threads, and returns what came of it. For the command `cluster` it does nothing and returns
+/// `None`. It waits for nothing but the reader and the writer.
+fn do_alone<R: BufRead, W: Write, O: Observer>(
     alloc: Global,
-    words: &[String],
+    task: Task<'_>,
     reader: &mut R,
     writer: &mut W,
     observer: &mut O,
 ) -> Option<Outcome>
     ensures range { IfSome result (λ outcome. outcome.status ≤ 3) }
     ensures done { IfSome result (λ outcome. outcome.status ≡ 0
-        → ((reader.new ≡ reader.old) × Any (λ word. IsHelpWord (string_bytes word)) words.now)
-        ⊎ IsDone (map string_bytes words.now) (R.remaining reader.old) (R.remaining reader.new)
-        (W.contents writer.old) (W.contents writer.new)) }
+        → IsDoneBy task.entry (R.remaining reader.old) (R.remaining reader.new)
+        (W.contents writer.old) (W.contents writer.new) (reader.new ≡ reader.old)) }
     ensures unfinished { IfSome result (λ outcome. outcome.status ≡ 3
-        → IsUnfinished (map string_bytes words.now) (R.remaining reader.old) (R.remaining reader.new)
-        (W.contents writer.old) (W.contents writer.new)) }
-    ensures refused { IfSome result (λ outcome. outcome.status ≡ 2 → IsRefused (W.contents writer.old) (W.contents writer.new)) }
-    ensures broken { IfSome result (λ outcome. outcome.status ≡ 1
-        → IsBroken (map string_bytes words.now) (R.remaining reader.old) (W.contents writer.old) (W.contents writer.new)) }
-    ensures untouched { IfNone result ((reader.new ≡ reader.old) × (writer.new ≡ writer.old)) }
+        → IsLeftBy task.entry (R.remaining reader.old) (R.remaining reader.new) (W.contents writer.old) (W.contents writer.new)) }
+    ensures refused { IfSome result (λ outcome. outcome.status ≡ 2
+        → IsRefusedBy task.entry (R.remaining reader.old) (W.contents writer.old) (W.contents writer.new)) }
+    ensures broken { IfSome result (λ outcome. (words : List (List ℕ)) → Suits words task.entry → outcome.status ≡ 1
+        → IsBroken words (R.remaining reader.old) (W.contents writer.old) (W.contents writer.new)) }
+    ensures none { IfNone result ((task.entry ≡ Task.Cluster) × (reader.new ≡ reader.old) × (writer.new ≡ writer.old)) }
 {
-    let outcome = match parse(alloc, words) {
-        Ok(Task::Answer { node, nodes }) => match answer(alloc, node, nodes, reader, writer) {
-            Ok(()) => Outcome::new(DONE, None),
-            Err(fault) => refuse(writer, Refusal::Answer(fault)),
-        },
-        Ok(
-            Task::Sim {
-                policy,
-                choices,
-                format,
-            },
-        ) => simulate(alloc, policy, choices, format, reader, writer),
-        Ok(
-            Task::Survey {
-                faults,
-                find,
-                first,
-                last,
-            },
-        ) => survey_seeds(alloc, faults, find, first, last, reader, writer, observer),
-        Ok(Task::Check) => judge(alloc, reader, writer),
-        Ok(Task::CheckMarks) => judge_marks(alloc, reader, writer),
-        Ok(Task::Draw(part)) => paint(alloc, part, reader, writer),
-        Ok(Task::Cluster) => return None,
-        Ok(Task::Help(text)) => Outcome::new(written(writer, text.as_bytes(), DONE), None),
-        Err(fault) => refuse(writer, Refusal::Command(fault)),
+    let outcome = match task {
+        Task::Answer { node, nodes } => respond(alloc, node, nodes, reader, writer),
+        Task::Sim {
+            policy,
+            choices,
+            format,
+        } => simulate(alloc, policy, choices, format, reader, writer),
+        Task::Survey {
+            faults,
+            find,
+            first,
+            last,
+        } => survey_seeds(alloc, faults, find, first, last, reader, writer, observer),
+        Task::Check => judge(alloc, reader, writer),
+        Task::CheckMarks => judge_marks(alloc, reader, writer),
+        Task::Draw(part) => paint(alloc, part, reader, writer),
+        Task::Cluster => return None,
+        Task::Help(text) => Outcome::new(written(writer, text.as_bytes(), DONE), None),
     };
     Some(outcome)
+}
+
+/// Does a task, and returns what came of it.
+fn do_task<T: Threads + Wait + Sync, R: BufRead, W: Write, O: Observer>(
+    rt: &T,
+    alloc: Global,
+    task: Task<'_>,
+    reader: &mut R,
+    writer: &mut W,
+    observer: &mut O,
+) -> Outcome
+    ensures range { result.status ≤ 3 }
+    ensures done { result.status ≡ 0 → IsDoneBy task.entry (R.remaining reader.old) (R.remaining reader.new)
+        (W.contents writer.old) (W.contents writer.new) (reader.new ≡ reader.old) }
+    ensures unfinished { result.status ≡ 3
+        → IsLeftBy task.entry (R.remaining reader.old) (R.remaining reader.new) (W.contents writer.old) (W.contents writer.new) }
+    ensures refused { result.status ≡ 2
+        → IsRefusedBy task.entry (R.remaining reader.old) (W.contents writer.old) (W.contents writer.new) }
+    ensures broken { (words : List (List ℕ)) → Suits words task.entry → result.status ≡ 1
+        → IsBroken words (R.remaining reader.old) (W.contents writer.old) (W.contents writer.new) }
+{
+    if let Some(outcome) = do_alone(alloc, task, reader, writer, observer) {
+        return outcome;
+    }
+    match run_script(rt, alloc, reader, writer) {
+        Ok(()) => Outcome::new(DONE, None),
+        Err(fault) => refuse(writer, Refusal::Cluster(fault)),
+    }
 }
 
 /// Does what the words ask for, and returns what came of it.
@@ -412,12 +469,9 @@ fn outcome_of<T: Threads + Wait + Sync, R: BufRead, W: Write, O: Observer>(
     ensures broken { result.status ≡ 1
         → IsBroken (map string_bytes words.now) (R.remaining reader.old) (W.contents writer.old) (W.contents writer.new) }
 {
-    if let Some(outcome) = serve_alone(alloc, words, reader, writer, observer) {
-        return outcome;
-    }
-    match run_script(rt, alloc, reader, writer) {
-        Ok(()) => Outcome::new(DONE, None),
-        Err(fault) => refuse(writer, Refusal::Cluster(fault)),
+    match parse(alloc, words) {
+        Ok(task) => do_task(rt, alloc, task, reader, writer, observer),
+        Err(fault) => refuse(writer, Refusal::Command(fault)),
     }
 }
 

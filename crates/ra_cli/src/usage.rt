@@ -2,9 +2,11 @@
 use crate::command_line::{format_of, policy_name};
 use crate::command_rows::command;
 use crate::hints::is_given;
+use crate::said::Said;
 use clap::error::ErrorKind;
 use clap::{ArgMatches, Command, Error as ParseError};
-use std::alloc::{AllocError, Global};
+use ra_text::Note;
+use std::alloc::Global;
 
 /// What is said about rates of faults that are out of range.
 const FAULTS_TEXT: &str =
@@ -20,6 +22,9 @@ const FIND_TEXT: &str = "--find requires --seeds; see ra sim --help";
 /// What is said about choices that can't be printed.
 const AS_CHOICES_TEXT: &str =
     "--as-choices cannot be used with --trace, nor with --policy faulty unless --repeat is 0; see ra sim --help";
+
+/// What is said about a part of a trace that has no lines.
+const PART_TEXT: &str = "--from must be at least 1, and at most --to; see ra draw --help";
 
 /// Returns whether a word is a command, each of which reads standard input.
 fn is_command(word: &str) -> bool {
@@ -43,76 +48,67 @@ fn unexpected_in(said: &str) -> Option<&str> {
     }
 }
 
-/// Adds a text, with `?` in place of each control character, which could end the line.
-fn push_shown(text: &mut String, line: &str) -> Result<(), AllocError> {
-    for letter in line.chars() {
-        text.push(if letter.is_control() { '?' } else { letter })?;
-    }
-    Ok(())
-}
-
 /// Adds a line of what the parser says: a tip after a semicolon, and any other after a space.
-fn push_line(text: &mut String, line: &str) -> Result<(), AllocError> {
+fn push_line(note: &mut Note, line: &str) {
     let (joint, shown) = match line.strip_prefix("tip: ") {
         Some(tip) => ("; ", tip),
-        None if text.is_empty() || line.is_empty() => ("", line),
+        None if note.is_empty() || line.is_empty() => ("", line),
         None => (" ", line),
     };
-    text.push_str(joint)?;
-    push_shown(text, shown)
+    note.push(joint);
+    note.shown(shown);
 }
 
 /// Adds what the parser says, without the lines of the usage and what follows them.
-fn push_said(text: &mut String, said: &str) -> Result<(), AllocError> {
+fn push_said(note: &mut Note, said: &str) {
     let said = said.strip_prefix("error: ").unwrap_or(said);
     for line in said.lines() {
         if line.starts_with("Usage:") || line.starts_with("For more information") {
-            return Ok(());
+            return;
         }
-        push_line(text, line.trim())?;
+        push_line(note, line.trim());
     }
-    Ok(())
 }
 
 /// Adds where to read more and, if a word may name a file, how to read that file.
-fn push_advice(text: &mut String, words: &[String], said: &str) -> Result<(), AllocError> {
+fn push_advice(note: &mut Note, words: &[String], said: &str) {
     let Some(name) = command_named(words) else {
-        return text.push_str("; see ra --help");
+        note.push("; see ra --help");
+        return;
     };
     if let Some(word) = unexpected_in(said) {
-        text.push_str("; to read a file, run ra ")?;
-        text.push_str(name)?;
-        text.push_str(" < ")?;
-        push_shown(text, word)?;
+        note.push("; to read a file, run ra ");
+        note.push(name);
+        note.push(" < ");
+        note.shown(word);
     }
-    write!(text, "; see ra {name} --help")
+    note.push("; see ra ");
+    note.push(name);
+    note.push(" --help");
 }
 
-/// Returns what is said about help options that share a word with others, and where to read more.
-fn help_text(alloc: Global, words: &[String]) -> Result<String, AllocError> {
-    let mut text = String::from_str(alloc, "-h and -V must be arguments of their own")?;
-    push_advice(&mut text, words, "")?;
-    Ok(text)
+/// Adds what is said about help options that share a word with others, and where to read more.
+fn push_help(note: &mut Note, words: &[String]) {
+    note.push("-h and -V must be arguments of their own");
+    push_advice(note, words, "");
 }
 
-/// Returns what the parser says, and where to read more.
-fn said_text(alloc: Global, words: &[String], said: &str) -> Result<String, AllocError> {
-    let mut text = String::new(alloc);
-    push_said(&mut text, said)?;
-    push_advice(&mut text, words, said)?;
-    Ok(text)
-}
-
-/// Returns what the parser says about the words with its error, and where to read more.
-fn error_text(alloc: Global, words: &[String], error: &ParseError) -> Result<String, AllocError> {
+/// Adds what the parser says about the words with its error, and where to read more.
+fn push_error(alloc: Global, note: &mut Note, words: &[String], error: &ParseError) {
     if matches!(
         error.kind(),
         ErrorKind::DisplayHelp | ErrorKind::DisplayVersion
     ) {
-        return help_text(alloc, words);
+        push_help(note, words);
+        return;
     }
-    let said = format!(in alloc; "{error}")?;
-    said_text(alloc, words, said.as_str())
+    match format!(in alloc; "{error}") {
+        Ok(said) => {
+            push_said(note, said.as_str());
+            push_advice(note, words, said.as_str());
+        }
+        Err(_) => note.refuse_if(true),
+    }
 }
 
 /// Returns what is said about words of the command `sim` in which the parser finds nothing wrong. The causes are tried
@@ -130,16 +126,27 @@ fn unseen_text(words: &[String], sim: &ArgMatches) -> &'static str {
     }
 }
 
-/// Returns what the parser says about words that are not a command line of `ra`, with the nearest word if it knows one,
-/// and where to read more. The parser is run again, so that the contract of `parse` need not mention notes.
-pub fn usage_text<'a>(alloc: Global, words: &'a [String]) -> Result<String, AllocError> {
-    let command: Command<'a> = command(alloc)?;
+/// Adds what is wrong with the words.
+fn push_usage<'a>(alloc: Global, note: &mut Note, words: &'a [String], command: Command<'a>) {
     match command.try_get_matches_from(words) {
         // The parser finds nothing wrong with the words, so the cause is something that it does not check.
         Ok(matches) => match matches.subcommand() {
-            Some((_, given)) => String::from_str(alloc, unseen_text(words, given)),
-            None => help_text(alloc, words),
+            Some(("draw", _)) => note.push(PART_TEXT),
+            Some((_, given)) => note.push(unseen_text(words, given)),
+            None => push_help(note, words),
         },
-        Err(error) => error_text(alloc, words, &error),
+        Err(error) => push_error(alloc, note, words, &error),
     }
+}
+
+/// Returns what there is to say about words that are not a command line of `ra`: what is wrong, the nearest word if the
+/// parser knows one, and where to read more. The parser is run again, so that the contract of `parse` need not mention
+/// notes.
+pub fn usage_note(alloc: Global, words: &[String]) -> Said {
+    let mut note = Note::new(alloc);
+    match command(alloc) {
+        Ok(command) => push_usage(alloc, &mut note, words, command),
+        Err(_) => note.refuse_if(true),
+    }
+    Said::of(note)
 }

@@ -7,8 +7,8 @@ use Rattle.ra_world.specs.Traffic.{Move, lost_by}
 use Rattle.ra_world.specs.World.{Reports}
 use Rattle.ra_schedule.specs.declared.choice.Policy.{Policy}
 use Rattle.ra_schedule.specs.declared.drive_script.Driven.{Driven}
-use Rattle.ra_schedule.specs.declared.outcomes.Outcome.{Outcome}
-use Rattle.ra_schedule.specs.declared.outcomes.Outcome.TheVariants.{Finished, Stuck, Limit}
+use Rattle.ra_schedule.specs.declared.outcomes.SeedOutcome.{SeedOutcome}
+use Rattle.ra_schedule.specs.declared.outcomes.SeedOutcome.TheVariants.{Finished, Stuck, Limit}
 use Rattle.ra_schedule.specs.declared.error.DriveError.{DriveError}
 use Rattle.ra_schedule.specs.declared.error.DriveError.TheVariants.{TurnLimit, BadPlace, NotEnabled, Memory}
 use Rattle.ra_schedule.specs.Script.{ScriptState, IsScript}
@@ -83,7 +83,7 @@ chance_chooses : (faults : Option FaultRates) (seed : ℕ) → ChoosesItself (ch
 chance_chooses None seed = tt
 chance_chooses (Some faults) seed = tt
 
-pub seed_finishes : LawsOfRuns → LawsBelow → (script : ScriptState) → IsScript script → (faults : Option FaultRates) (limit seed : ℕ) (outcome : Outcome)
+pub seed_finishes : LawsOfRuns → LawsBelow → (script : ScriptState) → IsScript script → (faults : Option FaultRates) (limit seed : ℕ) (outcome : SeedOutcome)
     → (IsOutOfOrder script → ⊥) → (IsUnreleased script → ⊥) → LosesNothing (chance faults seed) → RepeatsNothing (chance faults seed) → most_turns script ≤ limit
     → IsOutcome script (chance faults seed) limit outcome → is_finished outcome ≡ true
 seed_finishes laws below script fit faults limit seed (Finished figures) ordered released unlost unrepeated enough came = refl

@@ -6,7 +6,7 @@ ghost use Rattle.ra_world.specs.World.{Reports};
 ghost use Rattle.ra_schedule.specs.declared.choice.Policy.{Policy};
 ghost use Rattle.ra_schedule.specs.declared.error.DriveError.{DriveError};
 ghost use Rattle.ra_schedule.specs.BelowFinishing.{LawsOfNodes, LawsOfRuns};
-ghost use Rattle.ra_schedule.specs.declared.outcomes.Outcome.{Outcome};
+ghost use Rattle.ra_schedule.specs.declared.outcomes.SeedOutcome.{SeedOutcome};
 ghost use Rattle.ra_schedule.specs.Faults.{FaultRates};
 ghost use Rattle.ra_schedule.specs.Survey.{chance, is_finished, IsOutcome};
 ghost use Rattle.ra_schedule.specs.LockOrder.{IsOutOfOrder, IsUnreleased};
@@ -96,7 +96,7 @@ pub fn policies_bring_scripts_to_rest()
 /// By chance, without losses and repeats, each seed brings a script to its end within the limit, if that is at least
 /// `most_turns` and each client takes names in ascending order and gives them all back.
 pub fn seeds_finish_ordered_scripts()
-    ensures { (script : ScriptState) (faults : Option FaultRates) (limit seed : ℕ) (outcome : Outcome) → IsScript script
+    ensures { (script : ScriptState) (faults : Option FaultRates) (limit seed : ℕ) (outcome : SeedOutcome) → IsScript script
         → ¬ IsOutOfOrder script → ¬ IsUnreleased script
         → LosesNothing (chance faults seed) → RepeatsNothing (chance faults seed) → most_turns script ≤ limit
         → IsOutcome script (chance faults seed) limit outcome → is_finished outcome ≡ true }

@@ -33,6 +33,16 @@ const FRAMES: &[(&str, FrameError, &str)] = &[
         "the receiver at offset 3 is 02, the same as the sender: a node sends no message to itself",
     ),
     (
+        "010111",
+        FrameError::From,
+        "the sender at offset 2 is 11: must be 01 to 10 (nodes 1 to 16) in version 1",
+    ),
+    (
+        "0101010205",
+        FrameError::Mode,
+        "the mode at offset 4 is 05: must be 00 or 01 in a REQUEST, and 00 in a REPLY, in version 1",
+    ),
+    (
         "02010001000205",
         FrameError::Mode,
         "the mode at offset 6 is 05: must be 00 to 04 in a REQUEST, and 00 in a REPLY",

@@ -1,10 +1,11 @@
 //! What `ra_explain` tells a person about scripts, about choices, and about runs and their ends.
 use crate::helpers::{ONE_LOCK_SCRIPT, assert_rows};
 use ra_explain::{choices_note, order_note, script_end_note, unfinished_note};
-use ra_schedule::Policy;
+use ra_schedule::{Choice, Choices, Policy};
 use ra_script::read_choices;
 use ra_stamp::Memory;
 use std::alloc::Global;
+use std::process::Abort;
 
 /// Two clients at two nodes that lock two names in opposite orders.
 pub const A_DEADLOCK: &str = r#"nodes = 2
@@ -48,6 +49,9 @@ client = [
     { node = 2, ops = ["X b", "U b", "IS b"] },
 ]
 "#;
+
+/// A writer at one of three nodes, which sends two REQUESTs.
+const A_LONE_WRITER: &str = "nodes = 3\nclient = [{ node = 1, ops = [\"X r\"] }]\n";
 
 /// Returns whether this text is said, or nothing if the text is empty.
 pub fn is_said(said: Result<Option<String>, Memory>, text: &str) -> bool {
@@ -101,6 +105,11 @@ const ENDINGS: &[Said] = &[
         script: ONE_LOCK_SCRIPT,
         choices: Some("c1 m0"),
         text: "the run did not finish: client 1 at node 1 waits for 'r' (X): no client blocks it, but a message is under way",
+    },
+    Said {
+        script: A_LONE_WRITER,
+        choices: Some("c1 l0"),
+        text: "the run did not finish: client 1 at node 1 waits for 'r' (X): no client blocks it, but a message was lost or is under way",
     },
     Said {
         script: A_QUEUE,
@@ -161,6 +170,38 @@ fn endings(alloc: Global) -> usize {
 #[test]
 fn who_waits_for_whom(rt: HostRuntime) {
     assert_rows(&rt, endings(rt.alloc()), ENDINGS.len());
+}
+
+/// Returns choices by which a REQUEST is repeated, and its copy is still under way when the client has finished.
+fn copied(alloc: Global) -> Option<Policy> {
+    let mut choices = Choices::new(alloc);
+    for choice in [
+        Choice::Client(1),
+        Choice::Repeated(0),
+        Choice::Message(0),
+        Choice::Message(1),
+        Choice::Client(1),
+    ] {
+        choices.push(choice).ok()?;
+    }
+    Some(Policy::Listed(choices))
+}
+
+/// Returns whether it is said that only messages are left.
+fn leaves_messages(alloc: Global) -> bool {
+    let text = "the run did not finish: all operations are done, but messages are under way";
+    match copied(alloc) {
+        Some(policy) => {
+            let said = unfinished_note(alloc, ONE_LOCK_SCRIPT.as_bytes(), &policy);
+            is_said(said, text)
+        }
+        None => false,
+    }
+}
+
+#[test]
+fn messages_that_are_left_are_said(rt: HostRuntime) {
+    assert!(rt; leaves_messages(rt.alloc()));
 }
 
 /// Choices that can't be made, and some that can.

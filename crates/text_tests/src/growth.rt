@@ -6,12 +6,14 @@ use crate::mark_logs::TWO_WRITERS;
 use crate::performing::ONE_LOCK_LINES;
 use ra_draw::{DrawError, Part, draw};
 use ra_explain::{
-    LineCause, choices_note, line_note, order_note, script_end_note, unfinished_note,
+    LineCause, Unanswered, choices_note, digits_note, frame_note, line_note, order_note,
+    script_end_note, unanswered_note, unfinished_note,
 };
+use ra_frame::FrameError;
 use ra_schedule::{Ending, Policy, SeedRange};
 use ra_script::{
-    ChoicesError, Format, PerformError, ScriptError, find_trace, perform, perform_as,
-    perform_trace, read_choices, read_script,
+    ChoicesError, Format, PerformError, ScriptError, explain_script, find_trace, perform,
+    perform_as, perform_trace, read_choices, read_script,
 };
 use ra_stamp::Memory;
 use ra_trace::{
@@ -335,6 +337,72 @@ fn try_kept(alloc: Global) -> Result<Tried, bool> {
 #[test]
 fn growth_of_what_is_said_of_names_that_stay_locked(rt: HostRuntime) {
     end(&rt, again(try_kept(rt.alloc()), try_kept(rt.alloc())));
+}
+
+/// Says which field of a frame is wrong.
+fn try_frame(alloc: Global) -> Result<Tried, bool> {
+    let said = frame_note(alloc, b"0301\n", FrameError::Version);
+    try_note(said, "the version at offset 0 is 03: must be 01 or 02")
+}
+
+#[test]
+fn growth_of_what_is_said_of_a_frame(rt: HostRuntime) {
+    end(&rt, again(try_frame(rt.alloc()), try_frame(rt.alloc())));
+}
+
+/// Says which byte is not a digit.
+fn try_digits(alloc: Global) -> Result<Tried, bool> {
+    let said = digits_note(alloc, b"01g1");
+    try_note(said, "not a hexadecimal digit at offset 2 of the line: 'g'")
+}
+
+#[test]
+fn growth_of_what_is_said_of_digits(rt: HostRuntime) {
+    end(&rt, again(try_digits(rt.alloc()), try_digits(rt.alloc())));
+}
+
+/// Says why a node does not answer a frame.
+fn try_unanswered(alloc: Global) -> Result<Tried, bool> {
+    let frame = b"0101010300000000000000000100000000000000010172\n";
+    let said = unanswered_note(alloc, frame, "2", "3", Unanswered::WrongNode);
+    try_note(
+        said,
+        "the receiver at offset 3 is 03: the frame is for node 3, but --node is 2",
+    )
+}
+
+#[test]
+fn growth_of_what_is_said_of_a_frame_that_is_not_answered(rt: HostRuntime) {
+    let alloc = rt.alloc();
+    end(&rt, again(try_unanswered(alloc), try_unanswered(alloc)));
+}
+
+/// Says which operation of a script is wrong.
+fn try_operation(alloc: Global) -> Result<Tried, bool> {
+    let script = b"nodes = 1\nclient = [{ node = 1, ops = [\"X r\", \"S r\"] }]\n";
+    try_note(
+        explain_script(alloc, script),
+        "client 1, operation 2, 'S r': the client already holds this name",
+    )
+}
+
+#[test]
+fn growth_of_what_is_said_of_a_script(rt: HostRuntime) {
+    let alloc = rt.alloc();
+    end(&rt, again(try_operation(alloc), try_operation(alloc)));
+}
+
+/// Says which key of a script is wrong.
+fn try_key(alloc: Global) -> Result<Tried, bool> {
+    try_note(
+        explain_script(alloc, b"nodes = 1\nclient = [{ node = 1 }]\n"),
+        "client 1: ops is missing: a client has node (an integer) and ops (an array of strings)",
+    )
+}
+
+#[test]
+fn growth_of_what_is_said_of_a_key(rt: HostRuntime) {
+    end(&rt, again(try_key(rt.alloc()), try_key(rt.alloc())));
 }
 
 /// Checks a trace within a limit. If that is refused, returns whether memory ran out.

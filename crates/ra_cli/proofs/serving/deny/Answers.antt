@@ -5,7 +5,8 @@ use Rattle.ra_draw.specs.declared.error.DrawError.TheVariants.{Memory, Write}
 use Rattle.ra_cli.specs.Checks.{verdict_text}
 use Rattle.ra_cli.specs.Refusals.{IsOfWriter}
 use Rattle.ra_cli.specs.declared.refusal.Refusal.TheVariants.{Draw}
-use Rattle.ra_cli.proofs.Statuses.{of_draw, refused, broken, prefix_of}
+use Rattle.ra_cli.proofs.Statuses.{of_draw, broken, prefix_of}
+use Rattle.ra_cli.proofs.TaskLemmas.{refused_for}
 use Rattle.ra_cli.proofs.serving.deny.Goals as goal
 
 no_writer : IsOfWriter (Draw Memory) → ⊥
@@ -39,7 +40,7 @@ returns-in-Ok-clause-broken g c words old printed one =
 pub returns-in-Err-clause-refused : goal.returns-in-Err-clause-refused
 returns-in-Err-clause-refused g c two =
     let before = g.W.Write.contents c.args.writer.now in
-    refused (Draw Memory) before before (g.W.Write.contents c.refuse.new.writer) (λ other. refl) (c.refuse.ensures.refused two)
+    refused_for _ (Draw Memory) before before (g.W.Write.contents c.refuse.new.writer) (λ other. refl) (c.refuse.ensures.refused two) refl
 
 pub returns-in-Err-clause-broken : goal.returns-in-Err-clause-broken
 returns-in-Err-clause-broken g c words old printed one =

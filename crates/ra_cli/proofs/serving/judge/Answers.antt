@@ -7,7 +7,8 @@ use Rattle.ra_trace.specs.Verdict.{IsVerdict}
 use Rattle.ra_cli.specs.Checks.{Checks, is_valid, verdict_text}
 use Rattle.ra_trace.specs.declared.error.TraceError.TheVariants.{Memory}
 use Rattle.ra_cli.specs.declared.refusal.Refusal.TheVariants.{Check}
-use Rattle.ra_cli.proofs.Statuses.{none_of_check, of_verdict, refused, broken, prefix_of}
+use Rattle.ra_cli.proofs.Statuses.{none_of_check, of_verdict, broken, prefix_of}
+use Rattle.ra_cli.proofs.TaskLemmas.{refused_for}
 use Rattle.ra_cli.proofs.serving.judge.Goals as goal
 
 -- what is valid was read to its end
@@ -57,7 +58,7 @@ returns-in-Ok-verdict_text-clause-invalid g c is =
 pub returns-in-Err-clause-refused : goal.returns-in-Err-clause-refused
 returns-in-Err-clause-refused g c two =
     let before = g.W.Write.contents c.args.writer.now in
-    refused (Check c.in-Err.fault) before before (g.W.Write.contents c.refuse.new.writer) (λ other. refl) (c.refuse.ensures.refused two)
+    refused_for _ (Check c.in-Err.fault) before before (g.W.Write.contents c.refuse.new.writer) (λ other. refl) (c.refuse.ensures.refused two) (c.in-Err.fault, refl)
 
 pub returns-in-Err-clause-broken : goal.returns-in-Err-clause-broken
 returns-in-Err-clause-broken g c words trace one =
@@ -69,8 +70,8 @@ returns-in-Err-clause-broken g c words trace one =
 pub returns-in-Err-verdict_text-clause-refused : goal.returns-in-Err-verdict_text-clause-refused
 returns-in-Err-verdict_text-clause-refused g c two =
     let before = g.W.Write.contents c.args.writer.now in
-    refused (Check Memory) before before (g.W.Write.contents c.refuse-in-Err-verdict_text.new.writer) (λ other. refl)
-    (c.refuse-in-Err-verdict_text.ensures.refused two)
+    refused_for _ (Check Memory) before before (g.W.Write.contents c.refuse-in-Err-verdict_text.new.writer) (λ other. refl)
+    (c.refuse-in-Err-verdict_text.ensures.refused two) (Memory, refl)
 
 pub returns-in-Err-verdict_text-clause-broken : goal.returns-in-Err-verdict_text-clause-broken
 returns-in-Err-verdict_text-clause-broken g c words trace one =

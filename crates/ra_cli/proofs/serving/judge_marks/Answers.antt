@@ -7,7 +7,8 @@ use Rattle.ra_trace.specs.Marks.{IsMarksVerdict}
 use Rattle.ra_cli.specs.Checks.{ChecksMarks, is_run, marks_verdict_text}
 use Rattle.ra_trace.specs.declared.error.TraceError.TheVariants.{Memory}
 use Rattle.ra_cli.specs.declared.refusal.Refusal.TheVariants.{Check}
-use Rattle.ra_cli.proofs.Statuses.{none_of_check, of_marks_verdict, refused, broken, prefix_of}
+use Rattle.ra_cli.proofs.Statuses.{none_of_check, of_marks_verdict, broken, prefix_of}
+use Rattle.ra_cli.proofs.TaskLemmas.{refused_for}
 use Rattle.ra_cli.proofs.serving.judge_marks.Goals as goal
 
 -- what is valid was read to its end
@@ -57,7 +58,7 @@ returns-in-Ok-marks_verdict_text-clause-invalid g c is =
 pub returns-in-Err-clause-refused : goal.returns-in-Err-clause-refused
 returns-in-Err-clause-refused g c two =
     let before = g.W.Write.contents c.args.writer.now in
-    refused (Check c.in-Err.fault) before before (g.W.Write.contents c.refuse.new.writer) (λ other. refl) (c.refuse.ensures.refused two)
+    refused_for _ (Check c.in-Err.fault) before before (g.W.Write.contents c.refuse.new.writer) (λ other. refl) (c.refuse.ensures.refused two) (c.in-Err.fault, refl)
 
 pub returns-in-Err-clause-broken : goal.returns-in-Err-clause-broken
 returns-in-Err-clause-broken g c words marks one =
@@ -69,8 +70,8 @@ returns-in-Err-clause-broken g c words marks one =
 pub returns-in-Err-marks_verdict_text-clause-refused : goal.returns-in-Err-marks_verdict_text-clause-refused
 returns-in-Err-marks_verdict_text-clause-refused g c two =
     let before = g.W.Write.contents c.args.writer.now in
-    refused (Check Memory) before before (g.W.Write.contents c.refuse-in-Err-marks_verdict_text.new.writer) (λ other. refl)
-    (c.refuse-in-Err-marks_verdict_text.ensures.refused two)
+    refused_for _ (Check Memory) before before (g.W.Write.contents c.refuse-in-Err-marks_verdict_text.new.writer) (λ other. refl)
+    (c.refuse-in-Err-marks_verdict_text.ensures.refused two) (Memory, refl)
 
 pub returns-in-Err-marks_verdict_text-clause-broken : goal.returns-in-Err-marks_verdict_text-clause-broken
 returns-in-Err-marks_verdict_text-clause-broken g c words marks one =

@@ -1,36 +1,43 @@
-use Rattle.std.proofs.Common.{ℕ, List, Option, Err, ap, ◌∙◌, subst, inl, inr}
-use Rattle.std.specs.Prelude.{map, string_bytes}
-use Rattle.ra_cli.specs.declared.refusal.Refusal.TheVariants.{Cluster}
-use Rattle.ra_cli.specs.Statuses.{IsBroken}
-use Rattle.ra_cli.proofs.Statuses.{of_run, of_cluster_run, refused, broken}
+use Rattle.std.proofs.Common.{map, refl, string_bytes}
+use Rattle.ra_cli.specs.declared.refusal.Refusal.TheVariants.{Command}
+use Rattle.ra_cli.proofs.Statuses.{none_of_command, refused, broken}
+use Rattle.ra_cli.proofs.TaskLemmas.{done, left, suits, without_cause}
 use Rattle.ra_cli.proofs.serving.outcome_of.Goals as goal
 
-pub returns-in-Some-clause-done : goal.returns-in-Some-clause-done
-returns-in-Some-clause-done g c is =
-    elim (c.in-Some.ensures.done is) [
-      | inl help ↦ inl help
-      | inr done ↦ inr (inl done)
-    ]
+pub returns-in-Ok-clause-done : goal.returns-in-Ok-clause-done
+returns-in-Ok-clause-done g c is =
+    let words = c.args.words.now in
+    let asked = c.in-Ok.task in
+    let fits = suits words asked c.in-Ok.ensures.help c.in-Ok.ensures.numbers c.in-Ok.ensures.marks in
+    done words asked (g.R.Read.remaining c.args.reader.now) (g.R.Read.remaining c.do_task.new.reader) (g.W.Write.contents c.args.writer.now)
+    (g.W.Write.contents c.do_task.new.writer) _ c.in-Ok.ensures.help fits (c.do_task.ensures.done is)
+
+pub returns-in-Ok-clause-unfinished : goal.returns-in-Ok-clause-unfinished
+returns-in-Ok-clause-unfinished g c is =
+    let words = c.args.words.now in
+    let asked = c.in-Ok.task in
+    let fits = suits words asked c.in-Ok.ensures.help c.in-Ok.ensures.numbers c.in-Ok.ensures.marks in
+    left (map string_bytes words) asked (g.R.Read.remaining c.args.reader.now) (g.R.Read.remaining c.do_task.new.reader)
+    (g.W.Write.contents c.args.writer.now) (g.W.Write.contents c.do_task.new.writer) fits (c.do_task.ensures.unfinished is)
+
+pub returns-in-Ok-clause-refused : goal.returns-in-Ok-clause-refused
+returns-in-Ok-clause-refused g c is =
+    without_cause _ (g.W.Write.contents c.args.writer.now) (g.W.Write.contents c.do_task.new.writer) (c.do_task.ensures.refused is)
+
+pub returns-in-Ok-clause-broken : goal.returns-in-Ok-clause-broken
+returns-in-Ok-clause-broken g c is =
+    let words = c.args.words.now in
+    let fits = suits words c.in-Ok.task c.in-Ok.ensures.help c.in-Ok.ensures.numbers c.in-Ok.ensures.marks in
+    c.do_task.ensures.broken (map string_bytes words) fits is
 
 pub returns-in-Err-clause-refused : goal.returns-in-Err-clause-refused
 returns-in-Err-clause-refused g c two =
-    let untouched = c.in_default.ensures.untouched in
-    refused (Cluster c.in-Err.fault) (g.W.Write.contents c.args.writer.now) (g.W.Write.contents c.run_script.new.writer)
-    (g.W.Write.contents c.refuse.new.writer)
-    (λ other. ap g.W.Write.contents (c.in-Err.ensures.unwritten (λ e. other (inr (inr (inl (ap Cluster e))))) ∙ untouched.1)) (c.refuse.ensures.refused two)
+    let before = g.W.Write.contents c.args.writer.now in
+    refused (Command c.in-Err.fault) before before (g.W.Write.contents c.refuse.new.writer) (λ other. refl) (c.refuse.ensures.refused two)
 
 pub returns-in-Err-clause-broken : goal.returns-in-Err-clause-broken
 returns-in-Err-clause-broken g c one =
-    let untouched = c.in_default.ensures.untouched in
-    let words = map string_bytes c.args.words.now in
-    let old = g.R.Read.remaining c.serve_alone.new.reader in
-    let before = g.W.Write.contents c.serve_alone.new.writer in
-    let between = g.W.Write.contents c.run_script.new.writer in
-    let after = g.W.Write.contents c.refuse.new.writer in
-    subst (λ (o : Option (List ℕ)). IsBroken words o (g.W.Write.contents c.args.writer.now) after) (ap g.R.Read.remaining untouched.0)
-    (subst (λ (b : Option (List ℕ)). IsBroken words old b after) (ap g.W.Write.contents untouched.1)
-    (broken words old before between after (Cluster c.in-Err.fault)
-    (λ is. of_cluster_run words old before between (c.in-Err.ensures.prefix (ap Err (of_run c.in-Err.fault is))))
-    (λ is. ap g.W.Write.contents (c.refuse.ensures.unwritten is).1)
-    (λ other. ap g.W.Write.contents (c.in-Err.ensures.unwritten (λ e. other (inr (inr (inl (ap Cluster e)))))))
-    (c.refuse.ensures.broken one)))
+    let before = g.W.Write.contents c.args.writer.now in
+    let never = none_of_command c.in-Err.fault in
+    broken (map string_bytes c.args.words.now) (g.R.Read.remaining c.args.reader.now) before before (g.W.Write.contents c.refuse.new.writer)
+    (Command c.in-Err.fault) (λ is. absurd (never is)) (λ is. absurd (never is)) (λ other. refl) (c.refuse.ensures.broken one)

@@ -1,6 +1,7 @@
 use Rattle.std.proofs.Common.{Err, refl, ap, inl, inr}
 use Rattle.ra_cli.specs.declared.refusal.Refusal.TheVariants.{Choices, Perform}
-use Rattle.ra_cli.proofs.Statuses.{none_of_choices, of_perform, of_performed, refused, broken}
+use Rattle.ra_cli.proofs.Statuses.{none_of_choices, of_perform, of_performed, broken}
+use Rattle.ra_cli.proofs.TaskLemmas.{of_choices, of_named, refused_for}
 use Rattle.ra_cli.proofs.serving.simulate.Goals as goal
 
 pub returns-in-Ok-true-clause-done : goal.returns-in-Ok-true-clause-done
@@ -18,7 +19,8 @@ returns-in-Ok-false-clause-unfinished g c is =
 pub returns-in-Err-clause-refused : goal.returns-in-Err-clause-refused
 returns-in-Err-clause-refused g c two =
     let before = g.W.Write.contents c.args.writer.now in
-    refused (Choices c.in-Err.fault) before before (g.W.Write.contents c.refuse.new.writer) (λ other. refl) (c.refuse.ensures.refused two)
+    refused_for _ (Choices c.in-Err.fault) before before (g.W.Write.contents c.refuse.new.writer) (λ other. refl) (c.refuse.ensures.refused two)
+    (of_choices c.args.name c.args.choices.now c.args.format (g.R.Read.remaining c.args.reader.now) c.in-Err.fault c.in-Err.ensures.err)
 
 pub returns-in-Err-clause-broken : goal.returns-in-Err-clause-broken
 returns-in-Err-clause-broken g c words one =
@@ -30,10 +32,12 @@ returns-in-Err-clause-broken g c words one =
 pub returns-clause-refused : goal.returns-clause-refused
 returns-clause-refused g c two =
     let fault = c.in-Err-perform_as.fault in
-    refused (Perform fault) (g.W.Write.contents c.args.writer.now) (g.W.Write.contents c.perform_as.new.writer)
+    refused_for _ (Perform fault) (g.W.Write.contents c.args.writer.now) (g.W.Write.contents c.perform_as.new.writer)
     (g.W.Write.contents c.refuse-in-Err-perform_as.new.writer)
     (λ other. ap g.W.Write.contents (c.in-Err-perform_as.ensures.unwritten (λ e. other (inr (inl (ap Perform e))))))
     (c.refuse-in-Err-perform_as.ensures.refused two)
+    (of_named c.args.name c.args.choices.now c.args.format (g.R.Read.remaining c.args.reader.now) c.in-Ok.policy fault c.in-Ok.ensures.ok
+    c.in-Err-perform_as.ensures.refused)
 
 pub returns-clause-broken : goal.returns-clause-broken
 returns-clause-broken g c words one =

@@ -1,6 +1,10 @@
-use Rattle.std.proofs.Common.{Err, refl, ap, inl, inr}
+use Rattle.std.proofs.Common.{◌≡◌, List, ℕ, Err, refl, ap, inl, inr}
 use Rattle.ra_cli.specs.declared.refusal.Refusal.TheVariants.{Cluster}
-use Rattle.ra_cli.proofs.Statuses.{of_run, of_surveyed, refused, broken}
+use Rattle.ra_cli.specs.Surveyed.{RefusesSurvey}
+use Rattle.ra_cli.specs.declared.error.RunScriptError.{RunScriptError}
+use Rattle.ra_cli.proofs.ClusterRuns.{of_known}
+use Rattle.ra_cli.proofs.Statuses.{of_run, of_surveyed, broken}
+use Rattle.ra_cli.proofs.TaskLemmas.{refused_for}
 use Rattle.ra_cli.proofs.serving.survey_seeds.Goals as goal
 
 pub returns-in-Ok-true-clause-done : goal.returns-in-Ok-true-clause-done
@@ -12,8 +16,11 @@ returns-in-Ok-false-clause-unfinished g c is = rw c.in-Ok-false.field-0-test at 
 pub returns-in-Err-clause-refused : goal.returns-in-Err-clause-refused
 returns-in-Err-clause-refused g c two =
     let fault = c.in-Err.fault in
-    refused (Cluster fault) (g.W.Write.contents c.args.writer.now) (g.W.Write.contents c.survey_script.new.writer) (g.W.Write.contents c.refuse.new.writer)
+    refused_for _ (Cluster fault) (g.W.Write.contents c.args.writer.now) (g.W.Write.contents c.survey_script.new.writer) (g.W.Write.contents c.refuse.new.writer)
     (λ other. ap g.W.Write.contents (c.in-Err.ensures.unwritten (λ e. other (inr (inr (inl (ap Cluster e))))))) (c.refuse.ensures.refused two)
+    (of_known (g.R.Read.remaining c.args.reader.now) (λ input. RefusesSurvey c.args.faults c.args.find c.args.first c.args.last input fault)
+    (λ input. (other : RunScriptError) × (Cluster fault ≡ Cluster other)
+    × RefusesSurvey c.args.faults c.args.find c.args.first c.args.last input other) (λ input h. (fault, refl, h)) c.in-Err.ensures.refused)
 
 pub returns-in-Err-clause-broken : goal.returns-in-Err-clause-broken
 returns-in-Err-clause-broken g c words one =

@@ -1,0 +1,130 @@
+-- What is known of a task that was done, as the statuses tell it of the words.
+use Rattle.std.proofs.Common.{◌≡◌, ℕ, ◌<◌, List, Option, Some, None, map, String, Global, string_bytes, refl, sym, ap, subst, inl, inr}
+use Rattle.std.specs.Prelude.{◌⊎◌, IfSome, Any}
+use Rattle.std.specs.Io.KnownBytes.{Appends}
+use Rattle.ra_script.specs.ChoicesText.{choices_of}
+use Rattle.ra_script.specs.declared.error.ChoicesError.{ChoicesError}
+use Rattle.ra_script.specs.declared.error.ChoicesError.TheVariants.{Choice, Memory}
+use Rattle.ra_script.specs.declared.error.PerformError.{PerformError}
+use Rattle.ra_script.specs.declared.format.Format.{Format}
+use Rattle.ra_script.specs.Performed.{RefusesAs}
+use Rattle.ra_schedule.specs.declared.choice.Policy.{Policy}
+use Rattle.ra_trace.specs.declared.verdict.Verdict.TheVariants.{Valid}
+use Rattle.ra_trace.specs.Verdict.{IsVerdict}
+use Rattle.ra_draw.specs.declared.error.DrawError.{DrawError}
+use Rattle.ra_draw.specs.declared.error.DrawError.TheVariants.{TooLong}
+use Rattle.ra_draw.specs.declared.part.Part.{Part}
+use Rattle.ra_draw.specs.Drawing.{IsInput, drawn_lines, line_limit}
+use Rattle.ra_cli.specs.ClusterRun.{RunsCluster}
+use Rattle.ra_cli.specs.Performs.{IsNamed}
+use Rattle.ra_cli.specs.Pictures.{IsDrawn}
+use Rattle.ra_cli.specs.Refusals.{IsOfReader, IsOfWriter, refused_line, word_of}
+use Rattle.ra_cli.specs.Statuses.{IsDone, IsRefused, IsUnfinished}
+use Rattle.ra_cli.specs.Tasks.{DrawsPart, IsDoneBy, IsLeftBy, IsRefusedFor, RefusesNamed, RefusesPart, Suits}
+use Rattle.ra_cli.specs.Words.{ChecksBy, GivesNode, IsHelpWord, OnAnswer, OnHelp}
+use Rattle.ra_cli.specs.declared.command_line.PolicyName.{PolicyName}
+use Rattle.ra_cli.specs.declared.command_line.Task.{Task}
+use Rattle.ra_cli.specs.declared.command_line.Task.TheVariants as task
+use Rattle.ra_cli.specs.declared.refusal.Refusal.{Refusal}
+use Rattle.ra_cli.specs.declared.refusal.Refusal.TheVariants.{Choices, Draw, Perform}
+use Rattle.ra_cli.proofs.ClusterRuns.{of_known}
+use Rattle.ra_cli.proofs.Helping.{asks_for_help}
+use Rattle.ra_cli.proofs.PictureLemmas.{of_drawn, verdict_of_input, same_input}
+
+-- ---- Refusals
+
+-- a refusal that was printed, and its cause
+pub refused_for : (Cause : Refusal → Type 0) (why : Refusal) (before between after : Option (List ℕ)) → ((IsOfWriter why → ⊥) → between ≡ before)
+    → (IsOfReader why → ⊥) × (IsOfWriter why → ⊥) × Appends between after (refused_line (word_of why)) → Cause why → IsRefusedFor Cause before after
+refused_for Cause why before between after same h cause =
+    (why, h.0, h.1, subst (λ (o : Option (List ℕ)). Appends o after (refused_line (word_of why))) (same h.1) h.2, cause)
+
+-- one cause is another one, too
+pub refused_as : (One Other : Refusal → Type 0) (before after : Option (List ℕ)) → ((why : Refusal) → One why → Other why)
+    → IsRefusedFor One before after → IsRefusedFor Other before after
+refused_as One Other before after f (why, reader, writer, out, cause) = (why, reader, writer, out, f why cause)
+
+pub without_cause : (Cause : Refusal → Type 0) (before after : Option (List ℕ)) → IsRefusedFor Cause before after → IsRefused before after
+without_cause Cause before after (why, reader, writer, out, cause) = (why, reader, writer, out)
+
+-- a fact that holds of each input holds of a known one
+pub for_each : (old : Option (List ℕ)) (P : List ℕ → Type 0) → ((input : List ℕ) → P input) → IfSome old P
+for_each None P h = tt
+for_each (Some input) P h = h input
+
+choices_cause : (choices : List ℕ) (fault : ChoicesError) → ((fault ≡ Choice) × (choices_of choices ≡ None)) ⊎ (fault ≡ Memory) → fault ≡ Choice
+    → choices_of choices ≡ None
+choices_cause choices fault (inl (is, none)) choice = none
+choices_cause choices fault (inr memory) choice = absurd cc
+
+-- the choices are no list of choices, or memory ran out
+pub of_choices : (name : PolicyName) (choices : List ℕ) (format : Format) (old : Option (List ℕ)) (fault : ChoicesError)
+    → ((fault ≡ Choice) × (choices_of choices ≡ None)) ⊎ (fault ≡ Memory)
+    → IfSome old (λ input. RefusesNamed name choices format input (Choices fault))
+of_choices name choices format old fault why =
+    for_each old (λ input. RefusesNamed name choices format input (Choices fault)) (λ input. inl (fault, refl, choices_cause choices fault why))
+
+-- the run under the policy is refused
+pub of_named : (name : PolicyName) (choices : List ℕ) (format : Format) (old : Option (List ℕ)) (policy : Policy) (fault : PerformError)
+    → IsNamed name choices policy → IfSome old (λ input. RefusesAs format policy input fault)
+    → IfSome old (λ input. RefusesNamed name choices format input (Perform fault))
+of_named name choices format old policy fault named =
+    of_known old (λ input. RefusesAs format policy input fault) (λ input. RefusesNamed name choices format input (Perform fault))
+    (λ input h. inr (fault, refl, policy, named, h))
+
+-- the part is too long, if that is the refusal
+pub of_part : (part : Part) (old new : Option (List ℕ)) (fault : DrawError)
+    → (fault ≡ TooLong → (input : List ℕ) × (requests messages : ℕ) × IsInput old new input × IsVerdict input (Valid requests messages)
+    × (line_limit < drawn_lines part input))
+    → IfSome old (λ input. (other : DrawError) × (Draw fault ≡ Draw other) × RefusesPart part input other)
+of_part part None new fault h = tt
+of_part part (Some input) new fault h = (fault, refl, too_long)
+  where
+    too_long : RefusesPart part input fault
+    too_long is =
+        let (taken, requests, messages, read, verdict, long) = h is in
+        let valid = verdict_of_input input taken new (Valid requests messages) read verdict in
+        (requests, messages, valid, subst (λ (xs : List ℕ). line_limit < drawn_lines part xs) (sym (same_input input taken new read)) long)
+
+-- ---- Words
+
+-- what is known of a task that was parsed suits the words
+pub suits : (words : List (String Global)) (asked : Task) → OnHelp asked (Any (λ word. IsHelpWord (string_bytes word)) words)
+    → OnAnswer asked (GivesNode (map string_bytes words)) → ChecksBy (map string_bytes words) asked → Suits (map string_bytes words) asked
+suits words (task.Answer node nodes) help numbers marks = (numbers, marks, tt)
+suits words (task.Sim policy choices format) help numbers marks = (tt, tt, tt)
+suits words (task.Survey faults find first last) help numbers marks = (tt, tt, tt)
+suits words task.Check help numbers marks = (tt, marks, tt)
+suits words task.CheckMarks help numbers marks = (tt, marks, tt)
+suits words (task.Draw part) help numbers marks = (tt, tt, tt)
+suits words task.Cluster help numbers marks = (tt, tt, tt)
+suits words (task.Help text) help numbers marks = (tt, tt, asks_for_help words help)
+
+-- status 0
+pub done : (words : List (String Global)) (asked : Task) (old new before after : Option (List ℕ)) (Untouched : Type 0)
+    → OnHelp asked (Any (λ word. IsHelpWord (string_bytes word)) words) → Suits (map string_bytes words) asked
+    → IsDoneBy asked old new before after Untouched
+    → (Untouched × Any (λ word. IsHelpWord (string_bytes word)) words)
+    ⊎ IsDone (map string_bytes words) old new before after ⊎ RunsCluster old new before after
+done words (task.Answer node nodes) old new before after Untouched help fits h = inr (inl (inl (node, nodes, fits.0, h)))
+done words (task.Sim policy choices format) old new before after Untouched help fits (chosen, named, h) = inr (inl (inr (inl (chosen, format, h))))
+done words (task.Survey faults find first last) old new before after Untouched help fits h =
+    inr (inl (inr (inr (inr (inr (faults, find, first, last, h))))))
+done words task.Check old new before after Untouched help fits h = inr (inl (inr (inr (inl (inl (fits.1, h))))))
+done words task.CheckMarks old new before after Untouched help fits h = inr (inl (inr (inr (inl (inr (fits.1, h))))))
+done words (task.Draw part) old new before after Untouched help fits (input, requests, messages, read, verdict, draws) =
+    inr (inl (inr (inr (inr (inl (of_drawn part old new before after requests messages (input, read, verdict, draws)))))))
+done words task.Cluster old new before after Untouched help fits h = inr (inr h)
+done words (task.Help text) old new before after Untouched help fits h = inl (h.0, help)
+
+-- status 3
+pub left : (words : List (List ℕ)) (asked : Task) (old new before after : Option (List ℕ)) → Suits words asked
+    → IsLeftBy asked old new before after → IsUnfinished words old new before after
+left words (task.Answer node nodes) old new before after fits h = absurd h
+left words (task.Sim policy choices format) old new before after fits (chosen, named, h) = inl (chosen, format, h)
+left words (task.Survey faults find first last) old new before after fits h = inr (inr (inr (faults, find, first, last, h)))
+left words task.Check old new before after fits h = inr (inl (inl (fits.1, h)))
+left words task.CheckMarks old new before after fits h = inr (inl (inr (fits.1, h)))
+left words (task.Draw part) old new before after fits h = inr (inr (inl h))
+left words task.Cluster old new before after fits h = absurd h
+left words (task.Help text) old new before after fits h = absurd h

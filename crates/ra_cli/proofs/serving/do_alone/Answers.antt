@@ -1,0 +1,37 @@
+use Rattle.std.proofs.Common.{◌≡◌, ◌∙◌, sym, subst, refl, inl, inr, arith, string_bytes}
+use Rattle.std.specs.Io.KnownBytes.{Appends}
+use Rattle.ra_trace.specs.declared.error.TraceError.{TraceError}
+use Rattle.ra_cli.specs.Statuses.{IsPrinted}
+use Rattle.ra_cli.specs.declared.refusal.Refusal.{Refusal}
+use Rattle.ra_cli.specs.declared.refusal.Refusal.TheVariants.{Check}
+use Rattle.ra_cli.proofs.Statuses.{prefix_of}
+use Rattle.ra_cli.proofs.TaskLemmas.{for_each, refused_as}
+use Rattle.ra_cli.proofs.serving.do_alone.Goals as goal
+
+pub returns-in-Answer-clause-done : goal.returns-in-Answer-clause-done
+returns-in-Answer-clause-done g c is = rw c.in-Answer.is (c.respond-outcome.ensures.answered is)
+
+pub returns-in-Answer-clause-refused : goal.returns-in-Answer-clause-refused
+returns-in-Answer-clause-refused g c is = rw c.in-Answer.is (c.respond-outcome.ensures.refused is)
+
+pub returns-in-Answer-clause-broken : goal.returns-in-Answer-clause-broken
+returns-in-Answer-clause-broken g c words fits is =
+    let suits = rw c.in-Answer.is at fits in c.respond-outcome.ensures.broken words suits.0 is
+
+pub returns-in-Sim-clause-done : goal.returns-in-Sim-clause-done
+returns-in-Sim-clause-done g c is = rw c.in-Sim.is (c.simulate-outcome.ensures.done is)
+
+pub returns-in-Sim-clause-unfinished : goal.returns-in-Sim-clause-unfinished
+returns-in-Sim-clause-unfinished g c is = rw c.in-Sim.is (c.simulate-outcome.ensures.unfinished is)
+
+pub returns-in-Sim-clause-refused : goal.returns-in-Sim-clause-refused
+returns-in-Sim-clause-refused g c is = rw c.in-Sim.is (c.simulate-outcome.ensures.refused is)
+
+pub returns-in-Survey-clause-done : goal.returns-in-Survey-clause-done
+returns-in-Survey-clause-done g c is = rw c.in-Survey.is (c.survey_seeds-outcome.ensures.done is)
+
+pub returns-in-Survey-clause-unfinished : goal.returns-in-Survey-clause-unfinished
+returns-in-Survey-clause-unfinished g c is = rw c.in-Survey.is (c.survey_seeds-outcome.ensures.unfinished is)
+
+pub returns-in-Survey-clause-refused : goal.returns-in-Survey-clause-refused
+returns-in-Survey-clause-refused g c is = rw c.in-Survey.is (c.survey_seeds-outcome.ensures.refused is)

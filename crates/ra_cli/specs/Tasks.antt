@@ -1,0 +1,124 @@
+-- What it means that a task is done as it is: an answer for these nodes, a run by this policy in this format, a survey
+-- of these seeds with these faults, a verdict on a trace or on a mark log, a picture of this part.
+use Rattle.std.specs.Prelude.{◌≡◌, ◌⊎◌, ℕ, ◌<◌, List, Bool, true, false, Option, None, IfSome, Any, string_bytes}
+use Rattle.std.specs.Io.KnownBytes.{Consumes, Appends}
+use Rattle.ra_schedule.specs.declared.choice.Policy.{Policy}
+use Rattle.ra_script.specs.ChoicesText.{choices_of}
+use Rattle.ra_script.specs.declared.error.ChoicesError.{ChoicesError}
+use Rattle.ra_script.specs.declared.error.ChoicesError.TheVariants.{Choice}
+use Rattle.ra_script.specs.declared.error.PerformError.{PerformError}
+use Rattle.ra_script.specs.declared.format.Format.{Format}
+use Rattle.ra_script.specs.Performed.{RefusesAs}
+use Rattle.ra_trace.specs.declared.error.TraceError.{TraceError}
+use Rattle.ra_trace.specs.declared.verdict.Verdict.TheVariants.{Valid}
+use Rattle.ra_trace.specs.Verdict.{IsVerdict}
+use Rattle.ra_draw.specs.declared.error.DrawError.{DrawError}
+use Rattle.ra_draw.specs.declared.error.DrawError.TheVariants.{TooLong}
+use Rattle.ra_draw.specs.declared.part.Part.{Part}
+use Rattle.ra_draw.specs.Drawing.{IsInput, Draws, drawn_lines, line_limit}
+use Rattle.ra_cli.specs.Answer.{IsAnswered, Refuses}
+use Rattle.ra_cli.specs.Checks.{Checks, ChecksMarks}
+use Rattle.ra_cli.specs.ClusterRun.{RunsCluster, RefusesRun}
+use Rattle.ra_cli.specs.Performs.{IsNamed, PerformsBy}
+use Rattle.ra_cli.specs.Pictures.{IsNoTrace}
+use Rattle.ra_cli.specs.Refusals.{IsOfReader, IsOfWriter, refused_line, word_of}
+use Rattle.ra_cli.specs.Surveyed.{SurveysBy, RefusesSurvey}
+use Rattle.ra_cli.specs.Words.{OnAnswer, OnHelp, ChecksBy, GivesNode, IsHelpWord}
+use Rattle.ra_cli.specs.declared.command_line.PolicyName.{PolicyName}
+use Rattle.ra_cli.specs.declared.command_line.Task.{Task}
+use Rattle.ra_cli.specs.declared.command_line.Task.TheVariants as task
+use Rattle.ra_cli.specs.declared.error.AnswerError.{AnswerError}
+use Rattle.ra_cli.specs.declared.error.RunScriptError.{RunScriptError}
+use Rattle.ra_cli.specs.declared.refusal.Refusal.{Refusal}
+use Rattle.ra_cli.specs.declared.refusal.Refusal.TheVariants as refusal
+
+-- ---- What is read and written
+
+-- this node of this many answered the input, if that is known: it was read to its end, and exactly the answer was
+-- written
+abbrev pub AnswersAs : (node nodes : ℕ) → (old new before after : Option (List ℕ)) → Type 0
+AnswersAs node nodes old new before after = IfSome old (λ input. (output : List ℕ)
+    × IsAnswered node nodes input output × Consumes old new input × Appends before after output)
+
+-- the input was performed under the policy of this name, with these choices if it is `listed`, and written in this
+-- format
+abbrev pub PerformsNamed : PolicyName → (choices : List ℕ) → Format → (old new before after : Option (List ℕ)) → Bool → Type 0
+PerformsNamed name choices format old new before after finished =
+    (policy : Policy) × IsNamed name choices policy × PerformsBy policy format old new before after finished
+
+-- the input is a trace and was read to its end, this part of it has at most 4,096 lines, and a picture was written
+abbrev pub DrawsPart : Part → (old new before after : Option (List ℕ)) → Type 0
+DrawsPart part old new before after = (input : List ℕ) × (requests messages : ℕ) × IsInput old new input
+    × IsVerdict input (Valid requests messages) × Draws part input before after (Valid requests messages)
+
+-- ---- What each status means
+
+-- status 0: what the task asks for was done. `Untouched` says that nothing was read.
+abbrev pub IsDoneBy : Task → (old new before after : Option (List ℕ)) → (Untouched : Type 0) → Type 0
+IsDoneBy (task.Answer node nodes) old new before after Untouched = AnswersAs node nodes old new before after
+IsDoneBy (task.Sim policy choices format) old new before after Untouched =
+    PerformsNamed policy choices.now format old new before after true
+IsDoneBy (task.Survey faults find first last) old new before after Untouched =
+    SurveysBy faults find first last old new before after true
+IsDoneBy task.Check old new before after Untouched = Checks old new before after true
+IsDoneBy task.CheckMarks old new before after Untouched = ChecksMarks old new before after true
+IsDoneBy (task.Draw part) old new before after Untouched = DrawsPart part old new before after
+IsDoneBy task.Cluster old new before after Untouched = RunsCluster old new before after
+IsDoneBy (task.Help text) old new before after Untouched = Untouched × Appends before after (string_bytes text)
+
+-- status 3: a run ended with something left to do, or the input is not the trace or the log that it should be
+abbrev pub IsLeftBy : Task → (old new before after : Option (List ℕ)) → Type 0
+IsLeftBy (task.Answer node nodes) old new before after = ⊥
+IsLeftBy (task.Sim policy choices format) old new before after =
+    PerformsNamed policy choices.now format old new before after false
+IsLeftBy (task.Survey faults find first last) old new before after =
+    SurveysBy faults find first last old new before after false
+IsLeftBy task.Check old new before after = Checks old new before after false
+IsLeftBy task.CheckMarks old new before after = ChecksMarks old new before after false
+IsLeftBy (task.Draw part) old new before after = IsNoTrace old new before after
+IsLeftBy task.Cluster old new before after = ⊥
+IsLeftBy (task.Help text) old new before after = ⊥
+
+-- ---- Refusals
+
+-- why a run under a policy is refused: the choices are not a list of choices, or the run under it is refused
+abbrev pub RefusesNamed : PolicyName → (choices : List ℕ) → Format → (input : List ℕ) → Refusal → Type 0
+RefusesNamed name choices format input why =
+    ((fault : ChoicesError) × (why ≡ refusal.Choices fault) × (fault ≡ Choice → choices_of choices ≡ None))
+    ⊎ ((fault : PerformError) × (why ≡ refusal.Perform fault) × (policy : Policy) × IsNamed name choices policy
+    × RefusesAs format policy input fault)
+
+-- why a part is not drawn: if it is too long, the input is a trace, and more than 4,096 of its lines are in the part
+abbrev pub RefusesPart : Part → (input : List ℕ) → DrawError → Type 0
+RefusesPart part input fault = fault ≡ TooLong
+    → (requests messages : ℕ) × IsVerdict input (Valid requests messages) × (line_limit < drawn_lines part input)
+
+-- why a task is refused, of an input that is known
+abbrev pub IsCauseFor : Task → (input : List ℕ) → Refusal → Type 0
+IsCauseFor (task.Answer node nodes) input why =
+    (fault : AnswerError) × (why ≡ refusal.Answer fault) × Refuses node nodes input fault
+IsCauseFor (task.Sim policy choices format) input why = RefusesNamed policy choices.now format input why
+IsCauseFor (task.Survey faults find first last) input why =
+    (fault : RunScriptError) × (why ≡ refusal.Cluster fault) × RefusesSurvey faults find first last input fault
+IsCauseFor task.Check input why = (fault : TraceError) × (why ≡ refusal.Check fault)
+IsCauseFor task.CheckMarks input why = (fault : TraceError) × (why ≡ refusal.Check fault)
+IsCauseFor (task.Draw part) input why = (fault : DrawError) × (why ≡ refusal.Draw fault) × RefusesPart part input fault
+IsCauseFor task.Cluster input why = (fault : RunScriptError) × (why ≡ refusal.Cluster fault) × RefusesRun input fault
+IsCauseFor (task.Help text) input why = ⊥
+
+-- status 2: the line of a refusal was written and nothing else, for such a cause, and neither the reader nor the writer
+-- failed
+abbrev pub IsRefusedFor : (Cause : Refusal → Type 0) → (before after : Option (List ℕ)) → Type 0
+IsRefusedFor Cause before after = (why : Refusal) × (IsOfReader why → ⊥) × (IsOfWriter why → ⊥)
+    × Appends before after (refused_line (word_of why)) × Cause why
+
+-- the same, for a cause for which the task is refused
+abbrev pub IsRefusedBy : Task → (old before after : Option (List ℕ)) → Type 0
+IsRefusedBy asked old before after = IsRefusedFor (λ why. IfSome old (λ input. IsCauseFor asked input why)) before after
+
+-- ---- Words
+
+-- the task is one that the words of a command line may ask for: of a node and the nodes that they give, for mark logs
+-- exactly if a word is `--marks`, and of help only if a word asks for it
+abbrev pub Suits : (words : List (List ℕ)) → Task → Type 0
+Suits words asked = OnAnswer asked (GivesNode words) × ChecksBy words asked × OnHelp asked (Any IsHelpWord words)
