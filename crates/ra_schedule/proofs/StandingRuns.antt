@@ -13,12 +13,13 @@ use Rattle.ra_stamp.specs.Message.{from_of, to_of, name_of}
 use Rattle.ra_stamp.specs.NodeId.{IsNodeNumber}
 use Rattle.ra_automaton.specs.State.{IsOtherNode}
 use Rattle.ra_node.specs.Resource.{Resource, IsBusy, use_of, unmet}
-use Rattle.ra_node.specs.Turns.{AskTurn, LeaveTurn, ReceiveTurn}
+use Rattle.ra_node.specs.Turns.{AskTurn, LeaveTurn}
 use Rattle.ra_node.specs.Node.{NodeState, opening_node, resource_at, IsConsistentNode}
 use Rattle.ra_node.specs.Events.{Event, name_of_event, NodeEvent, IsForThisNode}
 use Rattle.ra_node.specs.Events.Event.{Ask as AskedFor, Leave as GivenBack, Receive as Received}
 use Rattle.ra_node.specs.Carried.{MarksLead}
 use Rattle.ra_node.proofs.Lookups.{nothing_met, resource_changed}
+use Rattle.ra_node.proofs.Updates.{received_turn}
 use Rattle.ra_world.specs.declared.step.Step.{Step}
 use Rattle.ra_world.specs.declared.step.Step.TheVariants.{Ask, Leave, Deliver, Lose, Repeat}
 use Rattle.ra_world.specs.Traffic.{Move, IsUnderWay}
@@ -209,12 +210,6 @@ leave_turn old new client name sends marks e =
     subst (λ (x : Resource). LeaveTurn (resource_at old name) client sends marks x)
     (sym (ap (λ (s : NodeState). resource_at s name) e.new_is ∙ resource_changed old name e.resource)) e.turn
 
-receive_turn : (old new : NodeState) (message : Sent) (sends : List Sent) (marks : List Mark)
-    → NodeEvent old (Received message) sends marks new → ReceiveTurn (resource_at old (name_of message)) message sends marks (resource_at new (name_of message))
-receive_turn old new message sends marks e =
-    subst (λ (x : Resource). ReceiveTurn (resource_at old (name_of message)) message sends marks x)
-    (sym (ap (λ (s : NodeState). resource_at s (name_of message)) e.new_is ∙ resource_changed old (name_of message) e.resource)) e.turn
-
 pub own_step : (node client : ℕ) (op : Op) → steps_in client (step_of node client op) ≡ 1
 own_step node client (Lock name mode) = ap (λ b. if b then 1 else 0) (eq-eqb client client refl)
 own_step node client (Unlock name) = ap (λ b. if b then 1 else 0) (eq-eqb client client refl)
@@ -264,7 +259,7 @@ module _ (nodes_laws : LawsOfNodes) (laws : LawsOfRuns) (script : ScriptState) (
       (λ client. ap (steps_in client) step) (λ client asks. subst (Asks client) step asks)
       (λ client. untouched n client move.marks old.nodes nodes' p (name_of message) between.0 (elsewhere nodes_laws n old.nodes nodes' move p event went old.each)
       (all_receive client (resource_at (old.nodes p) (name_of message)) message move.sends move.marks (resource_at (nodes' p) (name_of message))
-      (receive_turn (old.nodes p) (nodes' p) message move.sends move.marks went.happened) (leads nodes_laws n old.nodes nodes' move p event went old.each)))
+      (received_turn (old.nodes p) (nodes' p) message move.sends move.marks went.happened) (leads nodes_laws n old.nodes nodes' move p event went old.each)))
 
   -- a loss or a copy
   nothing_happens : ((i : ℕ) → events_at i move.step ≡ []) → move.marks ≡ [] → ((client : ℕ) → steps_in client move.step ≡ 0) → ((client : ℕ) → Asks client move.step → ⊥)

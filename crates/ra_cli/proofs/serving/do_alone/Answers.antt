@@ -35,3 +35,16 @@ returns-in-Survey-clause-unfinished g c is = rw c.in-Survey.is (c.survey_seeds-o
 
 pub returns-in-Survey-clause-refused : goal.returns-in-Survey-clause-refused
 returns-in-Survey-clause-refused g c is = rw c.in-Survey.is (c.survey_seeds-outcome.ensures.refused is)
+
+pub returns-in-Help-clause-broken : goal.returns-in-Help-clause-broken
+returns-in-Help-clause-broken g c words fits one =
+    let suits = rw c.in-Help.is at fits in
+    let old = g.R.Read.remaining c.args.reader.now in
+    let text = c.as_bytes.result.now in
+    elim c.written.ensures.value [
+      | inl all ↦ absurd (omega (arith, all.0, one))
+      | inr part ↦
+          let (is_one, prefix, rest, is, left, some) = part in
+          prefix_of words old (g.W.Write.contents c.args.writer.now) (g.W.Write.contents c.written.new.writer) text prefix rest
+          (for_each old (λ input. IsPrinted words input text) (λ input. inr (inr (inr (inr (inr (inl suits.2))))))) is left some
+    ]
