@@ -1,5 +1,5 @@
 -- What the marks of a run are to be if clients did the operations of a script.
-use Rattle.std.specs.Prelude.{◌≡◌, ℕ, ◌+◌, ◌==◌, Bool, true, false, List, [], ◌∷◌, Option, Some, None, sum_by}
+use Rattle.std.specs.Prelude.{◌≡◌, ℕ, ◌==◌, Bool, true, false, List, [], ◌∷◌, Option, Some, None}
 use Rattle.std.specs.List.{filter}
 use Rattle.ra_stamp.specs.declared.entry.Entry.{Entry}
 use Rattle.ra_stamp.specs.declared.entry.Mark.{Mark}
@@ -7,6 +7,7 @@ use Rattle.ra_stamp.specs.declared.entry.Mark.TheVariants.{Requested, Entered, L
 use Rattle.ra_schedule.specs.declared.script.Op.{Op}
 use Rattle.ra_schedule.specs.declared.script.Op.TheVariants.{Lock, Unlock}
 use Rattle.ra_schedule.specs.Script.{ScriptState, ScriptClient, client_at}
+pub use Rattle.ra_schedule.specs.Performing.{locks_in, locks_of}
 use Rattle.ra_world.specs.declared.report.Report.{Report}
 
 -- the request that a mark is about
@@ -57,16 +58,6 @@ MeetsPlanOf None marks = marks ≡ []
 -- and Left for each unlock; no mark names a client that does not exist
 abbrev pub MeetsPlan : ScriptState → List Mark → Type 0
 MeetsPlan script marks = (client : ℕ) → MeetsPlanOf (client_at script client) (marks_of_client client marks)
-
--- how many of these operations are locks
-abbrev pub locks_in : List Op → ℕ
-locks_in [] = 0
-locks_in (Lock name mode ∷ ops) = locks_in ops + 1
-locks_in (Unlock name ∷ ops) = locks_in ops
-
--- how many operations of all clients are locks
-abbrev pub locks_of : ScriptState → ℕ
-locks_of script = sum_by (λ c. locks_in c.ops) script.clients
 
 -- whether a mark is that of a request that is made
 abbrev pub is_request : Mark → Bool

@@ -6,6 +6,7 @@ mod Numbers
 mod Texts
 mod Adding
 mod Scripts
+mod ReadScripts
 mod Meanings
 mod Spelled
 mod Inputs
