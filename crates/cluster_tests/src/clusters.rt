@@ -1,12 +1,11 @@
 //! What a whole cluster answers if its gate or a stop ends it, and what its clients get.
-use crate::helpers::{Counting, assert_prints, comes_to, in_a_thread, r};
+use crate::helpers::{Counting, assert_prints, in_a_thread, r};
 use ra_cluster::{Book, BookError, CallError, Cluster, Grant, Held, OpenGate, SiteError, Stop};
 use ra_stamp::{Mode, Name, NodeId};
 use std::alloc::Global;
 use std::process::Abort;
 use std::sync::Wait;
 use std::sync::atomic::Ordering;
-use std::thread;
 use std::thread::Threads;
 
 /// Each cause of a stop.
@@ -48,7 +47,7 @@ fn met_by(held: Result<Held<()>, CallError>) -> Met {
 struct Passed {
     steps: u64,
     met: Met,
-    events: [u64; 2],
+    events: (u64, u64),
 }
 
 /// A client that the gate did not let in.
@@ -59,27 +58,27 @@ const PASSED: &[Passed] = &[
     Passed {
         steps: 0,
         met: NOT_LET_IN,
-        events: [0, 0],
+        events: (0, 0),
     },
     Passed {
         steps: 1,
         met: NOT_LET_IN,
-        events: [1, 0],
+        events: (1, 0),
     },
     Passed {
         steps: 2,
         met: NOT_LET_IN,
-        events: [1, 1],
+        events: (1, 1),
     },
     Passed {
         steps: 3,
         met: Met::Keeps(SiteError::Stopped(Stop::Gate)),
-        events: [2, 1],
+        events: (2, 1),
     },
     Passed {
         steps: 4,
         met: Met::Done,
-        events: [3, 1],
+        events: (3, 1),
     },
 ];
 
@@ -100,9 +99,9 @@ fn works<R: Threads + Wait + Abort + Sync>(
 }
 
 /// Returns how many events the books of two nodes have.
-fn events_of(books: &[Book]) -> Option<[u64; 2]> {
+fn events_of(books: &[Book]) -> Option<(u64, u64)> {
     match books {
-        [one, two] => Some([one.events().len(), two.events().len()]),
+        [one, two] => Some((one.events().len(), two.events().len())),
         _ => None,
     }
 }
@@ -113,7 +112,7 @@ fn came<R: Threads + Wait + Abort + Sync>(
     rt: &R,
     alloc: Global,
     steps: u64,
-) -> Option<(Met, u64, [u64; 2])> {
+) -> Option<(Met, u64, (u64, u64))> {
     let (name, one, gate) = (r()?, NodeId::new(1)?, Counting::new(steps, true));
     let cluster = Cluster::new(alloc, 2, 0, &gate).ok()?;
     let met = works(rt, alloc, &cluster, one, name);
@@ -199,36 +198,6 @@ fn a_stop_of_a_cluster_stops_all_nodes_for_its_cause_and_ends_the_pumps(rt: Host
                 "{nodes} nodes, cause {cause}"
             );
         }
-    }
-}
-
-/// Returns what a client of node 1 of two gets that waits for a REPLY when the cluster is stopped for this cause.
-fn waits_until<R: Threads + Wait + Abort + Sync>(
-    rt: &R,
-    alloc: Global,
-    cause: Stop,
-) -> Option<Result<Grant, CallError>> {
-    let (name, one, gate) = (r()?, NodeId::new(1)?, Counting::open());
-    let cluster = Cluster::new(alloc, 2, 0, &gate).ok()?;
-    let (cluster, gate) = (&cluster, &gate);
-    // No frame is carried, so the REPLY never comes.
-    let (got, ()) = thread::join(
-        rt,
-        move || cluster.lock(rt, alloc, one, 1, name, Mode::Exclusive),
-        move || {
-            comes_to(&gate.steps, 1);
-            cluster.stop(rt, cause)
-        },
-    );
-    Some(got)
-}
-
-#[test]
-fn a_client_that_waits_is_told_the_cause_of_a_stop(rt: HostRuntime) {
-    for cause in CAUSES {
-        let got = in_a_thread(&rt, || waits_until(&rt, rt.alloc(), cause));
-        let stopped = CallError::Site(SiteError::Stopped(cause));
-        assert_eq!(rt; got, Some(Err(stopped)), "cause {cause}");
     }
 }
 

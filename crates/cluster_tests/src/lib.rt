@@ -43,6 +43,4 @@ mod threads;
 #[cfg(test)]
 mod waiting;
 #[cfg(test)]
-mod waiting_clusters;
-#[cfg(test)]
 mod whole;

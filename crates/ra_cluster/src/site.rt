@@ -101,16 +101,17 @@ impl Site {
         self.node
     }
 
-    /// Asks for a name for a client, and waits until the client holds it. Nothing bounds the wait, and clients that hold names while they ask for others may wait for each other for ever, unless all take
-    /// their names in one order. A client that queues behind another of its node gets its number when its turn comes; where the last
-    /// one, 2^64-1, was used by then, its turn never comes, and it waits until somebody stops the node.
+    /// Asks for a name for a client, and waits until the client holds it. Nothing bounds the wait. Clients that hold names
+    /// while they ask for others may wait for each other forever, unless all take their names in one order. A client that
+    /// queues behind another of its node gets its number when its turn comes. If the last one, 2^64-1, is used by then, its
+    /// turn never comes, and it waits until somebody stops the node.
     ///
     /// # Errors
     ///
     /// The first that comes:
     ///
-    /// 1. `Stopped`: the gate answered `false`. Nothing was asked. The cause is the one that the node keeps, of an earlier stop
-    ///    where there was one.
+    /// 1. `Stopped`: the gate answered `false`. Nothing was asked. The cause is the one that the node keeps, of an earlier
+    ///    stop if there was one.
     /// 2. `Refused`: the book refused it, as [`Book::ask`] says, with `Failed` if the node was stopped before. Nothing was
     ///    asked. `Memory` also comes if there is none for the wait.
     /// 3. `Stopped`: the node was stopped before the client was let in, and its request stays in the book.
@@ -180,10 +181,12 @@ impl Site {
         self.step(rt, alloc, call, post, sites, gate)
     }
 
-    /// Hands the book each frame that comes into the inbox, until the post is closed and the inbox empty, or the book refuses
-    /// a frame, or the gate does. It takes frames that have come together from the inbox at once, and hands them to the book
-    /// under one taking of the lock; those after a refused one are dropped, and count as under way. A refusal stops each site, for a cause that says which it was, unless the book was stopped
-    /// before. A stop does not end it by itself, but by the next frame: close the post.
+    /// Hands the book each frame that comes into the inbox, until the post is closed and the inbox empty, or the book or the
+    /// gate refuses a frame. Frames that have come together are taken at once, up to 64, and handed to the book under one
+    /// taking of the lock; the gate is asked before each. Those after a refused one are dropped, and count as under way.
+    ///
+    /// A refusal stops each site, for a cause that says which it was, unless the book was stopped before. A stop does not end
+    /// the pump by itself, but by the next frame: close the post.
     pub fn pump<R: Wait, G: Gate>(
         &self,
         rt: &R,
@@ -214,9 +217,9 @@ impl Site {
         }
     }
 
-    /// Stops the node for this cause, unless it is stopped already, and wakes all clients that wait at it; those that are not let
-    /// in by then, and who calls from then on, get `Stopped`, or `Refused` with `Failed`. Its pump ends when the post is closed.
-    /// It waits for the lock, and does not allocate.
+    /// Stops the node for this cause, unless it is stopped already, and wakes all clients that wait at it. They get `Stopped`,
+    /// and whoever calls from then on gets `Refused` with `Failed`. Its pump ends when the post is closed. It waits for the
+    /// lock, and does not allocate. The cost is linear in the number of clients that wait.
     pub fn stop<R: Wait>(&self, rt: &R, stop: Stop) {
         let (cause, waiters) = self.desk.lock(rt).fail(self.alloc, stop);
         for waiter in waiters {
