@@ -4,6 +4,8 @@
 #[cfg(test)]
 mod bags;
 #[cfg(test)]
+mod costs;
+#[cfg(test)]
 mod growth;
 #[cfg(test)]
 mod helpers;

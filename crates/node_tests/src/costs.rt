@@ -1,0 +1,85 @@
+//! What calls cost. A test has a minute. A body that goes through all messages or all clients at each call, or learns where they are
+//! anew at each call, takes longer.
+use crate::helpers::{id, r, request};
+use ra_bag::Bag;
+use ra_node::Node;
+use ra_stamp::{Messages, Mode};
+use std::alloc::Global;
+use std::process::Abort;
+
+/// How many messages are under way.
+const MESSAGES: u64 = 400_000;
+
+/// A prime number that does not divide the number of messages, so that its multiples name each message once, out of order.
+const STRIDE: u64 = 7_919;
+
+/// How many clients of one node ask for one name.
+const CLIENTS: u32 = 1_000_000;
+
+/// Puts the request with this number into the bag, and returns whether that was done.
+fn puts(alloc: Global, bag: &mut Bag, seq: u64) -> bool {
+    let mut one = Messages::new(alloc);
+    one.push(request(1, 2, seq)).is_ok() && bag.put_all(&one).is_ok()
+}
+
+/// Finds the request with this number, takes it and puts it after all others. Returns whether that was done.
+fn moves(alloc: Global, bag: &mut Bag, seq: u64) -> bool {
+    let message = request(1, 2, seq);
+    let Some(found) = bag.find(&message, 0) else {
+        return false;
+    };
+    bag.take_from(found, &message);
+    puts(alloc, bag, seq)
+}
+
+/// Returns whether each message can be put into a bag, found by its value, taken and put again.
+fn moves_each_message(alloc: Global) -> bool {
+    let Ok(mut bag) = Bag::new(alloc) else {
+        return false;
+    };
+    for seq in 1..=MESSAGES {
+        if !puts(alloc, &mut bag, seq) {
+            return false;
+        }
+    }
+    for turn in 0..MESSAGES {
+        if !moves(alloc, &mut bag, turn * STRIDE % MESSAGES + 1) {
+            return false;
+        }
+    }
+    bag.len() == MESSAGES
+}
+
+/// Returns whether each client can ask, and is busy then.
+fn asks_for_each_client(alloc: Global) -> bool {
+    let Ok(mut node) = Node::new(alloc, id(1), 1, 0) else {
+        return false;
+    };
+    for client in 1..=CLIENTS {
+        if node.ask(alloc, client, r(), Mode::Exclusive).is_err() {
+            return false;
+        }
+    }
+    for client in 1..=CLIENTS {
+        if node.may_ask(client, &r()).is_ok() {
+            return false;
+        }
+    }
+    node.queued() == CLIENTS as u128 - 1
+}
+
+#[test]
+fn a_message_among_many_is_found_without_a_search(rt: HostRuntime) {
+    assert!(rt;
+        moves_each_message(rt.alloc()),
+        "expected that each of 400,000 messages is found, taken and put again; one was not"
+    );
+}
+
+#[test]
+fn a_client_in_a_long_queue_is_found_without_a_search(rt: HostRuntime) {
+    assert!(rt;
+        asks_for_each_client(rt.alloc()),
+        "expected that each of 1,000,000 clients asks once and is busy then; one was not"
+    );
+}
