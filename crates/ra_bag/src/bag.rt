@@ -229,9 +229,9 @@ impl Bag {
     ///
     /// In the first case the cost is that of `at`, if the message was found at a place, and that of removing it.
     /// Removing takes amortized constant time if the message is at an end, or if the bag keeps a bit for each slot. It
-    /// learns these bits after a message was taken from between more than 64. Otherwise removing takes time linear in
-    /// the distance from the nearer end. If the message is not the first of equal ones, the bag has to learn anew in
-    /// which slot each message is. In the second case the cost is that of `take`.
+    /// learns these bits after a message was taken from between more than 1,024, or looked for among more than 64.
+    /// Otherwise removing takes time linear in the distance from the nearer end. If the message is not the first of equal
+    /// ones, the bag has to learn anew in which slot each message is. In the second case the cost is that of `take`.
     #[inline(always)]
     pub fn take_from(&mut self, found: Found, message: &Message)
         requires { Contains self.old.items message.now }
@@ -392,7 +392,7 @@ fn remove_slot(
     } else {
         take_out(slots, slot);
         places.forget();
-        filled.want(len);
+        filled.want_among_many(len);
     }
 }
 

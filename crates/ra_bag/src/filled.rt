@@ -10,8 +10,12 @@ use ra_stamp::{Memory, Message};
 use std::alloc::Global;
 use std::collections::VecDeque;
 
-/// If there are no more slots than this, no bits are learned: a message that is taken from the middle moves others.
+/// If there are no more slots than this, they are searched one by one.
 const FEW: usize = 64;
+
+/// If there are no more slots than this, to move messages when one is taken from between them costs less than to keep
+/// bits.
+const MANY: usize = 1_024;
 
 /// Which slots of a bag have a message: a bit for each slot, so that the message at a place is found by counting bits,
 /// 64 at a time. The bits are learned by a call that may take memory, after a message was taken from between many
@@ -46,13 +50,23 @@ impl Filled {
         !self.words.is_empty()
     }
 
-    /// Notes that a message was taken from between others, among this many slots. If they are many, the bits are to be
-    /// learned.
+    /// Notes that a message was looked for among this many slots. Unless they are few, the bits are to be learned, so that
+    /// what is learned of the slots lasts when a message is taken from between others.
     pub fn want(&mut self, slots: usize)
         ensures { (of : List (Option Message)) → KeepsShown self.old of → KeepsShown self.new of }
     {
         if slots > FEW && !self.is_kept() {
             self.wanted = true;
+        }
+    }
+
+    /// Notes that a message was taken from between others, among this many slots. If they are many, the bits are to be
+    /// learned.
+    pub fn want_among_many(&mut self, slots: usize)
+        ensures { (of : List (Option Message)) → KeepsShown self.old of → KeepsShown self.new of }
+    {
+        if slots > MANY {
+            self.want(slots);
         }
     }
 
@@ -68,13 +82,16 @@ impl Filled {
         }
     }
 
-    /// Learns the bit of each slot anew if bits are kept, for no more slots than before. It does not allocate, since
-    /// the words keep their memory. The cost is linear in the slots.
+    /// Learns the bit of each slot anew if bits are kept and the slots are many, for no more slots than before. Otherwise
+    /// no bits are kept from now on. It does not allocate, since the words keep their memory. The cost is linear in the
+    /// slots.
     pub fn learn_anew(&mut self, slots: &VecDeque<Option<Message>>)
         ensures { KeepsShown self.new slots.now.items }
     {
-        if self.is_kept() {
+        if self.is_kept() && slots.len() > MANY {
             self.learn(slots);
+        } else {
+            self.forget();
         }
     }
 

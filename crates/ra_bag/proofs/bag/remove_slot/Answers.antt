@@ -102,4 +102,4 @@ returns-then-is_kept-clause-shown c =
 pub returns-else-is_kept-clause-shown : goal.returns-else-is_kept-clause-shown
 returns-else-is_kept-clause-shown c =
     let gone : length c.unset.new.self.words.items ≢ 0 → ⊥ = search rules in
-    c.want.ensures c.take_out.new.slots.items (λ kept. absurd (gone kept))
+    c.want_among_many.ensures c.take_out.new.slots.items (λ kept. absurd (gone kept))
