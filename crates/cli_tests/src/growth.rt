@@ -261,21 +261,6 @@ fn end_noted<T: AllocGlobal + Threads + Wait + Sync + Abort>(rt: &T, case: &Note
 }
 
 #[test]
-fn growth_of_a_note_on_a_wrong_line(rt: HostRuntime) {
-    end_noted(
-        &rt,
-        &Noted {
-            words: "ra check",
-            input: "trace 2 2 0\nask 3 1 r X\n",
-            status: 3,
-            output: "invalid 2 Refused\n",
-            note: "ra: line 2, 'ask 3 1 r X': there is no node 3: the highest node of the trace is 2\n",
-            less: "ra: line 2: the client may not ask or release here: the node does not exist, the client already waits, is queued or holds the name, it releases a name that it does not hold, or no number is left\n",
-        },
-    );
-}
-
-#[test]
 fn growth_of_a_note_on_a_frame(rt: HostRuntime) {
     end_noted(
         &rt,
@@ -286,21 +271,6 @@ fn growth_of_a_note_on_a_frame(rt: HostRuntime) {
             output: "refused Version\n",
             note: "ra: the version at offset 0 is 03: must be 01 or 02\n",
             less: "ra: standard output says what came of it; no memory is left to say more\n",
-        },
-    );
-}
-
-#[test]
-fn growth_of_a_note_on_the_words(rt: HostRuntime) {
-    end_noted(
-        &rt,
-        &Noted {
-            words: "ra simm",
-            input: "",
-            status: 2,
-            output: "refused Usage\n",
-            note: "ra: unrecognized subcommand 'simm'; a similar subcommand exists: 'sim'; see ra --help\n",
-            less: "ra: out of memory\n",
         },
     );
 }
