@@ -4,7 +4,8 @@ use Rattle.std.specs.Prelude.{IfSome, Any}
 use Rattle.ra_cli.specs.Statuses.{IsPrinted}
 use Rattle.ra_cli.specs.Words.{IsHelpWord, HasMarksWord}
 
-for_each : (old : Option (List ℕ)) (P : List ℕ → Type 0) → ((input : List ℕ) → P input) → IfSome old P
+-- a fact that holds of each input holds of a known one
+pub for_each : (old : Option (List ℕ)) (P : List ℕ → Type 0) → ((input : List ℕ) → P input) → IfSome old P
 for_each None P h = tt
 for_each (Some input) P h = h input
 

@@ -32,10 +32,7 @@ use Rattle.ra_cli.specs.Statuses.{IsRefused, IsSaid, IsBroken, IsPrinted, Breaks
 use Rattle.ra_cli.specs.Surveyed.{IsTold}
 use Rattle.ra_cli.specs.Words.{GivesNode, HasMarksWord}
 use Rattle.ra_cli.proofs.ClusterRuns.{of_known}
-
-for_each : (old : Option (List ℕ)) (P : List ℕ → Type 0) → ((input : List ℕ) → P input) → IfSome old P
-for_each None P h = tt
-for_each (Some input) P h = h input
+use Rattle.ra_cli.proofs.Helping.{for_each}
 
 -- ---- Who failed
 

@@ -28,7 +28,7 @@ use Rattle.ra_cli.specs.declared.command_line.Task.TheVariants as task
 use Rattle.ra_cli.specs.declared.refusal.Refusal.{Refusal}
 use Rattle.ra_cli.specs.declared.refusal.Refusal.TheVariants.{Choices, Draw, Perform}
 use Rattle.ra_cli.proofs.ClusterRuns.{of_known}
-use Rattle.ra_cli.proofs.Helping.{asks_for_help}
+use Rattle.ra_cli.proofs.Helping.{asks_for_help, for_each}
 use Rattle.ra_cli.proofs.PictureLemmas.{of_drawn, verdict_of_input, same_input}
 
 -- ---- Refusals
@@ -46,11 +46,6 @@ refused_as One Other before after f (why, reader, writer, out, cause) = (why, re
 
 pub without_cause : (Cause : Refusal → Type 0) (before after : Option (List ℕ)) → IsRefusedFor Cause before after → IsRefused before after
 without_cause Cause before after (why, reader, writer, out, cause) = (why, reader, writer, out)
-
--- a fact that holds of each input holds of a known one
-pub for_each : (old : Option (List ℕ)) (P : List ℕ → Type 0) → ((input : List ℕ) → P input) → IfSome old P
-for_each None P h = tt
-for_each (Some input) P h = h input
 
 choices_cause : (choices : List ℕ) (fault : ChoicesError) → ((fault ≡ Choice) × (choices_of choices ≡ None)) ⊎ (fault ≡ Memory) → fault ≡ Choice
     → choices_of choices ≡ None

@@ -43,11 +43,10 @@ module _ (nodes_laws : LawsOfNodes) (laws : LawsOfRuns) (script : ScriptState) (
 
 -- ---- What a driver answers
 
-pub waiting_ends : LawsOfNodes → LawsOfRuns → (script : ScriptState) → IsScript script → (policy : Policy) (moves : List Move) (result : Result Driven DriveError)
-    → Follows script policy moves → Ends script policy moves → IfOk result (λ driven. Reports script.nodes 0 moves driven.report)
-    → IfOk result (λ driven. IsTrue driven.finished ↔ IsFinished script (steps_of moves) driven.report) → IfOk result (λ driven. WaitingEnds script policy driven.finished)
-waiting_ends nodes_laws laws script fit policy moves (Err why) follows ends reports is = tt
-waiting_ends nodes_laws laws script fit policy moves (Ok driven) follows ends reports is = λ itself unlost ordered released.
+pub waiting_ends : LawsOfNodes → LawsOfRuns → (script : ScriptState) → IsScript script → (policy : Policy) (moves : List Move) (driven : Driven)
+    → Follows script policy moves → Ends script policy moves → Reports script.nodes 0 moves driven.report
+    → IsTrue driven.finished ↔ IsFinished script (steps_of moves) driven.report → WaitingEnds script policy driven.finished
+waiting_ends nodes_laws laws script fit policy moves driven follows ends reports is = λ itself unlost ordered released.
     is.1 (policy_finishes nodes_laws laws script fit ordered released moves driven.report policy itself unlost follows ends reports)
 
 no_ok : {X : Type 0} {x : X} {y : DriveError} → Ok x ≡ Err y → ⊥

@@ -220,7 +220,7 @@ no_ok : {X : Type 0} {x : X} {y : DriveError} → Ok x ≡ Err y → ⊥
 no_ok e = cc
 
 -- an end where no choice is left
-answers_ok : {X : Type 0} → LawsBelow → (script : ScriptState) (policy : Policy) (limit : ℕ) (moves : List Move) (value : X)
+pub answers_ok : {X : Type 0} → LawsBelow → (script : ScriptState) (policy : Policy) (limit : ℕ) (moves : List Move) (value : X)
     → IsNodeNumber script.nodes → Follows script policy moves → Ends script policy moves → length moves ≤ limit
     → Answers script policy limit (Ok value)
 answers_ok laws script policy limit moves value count follows ends within = record {
@@ -231,7 +231,7 @@ answers_ok laws script policy limit moves value count follows ends within = reco
 }
 
 -- an end by a refusal
-answers_err : {X : Type 0} → LawsBelow → (script : ScriptState) (policy : Policy) (limit : ℕ) (fault : DriveError)
+pub answers_err : {X : Type 0} → LawsBelow → (script : ScriptState) (policy : Policy) (limit : ℕ) (fault : DriveError)
     → IsNodeNumber script.nodes → IsStopped script policy limit fault → Answers {X = X} script policy limit (Err fault)
 answers_err laws script policy limit fault count (inl memory) = record {
   refused = λ cause apart is. absurd (apart (sym (err_same is) ∙ memory));
@@ -245,13 +245,6 @@ answers_err laws script policy limit fault count (inr (moves, follows, stops)) =
   allowed = λ other follows' ends within.
       absurd (none_some (one_ending laws script policy limit other moves None (Some fault) count follows' follows (ends, within) stops));
 }
-
-pub answers : LawsBelow → (script : ScriptState) (policy : Policy) (limit : ℕ) (records : Bool) (result : Result Driven DriveError)
-    → IsNodeNumber script.nodes → IfOk result (Records script policy limit records) → IfErr result (IsStopped script policy limit)
-    → Answers script policy limit result
-answers laws script policy limit records (Ok driven) count told none =
-    answers_ok laws script policy limit told.moves driven count told.run.follows told.run.ends told.run.within
-answers laws script policy limit records (Err fault) count none told = answers_err laws script policy limit fault count told
 
 -- where two lists of moves follow a policy to its end, they are one
 pub one_run : LawsBelow → (script : ScriptState) (policy : Policy) (a b : List Move) → IsNodeNumber script.nodes

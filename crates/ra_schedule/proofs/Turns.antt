@@ -26,7 +26,7 @@ use Rattle.ra_schedule.specs.Progress.{IsProgress, Tracks, OfEach, IsProgressAft
 use Rattle.ra_schedule.specs.PolicyState.{AreDraws, AreDrawsElsewhere, generator_at, generator_in, words_drawn, words_for}
 use Rattle.ra_schedule.specs.LockOrder.{IsOutOfOrder, IsUnreleased}
 use Rattle.ra_schedule.specs.Performing.{ChoosesItself, LosesNothing}
-use Rattle.ra_schedule.specs.Driving.{IsDriven, IsReady, IsAtEnd, HasMade, Records}
+use Rattle.ra_schedule.specs.Driving.{IsDriven, IsReady, IsAtEnd, IsThrough, HasMade, Records}
 use Rattle.ra_schedule.proofs.ChoicesMade.{no_choices, choices_more}
 use Rattle.ra_schedule.specs.Below.{LawsBelow}
 use Rattle.ra_schedule.proofs.Waiting.{nobody_waits, goes_on}
@@ -321,29 +321,24 @@ WaitingEnds script policy finished = ChoosesItself policy → LosesNothing polic
 
 -- what is recorded where no choice is left
 pub records_all : (script : ScriptState) (policy : Policy) (world : WorldState) (driver : Driver) (limit : ℕ) (records : Bool)
-    (result : Result Driven DriveError) → IsAtEnd script policy world driver → length world.moves ≤ limit → driver.records ≡ records
-    → IfOk result (λ driven. driven.steps.items ≡ driver.steps.items)
-    → IfOk result (λ driven. driven.choices.items ≡ driver.choices.items)
-    → IfOk result (λ driven. driven.turns ≡ length world.moves)
-    → IfOk result (λ driven. Reports script.nodes 0 world.moves driven.report)
-    → IfOk result (λ driven. MainTheorem script.nodes driven.report)
-    → IfOk result (λ driven. IsTrue driven.finished ↔ IsFinished script (steps_of world.moves) driven.report)
-    → IfOk result (λ driven. WaitingEnds script policy driven.finished)
-    → IfOk result (Records script policy limit records)
-records_all script policy world driver limit records (Err why) ends within same steps choices turns reports theorem finished waiting = tt
-records_all script policy world driver limit records (Ok driven) ends within same steps choices turns reports theorem finished waiting = record {
+    (driven : Driven) → IsThrough script policy limit records world driver
+    → driven.steps.items ≡ driver.steps.items → driven.choices.items ≡ driver.choices.items → driven.turns ≡ length world.moves
+    → Reports script.nodes 0 world.moves driven.report → MainTheorem script.nodes driven.report
+    → IsTrue driven.finished ↔ IsFinished script (steps_of world.moves) driven.report → WaitingEnds script policy driven.finished
+    → Records script policy limit records driven
+records_all script policy world driver limit records driven through steps choices turns reports theorem finished waiting = record {
   moves = world.moves;
   run = record {
-    follows = ends.follows;
-    ends = ends.ends;
-    within = within;
+    follows = through.at_end.follows;
+    ends = through.at_end.ends;
+    within = through.within;
     reports = reports;
     main_theorem = theorem;
     finished_is = finished;
     waiting_ends = waiting;
   };
-  steps = steps ∙ ends.steps ∙ ap (λ (b : Bool). recorded b world.moves) same;
-  choices = λ kept. subst (λ (cs : List Choice). AreChoicesBy script policy cs world.moves) (sym choices) (ends.choices (same ∙ kept));
+  steps = steps ∙ through.at_end.steps ∙ ap (λ (b : Bool). recorded b world.moves) through.records_as;
+  choices = λ kept. subst (λ (cs : List Choice). AreChoicesBy script policy cs world.moves) (sym choices) (through.at_end.choices (through.records_as ∙ kept));
   turns = turns;
 }
 

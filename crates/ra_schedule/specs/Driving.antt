@@ -91,11 +91,15 @@ pub record IsHeldUp (script : ScriptState) (policy : Policy) (limit : ℕ) (move
   pub within : length moves < limit
   pub goes_on : MayGoOn script policy moves
 
--- when memory may run out: before the first turn, at a turn whose choice can be made, or for the report if no choice is
--- left
+-- when memory may run out: before the first turn, or at a turn whose choice can be made
 abbrev pub MayNeedMemory : ScriptState → Policy → ℕ → List Move → Type 0
 MayNeedMemory script policy limit moves = (moves ≡ []) ⊎ IsHeldUp script policy limit moves
-    ⊎ (Follows script policy moves × Ends script policy moves × (length moves ≤ limit))
+
+-- the policy has no choice left after at most this many turns, and they are recorded or not
+pub record IsThrough (script : ScriptState) (policy : Policy) (limit : ℕ) (records : Bool) (world : WorldState) (driver : Driver) : Type 0 where
+  pub at_end : IsAtEnd script policy world driver
+  pub within : length world.moves ≤ limit
+  pub records_as : driver.records ≡ records
 
 -- the policy stops for lack of memory, or for a cause that applies
 abbrev pub IsStopped : ScriptState → Policy → ℕ → DriveError → Type 0

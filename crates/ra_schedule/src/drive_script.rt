@@ -6,7 +6,7 @@ ghost use Rattle.ra_schedule.specs.Script.{IsScript};
 ghost use Rattle.ra_schedule.specs.Schedule.{steps_of, IsFinished};
 ghost use Rattle.ra_schedule.specs.Progress.{Tracks, AreDone};
 ghost use Rattle.ra_schedule.specs.Drive.{IsRecording, IsSummary, Answers, IsInTime};
-ghost use Rattle.ra_schedule.specs.Driving.{Records, IsStopped, MayNeedMemory};
+ghost use Rattle.ra_schedule.specs.Driving.{Records, IsStopped, IsThrough, MayNeedMemory};
 ghost use Rattle.ra_schedule.specs.declared.error.DriveError.{DriveError};
 
 use crate::driver::Driver;
@@ -139,7 +139,8 @@ fn drive_through(
     let Ok(mut world) = World::new(alloc, script.nodes(), 0) else {
         return Err(DriveError::Memory);
     };
-    drive_world(alloc, script, policy, limit, records, &mut world)
+    let driver = drive_world(alloc, script, policy, limit, records, &mut world)?;
+    Ok(driven_of(script, world, driver))
 }
 
 /// Drives a cluster in which nothing has happened yet through a script, and records the steps and choices, or none.
@@ -154,55 +155,46 @@ fn drive_world(
     limit: u64,
     records: bool,
     world: &mut World,
-) -> Result<Driven, DriveError>
-    requires fit { IsScript script.now }
+) -> Result<Driver, DriveError>
     requires run { IsRun world.old.count world.old.start world.old.moves }
     requires opened { world.old ≡ record { count = script.now.nodes; start = 0; moves = [] } }
-    ensures ok { IfOk result (Records script.now policy.now limit records) }
+    ensures ok { IfOk result (IsThrough script.now policy.now limit records world.new) }
     ensures err { IfErr result (IsStopped script.now policy.now limit) }
     // So a turn's refusal is never passed over because memory ran out at that turn.
     ensures memory { IsErrOf result DriveError.Memory → MayNeedMemory script.now policy.now limit world.new.moves }
 {
-    endings_rest_on_nodes_and_runs();
     let mut driver = Driver::open(alloc, script, policy, world, records)?;
     driver.finish(alloc, script, policy, world, limit)?;
-    let steps = driver.steps;
-    let choices = driver.choices;
-    driven_of(alloc, script, world, &driver.clients, steps, choices)
+    Ok(driver)
 }
 
-/// Reports what a policy made of a script.
-///
-/// # Errors
-///
-/// `Memory`: memory ran out.
-fn driven_of(
-    alloc: Global,
-    script: &Script,
-    world: &World,
-    clients: &[Progress],
-    steps: Steps,
-    choices: Choices,
-) -> Result<Driven, DriveError>
-    requires tracked { Tracks script.now world.now clients.now }
-    ensures steps { IfOk result (λ driven. driven.steps.items ≡ steps.items) }
-    ensures choices { IfOk result (λ driven. driven.choices.items ≡ choices.items) }
-    ensures turns { IfOk result (λ driven. driven.turns ≡ length world.now.moves) }
-    ensures report { IfOk result (λ driven. Reports script.now.nodes 0 world.now.moves driven.report) }
-    ensures main_theorem { IfOk result (λ driven. MainTheorem script.now.nodes driven.report) }
-    ensures finished { IfOk result (λ driven.
-        IsTrue driven.finished ↔ IsFinished script.now (steps_of world.now.moves) driven.report) }
-    ensures err { IfErr result (λ fault. fault ≡ DriveError.Memory) }
+/// Reports what a policy made of a script. It takes no memory.
+fn driven_of(script: &Script, world: World, driver: Driver) -> Driven
+    requires fit { IsScript script.now }
+    requires tracked { Tracks script.now world driver.clients.items }
+    ensures steps { result.steps.items ≡ driver.steps.items }
+    ensures choices { result.choices.items ≡ driver.choices.items }
+    ensures turns { result.turns ≡ length world.moves }
+    ensures report { Reports script.now.nodes 0 world.moves result.report }
+    ensures main_theorem { MainTheorem script.now.nodes result.report }
+    ensures finished { IsTrue result.finished ↔ IsFinished script.now (steps_of world.moves) result.report }
 {
-    let report = world.report(alloc)?;
-    let finished = has_nothing_left(&report) && are_done(script, clients);
-    Ok(Driven {
+    let Driver {
+        clients,
         steps,
         choices,
-        turns: world.steps(),
+        ..
+    } = driver;
+    let turns = world.steps();
+    let report = world.into_report();
+    let finished = has_nothing_left(&report) && are_done(script, &clients);
+    Driven {
+        steps,
+        choices,
+        turns,
         report,
         finished,
-    })
+    }
 }
 
 /// Returns whether nothing waits, is queued or under way.

@@ -5,7 +5,8 @@ use Rattle.ra_cli.specs.Statuses.{IsPrinted}
 use Rattle.ra_cli.specs.declared.refusal.Refusal.{Refusal}
 use Rattle.ra_cli.specs.declared.refusal.Refusal.TheVariants.{Check}
 use Rattle.ra_cli.proofs.Statuses.{prefix_of}
-use Rattle.ra_cli.proofs.TaskLemmas.{for_each, refused_as}
+use Rattle.ra_cli.proofs.Helping.{for_each}
+use Rattle.ra_cli.proofs.TaskLemmas.{refused_as}
 use Rattle.ra_cli.proofs.serving.do_alone.Goals as goal
 
 pub returns-in-Answer-clause-done : goal.returns-in-Answer-clause-done

@@ -12,7 +12,8 @@ use Rattle.ra_cli.specs.declared.refusal.Refusal.{Refusal}
 use Rattle.ra_cli.specs.declared.refusal.Refusal.TheVariants.{Draw}
 use Rattle.ra_cli.proofs.PictureLemmas.{of_picture, of_denied}
 use Rattle.ra_cli.proofs.Statuses.{of_draw, broken}
-use Rattle.ra_cli.proofs.TaskLemmas.{for_each, of_part, refused_as, refused_for}
+use Rattle.ra_cli.proofs.Helping.{for_each}
+use Rattle.ra_cli.proofs.TaskLemmas.{of_part, refused_as, refused_for}
 use Rattle.ra_cli.proofs.serving.paint.Goals as goal
 
 pub returns-in-Ok-Valid-clause-drawn : goal.returns-in-Ok-Valid-clause-drawn

@@ -2,18 +2,16 @@ use Rattle.std.proofs.Common.{◌≡◌, ◌∙◌, Err, ap, inl, inr}
 use Rattle.std.proofs.lemmas.Result.{err_from_is_err_and}
 use Rattle.ra_world.specs.World.{WorldState}
 use Rattle.ra_schedule.specs.declared.error.DriveError.TheVariants.{Memory}
-use Rattle.ra_schedule.proofs.Endings.{waiting_ends}
-use Rattle.ra_schedule.proofs.Turns.{records_all}
 use Rattle.ra_schedule.proofs.drive_script.drive_world.Goals as goal
 
 pub returns-clause-ok : goal.returns-clause-ok
 returns-clause-ok c =
-    let laws = c.endings_rest_on_nodes_and_runs.ensures in
-    let told = c.driven_of.ensures in
     let (ends, within) = c.in_ok-finish.ensures.ok in
-    records_all c.args.script.now c.args.policy.now c.finish.new.world c.finish.new.self c.args.limit c.args.records c.driven_of.result
-    ends within (c.in_ok-finish.ensures.records ∙ c.in_ok-driver.ensures.records) told.steps told.choices told.turns told.report told.main_theorem told.finished
-    (waiting_ends laws.nodes laws.runs c.args.script.now c.requires.fit c.args.policy.now c.finish.new.world.moves c.driven_of.result ends.follows ends.ends told.report told.finished)
+    record {
+      at_end = ends;
+      within = within;
+      records_as = c.in_ok-finish.ensures.records ∙ c.in_ok-driver.ensures.records;
+    }
 
 pub returns-in_err-driver-clause-memory : goal.returns-in_err-driver-clause-memory
 returns-in_err-driver-clause-memory c is = inl (ap (λ (w : WorldState). w.moves) c.requires.opened)
@@ -23,9 +21,4 @@ returns-in_err-finish-clause-memory c is =
     let p = err_from_is_err_and c.from_residual-in_err-finish.result c.from_residual-in_err-finish.ensures.1 in
     let ends = rw (p.1, p.2) at is in
     let why : c.in_err-finish.field-0.0 ≡ Memory = cc in
-    inr (inl (c.in_err-finish.ensures.memory (ap Err why)))
-
-pub returns-clause-memory : goal.returns-clause-memory
-returns-clause-memory c is =
-    let (ends, within) = c.in_ok-finish.ensures.ok in
-    inr (inr (ends.follows, ends.ends, within))
+    inr (c.in_err-finish.ensures.memory (ap Err why))

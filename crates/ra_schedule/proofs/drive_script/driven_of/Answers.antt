@@ -1,5 +1,7 @@
-use Rattle.std.proofs.Common.{refl, sym, ◌∙◌}
+use Rattle.std.proofs.Common.{refl, sym, subst, List, ◌∙◌}
 use Rattle.std.proofs.lemmas.Bool.{false≢true}
+use Rattle.ra_schedule.specs.declared.progress.Progress.{Progress}
+use Rattle.ra_schedule.specs.Progress.{Tracks}
 use Rattle.ra_schedule.specs.Schedule.{steps_of}
 use Rattle.ra_schedule.proofs.Turns.{all_done, are_done}
 use Rattle.ra_schedule.proofs.drive_script.driven_of.Goals as goal
@@ -8,12 +10,12 @@ use Rattle.ra_schedule.proofs.drive_script.driven_of.Goals.{then-has_nothing_lef
 pub returns-clause-finished : goal.returns-clause-finished
 returns-clause-finished c =
     let script = c.args.script.now in
-    let world = c.args.world.now in
-    let clients = c.args.clients.now in
-    let tracks = c.requires.tracked in
+    let world = c.args.world in
     let nothing = c.has_nothing_left.ensures in
     elim c.if-has_nothing_left.branch [
-      | then-has_nothing_left w ↦ (
+      | then-has_nothing_left w ↦
+        let clients = w.deref.result.now in
+        let tracks = subst (λ (of : List Progress). Tracks script world of) (sym w.deref.ensures.value) c.requires.tracked in (
         λ h.
             let left = nothing.0 w.if-has_nothing_left.true in
             record {
