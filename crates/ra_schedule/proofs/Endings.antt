@@ -78,7 +78,7 @@ module _ (laws : LawsOfRuns) (below : LawsBelow) (script : ScriptState) (fit : I
 
 -- ---- What comes of a seed
 
-chance_chooses : (faults : Option FaultRates) (seed : ℕ) → ChoosesItself (chance faults seed)
+pub chance_chooses : (faults : Option FaultRates) (seed : ℕ) → ChoosesItself (chance faults seed)
 chance_chooses None seed = tt
 chance_chooses (Some faults) seed = tt
 

@@ -26,10 +26,14 @@ mod Standing
 mod StandingRuns
 mod Climbing
 mod NobodyQueued
+mod TakenNames
 mod Enabling
 mod NoDeadlock
+mod Ascending
+mod GoingOn
 mod TurnCounts
 mod TurnBound
 mod CarriedOn
 mod ThoroughPolicies
 mod Endings
+mod SurveyEnds

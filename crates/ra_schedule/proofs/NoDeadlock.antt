@@ -1,24 +1,18 @@
 -- If nothing was lost, and nothing more can happen, each client of a script in order is done: of those that wait, each
 -- waits for a name that somebody holds who waits for a name above it.
-use Rattle.std.proofs.Common.{◌≡◌, ◌⊎◌, ℕ, zero, suc, ◌<◌, Option, Some, None, List, [], ◌∷◌, ◌++◌, Contains, length, map, slice_get, refl, sym, ap, ◌∙◌, subst, arith, inl, inr}
+use Rattle.std.proofs.Common.{◌≡◌, ℕ, zero, suc, ◌<◌, Option, Some, None, List, [], ◌∷◌, ◌++◌, Contains, length, map, slice_get, refl, sym, ap, ◌∙◌, subst, arith, inl, inr}
 use Rattle.std.specs.Prelude.{option_to_list}
-use Rattle.std.specs.Ordering.{nat_cmp}
-use Rattle.std.specs.declared.cmp.Ordering.TheVariants.{Less, Equal, Greater}
-use Rattle.std.specs.Cmp.Lexicographic.{slice_cmp, nat_list_cmp_total}
-use Rattle.std.proofs.lemmas.Bool.{cases_eq, cases_lt, false≢true}
-use Rattle.std.proofs.lemmas.Cmp.{tied_itself}
+use Rattle.std.specs.Cmp.Lexicographic.{nat_list_cmp_total}
 use Rattle.std.proofs.lemmas.List.{append-nil}
 use Rattle.std.proofs.lemmas.List.Elements.{All-contains, Contains-append_left, Contains-append_right}
 use Rattle.ra_stamp.specs.declared.entry.Entry.{Entry}
 use Rattle.ra_stamp.specs.declared.mode.Mode.{Mode}
-use Rattle.ra_stamp.specs.Stamp.{IsEarlier}
 use Rattle.ra_automaton.specs.declared.phase.Phase.{Phase}
 use Rattle.ra_automaton.specs.declared.phase.Phase.TheVariants.{Idle, Waiting, Inside}
 use Rattle.ra_automaton.specs.State.{State}
 use Rattle.ra_automaton.specs.Steps.{greatest_number}
-use Rattle.ra_node.specs.declared.queued_client.Queued.{Queued}
-use Rattle.ra_node.specs.Resource.{Resource, Use, use_in, use_of, held_entry, IsBusy, ClientFits}
-use Rattle.ra_node.specs.Resource.Use.{Nobody, WaitsBy, HoldsBy}
+use Rattle.ra_node.specs.Resource.{Resource, use_in, use_of, IsBusy}
+use Rattle.ra_node.specs.Resource.Use.{WaitsBy}
 use Rattle.ra_node.specs.Node.{NodeState, opening_node, resource_at}
 use Rattle.ra_table.specs.Table.{LockTable, TableRun}
 use Rattle.ra_world.specs.declared.report.Report.{Report}
@@ -40,42 +34,8 @@ use Rattle.ra_schedule.proofs.MovedNodes.{IsNode}
 use Rattle.ra_schedule.proofs.Standing.{LastLocks}
 use Rattle.ra_schedule.proofs.StandingRuns.{AllStand, is_client}
 use Rattle.ra_schedule.proofs.Climbing.{climbed}
+use Rattle.ra_schedule.proofs.TakenNames.{IsTaken, below_or_not, never_below, by_use}
 use Rattle.ra_schedule.proofs.NobodyQueued.{nobody_queued}
-
--- ---- Orders
-
--- a stamp is earlier than another, or it is not
-earlier_or_not : (a b : Entry) → IsEarlier b.stamp a.stamp ⊎ (IsEarlier b.stamp a.stamp → ⊥)
-earlier_or_not a b = elim (cases_lt b.stamp.seq a.stamp.seq) [
-  | inl less ↦ inl (inl less)
-  | inr over ↦ elim (cases_eq b.stamp.seq a.stamp.seq) [
-    | inl same ↦ elim (cases_lt b.stamp.node a.stamp.node) [
-      | inl less ↦ inl (inr (same, less))
-      | inr more ↦ inr (λ e. elim e [ inl lower ↦ omega (arith, lower, over) | inr tied ↦ omega (arith, tied.1, more) ])
-    ]
-    | inr apart ↦ inr (λ e. elim e [ inl lower ↦ omega (arith, lower, over) | inr tied ↦ apart tied.0 ])
-  ]
-]
-
-earlier_trans : (a b c : Entry) → IsEarlier b.stamp a.stamp → IsEarlier c.stamp b.stamp → IsEarlier c.stamp a.stamp
-earlier_trans a b c (inl x) (inl y) = inl (omega (arith, x, y))
-earlier_trans a b c (inl x) (inr y) = inl (omega (arith, x, y.0))
-earlier_trans a b c (inr x) (inl y) = inl (omega (arith, x.0, y))
-earlier_trans a b c (inr x) (inr y) = inr (omega (arith, x.0, y.0), omega (arith, x.1, y.1))
-
-never_earlier : (a : Entry) → IsEarlier a.stamp a.stamp → ⊥
-never_earlier a (inl x) = omega (arith, x)
-never_earlier a (inr x) = omega (arith, x.1)
-
-below_or_not : (a b : List ℕ) → IsBelow a b ⊎ (IsBelow a b → ⊥)
-below_or_not a b = elim (slice_cmp nat_cmp a b) as (λ o. (o ≡ Less) ⊎ (o ≡ Less → ⊥)) [
-  | Less ↦ inl refl
-  | Equal ↦ inr (λ e. cc)
-  | Greater ↦ inr (λ e. cc)
-]
-
-never_below : (a : List ℕ) → IsBelow a a → ⊥
-never_below a below = let tied : slice_cmp nat_cmp a a ≡ Equal = tied_itself nat_list_cmp_total a in cc
 
 -- ---- The names of a script
 
@@ -110,33 +70,11 @@ named script (suc k) who name is has = named_by script.clients k who name is has
 
 -- ---- The use of a name
 
-nobody_idle : (s : State) (phase : Phase) (client : Option ℕ) → ClientFits phase client → use_in s phase client ≡ Nobody → (phase ≡ Idle) × (client ≡ None)
-nobody_idle s Idle client fits is = (refl, fits)
-nobody_idle s (Waiting seq mode) None fits is = absurd (false≢true fits)
-nobody_idle s (Waiting seq mode) (Some c) fits is = absurd cc
-nobody_idle s (Inside seq mode) None fits is = absurd (false≢true fits)
-nobody_idle s (Inside seq mode) (Some c) fits is = absurd cc
-
-use_name : (s : State) (phase : Phase) (client : Option ℕ) (e : Entry) → use_in s phase client ≡ WaitsBy e → e.name ≡ s.name
-use_name s phase None e is = absurd cc
-use_name s Idle (Some c) e is = absurd cc
-use_name s (Waiting seq mode) (Some c) e is = cc
-use_name s (Inside seq mode) (Some c) e is = absurd cc
-
 use_waiter : (s : State) (phase : Phase) (client : Option ℕ) (e : Entry) → use_in s phase client ≡ WaitsBy e → client ≡ Some e.client
 use_waiter s phase None e is = absurd cc
 use_waiter s Idle (Some c) e is = absurd cc
 use_waiter s (Waiting seq mode) (Some c) e is = cc
 use_waiter s (Inside seq mode) (Some c) e is = absurd cc
-
-holds_by : (r : Resource) (e : Entry) → use_of r ≡ HoldsBy e → HasIt r e.client
-holds_by r e is = (e, record { granted = ap held_entry is; client_is = refl })
-
-queued_there : (client : Option ℕ) (queue : List Queued) (c : ℕ) → client ≡ None → Contains (option_to_list client ++ map (λ q. q.client) queue) c → queue ≡ [] → ⊥
-queued_there client queue c nobody has none =
-    let at : Contains [] c = subst (λ (qs : List Queued). Contains (map (λ q. q.client) qs) c) none
-    (subst (λ (o : Option ℕ). Contains (option_to_list o ++ map (λ q. q.client) queue) c) nobody has) in
-    omega (arith, at.1)
 
 no_items : (es : List Entry) → ((e : Entry) → Contains es e → ⊥) → length es ≡ 0
 no_items [] none = refl
@@ -158,53 +96,6 @@ module _ (nodes_laws : LawsOfNodes) (laws : LawsOfRuns) (script : ScriptState) (
   of_nodes : IsTableOf n all.nodes table.0
   of_nodes = laws.table_of n 0 moves all.nodes table.0 fit.count run all.ends table.1
 
-  -- ---- A name that is waited for is held
-
-  -- somebody holds this name
-  record IsTaken (name : List ℕ) : Type 0 where
-    pub i : ℕ
-    pub client : ℕ
-    pub within : IsNode n i
-    pub has : HasIt (at i name) client
-
-  -- the entry waits for this name
-  abbrev WaitsFor : List ℕ → Entry → Type 0
-  WaitsFor name e = Contains table.0.waiting e × (e.name ≡ name)
-
-  taken_by_entry : (name : List ℕ) (x : Entry) → Contains table.0.holding x → x.name ≡ name → IsTaken name
-  taken_by_entry name x has named_so =
-      let i = x.stamp.node in
-      let within : IsNode n i = All-contains (IsOfNode n) table.0.holding x of_nodes.holding_nodes has in
-      let there = (of_nodes.holding i name x within.0 within.1).0 (has, refl, named_so) in
-      record { i = i; client = x.client; within = within; has = holds_by (at i name) x there }
-
-  one_step : (name : List ℕ) (e : Entry) → WaitsFor name e → IsTaken name ⊎ ((f : Entry) × WaitsFor name f × IsEarlier f.stamp e.stamp)
-  one_step name e waits = elim (laws.blocked n 0 moves table.0 e fit.count run quiet table.1 waits.0) [
-    | inl held ↦
-        let x = held.1 in
-        inl (taken_by_entry name x (held.0, held.2, held.3) (held.4.0 ∙ waits.1))
-    | inr earlier ↦
-        let x = earlier.1 in
-        inr (x, ((earlier.0, earlier.2, earlier.3), earlier.4.0.0 ∙ waits.1), earlier.4.1)
-  ]
-
-  waited_for : (name : List ℕ) (e : Entry) → WaitsFor name e → IsTaken name
-  waited_for name e waits =
-      climbed (λ (a b : Entry). IsEarlier b.stamp a.stamp) earlier_or_not earlier_trans never_earlier (WaitsFor name) (IsTaken name) table.0.waiting
-      (λ x p. p.0) (one_step name) e waits
-
-  by_use : (i : ℕ) (name : List ℕ) (client : ℕ) → IsNode n i → IsBusy (at i name) client → (u : Use) → use_of (at i name) ≡ u → IsTaken name
-  by_use i name client within busy Nobody is =
-      let here = (all.each i within).consistent.each name in
-      let idle = nobody_idle (at i name).state (at i name).state.phase (at i name).client here.client_fits is in
-      let full = here.queue_stays idle.0 (queued_there (at i name).client (at i name).queue client idle.1 busy) in
-      absurd (omega (arith, full, few i name within))
-  by_use i name client within busy (WaitsBy e) is =
-      let at_it = (of_nodes.waiting i name e within.0 within.1).1 is in
-      waited_for name e (at_it.0, at_it.2)
-  by_use i name client within busy (HoldsBy e) is =
-      record { i = i; client = e.client; within = within; has = holds_by (at i name) e is }
-
   -- ---- A client that waits
 
   -- a client waits for this name
@@ -221,7 +112,7 @@ module _ (nodes_laws : LawsOfNodes) (laws : LawsOfRuns) (script : ScriptState) (
       (o.0, record { client = client; who = who; at_it = at_it; last = o.1; out = o.2 })
 
   -- who holds a name and is not done waits for one that is above it
-  waits_above : (name : List ℕ) (taken : IsTaken name) (who : ScriptClient) (at_it : client_at script taken.client ≡ Some who)
+  waits_above : (name : List ℕ) (taken : IsTaken n all.nodes name) (who : ScriptClient) (at_it : client_at script taken.client ≡ Some who)
       → (left : List Op) → (all.clients taken.client who at_it).left ≡ left → (other : List ℕ) × IsStuckAt other × IsBelow name other
   waits_above name taken who at_it [] left_is =
       let stands = all.clients taken.client who at_it in
@@ -273,7 +164,7 @@ module _ (nodes_laws : LawsOfNodes) (laws : LawsOfRuns) (script : ScriptState) (
       let within : IsNode n stuck.who.node = (c.first, c.last) in
       let busy = (stands.stands stuck.who.node name within).1 (refl, held_last stands.did name stuck.last) in
       let r = at stuck.who.node name in
-      let taken = by_use stuck.who.node name stuck.client within busy (use_of r) (refl {a = use_of r}) in
+      let taken = by_use laws n 0 fit.count moves run quiet all.nodes all.ends (λ i at. (all.each i at).consistent) few stuck.who.node name stuck.client within busy (use_of r) (refl {a = use_of r}) in
       let known = all.known taken.i name taken.client taken.within (holder_stands (at taken.i name) taken.client taken.has) in
       waits_above name taken known.0 known.1 (all.clients taken.client known.0 known.1).left refl
 

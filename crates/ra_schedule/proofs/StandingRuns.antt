@@ -65,7 +65,7 @@ is_client script (suc k) who fit is = in_list script.nodes script.clients k who 
 
 -- ---- At the start
 
-nobody_there : (me nodes start : ℕ) (name : List ℕ) (client : ℕ) → IsBusy (resource_at (opening_node me nodes start) name) client → ⊥
+pub nobody_there : (me nodes start : ℕ) (name : List ℕ) (client : ℕ) → IsBusy (resource_at (opening_node me nodes start) name) client → ⊥
 nobody_there me nodes start name client busy =
     let none : IsBusy (unmet me nodes name start) client = subst (λ (r : Resource). IsBusy r client) (nothing_met me nodes start name) busy in
     omega (arith, none.1)
@@ -198,13 +198,13 @@ module _ (laws : LawsOfNodes) (n : ℕ) (nodes nodes' : ℕ → NodeState) (move
   ]
 
 -- the turn of an event, at the resources before and after it
-ask_turn : (old new : NodeState) (client : ℕ) (name : List ℕ) (mode : Mode) (sends : List Sent) (marks : List Mark)
+pub ask_turn : (old new : NodeState) (client : ℕ) (name : List ℕ) (mode : Mode) (sends : List Sent) (marks : List Mark)
     → NodeEvent old (AskedFor client name mode) sends marks new → AskTurn (resource_at old name) client mode sends marks (resource_at new name)
 ask_turn old new client name mode sends marks e =
     subst (λ (x : Resource). AskTurn (resource_at old name) client mode sends marks x)
     (sym (ap (λ (s : NodeState). resource_at s name) e.new_is ∙ resource_changed old name e.resource)) e.turn
 
-leave_turn : (old new : NodeState) (client : ℕ) (name : List ℕ) (sends : List Sent) (marks : List Mark)
+pub leave_turn : (old new : NodeState) (client : ℕ) (name : List ℕ) (sends : List Sent) (marks : List Mark)
     → NodeEvent old (GivenBack client name) sends marks new → LeaveTurn (resource_at old name) client sends marks (resource_at new name)
 leave_turn old new client name sends marks e =
     subst (λ (x : Resource). LeaveTurn (resource_at old name) client sends marks x)

@@ -4,6 +4,7 @@ pub mod Faults
 pub mod LockOrder
 pub mod Schedule
 pub mod Performing
+pub mod Orderly
 pub mod Progress
 pub mod Enabled
 pub mod PolicyState

@@ -1,5 +1,5 @@
 -- What comes of a script under many seeds.
-use Rattle.std.specs.Prelude.{◌≡◌, ℕ, ◌+◌, ◌-◌, ◌≤◌, Bool, true, false, List, [], ◌∷◌, length, map, filter, flat_map, Option, Some, None, option_map, slice_get, All, Contains}
+use Rattle.std.specs.Prelude.{◌≡◌, ℕ, ◌+◌, ◌-◌, ◌≤◌, Bool, true, false, List, [], ◌∷◌, length, map, filter, flat_map, Option, Some, None, option_map, slice_get, All, Contains, IfSome}
 use Rattle.std.specs.List.{position_from}
 use Rattle.ra_world.specs.declared.report.Report.{Report}
 use Rattle.ra_world.specs.Traffic.{Move}
@@ -14,6 +14,8 @@ use Rattle.ra_schedule.specs.declared.outcomes.Spread.{Spread}
 use Rattle.ra_schedule.specs.declared.outcomes.Survey.{Survey}
 use Rattle.ra_schedule.specs.Faults.{FaultRates}
 use Rattle.ra_schedule.specs.Script.{ScriptState}
+use Rattle.ra_schedule.specs.LockOrder.{IsOutOfOrder, IsUnreleased}
+use Rattle.ra_schedule.specs.Performing.{most_turns}
 use Rattle.ra_schedule.specs.Schedule.{Follows, Stops}
 use Rattle.ra_schedule.specs.Drive.{IsWholeRun}
 
@@ -99,6 +101,25 @@ pub record Tallies (first : ℕ) (outcomes : List SeedOutcome) (survey : Survey)
   pub limit : survey.limit ≡ tally_of is_limit first outcomes
   pub turns : IsLeastAndMost (turns_of outcomes) survey.turns
   pub messages : IsLeastAndMost (messages_of outcomes) survey.messages
+
+-- ---- Waiting ends
+
+-- there are no faults, or none that lose a message
+abbrev pub NoneIsLost : Option FaultRates → Type 0
+NoneIsLost faults = IfSome faults (λ rates. rates.lose ≡ 0)
+
+-- there are no faults, or none that repeat a message
+abbrev pub NoneIsRepeated : Option FaultRates → Type 0
+NoneIsRepeated faults = IfSome faults (λ rates. rates.repeat ≡ 0)
+
+-- Of a script whose clients take names in ascending order and give them all back, no seed is stuck unless messages are
+-- lost. Of any script, no seed comes to a limit of at least `most_turns` unless messages are repeated. So under neither
+-- of them each seed from the first to the last is counted as finished.
+pub record SeedsFinish (script : ScriptState) (faults : Option FaultRates) (limit first last : ℕ) (survey : Survey) : Type 0 where
+  pub none_stuck : (IsOutOfOrder script → ⊥) → (IsUnreleased script → ⊥) → NoneIsLost faults → survey.stuck ≡ None
+  pub none_at_limit : NoneIsRepeated faults → most_turns script ≤ limit → survey.limit ≡ None
+  pub all_finished : (IsOutOfOrder script → ⊥) → (IsUnreleased script → ⊥) → NoneIsLost faults → NoneIsRepeated faults
+      → most_turns script ≤ limit → first ≤ last → survey.finished ≡ Some (record { seeds = last + 1 - first; first = first })
 
 -- the survey of a script under chance, with faults or without, by each seed from the first to the last, both included
 pub record IsSurvey (script : ScriptState) (faults : Option FaultRates) (limit first last : ℕ) (survey : Survey) : Type 0 where

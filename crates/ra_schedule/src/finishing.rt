@@ -1,5 +1,10 @@
 //! How scripts end. Each function does nothing, and its contract is the law.
-ghost use Rattle.std.specs.Prelude.{◌≡◌, ◌≤◌, ◌+◌, ◌*◌, ◌++◌, [], ℕ, List, Option, length, true};
+ghost use Rattle.std.specs.Prelude.{◌≡◌, ◌≤◌, ◌<◌, ◌+◌, ◌*◌, ◌++◌, [], ℕ, List, Option, length, true};
+ghost use Rattle.ra_stamp.specs.NodeId.{IsNodeNumber};
+ghost use Rattle.ra_automaton.specs.Steps.{greatest_number};
+ghost use Rattle.ra_node.specs.Node.{NodeState};
+ghost use Rattle.ra_world.specs.Quiet.{IsQuiet, requests_in};
+ghost use Rattle.ra_world.specs.Run.{IsRun, EndsWith, marks_of};
 ghost use Rattle.ra_world.specs.declared.report.Report.{Report};
 ghost use Rattle.ra_world.specs.Traffic.{Move, lost_by, repeated_by};
 ghost use Rattle.ra_world.specs.World.{Reports};
@@ -8,8 +13,10 @@ ghost use Rattle.ra_schedule.specs.declared.error.DriveError.{DriveError};
 ghost use Rattle.ra_schedule.specs.BelowFinishing.{LawsOfNodes, LawsOfRuns};
 ghost use Rattle.ra_schedule.specs.declared.outcomes.SeedOutcome.{SeedOutcome};
 ghost use Rattle.ra_schedule.specs.Faults.{FaultRates};
-ghost use Rattle.ra_schedule.specs.Survey.{chance, is_finished, IsOutcome};
+ghost use Rattle.ra_schedule.specs.declared.outcomes.Survey.{Survey};
+ghost use Rattle.ra_schedule.specs.Survey.{chance, is_finished, IsOutcome, IsSurvey, SeedsFinish};
 ghost use Rattle.ra_schedule.specs.LockOrder.{IsOutOfOrder, IsUnreleased};
+ghost use Rattle.ra_schedule.specs.Orderly.{TakeNamesInOrder, WaitsForName, SomeoneCanGoOn};
 ghost use Rattle.ra_schedule.specs.Performing.{Performs, IsAtRest, ChoosesItself, LosesNothing, most_turns};
 ghost use Rattle.ra_schedule.specs.Schedule.{steps_of, Follows, Ends, Stops, IsFinished, RepeatsNothing};
 ghost use Rattle.ra_schedule.specs.Script.{ScriptState, IsScript};
@@ -94,13 +101,30 @@ pub fn policies_bring_scripts_to_rest()
 }
 
 /// By chance, without losses and repeats, each seed brings a script to its end within the limit, if that is at least
-/// `most_turns` and each client takes names in ascending order and gives them all back.
+/// `most_turns` and each client takes names in ascending order and gives them all back. So a survey counts each seed as
+/// finished.
 pub fn seeds_finish_ordered_scripts()
-    ensures { (script : ScriptState) (faults : Option FaultRates) (limit seed : ℕ) (outcome : SeedOutcome) → IsScript script
-        → ¬ IsOutOfOrder script → ¬ IsUnreleased script
+    ensures outcomes { (script : ScriptState) (faults : Option FaultRates) (limit seed : ℕ) (outcome : SeedOutcome)
+        → IsScript script → ¬ IsOutOfOrder script → ¬ IsUnreleased script
         → LosesNothing (chance faults seed) → RepeatsNothing (chance faults seed) → most_turns script ≤ limit
         → IsOutcome script (chance faults seed) limit outcome → is_finished outcome ≡ true }
+    ensures surveys { (script : ScriptState) (faults : Option FaultRates) (limit first last : ℕ) (survey : Survey)
+        → IsScript script → IsSurvey script faults limit first last survey → SeedsFinish script faults limit first last survey }
 {
     schedules_rest_on_runs();
+    endings_rest_on_nodes_and_runs();
+}
+
+/// In any run, not only of a script: if nothing was lost and nothing is under way, and each client takes names in
+/// ascending order, one at a time, then whoever waits for a name waits in the end for a client that can go on. That one
+/// waits for nothing, and holds the name or one above it. So these clients never deadlock. Numbers must be left for the
+/// queued ones, of which there are 2^64-1.
+pub fn clients_in_order_never_deadlock()
+    ensures { (n start : ℕ) (moves : List Move) (nodes : ℕ → NodeState)
+        → IsNodeNumber n → IsRun n start moves → EndsWith n start moves nodes → IsQuiet moves → TakeNamesInOrder n start moves
+        → start + requests_in (marks_of moves) < greatest_number
+        → (node client : ℕ) (name : List ℕ) → (1 ≤ node) × (node ≤ n) → WaitsForName (nodes node) client name
+        → SomeoneCanGoOn n nodes name }
+{
     endings_rest_on_nodes_and_runs();
 }

@@ -27,8 +27,8 @@ pub use error::{AddClientError, AddOpError, DriveError, NewScriptError};
 pub use faults::Faults;
 pub use finding::{Ending, first_seed};
 pub use finishing::{
-    ordered_scripts_finish, policies_bring_scripts_to_rest, scripts_come_to_rest,
-    seeds_finish_ordered_scripts,
+    clients_in_order_never_deadlock, ordered_scripts_finish, policies_bring_scripts_to_rest,
+    scripts_come_to_rest, seeds_finish_ordered_scripts,
 };
 pub use laws::{policies_lead_to_one_run, policies_repeat_no_message};
 pub use observer::Observer;

@@ -1,9 +1,11 @@
 //! A script under many seeds.
 ghost use Rattle.std.specs.Prelude.{◌≡◌, ◌+◌, ◌-◌, ℕ, List, [], ◌∷◌, IfOk, OnOk, OnErr};
-ghost use Rattle.ra_schedule.specs.Survey.{IsOutcome, IsSurvey};
+ghost use Rattle.ra_schedule.specs.Survey.{IsOutcome, IsSurvey, SeedsFinish};
 ghost use Rattle.ra_schedule.specs.Telling.{Tells, TellsSeeds, TellsSomeSeeds};
 ghost use Rattle.ra_schedule.specs.Survey as spec;
 
+use crate::finishing::endings_rest_on_nodes_and_runs;
+use crate::laws::schedules_rest_on_runs;
 use crate::observer::Observer;
 use crate::outcomes::{Figures, SeedOutcome, Survey, no_survey, with_outcome};
 use crate::{DriveError, Faults, Policy, Script, SeedRange, summarize};
@@ -90,11 +92,15 @@ pub fn survey<O: Observer>(
     observer: &mut O,
 ) -> Result<Survey, Memory>
     ensures ok { IfOk result (IsSurvey script.now faults limit seeds.first seeds.last) }
+    ensures waiting_ends { IfOk result (SeedsFinish script.now faults limit seeds.first seeds.last) }
     ensures told { OnOk result (TellsSeeds script.now faults limit seeds.first (seeds.last + 1 - seeds.first)
         (O.told observer.old) (O.told observer.new)) }
     ensures err { OnErr result (TellsSomeSeeds script.now faults limit seeds.first seeds.last
         (O.told observer.old) (O.told observer.new)) }
 {
+    schedules_rest_on_runs();
+    endings_rest_on_nodes_and_runs();
+    script.is_within_its_limits();
     let SeedRange { first, last } = seeds;
     if last < first {
         return Ok(no_survey());

@@ -11,3 +11,4 @@ mod Meanings
 mod Spelled
 mod Inputs
 mod Words
+mod BroughtToEnd

@@ -1,5 +1,5 @@
 -- What is read as a script is one.
-use Rattle.std.proofs.Common.{◌≡◌, ◌≢◌, ◌⊎◌, ℕ, ◌+◌, ◌<◌, ◌≤◌, Bool, true, false, not, Result, Ok, Err, List, [], ◌∷◌, ◌++◌, All, length, nat_lt, if◌then◌else◌, refl, sym, ap, ◌∙◌, subst, arith, inl, inr}
+use Rattle.std.proofs.Common.{◌≡◌, ◌⊎◌, ℕ, ◌+◌, ◌≤◌, Bool, true, false, not, Result, Ok, Err, List, [], ◌∷◌, ◌++◌, All, length, nat_lt, if◌then◌else◌, refl, sym, ap, subst, arith, inl, inr}
 use Rattle.std.specs.Prelude.{ok_or}
 use Rattle.std.specs.List.{list_all}
 use Rattle.std.proofs.lemmas.Bool.{cases_Bool, and_parts}
@@ -17,7 +17,7 @@ use Rattle.ra_script.specs.ScriptText.{result_and_then, natural, is_up_to, is_he
 use Rattle.ra_script.proofs.Held.{held_after, is_held_after-false}
 use Rattle.ra_script.proofs.Scripts.{placed_few, up_to_parts}
 
-ok_same : {X : Type 0} {x y : X} → ◌≡◌ {A = Result X ScriptError} (Ok x) (Ok y) → x ≡ y
+pub ok_same : {X : Type 0} {x y : X} → ◌≡◌ {A = Result X ScriptError} (Ok x) (Ok y) → x ≡ y
 ok_same e = cc
 
 err_ok : {X : Type 0} {y : X} {why : ScriptError} → ◌≡◌ {A = Result X ScriptError} (Err why) (Ok y) → ⊥

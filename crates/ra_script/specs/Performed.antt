@@ -1,15 +1,19 @@
 -- What `perform` and `perform_trace` make of their input.
-use Rattle.std.specs.Prelude.{◌≡◌, ◌≢◌, ℕ, List, [], ◌++◌, Bool, All, Ok, Err, codes}
+use Rattle.std.specs.Prelude.{◌≡◌, ◌≢◌, ℕ, List, [], ◌++◌, Bool, All, Option, IfSome, Result, Ok, Err, IfOk, IsErrOf, IsTrue, codes}
 use Rattle.ra_stamp.specs.Sequence.{Listed as Listing}
 use Rattle.ra_world.specs.declared.report.Report.{Report}
 use Rattle.ra_world.specs.Traffic.{Move}
 use Rattle.ra_world.specs.Lines.{report_text}
 use Rattle.ra_schedule.specs.declared.choice.Choice.{Choice}
 use Rattle.ra_schedule.specs.declared.choice.Policy.{Policy}
+use Rattle.ra_schedule.specs.declared.error.DriveError.{DriveError}
+use Rattle.ra_schedule.specs.declared.error.DriveError.TheVariants.{TurnLimit}
 use Rattle.ra_schedule.specs.Drive.{IsWholeRun}
 use Rattle.ra_schedule.specs.Listing.{AreChoicesBy, AreChoicesOf}
+use Rattle.ra_schedule.specs.LockOrder.{IsOutOfOrder, IsUnreleased}
+use Rattle.ra_schedule.specs.Performing.{ChoosesItself, LosesNothing}
 use Rattle.ra_schedule.specs.Script.{ScriptState}
-use Rattle.ra_schedule.specs.Schedule.{Follows, Ends, Stops}
+use Rattle.ra_schedule.specs.Schedule.{Follows, Ends, Stops, RepeatsNothing}
 use Rattle.ra_trace.specs.TraceText.{IsTrace}
 use Rattle.ra_script.specs.declared.format.Format.{Format}
 use Rattle.ra_script.specs.declared.format.Format.TheVariants.{Lines, Trace, Choices}
@@ -88,3 +92,20 @@ RefusesAs format policy input fault.Write = (output : List ℕ) × (finished : B
 -- when each refusal of `perform` may come, which writes the lines of the report
 abbrev pub Refuses : Policy → List ℕ → PerformError → Type 0
 Refuses policy input why = RefusesAs Lines policy input why
+
+-- ---- Waiting ends
+
+-- the input is a script whose clients take names in ascending order and give them all back
+pub record IsOrderly (input : List ℕ) : Type 0 where
+  pub script : ScriptState
+  pub script_is : script_of input ≡ Ok script
+  pub in_order : IsOutOfOrder script → ⊥
+  pub released : IsUnreleased script → ⊥
+
+-- Whatever the script, a policy that repeats no message never comes to the limit of turns, and one that also chooses by
+-- itself is refused no turn. If a policy chooses by itself, loses no message, and the input is orderly, then the answer
+-- is that its run is finished.
+pub record BringsToEnd (policy : Policy) (known : Option (List ℕ)) (result : Result Bool PerformError) : Type 0 where
+  pub below_limit : RepeatsNothing policy → IsErrOf result (fault.Drive TurnLimit) → ⊥
+  pub every_turn : RepeatsNothing policy → ChoosesItself policy → (cause : DriveError) → IsErrOf result (fault.Drive cause) → ⊥
+  pub finished : LosesNothing policy → ChoosesItself policy → IfSome known (λ input. IsOrderly input → IfOk result IsTrue)

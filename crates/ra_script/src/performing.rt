@@ -2,9 +2,10 @@ ghost use Rattle.std.specs.Prelude.{◌≡◌, ◌≢◌, ◌≤◌, ◌<◌, Li
 ghost use Rattle.std.specs.Io.KnownBytes.{Consumes, Appends};
 ghost use Rattle.ra_script.specs.declared.format.Format.{Format};
 ghost use Rattle.ra_script.specs.ScriptText.{script_of};
-ghost use Rattle.ra_script.specs.Performed.{IsPerformed, IsPerformedAs, IsTraced, Refuses, RefusesAs};
+ghost use Rattle.ra_script.specs.Performed.{BringsToEnd, IsPerformed, IsPerformedAs, IsTraced, Refuses, RefusesAs};
 
 use crate::format::Format;
+use crate::laws::read_scripts_come_to_rest;
 use crate::{PerformError, choices_text, read_script};
 use ra_schedule::{Policy, Script, drive, summarize};
 use ra_stamp::Memory;
@@ -210,6 +211,7 @@ pub fn perform_as<R: Read, W: Write>(
         × IsPerformedAs format policy.now input output finished
         × Appends (W.contents writer.old) (W.contents writer.new) output) }
     ensures cause { IfErr result (λ fault. (input : List ℕ) × RefusesAs format policy.now input fault) }
+    ensures waiting_ends { BringsToEnd policy.now (R.remaining reader.old) result }
 
     ensures unwritten { IfErr result (λ fault. fault ≢ PerformError.Write → writer.new ≡ writer.old) }
     // A fault of the writer comes only with something left to write.
@@ -222,6 +224,7 @@ pub fn perform_as<R: Read, W: Write>(
     ensures at_most { (taken : List ℕ) × (length taken ≤ 65537)
         × Consumes (R.remaining reader.old) (R.remaining reader.new) taken }
 {
+    read_scripts_come_to_rest();
     let done = read_printed(alloc, reader, format, policy)?;
     write_out(writer, done.text.as_bytes())?;
     Ok(done.finished)
@@ -261,6 +264,7 @@ pub fn perform<R: Read, W: Write>(
         × IsPerformed policy.now input output finished
         × Appends (W.contents writer.old) (W.contents writer.new) output) }
     ensures cause { IfErr result (λ fault. (input : List ℕ) × Refuses policy.now input fault) }
+    ensures waiting_ends { BringsToEnd policy.now (R.remaining reader.old) result }
 
     ensures unwritten { IfErr result (λ fault. fault ≢ PerformError.Write → writer.new ≡ writer.old) }
     // A fault of the writer comes only with something left to write.
@@ -309,6 +313,7 @@ pub fn perform_trace<R: Read, W: Write>(
         × IsTraced policy.now input output finished
         × Appends (W.contents writer.old) (W.contents writer.new) output) }
     ensures cause { IfErr result (λ fault. (input : List ℕ) × RefusesAs Format.Trace policy.now input fault) }
+    ensures waiting_ends { BringsToEnd policy.now (R.remaining reader.old) result }
 
     ensures unwritten { IfErr result (λ fault. fault ≢ PerformError.Write → writer.new ≡ writer.old) }
     // A fault of the writer comes only with something left to write.

@@ -4,6 +4,7 @@ use Rattle.std.proofs.lemmas.Result.{err_from_is_err_and}
 use Rattle.ra_script.specs.Performed.{IsPerformedAs, RefusesAs}
 use Rattle.ra_script.specs.declared.error.PerformError.TheVariants.{Read, Write}
 use Rattle.ra_script.proofs.Inputs.{of_known, not_nil}
+use Rattle.ra_script.proofs.BroughtToEnd.{by_ok, by_err}
 use Rattle.ra_script.proofs.performing.perform_as.Goals as goal
 
 pub returns-in_err-done-clause-refused : goal.returns-in_err-done-clause-refused
@@ -92,3 +93,24 @@ returns-clause-performed g c =
     let performed = c.in_ok-done.ensures.performed in
     let appends = rw c.as_bytes.ensures.value at c.in_ok-write_out.ensures.ok in
     (performed.0, string_bytes c.in_ok-done.done.text, performed.1, appends)
+
+pub returns-in_err-done-clause-waiting_ends : goal.returns-in_err-done-clause-waiting_ends
+returns-in_err-done-clause-waiting_ends g c =
+    let p = err_from_is_err_and c.from_residual.result c.from_residual.ensures.1 in
+    let laws = c.read_scripts_come_to_rest.ensures in
+    rw (p.1, p.2) (by_err laws.below_limit laws.never_refused c.args.format c.args.policy.now (g.R.Read.remaining c.args.reader.now) c.in_err-done.field-0.0 c.in_err-done.ensures.cause)
+
+pub returns-in_err-write_out-clause-waiting_ends : goal.returns-in_err-write_out-clause-waiting_ends
+returns-in_err-write_out-clause-waiting_ends g c =
+    let p = err_from_is_err_and c.from_residual-in_err-write_out.result c.from_residual-in_err-write_out.ensures.1 in
+    let laws = c.read_scripts_come_to_rest.ensures in
+    let output = string_bytes c.in_ok-done.done.text in
+    let left = c.in_err-write_out.ensures.err in
+    let some : output ≢ [] = not_nil output left.0 left.1 (sym c.as_bytes.ensures.value ∙ left.2) left.3 in
+    let performed = c.in_ok-done.ensures.performed in
+    rw (p.1, p.2) (by_err laws.below_limit laws.never_refused c.args.format c.args.policy.now (g.R.Read.remaining c.args.reader.now) Write
+    (performed.0, (output, c.in_ok-done.done.finished, performed.1, some)))
+
+pub returns-clause-waiting_ends : goal.returns-clause-waiting_ends
+returns-clause-waiting_ends g c =
+    by_ok c.args.format c.args.policy.now (g.R.Read.remaining c.args.reader.now) (string_bytes c.in_ok-done.done.text) c.in_ok-done.done.finished _ c.in_ok-done.ensures.ok
