@@ -18,7 +18,9 @@ pub mod Merging
 mod Projections
 mod NodeMarks
 mod NodeSends
+mod SettledNodes
 mod SettledGrants
+mod GoingOn
 mod Clusters
 mod SettledReport
 mod Causes

@@ -1,5 +1,5 @@
 -- What a settled run grants was granted at its node.
-use Rattle.std.proofs.Common.{◌≡◌, ℕ, ◌-◌, ◌<◌, ◌≤◌, List, [], ◌++◌, length, get_or, None, sym, ◌∙◌, subst, arith}
+use Rattle.std.proofs.Common.{◌≡◌, ℕ, ◌-◌, ◌<◌, ◌≤◌, List, [], ◌++◌, length, sym, ◌∙◌, subst, arith}
 use Rattle.std.specs.Prelude.{All, Contains}
 use Rattle.std.proofs.lemmas.List.{get_or_default}
 use Rattle.std.proofs.lemmas.List.Elements.{All-contains}
@@ -21,6 +21,7 @@ use Rattle.ra_cluster.specs.History.{IsHistory, Posting}
 use Rattle.ra_cluster.specs.Book.{BookState, HasHistory}
 use Rattle.ra_cluster.specs.Settled.{IsCluster, IsSettledRun, IsGranted, HasMark, marks_in, start_of}
 use Rattle.ra_cluster.proofs.Merging.{number_at}
+use Rattle.ra_cluster.proofs.SettledNodes.{nobody, book_at, few as numbered, book_ends}
 use Rattle.ra_cluster.proofs.NodeMarks.{marks_by, Fit, made_at, made_there, own_marks, marks_posted, happened_here, history_by}
 
 -- the laws of the crates below, as far as this rests on them
@@ -43,29 +44,19 @@ module _ (laws : GrantLaws) (books : List BookState) (moves : List Move) (entry 
   abbrev start : ℕ
   start = start_of books
 
-  abbrev nobody : BookState
-  nobody = record { me = 0; nodes = 0; start = 0; events = []; sent = []; fault = None }
-
-  abbrev book_at : ℕ → BookState
-  book_at k = get_or books k nobody
-
   few : IsNodeNumber n
-  few = subst IsNodeNumber (cluster.one_count 0 nobody (omega (arith, cluster.some))) (histories 0 nobody (omega (arith, cluster.some))).count
+  few = numbered books cluster histories
 
   -- the book of a node has the marks that a settled run makes there
   module _ (k : ℕ) (within : k < n) where
     abbrev b : BookState
-    b = book_at k
+    b = book_at books k
 
     history : HasHistory b
     history = histories k nobody within
 
     ends : NodeEvents (opening_node b.me b.nodes b.start) (happened_at b.me moves) (settled.run.ends.0 b.me)
-    ends =
-        let me = number_at books cluster k nobody within in
-        subst (λ (s : ℕ). NodeEvents (opening_node b.me b.nodes s) (happened_at b.me moves) (settled.run.ends.0 b.me)) (sym (cluster.one_start k nobody within))
-        (subst (λ (m : ℕ). NodeEvents (opening_node b.me m start) (happened_at b.me moves) (settled.run.ends.0 b.me)) (sym (cluster.one_count k nobody within))
-        (settled.run.ends.1 b.me (omega (arith, me)) (omega (arith, me, within))))
+    ends = book_ends books cluster moves settled.run.ends.0 settled.run.ends.1 k within
 
     marks_stand : (mark : Mark) → Contains (marks_by (happened_at b.me moves)) mark → Contains (marks_in history.leads.postings) mark
     marks_stand mark is =
@@ -93,19 +84,19 @@ module _ (laws : GrantLaws) (books : List BookState) (moves : List Move) (entry 
       in
       let k = found.0 - 1 in
       let within : k < n = omega (arith, found.1.0, found.1.1) in
-      let me : (book_at k).me ≡ found.0 = number_at books cluster k nobody within ∙ omega (arith, found.1.0) in
+      let me : (book_at books k).me ≡ found.0 = number_at books cluster k nobody within ∙ omega (arith, found.1.0) in
       let here = subst (λ (i : ℕ). Contains (marks_by (happened_at i moves)) (Entered entry)) (sym me) found.2 in
-      let own : entry.stamp.node ≡ (book_at k).me =
-      All-contains (λ m. (entry_in m).stamp.node ≡ (book_at k).me) (marks_by (happened_at (book_at k).me moves)) (Entered entry) (marks_own k within) here
+      let own : entry.stamp.node ≡ (book_at books k).me =
+      All-contains (λ m. (entry_in m).stamp.node ≡ (book_at books k).me) (marks_by (happened_at (book_at books k).me moves)) (Entered entry) (marks_own k within) here
       in (
         k,
-        book_at k,
+        book_at books k,
         within,
-        get_or_default books k (book_at k) nobody within,
+        get_or_default books k (book_at books k) nobody within,
         (sym own, ((history k within).node, (history k within).leads, marks_stand k within (Entered entry) here)),
       )
 
   pub entered_then : IsGranted books entry → Contains (marks_of moves) (Entered entry)
   entered_then (k, book, low, at, has) =
-      let same : book ≡ book_at k = sym (get_or_default books k nobody book low ∙ at) in
-      made_there (book_at k).me moves (Entered entry) (marks_made k low (Entered entry) (subst (λ (x : BookState). HasMark x (Entered entry)) same has.1))
+      let same : book ≡ book_at books k = sym (get_or_default books k nobody book low ∙ at) in
+      made_there (book_at books k).me moves (Entered entry) (marks_made k low (Entered entry) (subst (λ (x : BookState). HasMark x (Entered entry)) same has.1))

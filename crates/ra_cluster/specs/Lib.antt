@@ -5,6 +5,7 @@ pub mod Refused
 pub mod Settled
 pub mod SettlingParts
 pub mod EventMerge
+pub mod Progress
 pub mod Keys
 pub mod StopCauses
 pub mod Sites

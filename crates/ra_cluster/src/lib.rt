@@ -66,6 +66,7 @@ pub use ra_node::NewError;
 pub use sent::{Frames, Sent};
 pub use settle_books::{is_cluster, settle};
 pub use settled::Settled;
+pub use settled_laws::clients_of_settled_books_never_deadlock;
 pub use site::{Site, SiteError};
 pub use sites::is_site_of;
 pub use stop::Stop;
