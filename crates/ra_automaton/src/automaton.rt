@@ -1,4 +1,4 @@
-ghost use Rattle.std.specs.Prelude.{◌≡◌, ◌≢◌, ◌+◌, ◌<◌, ◌≤◌, ◌⊎◌, ◌↔◌, max, true, false};
+ghost use Rattle.std.specs.Prelude.{◌≡◌, ◌≢◌, ◌+◌, ◌*◌, ◌<◌, ◌≤◌, ◌⊎◌, ◌↔◌, [], length, max, true, false};
 ghost use Rattle.std.specs.Prelude.{IsTrue, IsErrOf, IfOk, OnOk, OnErr};
 
 use crate::cases::{
@@ -12,6 +12,7 @@ use crate::{LeaveError, NewError, Phase, Reaction, ReceiveError, RequestError};
 use ra_stamp::{Memory, Message, Messages, Mode, Name, NodeId, Stamp};
 use std::alloc::Global;
 use std::marker::Model;
+use std::mem;
 
 /// One resource at one node: a call for each event, and a reader for each part. Contracts see its state.
 #[derive(Drop)]
@@ -25,7 +26,8 @@ pub struct Automaton {
     awaited: u64,
     /// The nodes that are deferred, likewise.
     deferred: u64,
-    /// The number with which node i is deferred, at place i - 1. It means nothing where the node is not.
+    /// The number with which node i is deferred, at place i - 1. It means nothing if the node is not deferred. An idle
+    /// node defers nothing, so it has no such list: nearly all resources that a node has met are idle.
     numbers: Vec<u64>,
 }
 
@@ -58,7 +60,7 @@ impl Automaton {
     ghost use Rattle.ra_automaton.specs.Memory.{IsRepliedAtOnce};
 
     /// Makes the automaton of node `me` of `nodes` for a resource. The highest number that it has met is `start`, 0
-    /// to 2^64-1. The cost is linear in the number of nodes.
+    /// to 2^64-1. It does not allocate.
     ///
     /// # Errors
     ///
@@ -66,7 +68,6 @@ impl Automaton {
     ///
     /// 1. `BadCount`: `nodes` is not 1 to 64.
     /// 2. `BadNode`: `me` is above `nodes`.
-    /// 3. `Memory`: memory ran out.
     pub fn new(
         alloc: Global,
         me: NodeId,
@@ -78,6 +79,7 @@ impl Automaton {
         ensures consistent { IfOk result IsConsistent }
         ensures bad_count { IsErrOf result NewError.BadCount ↔ ((nodes < 1) ⊎ (64 < nodes)) }
         ensures bad_node { IsErrOf result NewError.BadNode ↔ (IsNodeNumber nodes × (nodes < me)) }
+        ensures no_memory { IsErrOf result NewError.Memory → ⊥ }
     {
         if NodeId::new(nodes).is_none() {
             return Err(NewError::BadCount);
@@ -85,7 +87,6 @@ impl Automaton {
         if me.get() > nodes {
             return Err(NewError::BadNode);
         }
-        let numbers = zeros(alloc, usize::from(nodes))?;
         Ok(Automaton {
             me,
             nodes,
@@ -94,7 +95,7 @@ impl Automaton {
             phase: Phase::Idle,
             awaited: 0,
             deferred: 0,
-            numbers,
+            numbers: Vec::new(alloc),
         })
     }
 
@@ -123,9 +124,10 @@ impl Automaton {
             return Err(RequestError::Exhausted);
         }
         let seq = self.highest + 1;
+        let numbers = zeros(alloc, usize::from(self.nodes))?;
         let mut sends = Messages::new(alloc);
         push_requests(&mut sends, self.me, self.nodes, self.name, mode, seq)?;
-        let entered = self.begin(mode);
+        let entered = self.begin(mode, numbers);
         Ok(Reaction { sends, entered })
     }
 
@@ -221,20 +223,31 @@ impl Automaton {
         ensures not_held { IsErrOf result LeaveError.NotHeld ↔ (IsInside self.old.phase → ⊥) }
         ensures err { OnErr result (self.new ≡ self.old) }
     {
+        self.leave_into(alloc, Messages::new(alloc))
+    }
+
+    /// Leaves as `leave` does, and puts the messages into an empty list. It does not allocate if the list has room for a
+    /// message to each node.
+    ///
+    /// # Errors
+    ///
+    /// Those of `leave`. `Memory` comes only if the list has less room.
+    pub fn leave_into(&mut self, alloc: Global, mut sends: Messages) -> Result<Reaction, LeaveError>
+        requires { sends.items ≡ [] }
+        ensures ok { IfOk result (λ reaction.
+            LeaveStep self.old reaction.sends.items self.new × (reaction.entered ≡ false)) }
+        ensures consistent { IsConsistent self.new }
+        ensures not_held { IsErrOf result LeaveError.NotHeld ↔ (IsInside self.old.phase → ⊥) }
+        ensures room { self.old.nodes ≤ sends.spare → IsErrOf result LeaveError.Memory → ⊥ }
+        ensures err { OnErr result (self.new ≡ self.old) }
+    {
         if !self.is_inside() {
             return Err(LeaveError::NotHeld);
         }
-        let mut replies = Messages::new(alloc);
-        push_replies(
-            &mut replies,
-            self.me,
-            self.name,
-            self.deferred,
-            &self.numbers,
-        )?;
-        self.end();
+        push_replies(&mut sends, self.me, self.name, self.deferred, &self.numbers)?;
+        self.end(alloc);
         Ok(Reaction {
-            sends: replies,
+            sends,
             entered: false,
         })
     }
@@ -256,15 +269,38 @@ impl Automaton {
         ensures not_held { IsErrOf result LeaveError.NotHeld ↔ (IsInside self.old.phase → ⊥) }
         ensures err { OnErr result (self.new ≡ self.old) }
     {
+        self.leave_and_request_into(alloc, mode, Messages::new(alloc))
+    }
+
+    /// Does what `leave_and_request` does, and puts the messages into an empty list. It does not allocate if the list has
+    /// room for two messages to each node.
+    ///
+    /// # Errors
+    ///
+    /// Those of `leave_and_request`. `Memory` comes only if the list has less room.
+    pub fn leave_and_request_into(
+        &mut self,
+        alloc: Global,
+        mode: Mode,
+        mut sends: Messages,
+    ) -> Result<Reaction, LeaveError>
+        requires number_left { self.old.highest < greatest_number }
+        requires none { sends.items ≡ [] }
+        ensures ok { IfOk result (λ reaction.
+            LeaveAndRequestStep self.old mode reaction.sends.items reaction.entered self.new) }
+        ensures consistent { IsConsistent self.new }
+        ensures not_held { IsErrOf result LeaveError.NotHeld ↔ (IsInside self.old.phase → ⊥) }
+        ensures room { 2 * self.old.nodes ≤ sends.spare → IsErrOf result LeaveError.Memory → ⊥ }
+        ensures err { OnErr result (self.new ≡ self.old) }
+    {
         if !self.is_inside() {
             return Err(LeaveError::NotHeld);
         }
         let next = self.highest + 1;
-        let mut sends = Messages::new(alloc);
         push_replies(&mut sends, self.me, self.name, self.deferred, &self.numbers)?;
         push_requests(&mut sends, self.me, self.nodes, self.name, mode, next)?;
-        self.end();
-        let entered = self.begin(mode);
+        let numbers = self.end(alloc);
+        let entered = self.begin(mode, numbers);
         Ok(Reaction { sends, entered })
     }
 
@@ -355,14 +391,17 @@ impl Automaton {
         matches!(self.phase, Phase::Inside { .. })
     }
 
-    /// Begins a request, once its messages are made. Returns whether it is granted at once.
-    fn begin(&mut self, mode: Mode) -> bool
+    /// Begins a request, once its messages are made, with a list for the numbers of the nodes that will be deferred.
+    /// Returns whether it is granted at once.
+    fn begin(&mut self, mode: Mode, numbers: Vec<u64>) -> bool
         requires idle { self.old.phase ≡ Phase.Idle }
         requires number_left { self.old.highest < greatest_number }
+        requires numbers { length numbers.items ≡ self.old.nodes }
         ensures { Begins self.old mode result self.new }
     {
         let seq = self.highest + 1;
         self.highest = seq;
+        self.numbers = numbers;
         if self.nodes == 1 {
             self.phase = Phase::Inside { seq, mode };
             return true;
@@ -372,13 +411,16 @@ impl Automaton {
         false
     }
 
-    /// Ends a request that was granted, once the REPLYs are made.
-    fn end(&mut self)
+    /// Ends a request that was granted, once the REPLYs are made. Returns the list for the numbers of deferred nodes, for
+    /// the next request. It does not allocate.
+    fn end(&mut self, alloc: Global) -> Vec<u64>
         requires { IsInside self.old.phase }
-        ensures { self.new ≡ record self.old { phase = Phase.Idle; deferred = finmap.empty } }
+        ensures ended { self.new ≡ record self.old { phase = Phase.Idle; deferred = finmap.empty } }
+        ensures numbers { length result.items ≡ self.old.nodes }
     {
         self.phase = Phase::Idle;
         self.deferred = 0;
+        mem::replace(&mut self.numbers, Vec::new(alloc))
     }
 
     /// Returns what a REQUEST of another node leads to.

@@ -1,5 +1,5 @@
 //! The messages that events send.
-ghost use Rattle.std.specs.Prelude.{◌≡◌, ℕ, ◌≤◌, ◌++◌, length, map, IsTrue, OnOk};
+ghost use Rattle.std.specs.Prelude.{◌≡◌, ℕ, ◌+◌, ◌≤◌, ◌++◌, length, map, IsOk, IsTrue, OnOk};
 ghost use Rattle.std.specs.FinSet as set;
 ghost use Rattle.std.specs.FinMap as finmap;
 ghost use Rattle.ra_stamp.specs.NodeId.{IsNodeNumber};
@@ -17,7 +17,8 @@ fn node(number: u16) -> NodeId
     NodeId::new(number).unwrap()
 }
 
-/// Adds a REQUEST to each other node, in ascending order. After an error some may have been added.
+/// Adds a REQUEST to each other node, in ascending order. After an error some may have been added. It does not allocate
+/// if there is room for one to each node.
 pub fn push_requests(
     sends: &mut Messages,
     me: NodeId,
@@ -27,8 +28,9 @@ pub fn push_requests(
     seq: u64,
 ) -> Result<(), Memory>
     requires { nodes ≤ 64 }
-    ensures { OnOk result (sends.new.items ≡ sends.old.items
+    ensures ok { OnOk result (sends.new.items ≡ sends.old.items
         ++ map (λ other. Message.Request me other name mode seq) (others_of me nodes)) }
+    ensures succeeds { nodes ≤ sends.old.spare → IsOk result }
 {
     sends.reserve(u64::from(nodes.saturating_sub(1)))?;
     for place in 0..nodes {
@@ -46,7 +48,8 @@ pub fn push_requests(
     Ok(())
 }
 
-/// Adds a REPLY to each deferred node, in ascending order. After an error some may have been added.
+/// Adds a REPLY to each deferred node, in ascending order. After an error some may have been added. It does not allocate
+/// if there is room for one to each node, of which there are as many as numbers.
 pub fn push_replies(
     sends: &mut Messages,
     me: NodeId,
@@ -57,9 +60,11 @@ pub fn push_replies(
     requires nodes { length numbers.now ≤ 64 }
     requires numbered { (node : ℕ) → IsTrue (set.contains (set_of deferred) node)
         → node ≤ length numbers.now }
-    ensures { OnOk result (sends.new.items ≡ sends.old.items
+    ensures ok { OnOk result (sends.new.items ≡ sends.old.items
         ++ map (λ entry. Message.Reply me entry.0 name entry.1)
         (finmap.entries (map_of deferred numbers.now))) }
+    ensures succeeds { length numbers.now ≤ sends.old.spare → IsOk result }
+    ensures spare { length numbers.now ≤ sends.old.spare → sends.old.spare ≤ sends.new.spare + length numbers.now }
 {
     for place in 0..numbers.len() {
         let to = node(place as u16 + 1);

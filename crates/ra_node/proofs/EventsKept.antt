@@ -1,5 +1,5 @@
 -- An event leads from a consistent node to a consistent one, since each step of an automaton keeps its state so.
-use Rattle.std.proofs.Common.{◌≡◌, ℕ, ◌≤◌, Bool, List, All, sym, subst, inl, inr, ◌*◌, length, refl, arith}
+use Rattle.std.proofs.Common.{◌≡◌, ℕ, ◌≤◌, Bool, List, All, sym, subst, inl, inr, length, refl}
 use Rattle.std.proofs.lemmas.List.Elements.{All-weaker}
 use Rattle.ra_stamp.specs.declared.mode.Mode.{Mode}
 use Rattle.ra_stamp.specs.declared.message.Message.{Message}

@@ -1,6 +1,6 @@
 -- Sums over all names, and what becomes of them where the resource of one name changes.
 use Rattle.std.proofs.Common.{◌≡◌, ℕ, ◌+◌, ◌*◌, ◌/◌, ◌^◌, ◌≤◌, Bool, true, false, cond, List, [], ◌∷◌, length, Option, Some, None, Result, Ok, Err, MatchResult, refl, sym, ap, ◌∙◌, subst, arith, inl, inr}
-use Rattle.std.specs.Prelude.{sum_by}
+use Rattle.std.specs.Prelude.{sum_by, unwrap_or}
 use Rattle.std.specs.Str.{bytes_eq}
 use Rattle.std.specs.List.{IsDistinct}
 use Rattle.std.specs.Map.{lookup, keys_of}
@@ -72,6 +72,22 @@ sum_moves f m name old new is =
     let rest = finmap.remove m name in
     let now : sum_over f (finmap.insert m name new) ≡ f new + sum_over f rest = sym (ap (sum_over f) (put_over m name new)) ∙ sum_of_insert f rest name new (taken m name) in
     omega (arith, sum_is f m name old is, now)
+
+-- where a resource comes under a name, in place of what is found there; a name that is not there adds nothing
+pub sum_put : (f : Resource → ℕ) (m : Names) (name : List ℕ) (absent new : Resource) → f absent ≡ 0 → sum_over f (finmap.insert m name new) + f (unwrap_or (finmap.get m name) absent) ≡ sum_over f m + f new
+sum_put f m name absent new zero = of_entry (finmap.get m name) refl
+  where
+    of_entry : (o : Option Resource) → finmap.get m name ≡ o → sum_over f (finmap.insert m name new) + f (unwrap_or o absent) ≡ sum_over f m + f new
+    of_entry None none = omega (arith, sum_of_insert f m name new none, zero)
+    of_entry (Some old) is = sum_moves f m name old new is
+
+-- what is found under a name is a part of the sum
+pub sum_part : (f : Resource → ℕ) (m : Names) (name : List ℕ) (absent : Resource) → f absent ≡ 0 → f (unwrap_or (finmap.get m name) absent) ≤ sum_over f m
+sum_part f m name absent zero = of_entry (finmap.get m name) refl
+  where
+    of_entry : (o : Option Resource) → finmap.get m name ≡ o → f (unwrap_or o absent) ≤ sum_over f m
+    of_entry None none = omega (arith, zero)
+    of_entry (Some old) is = omega (arith, sum_is f m name old is)
 
 abbrev pub sum_at : (Resource → ℕ) → List (List ℕ × Resource) → ℕ
 sum_at f slots = sum_over f (finmap.from_entries slots)

@@ -8,3 +8,4 @@ pub mod Events
 pub mod Carried
 pub mod Memory
 pub mod View
+pub mod Room

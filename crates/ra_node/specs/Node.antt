@@ -5,7 +5,7 @@ use Rattle.std.specs.Ordering.{nat_cmp}
 use Rattle.std.specs.Cmp.Lexicographic.{slice_cmp}
 use Rattle.std.specs.FinMap as map
 use Rattle.ra_stamp.specs.NodeId.{IsNodeNumber}
-use Rattle.ra_node.specs.Resource.{Resource, unmet, waiting_at, IsConsistentResource}
+use Rattle.ra_node.specs.Resource.{Resource, unmet, waiting_at, clients_of, IsConsistentResource}
 
 -- the node's number, how many nodes there are, the highest number with which each resource starts, and the resources
 -- that a client or a REQUEST has been about
@@ -35,6 +35,10 @@ waiting_count n = sum_by (λ e. waiting_at e.1) (map.entries n.resources)
 -- how many clients are queued, over all names
 abbrev pub queued_count : NodeState → ℕ
 queued_count n = sum_by (λ e. length e.1.queue) (map.entries n.resources)
+
+-- how many clients wait, are queued or hold, over all names
+abbrev pub clients_count : NodeState → ℕ
+clients_count n = sum_by (λ e. length (clients_of e.1)) (map.entries n.resources)
 
 -- what holds of every node: there are 1 to 64 nodes, it is one of them, and each of its resources is consistent
 pub record IsConsistentNode (n : NodeState) : Type 0 where

@@ -1,5 +1,5 @@
 //! What is true of the events of a node, for the crates above. Each function does nothing, and its contract is the law.
-ghost use Rattle.std.specs.Prelude.{◌≡◌, ◌≢◌, ◌≤◌, ◌++◌, ◌∷◌, ◌↔◌, [], ℕ, List, All, length};
+ghost use Rattle.std.specs.Prelude.{◌≡◌, ◌≢◌, ◌+◌, ◌≤◌, ◌++◌, ◌∷◌, ◌↔◌, [], ℕ, List, All, length};
 ghost use Rattle.std.specs.FinMap as map;
 ghost use Rattle.ra_stamp.specs.declared.entry.Entry.{Entry};
 ghost use Rattle.ra_stamp.specs.declared.entry.Mark.{Mark};
@@ -9,7 +9,7 @@ ghost use Rattle.ra_stamp.specs.Message.{seq_of};
 ghost use Rattle.ra_stamp.specs.NodeId.{IsNodeNumber};
 ghost use Rattle.ra_node.specs.Resource.{Holds, use_of};
 ghost use Rattle.ra_node.specs.Turns.{MayAsk};
-ghost use Rattle.ra_node.specs.Node.{NodeState, opening_node, resource_at, IsConsistentNode};
+ghost use Rattle.ra_node.specs.Node.{NodeState, opening_node, resource_at, clients_count, IsConsistentNode};
 ghost use Rattle.ra_node.specs.Events.{Event, Happening, name_of_event, NodeEvent, NodeEvents, AllowsEvent, IsForThisNode, AreForThisNode};
 ghost use Rattle.ra_node.specs.Carried.{IsSend, IsMark, MarksLead, sends_at_most, marks_at_most, replies_at_most, entries_at_most};
 
@@ -94,6 +94,24 @@ pub fn events_are_determined()
         → (sends ≡ sends') × (marks ≡ marks') × (a ≡ b) }
     ensures events { (old a b : NodeState) (happened : List Happening)
         → NodeEvents old happened a → NodeEvents old happened b → a ≡ b }
+{}
+
+/// An ask adds one to the clients that wait, are queued or hold at a node, a leave takes one away, and a message neither.
+/// So a caller can keep for each client what its leave will need.
+pub fn events_count_clients()
+    ensures opening { (me nodes start : ℕ) → clients_count (opening_node me nodes start) ≡ 0 }
+    ensures ask { (old new : NodeState) (client : ℕ) (name : List ℕ) (mode : Mode) (sends : List Message)
+        (marks : List Mark)
+        → IsConsistentNode old → NodeEvent old (Event.Ask client name mode) sends marks new
+        → clients_count new ≡ clients_count old + 1 }
+    ensures leave { (old new : NodeState) (client : ℕ) (name : List ℕ) (sends : List Message) (marks : List Mark)
+        → NodeEvent old (Event.Leave client name) sends marks new
+        → clients_count new + 1 ≡ clients_count old }
+    ensures receive { (old new : NodeState) (message : Message) (sends : List Message) (marks : List Mark)
+        → NodeEvent old (Event.Receive message) sends marks new
+        → clients_count new ≡ clients_count old }
+    ensures holds { (node : NodeState) (client : ℕ) (name : List ℕ) (entry : Entry)
+        → Holds (resource_at node name) client entry → 1 ≤ clients_count node }
 {}
 
 /// Which events are possible at a consistent node. A client may ask if it neither waits, nor is queued, nor holds, and

@@ -55,7 +55,7 @@ mod slot;
 
 pub use error::{AskError, LeaveError};
 pub use laws::{
-    events_are_determined, events_exist_where_they_are_allowed, events_go_on,
+    events_are_determined, events_count_clients, events_exist_where_they_are_allowed, events_go_on,
     events_keep_a_node_consistent, events_leave_other_names, histories_keep_a_node_consistent,
 };
 pub use node::Node;

@@ -2,6 +2,7 @@ ghost use Rattle.std.specs.Prelude.{◌≡◌, ◌≢◌, ◌<◌, ◌≤◌, �
 ghost use Rattle.indexmap.specs.IndexMap.{spare};
 ghost use Rattle.ra_stamp.specs.NodeId.{IsNodeNumber};
 ghost use Rattle.ra_node.specs.Resource.{unmet};
+ghost use Rattle.ra_node.specs.Room.{IsNothing, HasRoomToLeave};
 ghost use Rattle.ra_node.specs.View.{Finds};
 
 use crate::outcome::nothing;
@@ -74,7 +75,7 @@ fn first_slot(
     ensures made { IfOk result (λ slot. (slot ≡ unmet me nodes name start) × (1 ≤ spare slots.new)) }
 {
     slots.reserve(1)?;
-    Slot::new(alloc, me, nodes, name, start)
+    Ok(Slot::new(alloc, me, nodes, name, start))
 }
 
 /// Inserts the slot of a name, for which there is room.
@@ -200,6 +201,34 @@ impl Node {
             ↔ ((entry : Entry) × Holds (resource_at self.old name) client entry) }
         ensures err { OnErr result (self.new ≡ self.old) }
     {
+        self.leave_into(alloc, client, name, nothing(alloc))
+    }
+
+    /// Leaves a name as `leave` does, and puts what is sent and marked into an empty outcome. It does not allocate if that
+    /// is of [`Outcome::for_leave`], made for this many nodes.
+    ///
+    /// # Errors
+    ///
+    /// Those of `leave`. `Memory` comes only if the outcome has less room.
+    pub fn leave_into(
+        &mut self,
+        alloc: Global,
+        client: u32,
+        name: Name,
+        empty: Outcome,
+    ) -> Result<Outcome, LeaveError>
+        requires { IsNothing empty }
+        ensures ok { IfOk result (λ outcome.
+            LeaveEvent self.old client name outcome.sends.items outcome.marks.items self.new) }
+        ensures consistent { IsConsistentNode self.new }
+        ensures not_held { IsErrOf result LeaveError.NotHeld
+            ↔ ((entry : Entry) → Holds (resource_at self.old name) client entry → ⊥) }
+        // Memory is the only other error.
+        ensures allowed { IsOkUnless result LeaveError.Memory
+            ↔ ((entry : Entry) × Holds (resource_at self.old name) client entry) }
+        ensures room { HasRoomToLeave self.old.nodes empty → IsErrOf result LeaveError.Memory → ⊥ }
+        ensures err { OnErr result (self.new ≡ self.old) }
+    {
         // The totals have room, since there are fewer than 2^64 names.
         prove!(self.slots.len() < usize::MAX);
         let Some(slot) = self.slots.get_mut(&name) else {
@@ -207,15 +236,14 @@ impl Node {
         };
         let waiting = self.waiting - slot.waiting();
         let queued = self.queued - slot.queued() as u128;
-        let outcome = slot.leave(alloc, client);
+        let outcome = slot.leave(alloc, client, empty);
         self.waiting = waiting + slot.waiting();
         self.queued = queued + slot.queued() as u128;
         outcome
     }
 
     /// Takes a message from another node. With the last REPLY that it awaits, the node's request enters, with the mark
-    /// Entered. A REPLY that is not awaited is a stray, and leaves the node exactly as it was. The cost is constant, and
-    /// linear in the number of nodes for a REQUEST about a name that the node has not met.
+    /// Entered. A REPLY that is not awaited is a stray, and leaves the node exactly as it was. The cost is constant.
     ///
     /// # Errors
     ///

@@ -1,6 +1,8 @@
-ghost use Rattle.std.specs.Prelude.{◌≡◌, []};
+ghost use Rattle.std.specs.Prelude.{◌≡◌, [], IfOk};
+ghost use Rattle.ra_node.specs.Room.{IsNothing, HasRoomToLeave};
 
-use ra_stamp::{Marks, Messages};
+use crate::marks::marks_for;
+use ra_stamp::{Marks, Memory, Messages};
 use std::alloc::Global;
 
 /// What an event of a node does to the outside.
@@ -10,6 +12,24 @@ pub struct Outcome {
     pub sends: Messages,
     /// What became of the clients' requests, in this order: Left, Requested, Entered.
     pub marks: Marks,
+}
+
+impl Outcome {
+    /// Makes an outcome that is empty, with room for all that a leave sends and marks at one of this many nodes. A caller
+    /// that makes it before it asks has what [`Node::leave_into`](crate::Node::leave_into) needs.
+    ///
+    /// # Errors
+    ///
+    /// `Memory`: memory ran out.
+    pub fn for_leave(alloc: Global, nodes: u16) -> Result<Outcome, Memory>
+        ensures nothing { IfOk result IsNothing }
+        ensures room { IfOk result (HasRoomToLeave nodes) }
+    {
+        let mut sends = Messages::new(alloc);
+        sends.reserve(2 * u64::from(nodes))?;
+        let marks = marks_for(alloc, 3)?;
+        Ok(Outcome { sends, marks })
+    }
 }
 
 /// Makes the outcome of an event that sends and marks nothing. It does not allocate.

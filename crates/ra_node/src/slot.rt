@@ -1,6 +1,7 @@
-ghost use Rattle.std.specs.Prelude.{◌≡◌, ◌≢◌, ◌<◌, ◌≤◌, ◌⊎◌, ◌↔◌, ◌∷◌, [], length, take, IsTrue, IsErrOf, IsOk, IfOk, MatchResult, AllPairs, IsNone, IfSome, OnErr};
+ghost use Rattle.std.specs.Prelude.{◌≡◌, ◌≢◌, ◌*◌, ◌<◌, ◌≤◌, ◌⊎◌, ◌↔◌, ◌∷◌, [], length, take, IsTrue, IsErrOf, IsOk, IfOk, MatchResult, AllPairs, IsNone, IfSome, OnErr};
 ghost use Rattle.ra_stamp.specs.declared.entry.Entry.{Entry};
 ghost use Rattle.ra_node.specs.Resource.{entry_of};
+ghost use Rattle.ra_node.specs.Room.{IsNothing, HasRoomToLeave};
 
 use crate::marks::{marks_for, marks_of_leave, push_request, push_reserved};
 use crate::outcome::nothing;
@@ -8,7 +9,7 @@ use crate::queue::Queue;
 use crate::queued_client::Queued;
 use crate::{AskError, LeaveError, Outcome};
 use ra_automaton::{Automaton, Phase, Reaction, ReceiveError};
-use ra_stamp::{Entry, Mark, Marks, Memory, Message, Mode, Name, NodeId, Stamp};
+use ra_stamp::{Entry, Mark, Marks, Memory, Message, Messages, Mode, Name, NodeId, Stamp};
 use std::alloc::Global;
 use std::marker::Model;
 
@@ -45,31 +46,21 @@ impl Slot {
     ghost use Rattle.ra_node.specs.HandedOver.{IsHandedOver};
     ghost use Rattle.ra_node.specs.Memory.{BringsNothingTo};
 
-    /// Makes the slot of a resource that no client and no message was about yet, in time linear in the number of nodes.
-    ///
-    /// # Errors
-    ///
-    /// `Memory`: memory ran out.
-    pub fn new(
-        alloc: Global,
-        me: NodeId,
-        nodes: u16,
-        name: Name,
-        start: u64,
-    ) -> Result<Slot, Memory>
+    /// Makes the slot of a resource that no client and no message was about yet. It does not allocate.
+    pub fn new(alloc: Global, me: NodeId, nodes: u16, name: Name, start: u64) -> Slot
         requires count { IsNodeNumber nodes }
         requires member { me ≤ nodes }
-        ensures { IfOk result (λ slot. slot ≡ unmet me nodes name start) }
+        ensures { result ≡ unmet me nodes name start }
     {
         let Ok(automaton) = Automaton::new(alloc, me, nodes, name, start) else {
-            // Only `Memory` can come here.
-            return Err(Memory);
+            // The node is one of so many, and no memory is needed.
+            unreachable!()
         };
-        Ok(Slot {
+        Slot {
             automaton,
             client: None,
             queue: Queue::new(alloc),
-        })
+        }
     }
 
     /// Returns the highest number that this node has met for the resource.
@@ -207,27 +198,35 @@ impl Slot {
         Ok(nothing(alloc))
     }
 
-    /// Leaves for the client that holds, and the next one asks in the same event. No client may stand here twice.
+    /// Leaves for the client that holds, and the next one asks in the same event. No client may stand here twice. What is
+    /// sent and marked is put into an empty outcome. It does not allocate if that has room to leave.
     ///
     /// # Errors
     ///
     /// The first that holds, after which the resource is as before:
     ///
     /// 1. `NotHeld`: the client does not hold.
-    /// 2. `Memory`: memory ran out.
-    pub fn leave(&mut self, alloc: Global, client: u32) -> Result<Outcome, LeaveError>
-        requires { AllPairs (λ a b. a ≢ b) (clients_of self.old) }
-        ensures { MatchResult result
+    /// 2. `Memory`: memory ran out, and there was not room to leave.
+    pub fn leave(
+        &mut self,
+        alloc: Global,
+        client: u32,
+        empty: Outcome,
+    ) -> Result<Outcome, LeaveError>
+        requires once { AllPairs (λ a b. a ≢ b) (clients_of self.old) }
+        requires nothing { IsNothing empty }
+        ensures left { MatchResult result
             (λ outcome. LeaveTurn self.old client outcome.sends.items outcome.marks.items self.new
             × IsConsistent self.new.state)
             (λ fault. IsLeaveRefusal self.old client fault × (self.new ≡ self.old)) }
+        ensures room { HasRoomToLeave self.old.state.nodes empty → IsErrOf result LeaveError.Memory → ⊥ }
     {
         let Some(held) = self.held_by(client) else {
             return Err(LeaveError::NotHeld);
         };
         match self.next() {
-            Some(next) => self.leave_to_next(alloc, held, next),
-            None => self.leave_to_nobody(alloc, held),
+            Some(next) => self.leave_to_next(alloc, held, next, empty),
+            None => self.leave_to_nobody(alloc, held, empty),
         }
     }
 
@@ -235,19 +234,27 @@ impl Slot {
     ///
     /// # Errors
     ///
-    /// `Memory`: the resource is as before.
-    fn leave_to_nobody(&mut self, alloc: Global, held: Entry) -> Result<Outcome, LeaveError>
+    /// `Memory`, if there was not room to leave: the resource is as before.
+    fn leave_to_nobody(
+        &mut self,
+        alloc: Global,
+        held: Entry,
+        empty: Outcome,
+    ) -> Result<Outcome, LeaveError>
         requires holds { holder_of self.old ≡ Some held }
         requires nobody { (self.old.queue ≡ []) ⊎ (greatest_number ≤ self.old.state.highest) }
-        ensures { MatchResult result
+        requires nothing { IsNothing empty }
+        ensures left { MatchResult result
             (λ outcome. LeavesToNobody self.old held.client outcome.sends.items outcome.marks.items self.new
             × IsConsistent self.new.state)
             (λ fault. (fault ≡ LeaveError.Memory) × (self.new ≡ self.old)) }
+        ensures room { HasRoomToLeave self.old.state.nodes empty → IsOk result }
     {
-        let Ok(marks) = marks_of_leave(alloc, held) else {
+        let Outcome { sends, marks } = empty;
+        let Ok(marks) = marks_of_leave(marks, held) else {
             return Err(LeaveError::Memory);
         };
-        let Ok(reaction) = self.automaton.leave(alloc) else {
+        let Ok(reaction) = self.automaton.leave_into(alloc, sends) else {
             // Only `Memory` can come where a client holds.
             return Err(LeaveError::Memory);
         };
@@ -262,27 +269,31 @@ impl Slot {
     ///
     /// # Errors
     ///
-    /// `Memory`: the resource is as before.
+    /// `Memory`, if there was not room to leave: the resource is as before.
     fn leave_to_next(
         &mut self,
         alloc: Global,
         held: Entry,
         next: Queued,
+        empty: Outcome,
     ) -> Result<Outcome, LeaveError>
         requires holds { holder_of self.old ≡ Some held }
         requires first { take 1 self.old.queue ≡ next ∷ [] }
         requires number_left { self.old.state.highest < greatest_number }
         requires once { AllPairs (λ a b. a ≢ b) (clients_of self.old) }
-        ensures { MatchResult result
+        requires nothing { IsNothing empty }
+        ensures left { MatchResult result
             (λ outcome. LeavesToNext self.old held.client outcome.sends.items outcome.marks.items self.new
             × IsConsistent self.new.state)
             (λ fault. (fault ≡ LeaveError.Memory) × (self.new ≡ self.old)) }
+        ensures room { HasRoomToLeave self.old.state.nodes empty → IsOk result }
     {
-        let Ok(mut marks) = marks_of_leave(alloc, held) else {
+        let Outcome { sends, marks } = empty;
+        let Ok(mut marks) = marks_of_leave(marks, held) else {
             return Err(LeaveError::Memory);
         };
         let requested = self.next_entry(next.client, next.mode);
-        let Ok(reaction) = self.hand_over(alloc, next) else {
+        let Ok(reaction) = self.hand_over(alloc, next, sends) else {
             return Err(LeaveError::Memory);
         };
         push_request(&mut marks, &requested, reaction.entered);
@@ -293,22 +304,32 @@ impl Slot {
     }
 
     /// Leaves for the client that holds and asks for `next`, the first of the queue, in one reaction: the deferred REPLYs
-    /// come first. A number must be left, and no client may stand here twice.
+    /// come first. A number must be left, and no client may stand here twice. The messages are put into an empty list.
     ///
     /// # Errors
     ///
-    /// `Memory`: the resource is as before.
-    fn hand_over(&mut self, alloc: Global, next: Queued) -> Result<Reaction, LeaveError>
+    /// `Memory`, if the list has not room for two messages to each node: the resource is as before.
+    fn hand_over(
+        &mut self,
+        alloc: Global,
+        next: Queued,
+        sends: Messages,
+    ) -> Result<Reaction, LeaveError>
         requires inside { IsInside self.old.state.phase }
         requires first { take 1 self.old.queue ≡ next ∷ [] }
         requires number_left { self.old.state.highest < greatest_number }
         requires once { AllPairs (λ a b. a ≢ b) (clients_of self.old) }
-        ensures { MatchResult result
+        requires none { sends.items ≡ [] }
+        ensures handed { MatchResult result
             (λ reaction. IsHandedOver self.old next reaction.sends.items reaction.entered self.new
             × IsConsistent self.new.state)
             (λ fault. (fault ≡ LeaveError.Memory) × (self.new ≡ self.old)) }
+        ensures room { 2 * self.old.state.nodes ≤ sends.spare → IsOk result }
     {
-        let Ok(handed) = self.automaton.leave_and_request(alloc, next.mode) else {
+        let left = self
+            .automaton
+            .leave_and_request_into(alloc, next.mode, sends);
+        let Ok(handed) = left else {
             // Only `Memory` can come where a client holds.
             return Err(LeaveError::Memory);
         };

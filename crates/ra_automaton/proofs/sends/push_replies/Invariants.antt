@@ -1,4 +1,4 @@
-use Rattle.std.proofs.Common.{◌≡◌, ◌-◌, ◌++◌, map, filter, get_or}
+use Rattle.std.proofs.Common.{◌≡◌, ◌+◌, ◌-◌, ◌≤◌, ◌++◌, length, map, filter, get_or}
 use Rattle.std.specs.List.{range_with_len}
 use Rattle.ra_stamp.specs.declared.message.Message.TheVariants.{Reply}
 use Rattle.ra_automaton.specs.NodeSet.{has_bit}
@@ -6,5 +6,6 @@ use Rattle.ra_automaton.proofs.sends.push_replies.Given as goal
 
 abbrev pub invariant-loop-place : goal.invariant-loop-place
 invariant-loop-place l =
-    l.sends.items
-    ≡ l.fn.sends.items ++ map (λ node. Reply l.me node l.name (get_or l.numbers (node - 1) 0)) (filter (has_bit l.deferred) (range_with_len 1 l.place))
+    (l.sends.items
+    ≡ l.fn.sends.items ++ map (λ node. Reply l.me node l.name (get_or l.numbers (node - 1) 0)) (filter (has_bit l.deferred) (range_with_len 1 l.place)))
+    × (length l.numbers ≤ l.fn.sends.spare → l.fn.sends.spare ≤ l.sends.spare + l.place)

@@ -1,8 +1,9 @@
 use Rattle.std.proofs.Common.{subst, sym, ap, ◌∙◌}
 use Rattle.std.specs.FinSet as set
+use Rattle.ra_automaton.specs.declared.phase.Phase.{Phase}
 use Rattle.ra_automaton.specs.declared.phase.Phase.TheVariants.{Inside}
 use Rattle.ra_automaton.specs.State.{State, IsConsistent, entered_phase}
-use Rattle.ra_automaton.specs.View.{state_of}
+use Rattle.ra_automaton.specs.View.{state_of, numbers_in}
 use Rattle.ra_automaton.proofs.Consistent.{consistent_enters}
 use Rattle.ra_automaton.proofs.NodeSetLemmas.{set_of-zero}
 use Rattle.ra_automaton.proofs.automaton.Automaton.enter.Goals as goal
@@ -12,7 +13,7 @@ invariant_of-self c =
     let old = state_of c.self.inside in
     let kept = c.self.invariant in
     record {
-      numbers = kept.numbers;
+      numbers = kept.numbers ∙ ap (λ (p : Phase). numbers_in p c.self.inside.nodes) c.in-Waiting.is;
       consistent = subst IsConsistent (λ i. record old { phase = Inside c.in-Waiting.seq c.in-Waiting.mode; awaited = sym set_of-zero i })
           (consistent_enters old c.in-Waiting.seq c.in-Waiting.mode kept.consistent c.in-Waiting.is);
     }

@@ -1,10 +1,9 @@
-use Rattle.std.proofs.Common.{rules, ◌≡◌, ◌≢◌, ◌⊎◌, ◌<◌, Result, Err, Ok, sym, ap, ◌∙◌, subst}
+use Rattle.std.proofs.Common.{rules, ◌≡◌, ◌≢◌, ◌⊎◌, ◌<◌, Err, sym, ap, ◌∙◌, subst}
 use Rattle.ra_stamp.specs.Message.{from_of, to_of}
-use Rattle.ra_automaton.specs.declared.error.ReceiveError.TheVariants.{WrongNode, Stranger, Memory}
-use Rattle.ra_automaton.specs.declared.error.ReceiveError.{ReceiveError}
+use Rattle.ra_automaton.specs.declared.error.ReceiveError.TheVariants.{WrongNode, Stranger}
 use Rattle.ra_automaton.specs.declared.reaction.Reaction.{Reaction}
-use Rattle.ra_automaton.specs.State.{State, IsForNode, IsConsistent}
-use Rattle.ra_automaton.proofs.Refusals.{ReceiveTells, wrong_node_tells, stranger_tells, received_tells}
+use Rattle.ra_automaton.specs.State.{State, IsConsistent}
+use Rattle.ra_automaton.proofs.Refusals.{ReceiveTells, wrong_node_tells, stranger_tells}
 use Rattle.ra_automaton.proofs.automaton.Automaton.receive.Goals as goal
 
 -- ---- The message is refused

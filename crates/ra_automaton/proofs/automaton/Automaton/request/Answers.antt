@@ -37,12 +37,12 @@ returns-then-self-clause-not_idle c = (exhausted c).not_idle
 pub returns-then-self-clause-exhausted : goal.returns-then-self-clause-exhausted
 returns-then-self-clause-exhausted c = (exhausted c).exhausted
 
-refused : (c : goal.After-drop-sends-inside) → RequestTells c.from_residual.result c.args.self.now
+refused : (c : goal.After-drop-numbers) → RequestTells c.from_residual-in_err-push_requests.result c.args.self.now
 refused c =
     let idle : c.args.self.now.phase ≡ Idle = search rules in
     let below : c.args.self.now.highest < greatest_number = search rules in
-    let memory : IfErr c.from_residual.result (λ fault. fault ≡ Memory) = search rules in
-    requested_tells c.args.self.now c.from_residual.result idle below memory
+    let memory : IfErr c.from_residual-in_err-push_requests.result (λ fault. fault ≡ Memory) = search rules in
+    requested_tells c.args.self.now c.from_residual-in_err-push_requests.result idle below memory
 
 pub returns-in_err-push_requests-clause-consistent : goal.returns-in_err-push_requests-clause-consistent
 returns-in_err-push_requests-clause-consistent c = subst IsConsistent c.self.view_is c.self.invariant.consistent

@@ -8,9 +8,9 @@ pop_front-requires c =
     let once : Once (standing c.self.inside.client c.self.inside.queue) = search rules in
     leaves_once c.self.inside.client c.self.inside.queue once
 
-pub returns : goal.returns
-returns c =
+pub returns-clause-handed : goal.returns-clause-handed
+returns-clause-handed c =
     let s = c.self.inside in (
-      parts_handed_over s.automaton c.leave_and_request.new.self s.client s.queue c.pop_front.new.self c.args.self.now c.args.next c.pop_front.result c.in-Ok.handed.sends.items c.in-Ok.handed.entered c.self.view_is c.in-Ok.ensures.ok c.requires.first c.pop_front.ensures,
-      c.leave_and_request.ensures.consistent,
+      parts_handed_over s.automaton c.leave_and_request_into-left.new.self s.client s.queue c.pop_front.new.self c.args.self.now c.args.next c.pop_front.result c.in-Ok.handed.sends.items c.in-Ok.handed.entered c.self.view_is c.in-Ok.ensures.ok c.requires.first c.pop_front.ensures,
+      c.leave_and_request_into-left.ensures.consistent,
     )

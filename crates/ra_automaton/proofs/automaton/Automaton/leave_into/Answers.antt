@@ -9,7 +9,7 @@ use Rattle.ra_automaton.specs.NodeSet.{map_of}
 use Rattle.ra_automaton.proofs.Consistent.{consistent_end, inside_is}
 use Rattle.ra_automaton.proofs.Kept.{deferred_within}
 use Rattle.ra_automaton.proofs.Refusals.{left_tells}
-use Rattle.ra_automaton.proofs.automaton.Automaton.leave.Goals as goal
+use Rattle.ra_automaton.proofs.automaton.Automaton.leave_into.Goals as goal
 
 pub returns-then-not-is_inside-clause-consistent : goal.returns-then-not-is_inside-clause-consistent
 returns-then-not-is_inside-clause-consistent c = subst IsConsistent c.self.view_is c.self.invariant.consistent
@@ -32,13 +32,13 @@ returns-in_err-push_replies-clause-not_held c =
 pub end-requires : goal.end-requires
 end-requires c = c.is_inside.ensures.0 c.if-not-is_inside.false
 
-inside : (c : goal.After-end) → IsInside c.args.self.now.phase
+inside : (c : goal.After-drop-end) → IsInside c.args.self.now.phase
 inside c = c.is_inside.ensures.0 c.if-not-is_inside.false
 
 pub returns-clause-consistent : goal.returns-clause-consistent
 returns-clause-consistent c =
     let old = subst IsConsistent c.self.view_is c.self.invariant.consistent in
-    subst IsConsistent (sym c.end.ensures) (consistent_end c.args.self.now old (inside c))
+    subst IsConsistent (sym c.end.ensures.ended) (consistent_end c.args.self.now old (inside c))
 
 pub returns-clause-ok : goal.returns-clause-ok
 returns-clause-ok c =
@@ -51,7 +51,7 @@ returns-clause-ok c =
         mode = held.1;
         inside = held.2;
         sends_are = subst (λ (s : State). sends ≡ map (λ entry. Reply s.me entry.0 s.name entry.1) (finmap.entries s.deferred)) c.self.view_is here;
-        new_is = c.end.ensures;
+        new_is = c.end.ensures.ended;
       },
       refl,
     )

@@ -6,9 +6,10 @@ use Rattle.ra_node.specs.View.{IsKept}
 use Rattle.ra_node.proofs.After.{left_at, nobody_holds}
 use Rattle.ra_node.proofs.NodeLemmas.{found, slot_is_consistent, missing}
 use Rattle.ra_node.specs.Node.{resource_at}
+use Rattle.ra_node.specs.Room.{HasRoomToLeave}
 use Rattle.ra_node.proofs.Refusals.{LeaveTells, left_tells}
 use Rattle.ra_node.proofs.Totals.{part, through, one_at_most, few_wait, few_queue}
-use Rattle.ra_node.proofs.node.Node.leave.Goals as goal
+use Rattle.ra_node.proofs.node.Node.leave_into.Goals as goal
 
 pub returns-in_default-clause-not_held : goal.returns-in_default-clause-not_held
 returns-in_default-clause-not_held c =
@@ -25,8 +26,8 @@ returns-in_default-clause-allowed c =
     let none = missing n.me n.nodes n.start n.slots.entries c.args.self.now c.self.view_is c.args.name (search rules) in
     (λ e. absurd (not_memory e), λ held. absurd (nobody_holds _ n.me n.nodes c.args.name n.start none.0 c.args.client held.0 held.1))
 
-pub leave-outcome-requires : goal.leave-outcome-requires
-leave-outcome-requires c =
+pub leave-outcome-requires-clause-once : goal.leave-outcome-requires-clause-once
+leave-outcome-requires-clause-once c =
     let n = c.self.inside in
     (slot_is_consistent n.me n.nodes n.start n.slots.entries c.args.self.now c.self.view_is c.args.name c.in-Some.slot.now c.self.invariant.consistent c.in-Some.ensures.value).once
 
@@ -61,7 +62,7 @@ invariant_of-self-2 c =
     let within = λ (f : Resource → ℕ). part f n.slots.entries c.args.name c.in-Some.slot.now c.in-Some.ensures.value in
     let kept = c.self.invariant in
     record {
-      consistent = (left_at n.me n.nodes n.start n.slots slots c.args.self.now c.self.view_is c.self.invariant.consistent c.in-Some.slot.now new c.leave-outcome.result _ c.args.client c.args.name c.leave-outcome.ensures c.in-Some.ensures.value (c.get_mut.follows.holds new)).consistent;
+      consistent = (left_at n.me n.nodes n.start n.slots slots c.args.self.now c.self.view_is c.self.invariant.consistent c.in-Some.slot.now new c.leave-outcome.result _ c.args.client c.args.name c.leave-outcome.ensures.left c.in-Some.ensures.value (c.get_mut.follows.holds new)).consistent;
       waiting = omega (arith, kept.waiting, moves waiting_at, within waiting_at, c.waiting.ensures, c.waiting-2.ensures);
       queued = omega (arith, kept.queued, moves (λ r. length r.queue), within (λ r. length r.queue), c.queued.ensures, c.queued-2.ensures);
       counted = omega (arith, kept.counted, moves (λ r. length r.queue / 2 ^ 64), c.queued-2.ensures, c.queued-2.type_inv);
@@ -71,13 +72,13 @@ pub returns-clause-ok : goal.returns-clause-ok
 returns-clause-ok c =
     let n = c.self.inside in
     let new = c.leave-outcome.new.self in
-    (left_at n.me n.nodes n.start n.slots (c.get_mut.follows.lender new) c.args.self.now c.self.view_is c.self.invariant.consistent c.in-Some.slot.now new c.leave-outcome.result _ c.args.client c.args.name c.leave-outcome.ensures c.in-Some.ensures.value (c.get_mut.follows.holds new)).ok
+    (left_at n.me n.nodes n.start n.slots (c.get_mut.follows.lender new) c.args.self.now c.self.view_is c.self.invariant.consistent c.in-Some.slot.now new c.leave-outcome.result _ c.args.client c.args.name c.leave-outcome.ensures.left c.in-Some.ensures.value (c.get_mut.follows.holds new)).ok
 
 pub returns-clause-err : goal.returns-clause-err
 returns-clause-err c =
     let n = c.self.inside in
     let new = c.leave-outcome.new.self in
-    (left_at n.me n.nodes n.start n.slots (c.get_mut.follows.lender new) c.args.self.now c.self.view_is c.self.invariant.consistent c.in-Some.slot.now new c.leave-outcome.result _ c.args.client c.args.name c.leave-outcome.ensures c.in-Some.ensures.value (c.get_mut.follows.holds new)).err
+    (left_at n.me n.nodes n.start n.slots (c.get_mut.follows.lender new) c.args.self.now c.self.view_is c.self.invariant.consistent c.in-Some.slot.now new c.leave-outcome.result _ c.args.client c.args.name c.leave-outcome.ensures.left c.in-Some.ensures.value (c.get_mut.follows.holds new)).err
 
 pub returns-clause-consistent : goal.returns-clause-consistent
 returns-clause-consistent c = (invariant_of-self-2 c).consistent
@@ -86,10 +87,16 @@ tells : (c : goal.After-self-3-1) → LeaveTells c.leave-outcome.result (resourc
 tells c =
     let n = c.self.inside in
     let here = found n.me n.nodes n.start n.slots.entries c.args.self.now c.self.view_is c.args.name c.in-Some.slot.now c.in-Some.ensures.value in
-    subst (λ (r : Resource). LeaveTells c.leave-outcome.result r c.args.client) here (left_tells c.leave-outcome.result c.in-Some.slot.now c.args.client c.leave-outcome.new.self _ c.leave-outcome.ensures)
+    subst (λ (r : Resource). LeaveTells c.leave-outcome.result r c.args.client) here (left_tells c.leave-outcome.result c.in-Some.slot.now c.args.client c.leave-outcome.new.self _ c.leave-outcome.ensures.left)
 
 pub returns-clause-not_held : goal.returns-clause-not_held
 returns-clause-not_held c = (tells c).not_held
 
 pub returns-clause-allowed : goal.returns-clause-allowed
 returns-clause-allowed c = (tells c).allowed
+
+pub returns-clause-room : goal.returns-clause-room
+returns-clause-room c room =
+    let n = c.self.inside in
+    let kept = slot_is_consistent n.me n.nodes n.start n.slots.entries c.args.self.now c.self.view_is c.args.name c.in-Some.slot.now c.self.invariant.consistent c.in-Some.ensures.value in
+    c.leave-outcome.ensures.room (subst (λ (k : ℕ). HasRoomToLeave k c.args.empty) (sym kept.nodes_is) room)

@@ -10,7 +10,7 @@ use Rattle.ra_automaton.specs.State.{State, IsConsistent}
 use Rattle.ra_automaton.proofs.Consistent.{consistent_end, consistent_begins, inside_is}
 use Rattle.ra_automaton.proofs.Kept.{deferred_within}
 use Rattle.ra_automaton.proofs.Refusals.{left_tells}
-use Rattle.ra_automaton.proofs.automaton.Automaton.leave_and_request.Goals as goal
+use Rattle.ra_automaton.proofs.automaton.Automaton.leave_and_request_into.Goals as goal
 
 pub push_replies-requires-clause-numbered : goal.push_replies-requires-clause-numbered
 push_replies-requires-clause-numbered c node there =
@@ -24,15 +24,15 @@ returns-clause-ok c =
     let here : c.push_replies.new.sends.items ≡ map (λ entry. Reply c.self.inside.me entry.0 c.self.inside.name entry.1) (finmap.entries (map_of c.self.inside.deferred c.self.inside.numbers.items)) =
     sent ∙ ap (λ (numbers : List ℕ). map (λ entry. Reply c.self.inside.me entry.0 c.self.inside.name entry.1) (finmap.entries (map_of c.self.inside.deferred numbers))) c.deref.ensures.value in
     let sends = subst (λ (s : State). c.push_replies.new.sends.items ≡ map (λ entry. Reply s.me entry.0 s.name entry.1) (finmap.entries s.deferred)) c.self.view_is here in
-    let leaves : LeaveStep c.args.self.now c.push_replies.new.sends.items c.end.new.self =
-    record { seq = held.0; mode = held.1; inside = held.2; sends_are = sends; new_is = c.end.ensures } in
+    let leaves : LeaveStep c.args.self.now c.push_replies.new.sends.items c.end-numbers.new.self =
+    record { seq = held.0; mode = held.1; inside = held.2; sends_are = sends; new_is = c.end-numbers.ensures.ended } in
     let more : c.push_requests.new.sends.items ≡ c.push_replies.new.sends.items ++ map (λ other. Request c.self.inside.me other c.self.inside.name c.args.mode (c.self.inside.highest + 1)) (others_of c.self.inside.me c.self.inside.nodes) = search rules in
     let Adds = λ (s : State). c.push_requests.new.sends.items ≡ c.push_replies.new.sends.items ++ map (λ other. Request s.me other s.name c.args.mode (s.highest + 1)) (others_of s.me s.nodes) in
-    let both = subst Adds (sym c.end.ensures) (subst Adds c.self.view_is more) in
+    let both = subst Adds (sym c.end-numbers.ensures.ended) (subst Adds c.self.view_is more) in
     record {
-      between = c.end.new.self;
+      between = c.end-numbers.new.self;
       replies = c.push_replies.new.sends.items;
-      requests = map (λ other. Request c.end.new.self.me other c.end.new.self.name c.args.mode (c.end.new.self.highest + 1)) (others_of c.end.new.self.me c.end.new.self.nodes);
+      requests = map (λ other. Request c.end-numbers.new.self.me other c.end-numbers.new.self.name c.args.mode (c.end-numbers.new.self.highest + 1)) (others_of c.end-numbers.new.self.me c.end-numbers.new.self.nodes);
       leaves = leaves;
       asks = record { idle = search rules; number_left = search rules; sends_are = refl; begins = c.begin-entered.ensures };
       sends_are = both;
@@ -41,8 +41,8 @@ returns-clause-ok c =
 pub returns-clause-consistent : goal.returns-clause-consistent
 returns-clause-consistent c =
     let old = subst IsConsistent c.self.view_is c.self.invariant.consistent in
-    let ended = subst IsConsistent (sym c.end.ensures) (consistent_end c.args.self.now old (c.is_inside.ensures.0 c.if-not-is_inside.false)) in
-    consistent_begins c.end.new.self c.args.mode c.begin-entered.result c.begin-entered.new.self ended (search rules) c.begin-entered.ensures
+    let ended = subst IsConsistent (sym c.end-numbers.ensures.ended) (consistent_end c.args.self.now old (c.is_inside.ensures.0 c.if-not-is_inside.false)) in
+    consistent_begins c.end-numbers.new.self c.args.mode c.begin-entered.result c.begin-entered.new.self ended (search rules) c.begin-entered.ensures
 
 pub returns-then-not-is_inside-clause-consistent : goal.returns-then-not-is_inside-clause-consistent
 returns-then-not-is_inside-clause-consistent c = subst IsConsistent c.self.view_is c.self.invariant.consistent
@@ -69,5 +69,5 @@ returns-in_err-push_requests-clause-not_held c =
 pub returns-clause-not_held : goal.returns-clause-not_held
 returns-clause-not_held c = left_tells {X = Reaction} (Ok _) c.args.self.now (c.is_inside.ensures.0 c.if-not-is_inside.false) tt
 
-pub end-requires : goal.end-requires
-end-requires c = c.is_inside.ensures.0 c.if-not-is_inside.false
+pub end-numbers-requires : goal.end-numbers-requires
+end-numbers-requires c = c.is_inside.ensures.0 c.if-not-is_inside.false
