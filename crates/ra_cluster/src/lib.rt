@@ -59,6 +59,7 @@ pub use event::{BookEvent, BookKind, Events};
 pub use event_effect::Posted;
 pub use gate::{Gate, OpenGate};
 pub use grant::Grant;
+pub use keeping::clock_after;
 pub use laws::{histories_are_determined, histories_go_on};
 pub use outcome::settle_script;
 pub use post::{Inbox, NewPostError, Post, SendError};

@@ -10,7 +10,7 @@ mod frame;
 mod laws;
 
 pub use decoding::decode;
-pub use encoding::encode;
+pub use encoding::{FrameBytes, MAX_FRAME, encode, encoded};
 pub use error::FrameError;
 pub use frame::Frame;
 pub use laws::{one_spelling, round_trip};

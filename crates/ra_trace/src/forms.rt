@@ -8,8 +8,8 @@ use crate::version::Version;
 use ra_stamp::{Entry, Mark, Message, Mode, Name, NodeId, Stamp};
 use ra_world::Step;
 
-/// Returns what stands after these words, or `None` where the text doesn't begin with them.
-fn behind<'a>(words: &[u8], text: &'a [u8]) -> Option<&'a [u8]>
+/// Returns what stands after these words, or `None` where the text doesn't begin with them. It does not allocate.
+pub fn behind<'a>(words: &[u8], text: &'a [u8]) -> Option<&'a [u8]>
     ensures { MatchOption result (spec.behind words.now text.now ≡ None)
         (λ rest. spec.behind words.now text.now ≡ Some rest.now) }
 {

@@ -23,6 +23,8 @@ mod writing;
 
 pub use check_text::{check, check_buffered, check_within};
 pub use error::{TraceError, WriteTraceError};
+pub use fields::{client_of, cut, mode_of, name_of, node_of, start_of};
+pub use forms::behind;
 pub use laws::{
     each_mark_log_has_one_verdict, each_text_has_one_verdict, texts_tell_their_steps,
     traces_tell_their_runs,
