@@ -39,3 +39,7 @@ mod LossesApart
 mod SentApart
 mod BooksFit
 mod SiteNumbers
+mod NextEvents
+mod AuditSteps
+mod RunTheorems
+mod LeastWaiting

@@ -66,7 +66,7 @@ repeated_by_steps : (moves : List Move) → repeated_by moves ≡ flat_map repea
 repeated_by_steps [] = refl
 repeated_by_steps (m ∷ moves) = ap (λ (ms : List Message). repeated_in m.step ++ ms) (repeated_by_steps moves)
 
-repeated_in_event : (i : ℕ) (kind : BookKind) → repeated_in (step_at i kind) ≡ []
+pub repeated_in_event : (i : ℕ) (kind : BookKind) → repeated_in (step_at i kind) ≡ []
 repeated_in_event i (Asked client name mode) = refl
 repeated_in_event i (Gave client name) = refl
 repeated_in_event i (Got frame) = refl
@@ -95,7 +95,7 @@ IsAddressed i (Asked client name mode) = Unit {0}
 IsAddressed i (Gave client name) = Unit {0}
 IsAddressed i (Got frame) = to_of frame.message ≡ i
 
-one_event : (i node : ℕ) (kind : BookKind) → IsAddressed node kind → events_at i (step_at node kind) ≡ cond (eqb node i) (node_event kind ∷ []) []
+pub one_event : (i node : ℕ) (kind : BookKind) → IsAddressed node kind → events_at i (step_at node kind) ≡ cond (eqb node i) (node_event kind ∷ []) []
 one_event i node (Asked client name mode) h = refl
 one_event i node (Gave client name) h = refl
 one_event i node (Got frame) h = ap (λ (n : ℕ). cond (eqb n i) (Received frame.message ∷ []) []) h

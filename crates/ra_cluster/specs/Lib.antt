@@ -6,6 +6,8 @@ pub mod Settled
 pub mod SettlingParts
 pub mod EventMerge
 pub mod Progress
+pub mod Audit
+pub mod AuditKeeping
 pub mod Keys
 pub mod StopCauses
 pub mod Sites

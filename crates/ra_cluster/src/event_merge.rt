@@ -134,7 +134,7 @@ fn next_of(book: &Book, taken: u64) -> Option<BookEvent>
 }
 
 /// Returns the step of the cluster that an event of a node is.
-fn step_of(node: NodeId, kind: &BookKind) -> Step
+pub fn step_of(node: NodeId, kind: &BookKind) -> Step
     ensures { result ≡ step_at node kind.now }
 {
     match *kind {

@@ -17,6 +17,10 @@
 //! a script; [`run_threads`] and [`settle_script`] are its two halves, for a caller that makes the cluster.
 #![tactic(auto)]
 
+mod audit_error;
+mod audit_laws;
+mod auditing;
+mod auditor;
 mod book;
 mod call;
 mod cluster;
@@ -36,9 +40,11 @@ mod keys;
 mod laws;
 mod lock_order;
 mod losses;
+mod mark_observer;
 mod outcome;
 mod plan;
 mod post;
+mod progress;
 mod receipts;
 mod sent;
 mod settle_books;
@@ -50,7 +56,10 @@ mod stop;
 mod stop_causes;
 mod threads;
 mod ticket;
+mod unsettled;
 
+pub use audit_error::{AuditError, AuditFault, TakeError};
+pub use auditor::Auditor;
 pub use book::Book;
 pub use cluster::{CallError, Cluster, Held};
 pub use cluster_run::{ClusterError, run_cluster};
@@ -61,6 +70,7 @@ pub use gate::{Gate, OpenGate};
 pub use grant::Grant;
 pub use keeping::clock_after;
 pub use laws::{histories_are_determined, histories_go_on};
+pub use mark_observer::{MarkObserver, Told};
 pub use outcome::settle_script;
 pub use post::{Inbox, NewPostError, Post, SendError};
 pub use ra_node::NewError;

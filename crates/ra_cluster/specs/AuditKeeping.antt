@@ -1,0 +1,32 @@
+-- How an auditor keeps what it knows of a node. No public contract speaks of it.
+use Rattle.std.specs.Prelude.{◌≡◌, ◌≤◌, ◌++◌, List, Option, Some, None, All, slice_get}
+use Rattle.std.specs.List.{Any}
+use Rattle.ra_cluster.specs.declared.progress.Progress.TheInside.{Inside}
+use Rattle.ra_cluster.specs.declared.audit_error.AuditFault.{AuditFault}
+use Rattle.ra_cluster.specs.declared.event.BookEvent.{BookEvent}
+use Rattle.ra_cluster.specs.History.{clock_of}
+use Rattle.ra_cluster.specs.Audit.{ProgressState, AreNextAt, NoneWaits, taken_of}
+
+-- what the fields represent
+abbrev pub progress_of : Inside → ProgressState
+progress_of p = record { node = p.node; settled = p.settled.items; waiting = p.waiting.items }
+
+-- the events were taken one after the other, from the node's first one on, and the clocks are theirs
+pub record IsKeptProgress (p : Inside) : Type 0 where
+  pub next : AreNextAt p.node 0 (p.settled.items ++ p.waiting.items)
+  pub latest : p.latest ≡ clock_of (p.settled.items ++ p.waiting.items)
+  pub clock : p.clock ≡ clock_of p.settled.items
+
+-- the event that waits first at its node, with the least clock of those that wait first at these nodes
+pub record IsLeastWaiting (nodes : List ProgressState) (fault : AuditFault) : Type 0 where
+  pub at_node : Any (λ p. (p.node ≡ fault.node) × (slice_get p.waiting 0 ≡ Some fault.event)) nodes
+  pub least : All (λ p. (event : BookEvent) → slice_get p.waiting 0 ≡ Some event → fault.event.clock ≤ event.clock) nodes
+
+-- the same, if one waits
+abbrev pub IsLeastOf : List ProgressState → Option AuditFault → Type 0
+IsLeastOf nodes None = NoneWaits nodes
+IsLeastOf nodes (Some fault) = IsLeastWaiting nodes fault
+
+-- the events of each of these nodes were taken one after the other
+abbrev pub AreTaken : List ProgressState → Type 0
+AreTaken nodes = All (λ p. AreNextAt p.node 0 (taken_of p)) nodes

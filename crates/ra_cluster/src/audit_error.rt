@@ -1,0 +1,66 @@
+ghost use Rattle.std.specs.Prelude.{◌≡◌};
+ghost use Rattle.ra_cluster.specs.declared.audit_error.AuditError.TheVariants as audit;
+ghost use Rattle.ra_cluster.specs.declared.audit_error.TakeError.TheVariants as take;
+
+use crate::BookEvent;
+use ra_stamp::{Memory, NodeId};
+use std::alloc::{AllocError, AllocFailed};
+use thiserror::Error;
+
+/// The first event found that does not fit the run of the cluster.
+#[derive(Clone, Copy, Debug, PartialEq, Eq)]
+pub struct AuditFault {
+    /// At which node.
+    pub node: NodeId,
+    /// The event. If a frame came, it was never sent, it was lost, or its message came before.
+    pub event: BookEvent,
+}
+
+/// Why an auditor did not put all that it can into the run.
+#[derive(Clone, Copy, Debug, PartialEq, Eq, Error)]
+#[error("{:?}", self)]
+pub enum AuditError {
+    /// An event does not fit, now or in an earlier round.
+    Fault(AuditFault),
+    /// Memory ran out.
+    Memory,
+}
+
+/// Why an auditor did not take events of a node.
+#[derive(Clone, Copy, Debug, PartialEq, Eq, Error)]
+#[error("{:?}", self)]
+pub enum TakeError {
+    /// The cluster has no such node.
+    NoNode,
+    /// The last event of the node that was taken is another one.
+    OutOfTurn,
+    /// The events can't be the next ones of the node: a clock does not follow the one before, or a frame is for
+    /// another node.
+    NotNext,
+    /// Memory ran out.
+    Memory,
+}
+
+impl From<Memory> for AuditError {
+    ghost from_gives = { λ _ e. e ≡ audit.Memory };
+
+    fn from(_refused: Memory) -> AuditError {
+        AuditError::Memory
+    }
+}
+
+impl From<AllocError> for TakeError {
+    ghost from_gives = { λ _ e. e ≡ take.Memory };
+
+    fn from(_refused: AllocError) -> TakeError {
+        TakeError::Memory
+    }
+}
+
+impl<T: Drop> From<AllocFailed<T>> for TakeError {
+    ghost from_gives = { λ _ e. e ≡ take.Memory };
+
+    fn from(_refused: AllocFailed<T>) -> TakeError {
+        TakeError::Memory
+    }
+}

@@ -1,0 +1,49 @@
+ghost use Rattle.std.specs.Prelude.{◌≡◌, List, [], ◌∷◌, ◌++◌};
+ghost use Rattle.ra_stamp.specs.declared.entry.Mark as mark;
+
+use ra_stamp::{GhostList, Mark};
+use std::marker::Model;
+
+/// Is told the marks of a run in their order, each once. Contracts see the marks that it was told so far. An observer that
+/// does not keep them has a [`Told`], which takes no memory.
+pub trait MarkObserver {
+    ghost told: { Self → List mark.Mark };
+
+    /// Is called for each mark of the run.
+    fn tell(&mut self, mark: &Mark)
+        ensures { told self.new ≡ told self.old ++ mark.now ∷ [] };
+}
+
+/// The marks that an observer was told, for proofs alone. By itself it is the observer that passes over all.
+#[derive(Drop)]
+pub struct Told {
+    marks: GhostList<Mark>,
+}
+
+impl Model for Told {
+    ghost use Rattle.std.specs.Prelude.{List};
+    ghost use Rattle.ra_stamp.specs.declared.entry.Mark.{Mark};
+
+    ghost Value = { List Mark };
+
+    ghost view = { λ t. t.marks.items };
+}
+
+impl Told {
+    /// Makes the one that was told nothing.
+    pub fn new() -> Told
+        ensures { result ≡ [] }
+    {
+        Told {
+            marks: GhostList::new(),
+        }
+    }
+}
+
+impl MarkObserver for Told {
+    ghost told = { λ marks. marks };
+
+    fn tell(&mut self, mark: &Mark) {
+        self.marks = self.marks.and(mark);
+    }
+}
