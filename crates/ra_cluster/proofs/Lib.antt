@@ -43,3 +43,4 @@ mod NextEvents
 mod AuditSteps
 mod RunTheorems
 mod LeastWaiting
+mod Departing

@@ -1,5 +1,5 @@
 -- How a book keeps its history: with the node to which the events lead. No public contract speaks of it.
-use Rattle.std.specs.Prelude.{◌≡◌, ◌≢◌, ◌↔◌, ◌⊎◌, ◌*◌, ◌≤◌, ◌<◌, ◌^◌, ℕ, true, false, List, [], ◌∷◌, ◌++◌, length, map, slice_index_or, All, Some, None, IsSome, Result, IsErrOf, IsOk, IsOkUnless, IfOk, IfErr, OnOk, OnErr}
+use Rattle.std.specs.Prelude.{◌≡◌, ◌≢◌, ◌↔◌, ◌⊎◌, ◌*◌, ◌≤◌, ◌<◌, ◌^◌, ℕ, true, false, List, [], ◌∷◌, ◌++◌, length, map, slice_index_or, All, Some, None, IsSome, vec_len, vec_capacity, Result, IsErrOf, IsOk, IsOkUnless, IfOk, IfErr, OnOk, OnErr}
 use Rattle.std.specs.List.Sorted.{IsNonDecreasingBy}
 use Rattle.ra_stamp.specs.NodeId.{IsNodeNumber}
 use Rattle.ra_stamp.specs.declared.entry.Entry.{Entry}
@@ -31,6 +31,7 @@ use Rattle.ra_cluster.specs.declared.event.BookKind.TheVariants.{Asked, Gave, Go
 use Rattle.ra_cluster.specs.declared.event_effect.Posted.{Posted}
 use Rattle.ra_cluster.specs.declared.sent.Sent.{Sent}
 use Rattle.ra_cluster.specs.History.{node_event, clock_after, frames_at}
+use Rattle.ra_cluster.specs.Departures.{IsReserved}
 use Rattle.ra_cluster.specs.Book.{BookState, opening_book, LeadsTo, HasHistory, HasClock, next_clock, with_event, as_sent, Runs, Hears, IsFirst, Loses}
 
 -- ---- What is kept
@@ -52,9 +53,10 @@ book_of b = record {
   fault = b.fault;
 }
 
--- what holds of the fields: the events lead to the node that is kept with them
-abbrev pub IsKept : Inside → Type 0
-IsKept b = Keeps (book_of b) b.node
+-- what holds of the fields: the events lead to the node that is kept with them, and what leaves need is there
+pub record IsKept (b : Inside) : Type 0 where
+  pub keeps : Keeps (book_of b) b.node
+  pub reserved : IsReserved b.nodes b.node b.events.spare (vec_len b.sent) (vec_capacity b.sent) b.departures.items
 
 -- ---- One more event
 

@@ -1,5 +1,6 @@
 pub mod History
 pub mod Book
+pub mod Departures
 pub mod Keeping
 pub mod Refused
 pub mod Settled

@@ -1,15 +1,16 @@
-ghost use Rattle.std.specs.Prelude.{◌≡◌, ◌≢◌, ℕ, ◌<◌, ◌≤◌, ◌⊎◌, ◌↔◌, ◌^◌, All, Contains, length, slice_get, unwrap_or, IsErrOf, IsOk, IsOkUnless, IsSome, IfOk, OnErr, OnOk, IsTrue, MatchResult, true, false};
+ghost use Rattle.std.specs.Prelude.{◌≡◌, ◌≢◌, ℕ, ◌<◌, ◌≤◌, ◌⊎◌, ◌↔◌, ◌^◌, List, All, Contains, length, slice_get, unwrap_or, IsErrOf, IsOk, IsOkUnless, IsSome, IfOk, OnErr, OnOk, IsTrue, MatchResult, true, false};
 ghost use Rattle.ra_stamp.specs.declared.entry.Entry.{Entry};
 ghost use Rattle.ra_frame.specs.declared.error.FrameError.{FrameError};
 ghost use Rattle.ra_node.specs.Resource.{Holds};
 ghost use Rattle.ra_node.specs.Node.{resource_at};
 
+use crate::departure::Departure;
 use crate::frame_search::is_kept;
 use crate::heard::hear;
 use crate::keeping::{add, clock_after, flag_lost, kept_histories_go_on};
 use crate::{BookError, BookEvent, BookKind, Events, MarkLostError, NewError, Posted, Sent, Stop};
 use ra_frame::Frame;
-use ra_node::Node;
+use ra_node::{Node, events_count_clients};
 use ra_stamp::{Entry, Mode, Name, NodeId};
 use std::alloc::Global;
 use std::marker::Model;
@@ -29,6 +30,9 @@ pub struct Book {
     events: Events,
     /// In order of sending.
     sent: Vec<Sent>,
+    /// What the leaves of the clients that wait, are queued or hold will need. For each there is room among the events and
+    /// the sent frames.
+    departures: Vec<Departure>,
     fault: Option<Stop>,
 }
 
@@ -75,6 +79,7 @@ impl Book {
         ensures no_memory { IsErrOf result NewError.Memory → ⊥ }
     {
         kept_histories_go_on();
+        events_count_clients();
         let node = Node::new(alloc, me, nodes, start)?;
         Ok(Book {
             me,
@@ -83,12 +88,13 @@ impl Book {
             node,
             events: Events::new(alloc),
             sent: Vec::new(alloc),
+            departures: Vec::new(alloc),
             fault: None,
         })
     }
 
     /// A client of the node asks for a name. The clock is one more than before, and the frames and marks are those of the
-    /// node's event, as [`Node::ask`] says.
+    /// node's event, as [`Node::ask`] says. Room is made for the client's leave, too: some 400 bytes for each node of the cluster.
     ///
     /// # Errors
     ///
@@ -130,7 +136,7 @@ impl Book {
     }
 
     /// The client that holds a name leaves it. The clock is one more than before, and the frames and marks are those of the
-    /// node's event, as [`Node::leave`] says.
+    /// node's event, as [`Node::leave`] says. It does not allocate: the client's ask made room for it.
     ///
     /// # Errors
     ///
@@ -139,7 +145,6 @@ impl Book {
     /// 1. `Failed`: the book has a fault.
     /// 2. `NotHeld`: the client does not hold the name here.
     /// 3. `ClockFull`: the clock would pass 2^62.
-    /// 4. `Memory`: nothing has changed, and the call can be made again.
     pub fn leave(&mut self, alloc: Global, client: u32, name: Name) -> Result<Posted, BookError>
         ensures ok { IfOk result (λ posted. Adds self.old (BookKind.Gave client name)
             posted.frames.items posted.marks.items self.new) }
@@ -151,7 +156,8 @@ impl Book {
         ensures clock_full { IsErrOf result BookError.ClockFull
             ↔ Runs self.old (λ node. ((entry : Entry) × Holds (resource_at node name) client entry)
             × (HasClock self.old (BookKind.Gave client name) → ⊥)) }
-        // Memory is the one other error.
+        // Memory is the one other error, and does not come.
+        ensures no_memory { IsErrOf result BookError.Memory → ⊥ }
         ensures allowed { IsOkUnless result BookError.Memory
             ↔ Runs self.old (λ node. ((entry : Entry) × Holds (resource_at node name) client entry)
             × HasClock self.old (BookKind.Gave client name)) }
@@ -332,12 +338,15 @@ impl Book {
     ///
     /// # Errors
     ///
-    /// `Memory`: the book is as before.
+    /// `Memory`, if it is not a leave: the book is as before.
     fn add(&mut self, alloc: Global, clock: u64, kind: BookKind) -> Result<Posted, BookError>
-        requires { ComesNext self.old clock kind }
+        requires next { ComesNext self.old clock kind }
+        requires holds { (client : ℕ) (name : List ℕ) → kind ≡ BookKind.Gave client name
+            → Runs self.old (λ node. (entry : Entry) × Holds (resource_at node name) client entry) }
         ensures added { MatchResult result
             (λ posted. Adds self.old kind posted.frames.items posted.marks.items self.new × All Fits posted.frames.items)
             (λ e. (e ≡ BookError.Memory) × (self.new ≡ self.old)) }
+        ensures leaves { (client : ℕ) (name : List ℕ) → kind ≡ BookKind.Gave client name → IsOk result }
         ensures history { HasHistory self.new }
     {
         kept_histories_go_on();
@@ -349,6 +358,7 @@ impl Book {
             &mut self.node,
             &mut self.events,
             &mut self.sent,
+            &mut self.departures,
             event,
         )
     }

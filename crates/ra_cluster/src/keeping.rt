@@ -1,25 +1,33 @@
 //! What a book keeps at each event.
-ghost use Rattle.std.specs.Prelude.{◌≡◌, ◌+◌, ◌<◌, ◌≤◌, ◌^◌, ◌∷◌, ◌++◌, [], List, length, vec_len, vec_capacity, IfOk, MatchOption, MatchResult};
+ghost use Rattle.std.specs.Prelude.{◌≡◌, ℕ, ◌+◌, ◌*◌, ◌<◌, ◌≤◌, ◌^◌, ◌∷◌, ◌++◌, [], List, length, vec_len, vec_capacity, IfOk, IsOk, OnErr, MatchOption, MatchResult};
+ghost use Rattle.ra_stamp.specs.declared.entry.Entry.{Entry};
+ghost use Rattle.ra_stamp.specs.declared.mode.Mode.{Mode};
 ghost use Rattle.ra_stamp.specs.declared.entry.Mark.{Mark};
 ghost use Rattle.ra_stamp.specs.declared.message.Message.{Message};
 ghost use Rattle.ra_frame.specs.declared.frame.Frame.{Frame};
-ghost use Rattle.ra_node.specs.Node.{NodeState};
+ghost use Rattle.ra_node.specs.Resource.{Holds};
+ghost use Rattle.ra_node.specs.Node.{NodeState, resource_at, IsConsistentNode};
 ghost use Rattle.ra_node.specs.Events.{NodeEvent};
 ghost use Rattle.ra_cluster.specs.declared.event.BookKind.{BookKind};
 ghost use Rattle.ra_cluster.specs.History as history;
 ghost use Rattle.ra_cluster.specs.History.{node_event, frames_at};
 ghost use Rattle.ra_cluster.specs.Book.{as_sent};
+ghost use Rattle.ra_cluster.specs.Departures.{HasRoomFor, IsReserved, HoldsIfGave};
 ghost use Rattle.ra_cluster.specs.Keeping as spec;
 ghost use Rattle.ra_cluster.specs.Keeping.{KeptHistoriesGoOn, Happens, Stays, IsFlagged, Ascends, sends_by};
 
+use crate::departure::Departure;
 use crate::frame_search::place_of;
 use crate::{
     BookError, BookEvent, BookKind, Events, Frames, MarkLostError, Posted, Sent,
     histories_are_determined, histories_go_on,
 };
 use ra_frame::Frame;
-use ra_node::{Node, Outcome, events_keep_a_node_consistent, histories_keep_a_node_consistent};
-use ra_stamp::{Memory, Message};
+use ra_node::{
+    Node, Outcome, events_count_clients, events_keep_a_node_consistent,
+    histories_keep_a_node_consistent,
+};
+use ra_stamp::{Memory, Message, Name};
 use std::alloc::Global;
 
 /// Returns the clock of an event that comes after this clock.
@@ -43,27 +51,188 @@ pub fn clock_after(clock: u64, kind: &BookKind) -> Result<u64, BookError>
 }
 
 /// Makes an event happen at a node, one of this many. It keeps the event after those so far, and its frames after those
-/// so far.
+/// so far, and what the leaves of the node's clients will need.
 ///
 /// # Errors
 ///
-/// `Memory`, if the node takes the event: everything is as before.
+/// `Memory`, if the node takes the event and it is not a leave: everything is as before.
 pub fn add(
     alloc: Global,
     nodes: u16,
     node: &mut Node,
     events: &mut Events,
     sent: &mut Vec<Sent>,
+    departures: &mut Vec<Departure>,
     event: BookEvent,
 ) -> Result<Posted, BookError>
     requires few { (new : NodeState) (sends : List Message) (marks : List Mark)
         → NodeEvent node.old (node_event event.kind) sends marks new
         → length sends ≤ sends_by nodes event.kind }
-    ensures { MatchResult result
+    requires consistent { IsConsistentNode node.old }
+    requires nodes { node.old.nodes ≡ nodes }
+    requires holds { HoldsIfGave node.old event.kind }
+    requires reserved { IsReserved nodes node.old events.old.spare (vec_len sent.old) (vec_capacity sent.old)
+        departures.old.items }
+    ensures added { MatchResult result
         (Happens node.old node.new events.old.items events.new.items sent.old.items sent.new.items event)
         (Stays node.old node.new events.old.items events.new.items sent.old.items sent.new.items) }
+    ensures leaves { (client : ℕ) (name : List ℕ) → event.kind ≡ BookKind.Gave client name → IsOk result }
+    ensures reserved { IsReserved nodes node.new events.new.spare (vec_len sent.new) (vec_capacity sent.new)
+        departures.new.items }
 {
-    let frames = make_room(alloc, events, sent, most_sends(nodes, &event.kind))?;
+    match &event.kind {
+        BookKind::Asked { .. } => add_ask(alloc, nodes, node, events, sent, departures, event),
+        BookKind::Gave { client, name } => {
+            let (client, name) = (*client, *name);
+            Ok(add_leave(
+                alloc, nodes, node, events, sent, departures, event, client, name,
+            ))
+        }
+        BookKind::Got(_) => add_frame(alloc, nodes, node, events, sent, departures, event),
+    }
+}
+
+/// Makes an ask happen, as `add` does, and what its client's leave will need.
+///
+/// # Errors
+///
+/// `Memory`, if the node takes the ask: everything is as before.
+fn add_ask(
+    alloc: Global,
+    nodes: u16,
+    node: &mut Node,
+    events: &mut Events,
+    sent: &mut Vec<Sent>,
+    departures: &mut Vec<Departure>,
+    event: BookEvent,
+) -> Result<Posted, BookError>
+    requires ask { (client : ℕ) × (name : List ℕ) × (mode : Mode) × (event.kind ≡ BookKind.Asked client name mode) }
+    requires few { (new : NodeState) (sends : List Message) (marks : List Mark)
+        → NodeEvent node.old (node_event event.kind) sends marks new
+        → length sends ≤ sends_by nodes event.kind }
+    requires consistent { IsConsistentNode node.old }
+    requires reserved { IsReserved nodes node.old events.old.spare (vec_len sent.old) (vec_capacity sent.old)
+        departures.old.items }
+    ensures added { MatchResult result
+        (Happens node.old node.new events.old.items events.new.items sent.old.items sent.new.items event)
+        (Stays node.old node.new events.old.items events.new.items sent.old.items sent.new.items) }
+    ensures reserved { IsReserved nodes node.new events.new.spare (vec_len sent.new) (vec_capacity sent.new)
+        departures.new.items }
+{
+    events_count_clients();
+    let departure = Departure::new(alloc, nodes)?;
+    if departures.reserve(1).is_err() {
+        return Err(BookError::Memory);
+    }
+    let leaves = departures.len() + 1;
+    let posted = add_beside(alloc, nodes, node, events, sent, leaves, event)?;
+    departures.push_reserved(departure);
+    Ok(posted)
+}
+
+/// Makes the coming of a frame happen, as `add` does.
+///
+/// # Errors
+///
+/// `Memory`, if the node takes the frame: everything is as before.
+fn add_frame(
+    alloc: Global,
+    nodes: u16,
+    node: &mut Node,
+    events: &mut Events,
+    sent: &mut Vec<Sent>,
+    departures: &[Departure],
+    event: BookEvent,
+) -> Result<Posted, BookError>
+    requires frame { (frame : Frame) × (event.kind ≡ BookKind.Got frame) }
+    requires few { (new : NodeState) (sends : List Message) (marks : List Mark)
+        → NodeEvent node.old (node_event event.kind) sends marks new
+        → length sends ≤ sends_by nodes event.kind }
+    requires reserved { IsReserved nodes node.old events.old.spare (vec_len sent.old) (vec_capacity sent.old)
+        departures.now }
+    ensures added { MatchResult result
+        (Happens node.old node.new events.old.items events.new.items sent.old.items sent.new.items event)
+        (Stays node.old node.new events.old.items events.new.items sent.old.items sent.new.items) }
+    ensures reserved { IsReserved nodes node.new events.new.spare (vec_len sent.new) (vec_capacity sent.new)
+        departures.now }
+{
+    events_count_clients();
+    add_beside(alloc, nodes, node, events, sent, departures.len(), event)
+}
+
+/// Makes the leave of a client that holds a name happen, as `add` does, with what was made for it. It does not allocate.
+fn add_leave(
+    alloc: Global,
+    nodes: u16,
+    node: &mut Node,
+    events: &mut Events,
+    sent: &mut Vec<Sent>,
+    departures: &mut Vec<Departure>,
+    event: BookEvent,
+    client: u32,
+    name: Name,
+) -> Posted
+    requires leave { event.kind ≡ BookKind.Gave client name }
+    requires few { (new : NodeState) (sends : List Message) (marks : List Mark)
+        → NodeEvent node.old (node_event event.kind) sends marks new
+        → length sends ≤ sends_by nodes event.kind }
+    requires nodes { node.old.nodes ≡ nodes }
+    requires holds { (entry : Entry) × Holds (resource_at node.old name) client entry }
+    requires reserved { IsReserved nodes node.old events.old.spare (vec_len sent.old) (vec_capacity sent.old)
+        departures.old.items }
+    ensures happens { Happens node.old node.new events.old.items events.new.items sent.old.items sent.new.items
+        event result }
+    ensures reserved { IsReserved nodes node.new events.new.spare (vec_len sent.new) (vec_capacity sent.new)
+        departures.new.items }
+{
+    events_count_clients();
+    let Some(departure) = departures.pop() else {
+        // The client that holds is one for which there is a departure.
+        unreachable!()
+    };
+    let Departure { outcome, frames } = departure;
+    let Ok(outcome) = node.leave_into(alloc, client, name, outcome) else {
+        // The client holds, and the outcome has room.
+        unreachable!()
+    };
+    keep(events, sent, frames, event, outcome)
+}
+
+/// Makes an event happen at a node, one of this many, and keeps it and its frames after those so far. There is room for
+/// this many leaves then.
+///
+/// # Errors
+///
+/// `Memory`, if the node takes the event: everything is as before.
+fn add_beside(
+    alloc: Global,
+    nodes: u16,
+    node: &mut Node,
+    events: &mut Events,
+    sent: &mut Vec<Sent>,
+    leaves: usize,
+    event: BookEvent,
+) -> Result<Posted, BookError>
+    requires few { (new : NodeState) (sends : List Message) (marks : List Mark)
+        → NodeEvent node.old (node_event event.kind) sends marks new
+        → length sends ≤ sends_by nodes event.kind }
+    requires leaves { leaves ≤ 2 ^ 63 }
+    ensures added { MatchResult result
+        (Happens node.old node.new events.old.items events.new.items sent.old.items sent.new.items event)
+        (Stays node.old node.new events.old.items events.new.items sent.old.items sent.new.items) }
+    ensures room { IfOk result (λ _. HasRoomFor nodes leaves events.new.spare (vec_len sent.new) (vec_capacity sent.new)) }
+    ensures err_room { OnErr result ((count : ℕ)
+        → HasRoomFor nodes count events.old.spare (vec_len sent.old) (vec_capacity sent.old)
+        → HasRoomFor nodes count events.new.spare (vec_len sent.new) (vec_capacity sent.new)) }
+{
+    let frames = make_room(
+        alloc,
+        nodes,
+        events,
+        sent,
+        most_sends(nodes, &event.kind),
+        leaves,
+    )?;
     let Some(outcome) = happen(alloc, node, &event.kind) else {
         return Err(BookError::Memory);
     };
@@ -104,24 +273,43 @@ fn happen(alloc: Global, node: &mut Node, kind: &BookKind) -> Option<Outcome>
     }
 }
 
-/// Makes room for one more event that sends at most this many messages. Returns a list for the frames that it posts.
+/// Makes room for one more event that sends at most this many messages, and after it for this many leaves at one of this
+/// many nodes. Returns a list for the frames that the event posts.
 fn make_room(
     alloc: Global,
+    nodes: u16,
     events: &mut Events,
     sent: &mut Vec<Sent>,
     sends: u64,
+    leaves: usize,
 ) -> Result<Frames, Memory>
+    requires leaves { leaves ≤ 2 ^ 63 }
     ensures events { events.new.items ≡ events.old.items }
     ensures sent { sent.new.items ≡ sent.old.items }
-    ensures event_room { IfOk result (λ _. 1 ≤ events.new.spare) }
-    ensures sent_room { IfOk result (λ _. vec_len sent.new + sends ≤ vec_capacity sent.new) }
+    ensures len { vec_len sent.new ≡ vec_len sent.old }
+    ensures event_room { IfOk result (λ _. leaves + 1 ≤ events.new.spare) }
+    ensures sent_room { IfOk result (λ _. vec_len sent.new + sends + leaves * (2 * nodes) ≤ vec_capacity sent.new) }
     ensures frames { IfOk result (λ frames. (frames.items ≡ []) × (sends ≤ frames.spare)) }
+    ensures event_grows { events.old.spare ≤ events.new.spare }
+    ensures sent_grows { vec_capacity sent.old ≤ vec_capacity sent.new }
 {
-    events.reserve(1)?;
-    sent.reserve(sends as usize)?;
+    events.reserve(leaves as u64 + 1)?;
+    sent.reserve(most_sent(nodes, sends, leaves)?)?;
     let mut frames = Frames::new(alloc);
     frames.reserve(sends)?;
     Ok(frames)
+}
+
+/// Returns how many frames are sent by an event that sends this many, and this many leaves after it, at most.
+///
+/// # Errors
+///
+/// `Memory`: so many have no place in any memory.
+fn most_sent(nodes: u16, sends: u64, leaves: usize) -> Result<usize, Memory>
+    ensures { IfOk result (λ count. count ≡ sends + leaves * (2 * nodes)) }
+{
+    let later = leaves.checked_mul(2 * usize::from(nodes)).ok_or(Memory)?;
+    later.checked_add(sends as usize).ok_or(Memory)
 }
 
 /// Keeps an event and the frames that carry its messages, and returns what it posts. There must be room for them.
@@ -140,6 +328,9 @@ fn keep(
     ensures sent { sent.new.items ≡ sent.old.items ++ as_sent (frames_at event.clock outcome.sends.items) }
     ensures frames { result.frames.items ≡ frames_at event.clock outcome.sends.items }
     ensures marks { result.marks.items ≡ outcome.marks.items }
+    ensures spare { events.new.spare + 1 ≡ events.old.spare }
+    ensures len { vec_len sent.new ≡ vec_len sent.old + length outcome.sends.items }
+    ensures capacity { vec_capacity sent.new ≡ vec_capacity sent.old }
 {
     let clock = event.clock;
     events.push(event).unwrap();
@@ -163,7 +354,9 @@ fn put_frames(frames: &mut Frames, clock: u64, sends: &[Message])
 /// Puts frames, none of which is lost yet, into a list that has room for them.
 fn put_sent(sent: &mut Vec<Sent>, frames: &[Frame])
     requires { vec_len sent.old + length frames.now ≤ vec_capacity sent.old }
-    ensures { sent.new.items ≡ sent.old.items ++ as_sent frames.now }
+    ensures items { sent.new.items ≡ sent.old.items ++ as_sent frames.now }
+    ensures len { vec_len sent.new ≡ vec_len sent.old + length frames.now }
+    ensures capacity { vec_capacity sent.new ≡ vec_capacity sent.old }
 {
     for frame in frames {
         let frame = *frame;

@@ -25,6 +25,7 @@ mod book;
 mod call;
 mod cluster;
 mod cluster_run;
+mod departure;
 mod desk;
 mod error;
 mod event;

@@ -26,8 +26,11 @@ pub returns-in_err-clock-clause-allowed : goal.returns-in_err-clock-clause-allow
 returns-in_err-clock-clause-allowed c =
     (ask_passed c.args.self.now c.args.client c.args.name c.args.mode c.in_err-clock.field-0.0 c.in_err-clock.ensures.answers c.from_residual.result c.from_residual.ensures.1).allowed
 
-pub add-requires : goal.add-requires
-add-requires c = c.in_ok-clock.ensures.checked.next
+pub add-requires-clause-next : goal.add-requires-clause-next
+add-requires-clause-next c = c.in_ok-clock.ensures.checked.next
+
+pub add-requires-clause-holds : goal.add-requires-clause-holds
+add-requires-clause-holds c client name is = absurd cc
 
 pub returns-clause-ok : goal.returns-clause-ok
 returns-clause-ok c = added_ok c.args.self.now c.add.new.self (Asked c.args.client c.args.name c.args.mode) c.add.result c.add.ensures.added

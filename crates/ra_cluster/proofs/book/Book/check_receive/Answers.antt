@@ -4,7 +4,7 @@ use Rattle.ra_cluster.proofs.Hearing.{heard_by, receive_failed, receive_answers,
 use Rattle.ra_cluster.proofs.book.Book.check_receive.Goals as goal
 
 pub returns-then-is_some-clause-checked : goal.returns-then-is_some-clause-checked
-returns-then-is_some-clause-checked c = checked_failed c.args.self.now _ (history_of c.args.self.now _ _ c.self.invariant c.self.view_is)
+returns-then-is_some-clause-checked c = checked_failed c.args.self.now _ (history_of c.args.self.now _ _ c.self.invariant.keeps c.self.view_is)
 
 pub returns-then-is_some-clause-answers : goal.returns-then-is_some-clause-answers
 returns-then-is_some-clause-answers c = receive_failed c.args.self.now c.args.bytes.now (some_fault c.self.view_is c.if-is_some.ensures)
@@ -12,7 +12,7 @@ returns-then-is_some-clause-answers c = receive_failed c.args.self.now c.args.by
 pub returns-clause-checked : goal.returns-clause-checked
 returns-clause-checked c =
     receive_checked c.args.self.now c.args.bytes.now (no_fault c.self.view_is c.if-is_some.ensures) c.clock.result c.clock.ensures.value c.hear.result
-    (heard_by c.self.view_is c.hear.ensures) (history_of c.args.self.now _ _ c.self.invariant c.self.view_is)
+    (heard_by c.self.view_is c.hear.ensures) (history_of c.args.self.now _ _ c.self.invariant.keeps c.self.view_is)
 
 pub returns-clause-answers : goal.returns-clause-answers
 returns-clause-answers c =

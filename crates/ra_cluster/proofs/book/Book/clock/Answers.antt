@@ -16,7 +16,7 @@ returns-in-Some-clause-value c =
     ap (λ (e : BookEvent). e.clock) at ∙ sym (clock_last 0 events (length events - 1) event (omega (arith, some))) ∙ ap clock_of same
 
 pub returns-in-Some-clause-history : goal.returns-in-Some-clause-history
-returns-in-Some-clause-history c = history_of c.args.self.now _ _ c.self.invariant c.self.view_is
+returns-in-Some-clause-history c = history_of c.args.self.now _ _ c.self.invariant.keeps c.self.view_is
 
 pub returns-in-None-clause-history : goal.returns-in-None-clause-history
-returns-in-None-clause-history c = history_of c.args.self.now _ _ c.self.invariant c.self.view_is
+returns-in-None-clause-history c = history_of c.args.self.now _ _ c.self.invariant.keeps c.self.view_is

@@ -1,4 +1,7 @@
+use Rattle.std.proofs.Common.{refl}
+use Rattle.ra_cluster.specs.declared.error.BookError.TheVariants.{Memory}
 use Rattle.ra_cluster.specs.declared.event.BookKind.TheVariants.{Gave}
+use Rattle.ra_cluster.proofs.Departing.{is_ok_not_err, passed_memory, holds_as}
 use Rattle.ra_cluster.proofs.Running.{leave_passed, leave_added}
 use Rattle.ra_cluster.proofs.Adding.{added_memory, added_err, added_fits, added_ok}
 use Rattle.ra_cluster.proofs.book.Book.leave.Goals as goal
@@ -22,8 +25,17 @@ pub returns-in_err-clock-clause-allowed : goal.returns-in_err-clock-clause-allow
 returns-in_err-clock-clause-allowed c =
     (leave_passed c.args.self.now c.args.client c.args.name c.in_err-clock.field-0.0 c.in_err-clock.ensures.answers c.from_residual.result c.from_residual.ensures.1).allowed
 
-pub add-requires : goal.add-requires
-add-requires c = c.in_ok-clock.ensures.checked.next
+pub add-requires-clause-next : goal.add-requires-clause-next
+add-requires-clause-next c = c.in_ok-clock.ensures.checked.next
+
+pub add-requires-clause-holds : goal.add-requires-clause-holds
+add-requires-clause-holds c client name is =
+    let allowed = c.in_ok-clock.ensures.answers.allowed.0 tt in
+    holds_as c.args.self.now c.args.client client c.args.name name is
+    (record { no_fault = allowed.no_fault; node = allowed.node; leads = allowed.leads; holds = allowed.holds.0 })
+
+pub returns-clause-no_memory : goal.returns-clause-no_memory
+returns-clause-no_memory c = is_ok_not_err c.add.result Memory (c.add.ensures.leaves c.args.client c.args.name refl)
 
 pub returns-clause-ok : goal.returns-clause-ok
 returns-clause-ok c = added_ok c.args.self.now c.add.new.self (Gave c.args.client c.args.name) c.add.result c.add.ensures.added
@@ -56,3 +68,6 @@ pub returns-clause-allowed : goal.returns-clause-allowed
 returns-clause-allowed c =
     (leave_added c.args.self.now c.args.client c.args.name c.in_ok-clock.clock c.in_ok-clock.ensures.answers c.add.result
     (added_memory c.args.self.now c.add.new.self (Gave c.args.client c.args.name) c.add.result c.add.ensures.added)).allowed
+
+pub returns-in_err-clock-clause-no_memory : goal.returns-in_err-clock-clause-no_memory
+returns-in_err-clock-clause-no_memory c = passed_memory c.in_err-clock.field-0.0 c.in_err-clock.ensures.checked.memory c.from_residual.result c.from_residual.ensures.1

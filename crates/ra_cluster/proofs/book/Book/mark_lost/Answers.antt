@@ -6,14 +6,17 @@ use Rattle.ra_cluster.proofs.book.Book.mark_lost.Goals as goal
 
 pub flag_lost-requires : goal.flag_lost-requires
 flag_lost-requires c =
-    subst Ascends (sym c.as_mut_slice.ensures.value) (c.kept_histories_go_on.ensures.ascends (book_of c.self.inside) c.self.inside.node c.self.invariant)
+    subst Ascends (sym c.as_mut_slice.ensures.value) (c.kept_histories_go_on.ensures.ascends (book_of c.self.inside) c.self.inside.node c.self.invariant.keeps)
 
 pub invariant_of-self : goal.invariant_of-self
 invariant_of-self c =
     let lent = c.as_mut_slice in
-    c.kept_histories_go_on.ensures.flags (book_of c.self.inside) _ c.self.inside.node c.self.invariant
-    (flags_book c.args.self.now (book_of c.self.inside) c.self.view_is c.args.frame.now c.self.inside.sent lent.result.now c.flag_lost.new.sent
-    c.flag_lost.result lent.ensures.value lent.ensures.len c.flag_lost.ensures).frames
+    record {
+      keeps = c.kept_histories_go_on.ensures.flags (book_of c.self.inside) _ c.self.inside.node c.self.invariant.keeps
+          (flags_book c.args.self.now (book_of c.self.inside) c.self.view_is c.args.frame.now c.self.inside.sent lent.result.now c.flag_lost.new.sent
+          c.flag_lost.result lent.ensures.value lent.ensures.len c.flag_lost.ensures).frames;
+      reserved = c.self.invariant.reserved;
+    }
 
 pub returns-clause-ok : goal.returns-clause-ok
 returns-clause-ok c =
@@ -23,7 +26,7 @@ returns-clause-ok c =
     c.flag_lost.result lent.ensures.value lent.ensures.len c.flag_lost.ensures)
 
 pub returns-clause-history : goal.returns-clause-history
-returns-clause-history c = history_of _ _ _ (invariant_of-self c) refl
+returns-clause-history c = history_of _ _ _ (invariant_of-self c).keeps refl
 
 pub returns-clause-not_sent : goal.returns-clause-not_sent
 returns-clause-not_sent c =

@@ -30,8 +30,11 @@ pub returns-in_err-frame-clause-allowed : goal.returns-in_err-frame-clause-allow
 returns-in_err-frame-clause-allowed c =
     (receive_passed c.args.self.now c.args.bytes.now c.in_err-frame.field-0.0 c.in_err-frame.ensures.answers c.from_residual.result c.from_residual.ensures.1).allowed
 
-pub add-requires : goal.add-requires
-add-requires c = c.in_ok-frame.ensures.checked.next.1
+pub add-requires-clause-next : goal.add-requires-clause-next
+add-requires-clause-next c = c.in_ok-frame.ensures.checked.next.1
+
+pub add-requires-clause-holds : goal.add-requires-clause-holds
+add-requires-clause-holds c client name is = absurd cc
 
 pub returns-clause-ok : goal.returns-clause-ok
 returns-clause-ok c = added_frame c.args.self.now c.add.new.self c.args.bytes.now c.in_ok-frame.frame c.in_ok-frame.ensures.checked.next.0 c.add.result c.add.ensures.added
