@@ -47,12 +47,14 @@ fn made_once(alloc: Global, book: &mut Book, name: Name, call: Call<'_>) -> Resu
     }
 }
 
-/// Makes a call of a book, and makes it again if memory ran out.
+/// Makes a call of a book, and makes it again if memory ran out. A leave needs none: it may not be refused, whichever
+/// growth is.
 fn try_call(alloc: Global, book: &mut Book, name: Name, call: Call<'_>, kept: Kept) -> Tried {
     match made_once(alloc, book, name, call) {
         Ok(()) => Tried::AtOnce,
         Err(is_memory)
             if is_memory
+                && !matches!(call, Call::Leave(_))
                 && has(book, kept.0, kept.1, kept.2)
                 && made_once(alloc, book, name, call).is_ok() => { Tried::Again }
         Err(_) => Tried::Wrong,
@@ -433,12 +435,13 @@ fn try_at<R: Wait>(
     }
 }
 
-/// A client locks `r` at the one site and unlocks it.
+/// A client locks `r` at the one site and unlocks it, which needs no memory.
 fn try_site<R: Wait>(rt: &R, alloc: Global, name: &Name, post: &Post, sites: &[Site]) -> Tried {
-    both(
-        try_at(rt, alloc, Act::Locks, name, post, sites),
-        try_at(rt, alloc, Act::Unlocks, name, post, sites),
-    )
+    let locked = try_at(rt, alloc, Act::Locks, name, post, sites);
+    match call_at(rt, alloc, Act::Unlocks, name, post, sites) {
+        Ok(()) => locked,
+        Err(_) => Tried::Wrong,
+    }
 }
 
 /// Makes a cluster of one site, at which a client locks `r` and unlocks it. If it cannot be made, returns whether
@@ -475,8 +478,8 @@ fn is_wanting(fault: SiteError) -> bool {
     )
 }
 
-/// A client of a node of a cluster locks `r`, does nothing and unlocks it. If it is not let in, or the cluster was
-/// stopped, returns whether memory ran out.
+/// A client of a node of a cluster locks `r`, does nothing and unlocks it, which needs no memory. If it is not let in, or
+/// the cluster was stopped, returns whether memory ran out.
 fn try_work<R: Wait>(
     rt: &R,
     alloc: Global,
@@ -492,9 +495,7 @@ fn try_work<R: Wait>(
     };
     match held.unlocked {
         Ok(()) => Ok(Tried::AtOnce),
-        Err(fault) if fault == WANTING && cluster.unlock(rt, alloc, node, 1, name) == Ok(()) => {
-            Ok(Tried::Again)
-        }
+        Err(fault) if fault == WANTING => Ok(Tried::Wrong),
         Err(fault) => Err(is_wanting(fault)),
     }
 }

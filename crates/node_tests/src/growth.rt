@@ -3,7 +3,7 @@ use crate::helpers::{id, r, reply, request, writer};
 use crate::names::numbered;
 use Call::{Ask, Leave, Reply, Request};
 use ra_bag::Bag;
-use ra_node::{AskError, LeaveError, Node, ReceiveError};
+use ra_node::{AskError, LeaveError, Node, Outcome, ReceiveError};
 use ra_stamp::{Entry, Message, Messages, Mode};
 use ra_table::{EnterError, RequestError, Table};
 use std::alloc::Global;
@@ -122,6 +122,38 @@ fn try_node(alloc: Global) -> Tried {
 #[test]
 fn growth_of_a_node(rt: HostRuntime) {
     end(&rt, try_node(rt.alloc()));
+}
+
+/// How many of the calls above there are before the first leave. At it, node 2 is deferred and client 2 is queued.
+const BEFORE_LEAVING: usize = 5;
+
+/// Makes room for a leave and the calls before it. The leave needs no memory then: it may not be refused, whichever growth
+/// is. If a call before it is refused, returns whether memory ran out.
+fn try_leaving(alloc: Global, node: &mut Node) -> Result<Tried, bool> {
+    let Ok(empty) = Outcome::for_leave(alloc, 2) else {
+        return Err(true);
+    };
+    for place in 0..BEFORE_LEAVING {
+        make(alloc, node, CALLS[place])?;
+    }
+    match node.leave_into(alloc, 1, r(), empty) {
+        Ok(left) if left.sends.len() == 2 && left.marks.len() == 2 => Ok(Tried::AtOnce),
+        _ => Ok(Tried::Wrong),
+    }
+}
+
+/// Makes a node, which takes no memory, and has a client leave with room that was made before.
+fn try_leaving_node(alloc: Global) -> Result<Tried, bool> {
+    match Node::new(alloc, id(1), 2, 0) {
+        Ok(mut node) => try_leaving(alloc, &mut node),
+        Err(_) => Err(false),
+    }
+}
+
+#[test]
+fn growth_of_a_leave_with_room(rt: HostRuntime) {
+    let alloc = rt.alloc();
+    end(&rt, again(try_leaving_node(alloc), try_leaving_node(alloc)));
 }
 
 /// Has a node take a REPLY about a name of three digits, which it does not await. Returns whether nothing came of it.
