@@ -1,8 +1,10 @@
 //! What `ra cluster` does, as a plain program: nothing is proved, no history is kept and nothing is settled. It has the same
 //! design: a thread for each node and for each client, each node under a lock, a condition on which its clients wait and which is told
-//! where one was let in, and a channel for each node, by which messages come. It reads a script as `bench/cluster` writes it, and prints how many requests
+//! where one was let in, and a channel for each node, by which messages come. With the argument `each`, each client has a condition of
+//! its own, which is told after the lock is given back. It reads a script as `bench/cluster` writes it, and prints how many requests
 //! were made and messages sent.
 use std::collections::{HashMap, VecDeque};
+use std::env;
 use std::io::{self, Read};
 use std::mem;
 use std::sync::mpsc::{self, Receiver, Sender};
@@ -55,15 +57,15 @@ struct Node {
     me: usize,
     nodes: usize,
     resources: HashMap<Name, Resource>,
-    /// Whether a client was let in since this was last asked.
-    lets_in: bool,
+    /// The client that was let in since this was last asked.
+    let_in: Option<usize>,
     requests: u64,
     sent: u64,
 }
 
 impl Node {
     fn new(me: usize, nodes: usize) -> Node {
-        Node { me, nodes, resources: HashMap::new(), lets_in: false, requests: 0, sent: 0 }
+        Node { me, nodes, resources: HashMap::new(), let_in: None, requests: 0, sent: 0 }
     }
 
     fn ask(&mut self, client: usize, name: &Name, mode: Mode) -> Vec<Send> {
@@ -83,7 +85,9 @@ impl Node {
         resource.highest += 1;
         let seq = resource.highest;
         let awaited = self.nodes - 1;
-        self.lets_in |= awaited == 0;
+        if awaited == 0 {
+            self.let_in = Some(client);
+        }
         resource.phase = if awaited == 0 {
             Phase::Inside { client, mode, seq }
         } else {
@@ -134,7 +138,9 @@ impl Node {
             Message::Reply { name } => {
                 let resource = self.resources.get_mut(&name).expect("the name was met");
                 if let Phase::Waiting { client, mode, seq, awaited } = resource.phase {
-                    self.lets_in |= awaited == 1;
+                    if awaited == 1 {
+                        self.let_in = Some(client);
+                    }
                     resource.phase = if awaited == 1 {
                         Phase::Inside { client, mode, seq }
                     } else {
@@ -157,25 +163,37 @@ impl Node {
 
 struct Site {
     node: Mutex<Node>,
+    /// On which the clients wait that have no condition of their own.
     entered: Condvar,
+    /// The conditions of clients.
+    own: HashMap<usize, Condvar>,
 }
 
 impl Site {
-    /// Steps the node, wakes its clients where one was let in, and sends what there is to send.
+    fn new(me: usize, nodes: usize) -> Site {
+        Site { node: Mutex::new(Node::new(me, nodes)), entered: Condvar::new(), own: HashMap::new() }
+    }
+
+    /// Steps the node, wakes the client that was let in, or all of the node, and sends what there is to send.
     fn step<S: IntoIterator<Item = Send>>(&self, post: &[Sender<Message>], step: impl FnOnce(&mut Node) -> S) {
         let mut node = self.node.lock().unwrap();
         let sends = step(&mut node);
-        if mem::take(&mut node.lets_in) {
+        let let_in = node.let_in.take();
+        if let_in.is_some() && self.own.is_empty() {
             self.entered.notify_all();
         }
         drop(node);
+        if let Some(own) = let_in.and_then(|client| self.own.get(&client)) {
+            own.notify_one();
+        }
         send_all(sends, post);
     }
 
     fn lock(&self, client: usize, name: &Name, mode: Mode, post: &[Sender<Message>]) {
         self.step(post, |node| node.ask(client, name, mode));
+        let entered = self.own.get(&client).unwrap_or(&self.entered);
         let node = self.node.lock().unwrap();
-        drop(self.entered.wait_while(node, |node| !node.is_inside(client, name)).unwrap());
+        drop(entered.wait_while(node, |node| !node.is_inside(client, name)).unwrap());
     }
 
     fn unlock(&self, name: &Name, post: &[Sender<Message>]) {
@@ -239,9 +257,12 @@ fn main() {
     let mut text = String::new();
     io::stdin().read_to_string(&mut text).expect("a script");
     let (nodes, clients) = read_script(&text);
-    let sites: Vec<Site> = (0..nodes)
-        .map(|me| Site { node: Mutex::new(Node::new(me, nodes)), entered: Condvar::new() })
-        .collect();
+    let mut sites: Vec<Site> = (0..nodes).map(|me| Site::new(me, nodes)).collect();
+    if env::args().nth(1).is_some_and(|word| word == "each") {
+        for (client, (place, _)) in clients.iter().enumerate() {
+            sites[*place].own.insert(client, Condvar::new());
+        }
+    }
     let (post, inboxes): (Vec<_>, Vec<_>) = (0..nodes).map(|_| mpsc::channel()).unzip();
     let (sites, post) = (&sites, &post);
     thread::scope(|pumps| {

@@ -3,6 +3,8 @@
 #![tactic(auto)]
 
 #[cfg(test)]
+mod asleep;
+#[cfg(test)]
 mod audits;
 #[cfg(test)]
 mod books;

@@ -270,6 +270,18 @@ fn a_closed_gate_lets_no_frame_in_and_ends_the_pump(rt: HostRuntime) {
     ];
     let ended = [stopped(Stop::Gate, 0), stopped(Stop::Gate, 0)];
     assert_does_from(&rt, 0, 0, &steps, &ended);
+    // Of frames that come together it is asked about each, and those before the refused one are answered.
+    let steps = [
+        Sends(1, 1, 2),
+        Sends(1, 1, 2),
+        Sends(1, 1, 2),
+        Pumps(2),
+        HasStepped(2),
+        ClosesPost,
+        HasLeft(0, 1, 1),
+    ];
+    let ended = [stopped(Stop::Gate, 0), stopped(Stop::Gate, 1)];
+    assert_does_from(&rt, 0, 1, &steps, &ended);
 }
 
 #[test]
