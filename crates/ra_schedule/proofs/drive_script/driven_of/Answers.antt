@@ -14,18 +14,18 @@ returns-clause-finished c =
     let nothing = c.has_nothing_left.ensures in
     elim c.if-has_nothing_left.branch [
       | then-has_nothing_left w ↦
-        let clients = w.deref.result.now in
-        let tracks = subst (λ (of : List Progress). Tracks script world of) (sym w.deref.ensures.value) c.requires.tracked in (
-        λ h.
-            let left = nothing.0 w.if-has_nothing_left.true in
-            record {
-              all_done = all_done script world clients (steps_of world.moves) tracks refl (w.are_done-finished.ensures.0 (sym w.finished-is ∙ h));
-              none_waits = left.0;
-              none_queued = left.1;
-              none_under_way = left.2;
-            },
-        λ h. w.finished-is ∙ w.are_done-finished.ensures.1 (are_done script world clients (steps_of world.moves) tracks refl h.all_done),
-      )
+          let clients = w.deref.result.now in
+          let tracks = subst (λ (of : List Progress). Tracks script world of) (sym w.deref.ensures.value) c.requires.tracked in (
+            λ h.
+                let left = nothing.0 w.if-has_nothing_left.true in
+                record {
+                  all_done = all_done script world clients (steps_of world.moves) tracks refl (w.are_done-finished.ensures.0 (sym w.finished-is ∙ h));
+                  none_waits = left.0;
+                  none_queued = left.1;
+                  none_under_way = left.2;
+                },
+            λ h. w.finished-is ∙ w.are_done-finished.ensures.1 (are_done script world clients (steps_of world.moves) tracks refl h.all_done),
+          )
       | else-has_nothing_left w ↦ (
         λ h. absurd (false≢true (sym w.if-has_nothing_left.false ∙ sym w.finished-is ∙ h)),
         λ h. w.finished-is ∙ nothing.1 (h.none_waits, h.none_queued, h.none_under_way),
