@@ -1,0 +1,6 @@
+pub mod Forms
+pub mod Put
+pub mod Sends
+pub mod Taking
+pub mod Pieces
+pub mod Served

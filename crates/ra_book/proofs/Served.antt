@@ -1,0 +1,173 @@
+-- Lines that were read and answered, one after the other.
+use Rattle.std.proofs.Common.{◌≡◌, ◌≢◌, ℕ, false, List, [], ◌∷◌, ◌++◌, Option, Result, Ok, Err, inl, inr, codes, refl, sym, ap, subst, ◌∙◌, append_assoc, arith}
+use Rattle.std.proofs.lemmas.List.{append-nil}
+use Rattle.std.proofs.lemmas.List.Elements.{All-nil, All-cons, All-push}
+use Rattle.std.specs.Io.KnownBytes.{Appends, Consumes, IsAtEnd}
+use Rattle.ra_book.specs.declared.output.Output.{Output}
+use Rattle.ra_book.specs.Output.{HasPut}
+use Rattle.std.proofs.KnownBytes.{Consumes-nil, Consumes-trans}
+use Rattle.ra_book.specs.declared.error.BookFault.{BookFault}
+use Rattle.ra_book.specs.declared.error.BookFault.TheVariants.{Line, Read, Write}
+use Rattle.ra_book.specs.declared.refusal.Refusal.TheVariants as refusal
+use Rattle.ra_book.specs.Timed.{Timed}
+use Rattle.ra_book.specs.Answers.{Answers, AnswersAll, refused_line}
+use Rattle.ra_book.specs.declared.line.Line.{Line as KeptLine}
+use Rattle.ra_book.specs.Input.{HasNoFeed, TakesOpen}
+use Rattle.ra_book.specs.NextLine.{ReadsLine}
+use Rattle.ra_book.specs.Book.{HasRead, IsAnswered, IsOwed, IsWritten, lines_text}
+use Rattle.ra_book.specs.Serving.{IsOpenedBy, OpensBy, Opens, AnswersSome, Serves}
+
+-- nothing was read
+pub nothing : (old : Option (List ℕ)) → HasRead old old [] []
+nothing old = record { taken = Consumes-nil old; each = All-nil HasNoFeed; rest = All-nil (λ byte. byte ≢ 10) }
+
+lines_more : (lines : List (List ℕ)) (line rest : List ℕ) → lines_text (lines ++ line ∷ []) ++ rest ≡ lines_text lines ++ ((line ++ 10 ∷ []) ++ rest)
+lines_more [] line rest = ap (λ (t : List ℕ). t ++ rest) (append-nil (line ++ 10 ∷ []))
+lines_more (first ∷ lines) line rest =
+    append_assoc (first ++ 10 ∷ []) (lines_text (lines ++ line ∷ [])) rest
+    ∙ (ap (λ (t : List ℕ). (first ++ 10 ∷ []) ++ t) (lines_more lines line rest) ∙ sym (append_assoc (first ++ 10 ∷ []) (lines_text lines) ((line ++ 10 ∷ []) ++ rest)))
+
+-- a line, and then bytes without a line feed
+pub line_more : (old mid new : Option (List ℕ)) (lines : List (List ℕ)) (line : List ℕ) → HasRead old mid lines [] → Consumes mid new (line ++ 10 ∷ [])
+    → HasNoFeed line → HasRead old new (lines ++ line ∷ []) []
+line_more old mid new lines line read took free = record {
+  taken = subst (Consumes old new)
+      (ap (λ (t : List ℕ). t ++ (line ++ 10 ∷ [])) (append-nil (lines_text lines)) ∙ (ap (λ (t : List ℕ). lines_text lines ++ t) (sym (append-nil (line ++ 10 ∷ []))) ∙ sym (lines_more lines line [])))
+      (Consumes-trans old mid new (lines_text lines ++ []) (line ++ 10 ∷ []) read.taken took);
+  each = All-push HasNoFeed lines line read.each free;
+  rest = All-nil (λ byte. byte ≢ 10);
+}
+
+pub open_more : (old mid new : Option (List ℕ)) (lines : List (List ℕ)) (part : List ℕ) → HasRead old mid lines [] → Consumes mid new part → HasNoFeed part
+    → HasRead old new lines part
+open_more old mid new lines part read took free = record {
+  taken = subst (Consumes old new) (ap (λ (t : List ℕ). t ++ part) (append-nil (lines_text lines)))
+      (Consumes-trans old mid new (lines_text lines ++ []) part read.taken took);
+  each = read.each;
+  rest = free;
+}
+
+-- the first line, and those after it
+read_on : (old mid new : Option (List ℕ)) (line : List ℕ) (lines : List (List ℕ)) (part : List ℕ) → HasRead old mid (line ∷ []) [] → HasRead mid new lines part
+    → HasRead old new (line ∷ lines) part
+read_on old mid new line lines part first others = record {
+  taken = subst (Consumes old new)
+      (ap (λ (t : List ℕ). t ++ (lines_text lines ++ part)) (append-nil (lines_text (line ∷ [])) ∙ append-nil (line ++ 10 ∷ []))
+      ∙ sym (append_assoc (line ++ 10 ∷ []) (lines_text lines) part))
+      (Consumes-trans old mid new (lines_text (line ∷ []) ++ []) (lines_text lines ++ part) first.taken others.taken);
+  each = All-cons HasNoFeed line lines (first.each 0 line (omega arith)) others.each;
+  rest = others.rest;
+}
+
+-- one more answer
+pub answers_more : (a b c : Timed) (lines : List (List ℕ)) (line text more : List ℕ) → AnswersAll a lines text b → Answers b line more c
+    → AnswersAll a (lines ++ line ∷ []) (text ++ more) c
+answers_more a b c [] line text more h answer =
+    (c, more, [], subst (λ (at : Timed). Answers at line more c) h.1 answer, (ap (λ (t : List ℕ). t ++ more) h.0 ∙ sym (append-nil more)), (refl, refl))
+answers_more a b c (first ∷ lines) line text more h answer =
+    (h.0, h.1, h.2 ++ more, h.3, (ap (λ (t : List ℕ). t ++ more) h.4 ∙ append_assoc h.1 h.2 more), answers_more h.0 b c lines line h.2 more h.5 answer)
+
+-- a book whose first line was read, and then these lines
+answered : (old mid new : Option (List ℕ)) (made after : Timed) (text : List ℕ) (line : List ℕ) → HasRead old mid (line ∷ []) [] → IsOpenedBy line made
+    → AnswersSome mid new made text after → IsAnswered old new (codes "ok\n" ++ text)
+answered old mid new made after text line read opened some = (
+  line ∷ some.0,
+  some.1,
+  read_on old mid new line some.0 some.1 read some.2,
+  (opened.0, opened.1, opened.2, after, text, opened.3, refl, subst (λ (at : Timed). AnswersAll at some.0 text after) opened.4 some.3),
+)
+
+pub served : (old mid new : Option (List ℕ)) (made after : Timed) (ok text : List ℕ) (result : Result (Unit {0}) BookFault) → Opens old mid ok (Ok made)
+    → Serves mid new made text after result → IsOwed old new (ok ++ text) result
+served old mid new made after ok text (Ok done) opens serves =
+    let is : ok ≡ codes "ok\n" = opens.3 in
+    rw is (answered old mid new made after text opens.0 opens.1 opens.2 serves.0, (λ none. cc), serves.1)
+served old mid new made after ok text (Err Line) opens serves = absurd serves
+served old mid new made after ok text (Err Read) opens serves =
+    let is : ok ≡ codes "ok\n" = opens.3 in rw is (answered old mid new made after text opens.0 opens.1 opens.2 serves)
+served old mid new made after ok text (Err Write) opens serves =
+    let is : ok ≡ codes "ok\n" = opens.3 in rw is (inl (answered old mid new made after text opens.0 opens.1 opens.2 serves))
+
+-- a book that did not open
+pub unopened : (old new : Option (List ℕ)) (text : List ℕ) (fault : BookFault) → Opens old new text (Err fault) → IsOwed old new text (Err fault)
+unopened old new text Line opens = opens
+unopened old new text Read opens = ([], opens.0, opens.1, opens.2)
+unopened old new text Write opens = inl ([], opens.0, opens.1, opens.2)
+
+-- a writer that failed in the end
+pub unwritten : (old new : Option (List ℕ)) (text : List ℕ) (result : Result (Unit {0}) BookFault) → IsOwed old new text result → IsOwed old new text (Err Write)
+unwritten old new text (Ok done) owed = inl owed.0
+unwritten old new text (Err Line) owed = inr owed
+unwritten old new text (Err Read) owed = inl owed
+unwritten old new text (Err Write) owed = owed
+
+-- ---- The first line
+
+pub opens_by : (old new : Option (List ℕ)) (line text : List ℕ) (result : Result Timed BookFault) → Consumes old new (line ++ 10 ∷ []) → HasNoFeed line
+    → OpensBy line text result → Opens old new text result
+opens_by old new line text (Ok made) took free opens = (line, line_more old old new [] line (nothing old) took free, opens.0, opens.1)
+opens_by old new line text (Err Line) took free opens = (inl (line, line_more old old new [] line (nothing old) took free, opens.0), opens.1)
+opens_by old new line text (Err Read) took free opens = absurd opens
+opens_by old new line text (Err Write) took free opens = absurd opens
+
+pub no_line : (old new : Option (List ℕ)) → TakesOpen old new → IsAtEnd new → Opens old new (refused_line refusal.Line) (Err Line)
+no_line old new h end = (inr (h.0, open_more old old new [] h.0 (nothing old) h.1 h.2, end), refl)
+
+pub not_opened : (old new : Option (List ℕ)) (kept : KeptLine) (fault : BookFault) → ReadsLine old new kept (Err fault) → Opens old new [] (Err fault)
+not_opened old new kept Line h = absurd h
+not_opened old new kept Read h = (h.0, open_more old old new [] h.0 (nothing old) h.1 h.2, refl)
+not_opened old new kept Write h = (h.0, open_more old old new [] h.0 (nothing old) h.1 h.2, refl)
+
+-- ---- The lines after it
+
+-- these lines were answered so far
+abbrev pub HasAnswered : Option (List ℕ) → Option (List ℕ) → Timed → List ℕ → Timed → Type 0
+HasAnswered old now before text after = (lines : List (List ℕ)) × HasRead old now lines [] × AnswersAll before lines text after
+
+pub none_answered : (old : Option (List ℕ)) (node : Timed) → HasAnswered old old node [] node
+none_answered old node = ([], nothing old, (refl, refl))
+
+pub one_answered : (old mid new : Option (List ℕ)) (a b c : Timed) (text line more : List ℕ) → HasAnswered old mid a text b → Consumes mid new (line ++ 10 ∷ [])
+    → HasNoFeed line → Answers b line more c → HasAnswered old new a (text ++ more) c
+one_answered old mid new a b c text line more h took free answer =
+    (h.0 ++ line ∷ [], line_more old mid new h.0 line h.1 took free, answers_more a b c h.0 line text more h.2 answer)
+
+some_answered : (old mid new : Option (List ℕ)) (a b : Timed) (text : List ℕ) → HasAnswered old mid a text b → TakesOpen mid new → AnswersSome old new a text b
+some_answered old mid new a b text h part = (h.0, part.0, open_more old mid new h.0 part.0 h.1 part.1 part.2, h.2)
+
+pub all_answered : (old mid new : Option (List ℕ)) (a b : Timed) (text : List ℕ) → HasAnswered old mid a text b → TakesOpen mid new → IsAtEnd new
+    → Serves old new a text b (Ok tt)
+all_answered old mid new a b text h part end = (some_answered old mid new a b text h part, end)
+
+pub stopped : (old mid new : Option (List ℕ)) (a b : Timed) (text : List ℕ) (kept : KeptLine) (fault : BookFault) → HasAnswered old mid a text b
+    → ReadsLine mid new kept (Err fault) → Serves old new a text b (Err fault)
+stopped old mid new a b text kept Line h part = absurd part
+stopped old mid new a b text kept Read h part = some_answered old mid new a b text h part
+stopped old mid new a b text kept Write h part = some_answered old mid new a b text h part
+
+pub too_many_lines : (old now : Option (List ℕ)) (a b : Timed) (text : List ℕ) → HasAnswered old now a text b → Serves old now a text b (Err Read)
+too_many_lines old now a b text h = (h.0, [], h.1, h.2)
+
+-- ---- What was written in the end
+
+pub left_unwritten : (old new : Option (List ℕ)) (text : List ℕ) (out : Output) → HasPut old new (text ++ []) out → IsWritten old new text (Err Write)
+left_unwritten old new text out h = (h.sent, h.rest, sym (append-nil text) ∙ h.text_is, h.appends)
+
+pub all_written : (old new : Option (List ℕ)) (text : List ℕ) (result : Result (Unit {0}) BookFault) (out : Output) → HasPut old new (text ++ []) out
+    → out.failed ≡ false → out.waiting.items ≡ [] → IsWritten old new text result
+all_written old new text result out h works empty = by result
+  where
+    none : h.rest ≡ []
+    none = h.waits works ∙ empty
+
+    whole : text ≡ h.sent
+    whole = sym (append-nil text) ∙ (h.text_is ∙ (ap (λ (t : List ℕ). h.sent ++ t) none ∙ append-nil h.sent))
+
+    wrote : Appends old new text
+    wrote = subst (Appends old new) (sym whole) h.appends
+
+    by : (r : Result (Unit {0}) BookFault) → IsWritten old new text r
+    by (Ok done) = wrote
+    by (Err Line) = wrote
+    by (Err Read) = wrote
+    by (Err Write) = (text, [], sym (append-nil text), wrote)

@@ -1,0 +1,99 @@
+-- The answers to the lines of a book after the first.
+use Rattle.std.specs.Prelude.{◌≡◌, ◌⊎◌, ℕ, List, [], ◌∷◌, ◌++◌, codes, decimal, flat_map}
+use Rattle.hex.specs.Hex.{encode_lower}
+use Rattle.ra_stamp.specs.Message.{to_of}
+use Rattle.ra_stamp.specs.declared.entry.Mark.{Mark}
+use Rattle.ra_stamp.specs.declared.message.Message.{Message}
+use Rattle.ra_frame.specs.declared.error.FrameError.{FrameError}
+use Rattle.ra_frame.specs.declared.error.FrameError.TheVariants as frame
+use Rattle.ra_frame.specs.FrameText.{IsWrittenText}
+use Rattle.ra_world.specs.Lines.{field, mark_line}
+use Rattle.ra_cluster.specs.declared.event.BookKind.{BookKind}
+use Rattle.ra_book.specs.declared.refusal.Refusal.{Refusal}
+use Rattle.ra_book.specs.declared.refusal.Refusal.TheVariants as refusal
+use Rattle.ra_book.specs.BookText.{IsEvent, IsUnread}
+use Rattle.ra_book.specs.Timed.{Timed, Takes, Refuses}
+
+-- the word of what is wrong with a frame
+abbrev pub frame_word : FrameError → List ℕ
+frame_word frame.Short = codes "Short"
+frame_word frame.Version = codes "Version"
+frame_word frame.Kind = codes "Kind"
+frame_word frame.From = codes "From"
+frame_word frame.To = codes "To"
+frame_word frame.SameNode = codes "SameNode"
+frame_word frame.Mode = codes "Mode"
+frame_word frame.Seq = codes "Seq"
+frame_word frame.Clock = codes "Clock"
+frame_word frame.NameLength = codes "NameLength"
+frame_word frame.NameByte = codes "NameByte"
+frame_word frame.Trailing = codes "Trailing"
+
+-- the word of a refusal
+abbrev pub word_of : Refusal → List ℕ
+word_of refusal.Line = codes "Line"
+word_of refusal.Hex = codes "Hex"
+word_of (refusal.Frame fault) = frame_word fault
+word_of refusal.Busy = codes "Busy"
+word_of refusal.Exhausted = codes "Exhausted"
+word_of refusal.NotHeld = codes "NotHeld"
+word_of refusal.WrongNode = codes "WrongNode"
+word_of refusal.Stranger = codes "Stranger"
+word_of refusal.ClockFull = codes "ClockFull"
+word_of refusal.Memory = codes "Memory"
+
+-- the answer to a line that is refused
+abbrev pub refused_line : Refusal → List ℕ
+refused_line why = codes "refused" ++ field (word_of why) ++ codes "\n"
+
+-- the line of a frame with these bytes that goes to this node
+abbrev pub send_line : ℕ → List ℕ → List ℕ
+send_line to bytes = codes "send" ++ field (decimal to) ++ field (encode_lower bytes) ++ codes "\n"
+
+-- the text has a line for each message, in order: its frame in version 2, with this clock
+abbrev pub AreSends : ℕ → List Message → List ℕ → Type 0
+AreSends clock [] text = text ≡ []
+AreSends clock (message ∷ messages) text =
+    (bytes : List ℕ) × (rest : List ℕ) × IsWrittenText bytes (record { clock = clock; message = message })
+    × (text ≡ send_line (to_of message) bytes ++ rest) × AreSends clock messages rest
+
+-- the answer to an event: its frames, its marks, and `ok`
+pub record IsPosted (clock : ℕ) (sends : List Message) (marks : List Mark) (text : List ℕ) : Type 0 where
+  pub sent : List ℕ
+  pub sends_are : AreSends clock sends sent
+  pub text_is : text ≡ sent ++ flat_map mark_line marks ++ codes "ok\n"
+
+-- the line is an event that the node takes, and it sends and marks this
+pub record Reacts (old : Timed) (line : List ℕ) (sends : List Message) (marks : List Mark) (new : Timed) : Type 0 where
+  pub kind : BookKind
+  pub is_event : IsEvent line kind
+  pub takes : Takes old kind sends marks new
+
+-- the line is no event, or one that is refused; the node is as it was
+pub record Stays (old : Timed) (line : List ℕ) (new : Timed) (why : Refusal) : Type 0 where
+  pub cause : IsUnread line why ⊎ ((kind : BookKind) × IsEvent line kind × Refuses old kind why)
+  pub new_is : new ≡ old
+
+-- the node takes the line, and this is the answer
+pub record Accepts (old : Timed) (line text : List ℕ) (new : Timed) : Type 0 where
+  pub sends : List Message
+  pub marks : List Mark
+  pub reacts : Reacts old line sends marks new
+  pub posted : IsPosted new.clock sends marks text
+
+-- the line is refused, and this is the answer
+pub record Denies (old : Timed) (line text : List ℕ) (new : Timed) : Type 0 where
+  pub why : Refusal
+  pub stays : Stays old line new why
+  pub text_is : text ≡ refused_line why
+
+-- the answer to a line, and what the node is after it
+abbrev pub Answers : Timed → List ℕ → List ℕ → Timed → Type 0
+Answers old line text new = Accepts old line text new ⊎ Denies old line text new
+
+-- the answers to these lines, in order, and what the node is after them
+abbrev pub AnswersAll : Timed → List (List ℕ) → List ℕ → Timed → Type 0
+AnswersAll old [] text new = (text ≡ []) × (new ≡ old)
+AnswersAll old (line ∷ lines) text new =
+    (next : Timed) × (first : List ℕ) × (rest : List ℕ) × Answers old line first next × (text ≡ first ++ rest)
+    × AnswersAll next lines rest new

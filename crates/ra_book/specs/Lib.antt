@@ -1,0 +1,10 @@
+pub mod BookText
+pub mod Fields
+pub mod Timed
+pub mod Answers
+pub mod Output
+pub mod Input
+pub mod NextLine
+pub mod Book
+pub mod Serving
+pub mod Laws

@@ -1,0 +1,133 @@
+//! Some bytes of the input.
+ghost use Rattle.std.specs.Prelude.{◌∷◌, [], IfOk, IfSome, IsNone, OnErr};
+ghost use Rattle.std.specs.Io.KnownBytes.{Consumes, IsAtEnd};
+ghost use Rattle.ra_book.specs.Input.{KeepsShown, TakesShown, TakesPiece};
+
+use crate::line::Line;
+use ra_text::cut;
+use std::io::{BufRead, Read};
+
+/// What was taken.
+#[derive(Clone, Copy)]
+pub enum Piece {
+    /// Bytes of a line that goes on.
+    Part,
+    /// The last bytes of a line, and its line feed.
+    Over,
+    /// Nothing: the input is at its end.
+    End,
+}
+
+/// That the reader failed.
+#[derive(Clone, Copy)]
+pub struct ReadFailed;
+
+/// What is taken of the bytes that a reader shows.
+#[derive(Clone, Copy)]
+pub struct Taken {
+    /// How many they are.
+    pub count: usize,
+    /// Whether the last of them is a line feed.
+    pub is_over: bool,
+    /// Whether they are all that is shown.
+    pub is_all: bool,
+}
+
+/// Adds to a line what is shown of it, and returns how many bytes that takes.
+fn keep_shown(shown: &[u8], line: &mut Line) -> Taken
+    ensures { KeepsShown shown.now line.old line.new result }
+{
+    let (part, after) = cut(shown, b'\n');
+    line.push(part);
+    match after {
+        Some(rest) => Taken {
+            count: part.len() + 1,
+            is_over: true,
+            is_all: rest.is_empty(),
+        },
+        None => Taken {
+            count: part.len(),
+            is_over: false,
+            is_all: true,
+        },
+    }
+}
+
+/// Reads the next byte, or `None` at the end. It does not allocate.
+///
+/// # Errors
+///
+/// `ReadFailed`: the reader failed. It is not tried again.
+fn next_byte<R: Read>(reader: &mut R) -> Result<Option<u8>, ReadFailed>
+    ensures some { IfOk result (λ came. IfSome came (λ byte. Consumes (R.remaining reader.old) (R.remaining reader.new) (byte ∷ []))) }
+    ensures none { IfOk result (λ came. IsNone came
+        → Consumes (R.remaining reader.old) (R.remaining reader.new) [] × IsAtEnd (R.remaining reader.new)) }
+    ensures untaken { OnErr result (Consumes (R.remaining reader.old) (R.remaining reader.new) []) }
+{
+    let mut byte = [0; 1];
+    match reader.read(&mut byte) {
+        Ok(0) => Ok(None),
+        Ok(_) => Ok(Some(byte[0])),
+        Err(_) => Err(ReadFailed),
+    }
+}
+
+/// Takes one byte from a reader that shows none. By the contract of `BufRead`, that nothing is shown does not mean the end; that a read gives
+/// nothing does.
+///
+/// # Errors
+///
+/// `ReadFailed`: the reader failed. It is not tried again.
+fn take_byte<R: Read>(reader: &mut R, line: &mut Line) -> Result<Piece, ReadFailed>
+    ensures { TakesPiece (R.remaining reader.old) (R.remaining reader.new) line.old line.new result }
+{
+    let Some(byte) = next_byte(reader)? else {
+        return Ok(Piece::End);
+    };
+    if byte == b'\n' {
+        return Ok(Piece::Over);
+    }
+    line.push(&[byte]);
+    Ok(Piece::Part)
+}
+
+/// Takes what a reader shows of a line.
+///
+/// # Errors
+///
+/// `ReadFailed`: the reader failed. It is not tried again.
+fn take_shown<B: BufRead>(reader: &mut B, line: &mut Line) -> Result<Taken, ReadFailed>
+    ensures { TakesShown (B.remaining reader.old) (B.remaining reader.new) line.old line.new result }
+{
+    let shown = match reader.fill_buf() {
+        Ok(shown) => shown,
+        Err(_) => return Err(ReadFailed),
+    };
+    let taken = keep_shown(shown, line);
+    reader.consume(taken.count);
+    Ok(taken)
+}
+
+/// Takes some bytes of a line, or finds that the input is at its end. It says in `is_drained` whether the reader shows nothing more, so
+/// that to take more may mean to wait. It does not allocate.
+///
+/// # Errors
+///
+/// `ReadFailed`: the reader failed. It is not tried again.
+pub fn take_piece<B: BufRead>(
+    reader: &mut B,
+    line: &mut Line,
+    is_drained: &mut bool,
+) -> Result<Piece, ReadFailed>
+    ensures { TakesPiece (B.remaining reader.old) (B.remaining reader.new) line.old line.new result }
+{
+    let taken = take_shown(reader, line)?;
+    *is_drained = taken.is_all;
+    if taken.is_over {
+        Ok(Piece::Over)
+    } else if taken.count > 0 {
+        Ok(Piece::Part)
+    } else {
+        take_byte(reader, line)
+    }
+}

@@ -1,0 +1,174 @@
+//! A book that is read and answered.
+ghost use Rattle.std.specs.Prelude.{◌≡◌, ℕ, List, MatchOption};
+ghost use Rattle.ra_book.specs.Book.{IsOwed, IsWritten};
+ghost use Rattle.ra_book.specs.BookText.{IsFirst};
+ghost use Rattle.ra_book.specs.Input.{IsKeptLine};
+ghost use Rattle.ra_book.specs.Output.{Puts};
+ghost use Rattle.ra_book.specs.Serving.{IsOpenedBy, OpensBy, Opens, Serves};
+ghost use Rattle.ra_book.specs.Answers.{refused_line};
+ghost use Rattle.ra_book.specs.declared.refusal.Refusal.{Refusal};
+
+use crate::answering::answer_line;
+use crate::first_line::opened;
+use crate::line::Line;
+use crate::next_line::{Input, next_line};
+use crate::output::{Output, flush, put};
+use crate::refusal::refused_line;
+use crate::{BookFault, Refusal, TimedNode};
+use std::alloc::Global;
+use std::io::{BufRead, Write};
+
+/// Makes the node of a book that begins with this line, or returns `None` if it is no first line.
+fn opened_by(alloc: Global, line: &Line) -> Option<TimedNode>
+    ensures { (text : List ℕ) → IsKeptLine text line.now.bytes.items line.now.is_long
+        → MatchOption result ((node nodes start : ℕ) → IsFirst text node nodes start → ⊥) (IsOpenedBy text) }
+{
+    if line.is_long {
+        return None;
+    }
+    opened(alloc, line.bytes.as_slice())
+}
+
+/// Puts out that a first line is none.
+fn put_no_book<W: Write>(writer: &mut W, out: &mut Output)
+    ensures { Puts (W.contents writer.old) (W.contents writer.new) out.old out.new (refused_line Refusal.Line) }
+{
+    put(writer, out, refused_line(Refusal::Line).as_bytes());
+}
+
+/// Makes the node of a book that begins with this line, and puts out the answer.
+///
+/// # Errors
+///
+/// `Line`: it is no first line. This was put out.
+fn open_by<W: Write>(
+    alloc: Global,
+    line: &Line,
+    writer: &mut W,
+    out: &mut Output,
+) -> Result<TimedNode, BookFault>
+    ensures { (read : List ℕ) → IsKeptLine read line.now.bytes.items line.now.is_long
+        → (text : List ℕ) × OpensBy read text result
+        × Puts (W.contents writer.old) (W.contents writer.new) out.old out.new text }
+{
+    match opened_by(alloc, line) {
+        Some(node) => {
+            put(writer, out, b"ok\n");
+            Ok(node)
+        }
+        None => {
+            put_no_book(writer, out);
+            Err(BookFault::Line)
+        }
+    }
+}
+
+/// Reads the first line, makes its node, and puts out the answer.
+///
+/// # Errors
+///
+/// `Line`: it is none, or the input ends before it. This was put out. `Read`: the reader failed. `Write`: the writer failed.
+fn take_first<B: BufRead, W: Write>(
+    alloc: Global,
+    reader: &mut B,
+    input: &mut Input,
+    writer: &mut W,
+    out: &mut Output,
+) -> Result<TimedNode, BookFault>
+    ensures { (text : List ℕ) × Opens (B.remaining reader.old) (B.remaining reader.new) text result
+        × Puts (W.contents writer.old) (W.contents writer.new) out.old out.new text }
+{
+    let is_there = match next_line(reader, input, writer, out) {
+        Ok(is_there) => is_there,
+        Err(fault) => return Err(fault),
+    };
+    if is_there {
+        open_by(alloc, &input.line, writer, out)
+    } else {
+        put_no_book(writer, out);
+        Err(BookFault::Line)
+    }
+}
+
+/// Reads the lines after the first, and puts out their answers.
+///
+/// # Errors
+///
+/// `Read`: the reader failed. `Write`: the writer failed.
+fn take_events<B: BufRead, W: Write>(
+    alloc: Global,
+    node: &mut TimedNode,
+    reader: &mut B,
+    input: &mut Input,
+    writer: &mut W,
+    out: &mut Output,
+) -> Result<(), BookFault>
+    ensures { (text : List ℕ) × Serves (B.remaining reader.old) (B.remaining reader.new) node.old text node.new result
+        × Puts (W.contents writer.old) (W.contents writer.new) out.old out.new text }
+{
+    for _line in 0..u64::MAX {
+        let is_there = match next_line(reader, input, writer, out) {
+            Ok(is_there) => is_there,
+            Err(fault) => return Err(fault),
+        };
+        if !is_there {
+            return Ok(());
+        }
+        answer_line(alloc, node, &input.line, writer, out);
+    }
+    Err(BookFault::Read)
+}
+
+/// Reads the lines of a book, and puts out their answers.
+///
+/// # Errors
+///
+/// Those of `answer_book`.
+fn take_book<B: BufRead, W: Write>(
+    alloc: Global,
+    reader: &mut B,
+    writer: &mut W,
+    out: &mut Output,
+) -> Result<(), BookFault>
+    ensures { (text : List ℕ) × IsOwed (B.remaining reader.old) (B.remaining reader.new) text result
+        × Puts (W.contents writer.old) (W.contents writer.new) out.old out.new text }
+{
+    let mut input = Input::new();
+    match take_first(alloc, reader, &mut input, writer, out) {
+        Ok(mut node) => take_events(alloc, &mut node, reader, &mut input, writer, out),
+        Err(fault) => Err(fault),
+    }
+}
+
+/// Reads a book, hands each event to its node, and writes the answer to each line: `ok` to the first line; to an event a line
+/// `send TO HEX` for each frame, the lines of its marks, and `ok`; or `refused` and a word, after which the node is as before.
+/// What is answered is written and passed on before more input is waited for; while the reader shows more, it need not be. A last
+/// line without a line feed is not answered.
+///
+/// It keeps the node and its clock, at most 256 bytes of a line, and up to 16,384 bytes of answers. A line that is refused for lack of
+/// memory can come again. It reads at most 2^64 - 1 lines, and as many pieces of each.
+///
+/// # Errors
+///
+/// The first that comes:
+///
+/// 1. `Line`: the first line is none of a book, or the input ends before it does. The answer is `refused Line`.
+/// 2. `Read`: the reader failed. It is not tried again, and all answers were written.
+/// 3. `Write`: the writer failed, and a prefix of the answers was written. Nothing is written after that.
+pub fn answer_book<B: BufRead, W: Write>(
+    alloc: Global,
+    reader: &mut B,
+    writer: &mut W,
+) -> Result<(), BookFault>
+    ensures { (text : List ℕ) × IsOwed (B.remaining reader.old) (B.remaining reader.new) text result
+        × IsWritten (W.contents writer.old) (W.contents writer.new) text result }
+{
+    let mut out = Output::new();
+    let taken = take_book(alloc, reader, writer, &mut out);
+    flush(writer, &mut out);
+    if out.failed {
+        Err(BookFault::Write)
+    } else {
+        taken
+    }
+}
