@@ -10,3 +10,4 @@ mod Statuses
 mod Helping
 mod PictureLemmas
 mod TaskLemmas
+mod Orderly

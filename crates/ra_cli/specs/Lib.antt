@@ -10,3 +10,4 @@ pub mod ClusterRun
 pub mod Surveyed
 pub mod Statuses
 pub mod Tasks
+pub mod Finishing

@@ -8,6 +8,7 @@ mod error;
 mod helps;
 mod hints;
 mod input;
+mod laws;
 mod marks_verdict;
 mod note_texts;
 mod notes;

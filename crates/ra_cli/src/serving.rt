@@ -13,7 +13,9 @@ ghost use Rattle.ra_cli.specs.Statuses.{IsBroken, IsDone, IsPrinted, IsRefused, 
 ghost use Rattle.ra_cli.specs.ClusterRun.{RunsCluster};
 ghost use Rattle.ra_cli.specs.Surveyed.{RefusesSurvey, SurveysBy};
 ghost use Rattle.ra_cli.specs.Tasks.{AnswersAs, DrawsPart, IsDoneBy, IsLeftBy, IsRefusedBy, IsRefusedFor, PerformsNamed, RefusesNamed, RefusesPart, Suits};
+ghost use Rattle.ra_cli.specs.Finishing.{RunsFaithfully};
 ghost use Rattle.ra_script.specs.ChoicesText.{choices_of};
+ghost use Rattle.ra_script.specs.Performed.{IsOrderly};
 ghost use Rattle.ra_schedule.specs.declared.choice.Policy.{Policy};
 ghost use Rattle.ra_cli.specs.declared.command_line.Task.{Task};
 ghost use Rattle.ra_cli.specs.declared.error.AnswerError.{AnswerError};
@@ -23,6 +25,7 @@ ghost use Rattle.ra_cli.specs.Refusals.{IsOfReader, IsOfWriter, command_word, re
 
 use crate::command_line::{PolicyName, Task, parse};
 use crate::error::RunScriptError;
+use crate::laws::orderly_scripts_are_finished;
 use crate::marks_verdict::marks_verdict_text;
 use crate::notes::{write_notes, write_output_note, write_words_note};
 use crate::outcome::{Outcome, Remark, UNFINISHED, marks_remark_of, remark_of};
@@ -433,11 +436,14 @@ fn do_task<T: Threads + Wait + Sync, R: BufRead, W: Write, O: Observer>(
         (W.contents writer.old) (W.contents writer.new) (reader.new ≡ reader.old) }
     ensures unfinished { result.status ≡ 3
         → IsLeftBy task.entry (R.remaining reader.old) (R.remaining reader.new) (W.contents writer.old) (W.contents writer.new) }
+    // A script whose clients take names in order and give them all back is finished.
+    ensures finished { IfSome (R.remaining reader.old) (λ input. IsOrderly input → RunsFaithfully task.entry → result.status ≢ 3) }
     ensures refused { result.status ≡ 2
         → IsRefusedBy task.entry (R.remaining reader.old) (W.contents writer.old) (W.contents writer.new) }
     ensures broken { (words : List (List ℕ)) → Suits words task.entry → result.status ≡ 1
         → IsBroken words (R.remaining reader.old) (W.contents writer.old) (W.contents writer.new) }
 {
+    orderly_scripts_are_finished();
     if let Some(outcome) = do_alone(alloc, task, reader, writer, observer) {
         return outcome;
     }

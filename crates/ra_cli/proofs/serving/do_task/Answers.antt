@@ -1,10 +1,11 @@
-use Rattle.std.proofs.Common.{◌≡◌, ℕ, List, Option, Err, ap, ◌∙◌, refl, subst, inl, inr}
+use Rattle.std.proofs.Common.{arith, ◌≡◌, ℕ, List, Option, Err, ap, ◌∙◌, refl, subst, inl, inr}
 use Rattle.std.specs.Prelude.{IfSome}
 use Rattle.ra_cli.specs.ClusterRun.{RefusesRun}
 use Rattle.ra_cli.specs.Statuses.{IsBroken}
 use Rattle.ra_cli.specs.declared.error.RunScriptError.{RunScriptError}
 use Rattle.ra_cli.specs.declared.refusal.Refusal.TheVariants.{Cluster}
 use Rattle.ra_cli.proofs.ClusterRuns.{of_known}
+use Rattle.ra_cli.proofs.Orderly.{never_three, less_than_three}
 use Rattle.ra_cli.proofs.Statuses.{of_run, of_cluster_run, broken}
 use Rattle.ra_cli.proofs.TaskLemmas.{refused_for}
 use Rattle.ra_cli.proofs.serving.do_task.Goals as goal
@@ -35,3 +36,17 @@ returns-in-Err-clause-broken g c words fits one =
     (λ is. ap g.W.Write.contents (c.refuse.ensures.unwritten is).1)
     (λ other. ap g.W.Write.contents (c.in-Err.ensures.unwritten (λ e. other (inr (inr (inl (ap Cluster e)))))))
     (c.refuse.ensures.broken one)))
+
+pub returns-in-Some-clause-finished : goal.returns-in-Some-clause-finished
+returns-in-Some-clause-finished g c =
+    never_three c.orderly_scripts_are_finished.ensures.finished c.args.task (g.R.Read.remaining c.args.reader.now)
+    (g.R.Read.remaining c.do_alone.new.reader) (g.W.Write.contents c.args.writer.now) (g.W.Write.contents c.do_alone.new.writer)
+    c.in-Some.outcome.status c.in-Some.ensures.unfinished
+
+pub returns-in-Ok-clause-finished : goal.returns-in-Ok-clause-finished
+returns-in-Ok-clause-finished g c =
+    less_than_three c.args.task (g.R.Read.remaining c.args.reader.now) c.new.result.status (omega (arith, c.new.ensures))
+
+pub returns-in-Err-clause-finished : goal.returns-in-Err-clause-finished
+returns-in-Err-clause-finished g c =
+    less_than_three c.args.task (g.R.Read.remaining c.args.reader.now) c.refuse.result.status c.refuse.ensures.range

@@ -1,0 +1,151 @@
+-- An orderly script is finished by `ra sim`.
+use Rattle.std.proofs.Common.{◌≡◌, ◌≢◌, ℕ, ◌≤◌, Bool, true, false, Option, Some, None, Result, Ok, inl, inr, List, sym, ap, ◌∙◌, subst, arith}
+use Rattle.std.proofs.lemmas.Bool.{false≢true}
+use Rattle.std.specs.Prelude.{IfSome, IsTrue}
+use Rattle.ra_schedule.specs.declared.choice.Policy.{Policy}
+use Rattle.ra_schedule.specs.declared.choice.Policy.TheVariants as policies
+use Rattle.ra_schedule.specs.declared.error.DriveError.{DriveError}
+use Rattle.ra_schedule.specs.declared.finding.Ending.{Ending}
+use Rattle.ra_schedule.specs.declared.finding.Ending.TheVariants as endings
+use Rattle.ra_schedule.specs.declared.outcomes.SeedOutcome.{SeedOutcome}
+use Rattle.ra_schedule.specs.declared.outcomes.Survey.{Survey}
+use Rattle.ra_schedule.specs.Faults.{FaultRates}
+use Rattle.ra_schedule.specs.LockOrder.{IsOutOfOrder, IsUnreleased}
+use Rattle.ra_schedule.specs.Performing.{ChoosesItself, LosesNothing, most_turns}
+use Rattle.ra_schedule.specs.Schedule.{RepeatsNothing}
+use Rattle.ra_schedule.specs.Script.{ScriptState, IsScript}
+use Rattle.ra_schedule.specs.Survey.{chance, is_finished, IsOutcome, IsSurvey, NoneIsLost, NoneIsRepeated, SeedsFinish}
+use Rattle.ra_script.specs.declared.error.PerformError.{PerformError}
+use Rattle.ra_script.specs.declared.error.PerformError.TheVariants.{Drive}
+use Rattle.ra_script.specs.declared.format.Format.{Format}
+use Rattle.ra_script.specs.declared.format.Format.TheVariants.{Trace}
+use Rattle.ra_script.specs.declared.error.ScriptError.{ScriptError}
+use Rattle.ra_script.specs.Performed.{RefusesAs, IsPerformedAs, IsOrderly}
+use Rattle.ra_script.specs.ScriptText.{script_of}
+use Rattle.ra_cli.specs.declared.command_line.PolicyName.{PolicyName}
+use Rattle.ra_cli.specs.declared.command_line.PolicyName.TheVariants.{Oldest, Newest, Seeded, Faulty, Listed}
+use Rattle.ra_cli.specs.declared.command_line.Task.{Task}
+use Rattle.ra_cli.specs.declared.command_line.Task.TheVariants as task
+use Rattle.ra_cli.specs.declared.refusal.Refusal.{Refusal}
+use Rattle.ra_cli.specs.declared.refusal.Refusal.TheVariants as refusal
+use Rattle.ra_cli.specs.Finishing.{IsFaithful, RunsFaithfully}
+use Rattle.ra_cli.specs.Performs.{IsNamed}
+use Rattle.ra_cli.specs.Surveyed.{IsTold}
+use Rattle.ra_cli.specs.Tasks.{IsCauseFor, IsLeftBy}
+
+-- the laws of the crates below, as far as this rests on them
+pub record FinishingLaws : Type 0 where
+  pub scripts : (input : List ℕ) (script : ScriptState) → script_of input ≡ Ok script → IsScript script
+  pub never_refused : (format : Format) (policy : Policy) (input : List ℕ) (cause : DriveError)
+      → RepeatsNothing policy → ChoosesItself policy → RefusesAs format policy input (Drive cause) → ⊥
+  pub most : (script : ScriptState) → IsScript script → most_turns script ≤ 8323072
+  pub outcomes : (script : ScriptState) (faults : Option FaultRates) (limit seed : ℕ) (outcome : SeedOutcome)
+      → IsScript script → (IsOutOfOrder script → ⊥) → (IsUnreleased script → ⊥)
+      → LosesNothing (chance faults seed) → RepeatsNothing (chance faults seed) → most_turns script ≤ limit
+      → IsOutcome script (chance faults seed) limit outcome → is_finished outcome ≡ true
+  pub surveys : (script : ScriptState) (faults : Option FaultRates) (limit first last : ℕ) (survey : Survey)
+      → IsScript script → IsSurvey script faults limit first last survey → SeedsFinish script faults limit first last survey
+
+-- ---- What a policy is, by its name
+
+record IsWilling (policy : Policy) : Type 0 where
+  pub itself : ChoosesItself policy
+  pub unlost : LosesNothing policy
+  pub unrepeated : RepeatsNothing policy
+
+willing : (name : PolicyName) (choices : List ℕ) (policy : Policy) → IsFaithful name → IsNamed name choices policy → IsWilling policy
+willing Oldest choices policy faithful is = subst IsWilling (sym is) (record { itself = tt; unlost = tt; unrepeated = tt })
+willing Newest choices policy faithful is = subst IsWilling (sym is) (record { itself = tt; unlost = tt; unrepeated = tt })
+willing (Seeded seed) choices policy faithful is = subst IsWilling (sym is) (record { itself = tt; unlost = tt; unrepeated = tt })
+willing (Faulty seed faults) choices policy faithful is = subst IsWilling (sym is) (record { itself = tt; unlost = faithful.0; unrepeated = faithful.1 })
+willing Listed choices policy faithful is = absurd faithful
+
+by_chance : (faults : Option FaultRates) (seed : ℕ) → NoneIsLost faults → NoneIsRepeated faults → IsWilling (chance faults seed)
+by_chance None seed lost repeated = record { itself = tt; unlost = tt; unrepeated = tt }
+by_chance (Some rates) seed lost repeated = record { itself = tt; unlost = lost; unrepeated = repeated }
+
+-- ---- One run
+
+ok_same : {x y : ScriptState} → ◌≡◌ {A = Result ScriptState ScriptError} (Ok x) (Ok y) → x ≡ y
+ok_same e = cc
+
+ends_finished : (format : Format) (policy : Policy) (input output : List ℕ) (finished : Bool) → IsPerformedAs format policy input output finished
+    → LosesNothing policy → ChoosesItself policy → IsOrderly input → IsTrue finished
+ends_finished format policy input output finished performed unlost itself orderly =
+    let same : orderly.script ≡ performed.script = ok_same (sym orderly.script_is ∙ performed.script_is) in
+    performed.run.waiting_ends itself unlost (subst (λ (s : ScriptState). IsOutOfOrder s → ⊥) same orderly.in_order)
+    (subst (λ (s : ScriptState). IsUnreleased s → ⊥) same orderly.released)
+
+-- ---- Many seeds
+
+module _ (laws : FinishingLaws) (faults : Option FaultRates) (first last : ℕ) (input : List ℕ) (orderly : IsOrderly input)
+    (lost : NoneIsLost faults) (repeated : NoneIsRepeated faults) (some : first ≤ last) where
+  few : (script : ScriptState) → script_of input ≡ Ok script → most_turns script ≤ 16777216
+  few script is = omega (arith, laws.most script (laws.scripts input script is))
+
+  in_order : (script : ScriptState) → script_of input ≡ Ok script → IsOutOfOrder script → ⊥
+  in_order script is = subst (λ (s : ScriptState). IsOutOfOrder s → ⊥) (ok_same (sym orderly.script_is ∙ is)) orderly.in_order
+
+  released : (script : ScriptState) → script_of input ≡ Ok script → IsUnreleased script → ⊥
+  released script is = subst (λ (s : ScriptState). IsUnreleased s → ⊥) (ok_same (sym orderly.script_is ∙ is)) orderly.released
+
+  told : (find : Option Ending) (output : List ℕ) (finished : Bool) → IsTold faults find first last input output finished → finished ≡ true
+  told None output finished is =
+      let ends = laws.surveys is.script faults 16777216 first last is.survey (laws.scripts input is.script is.script_is) is.survey_is in
+      is.finished_is.1 (
+        ends.none_stuck (in_order is.script is.script_is) (released is.script is.script_is) lost,
+        ends.none_at_limit repeated (few is.script is.script_is),
+      )
+  told (Some ending) output finished (inl found) =
+      let chosen = by_chance faults found.seed lost repeated in
+      ends_finished Trace (chance faults found.seed) input output finished found.traced chosen.unlost chosen.itself orderly
+  told (Some endings.Finished) output finished (inr (none, line, is)) =
+      let (outcome, came, missed) = none.none first (omega arith) (omega (arith, some)) in
+      let chosen = by_chance faults first lost repeated in
+      let came_to = laws.outcomes none.script faults 16777216 first outcome (laws.scripts input none.script none.script_is) (in_order none.script none.script_is) (released none.script none.script_is)
+      chosen.unlost chosen.unrepeated (few none.script none.script_is) came in
+      absurd (false≢true (sym missed ∙ came_to))
+  told (Some endings.Stuck) output finished (inr (none, line, is)) = is
+
+-- ---- Every task
+
+pub never_left : FinishingLaws → (asked : Task) (input : List ℕ) (new before after : Option (List ℕ)) → IsOrderly input → RunsFaithfully asked
+    → IsLeftBy asked (Some input) new before after → ⊥
+never_left laws (task.Answer node nodes) input new before after orderly faithful left = faithful
+never_left laws (task.Sim name choices format) input new before after orderly faithful (policy, named, by) =
+    let chosen = willing name choices.now policy faithful named in
+    let (output, performed, consumes, appends) = by.0 in
+    false≢true (ends_finished format policy input output false performed chosen.unlost chosen.itself orderly)
+never_left laws (task.Survey faults find first last) input new before after orderly faithful left =
+    let (output, is, consumes, appends) = left.0 in
+    false≢true (told laws faults first last input orderly faithful.0 faithful.1 faithful.2 find output false is)
+never_left laws task.Check input new before after orderly faithful left = faithful
+never_left laws task.CheckMarks input new before after orderly faithful left = faithful
+never_left laws (task.Draw part) input new before after orderly faithful left = faithful
+never_left laws task.Cluster input new before after orderly faithful left = faithful
+never_left laws (task.Help text) input new before after orderly faithful left = faithful
+
+pub always_driven : FinishingLaws → (asked : Task) (input : List ℕ) (cause : DriveError) → RunsFaithfully asked → IsCauseFor asked input (refusal.Perform (Drive cause)) → ⊥
+always_driven laws (task.Answer node nodes) input cause faithful refuses = faithful
+always_driven laws (task.Sim name choices format) input cause faithful (inl (fault, is, why)) = cc
+always_driven laws (task.Sim name choices format) input cause faithful (inr (fault, is, policy, named, refuses)) =
+    let chosen = willing name choices.now policy faithful named in
+    let same : fault ≡ Drive cause = cc in
+    laws.never_refused format policy input cause chosen.unrepeated chosen.itself (subst (RefusesAs format policy input) same refuses)
+always_driven laws (task.Survey faults find first last) input cause faithful (fault, is, refuses) = cc
+always_driven laws task.Check input cause faithful refuses = faithful
+always_driven laws task.CheckMarks input cause faithful refuses = faithful
+always_driven laws (task.Draw part) input cause faithful refuses = faithful
+always_driven laws task.Cluster input cause faithful refuses = faithful
+always_driven laws (task.Help text) input cause faithful refuses = faithful
+
+-- so a status that would say that the task was left is not 3
+pub never_three : ((asked : Task) (input : List ℕ) (new before after : Option (List ℕ)) → IsOrderly input → RunsFaithfully asked → IsLeftBy asked (Some input) new before after → ⊥)
+    → (asked : Task) (known new before after : Option (List ℕ)) (status : ℕ) → (status ≡ 3 → IsLeftBy asked known new before after)
+    → IfSome known (λ input. IsOrderly input → RunsFaithfully asked → status ≢ 3)
+never_three law asked None new before after status left = tt
+never_three law asked (Some input) new before after status left = λ orderly faithful is. law asked input new before after orderly faithful (left is)
+
+pub less_than_three : (asked : Task) (known : Option (List ℕ)) (status : ℕ) → status ≤ 2 → IfSome known (λ input. IsOrderly input → RunsFaithfully asked → status ≢ 3)
+less_than_three asked None status low = tt
+less_than_three asked (Some input) status low = λ orderly faithful is. omega (arith, low, is)

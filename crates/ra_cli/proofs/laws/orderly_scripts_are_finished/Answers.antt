@@ -1,0 +1,18 @@
+use Rattle.ra_cli.proofs.Orderly.{FinishingLaws, never_left, always_driven}
+use Rattle.ra_cli.proofs.laws.orderly_scripts_are_finished.Goals as goal
+
+pub returns : goal.returns
+returns c =
+    let read = c.read_scripts_come_to_rest.ensures in
+    let seeds = c.seeds_finish_ordered_scripts.ensures in
+    let laws : FinishingLaws = record {
+      scripts = read.scripts;
+      never_refused = read.never_refused;
+      most = c.scripts_come_to_rest.ensures.most;
+      outcomes = seeds.outcomes;
+      surveys = seeds.surveys;
+    } in
+    record {
+      finished = never_left laws;
+      driven = always_driven laws;
+    }
