@@ -6,6 +6,8 @@ use Rattle.ra_world.specs.declared.error.ReadFault.{ReadFault}
 use Rattle.ra_world.specs.declared.error.ReadFault.TheVariants as read
 use Rattle.ra_trace.specs.declared.verdict.Verdict.{Verdict}
 use Rattle.ra_trace.specs.declared.verdict.Verdict.TheVariants.{Valid, Invalid}
+use Rattle.ra_trace.specs.declared.marks_verdict.MarksVerdict.{MarksVerdict}
+use Rattle.ra_trace.specs.declared.marks_verdict.MarksVerdict.TheVariants as log
 use Rattle.ra_trace.specs.Verdict.{IsVerdict}
 use Rattle.ra_draw.specs.declared.error.DrawError.{DrawError}
 use Rattle.ra_draw.specs.declared.error.DrawError.TheVariants.{Read, Memory}
@@ -40,3 +42,10 @@ abbrev pub Draws : Part → List ℕ → (before after : Option (List ℕ)) → 
 Draws part input before after (Valid requests messages) =
     (drawn_lines part input ≤ line_limit) × (picture : List ℕ) × IsPicture picture × Appends before after picture
 Draws part input before after (Invalid line why) = Appends before after []
+
+-- what is drawn if this is the verdict on the input as a mark log: a picture of at most 4,096 lines if its marks are a run
+-- of the lock table, and otherwise nothing
+abbrev pub DrawsMarks : Part → List ℕ → (before after : Option (List ℕ)) → MarksVerdict → Type 0
+DrawsMarks part input before after (log.Valid requests grants) =
+    (drawn_lines part input ≤ line_limit) × (picture : List ℕ) × IsPicture picture × Appends before after picture
+DrawsMarks part input before after (log.Invalid line why) = Appends before after []

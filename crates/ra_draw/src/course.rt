@@ -1,5 +1,6 @@
 //! What of a run is drawn, made by a world of its own from the lines of its trace: these have no line for a message that is sent, and
 //! only the nodes know which ones a step sends.
+use crate::deferrals::Deferrals;
 use crate::part::Part;
 use crate::seat::Seat;
 use crate::stays::Stays;
@@ -9,6 +10,9 @@ use ra_text::cut;
 use ra_trace::Line;
 use ra_world::{MarklessWorld, Step};
 use std::alloc::Global;
+
+/// The most marks of a step: a client leaves, and the next one of its node gets a number and enters.
+const MOST_MARKS: u32 = 3;
 
 /// What a client does by a step: it asks for a name in a mode, or leaves it.
 #[derive(Clone, Copy)]
@@ -45,6 +49,21 @@ fn act_of(step: &Step) -> Option<Act> {
     }
 }
 
+/// Returns what a client does by a mark of a log: to be granted a name is shown by its bar alone.
+fn act_of_mark(mark: &Mark) -> Option<Act> {
+    match mark {
+        Mark::Requested(entry) => Some(Act {
+            seat: Seat::of(entry),
+            mode: Some(entry.mode),
+        }),
+        Mark::Entered(_) => None,
+        Mark::Left(entry) => Some(Act {
+            seat: Seat::of(entry),
+            mode: None,
+        }),
+    }
+}
+
 /// What is drawn of a run, as far as it was followed.
 #[derive(Drop)]
 pub struct Course {
@@ -54,6 +73,7 @@ pub struct Course {
     /// Those of the steps of the part, in order.
     pub rows: Vec<Row>,
     pub ways: Ways,
+    pub deferrals: Deferrals,
     pub stays: Stays,
 }
 
@@ -65,6 +85,7 @@ impl Course {
             now: Moment { line: 0, row: 0 },
             rows: Vec::new(alloc),
             ways: Ways::new(alloc),
+            deferrals: Deferrals::new(alloc),
             stays: Stays::new(alloc),
         }
     }
@@ -122,6 +143,37 @@ impl Course {
         Ok(())
     }
 
+    /// Notes that a REQUEST that was delivered is deferred.
+    fn note_deferral(&mut self, request: &Message) -> Result<(), Memory> {
+        if self.now.row > 0 {
+            self.ways.defer_last();
+        }
+        self.deferrals.begin(request, self.now)
+    }
+
+    /// Notes which deferral a step begins, and which ones it ends. A delivered REQUEST without a REPLY is deferred, and who leaves sends what
+    /// was deferred.
+    fn note_deferrals(&mut self, step: &Step, sends: &[Message]) -> Result<(), Memory> {
+        match step {
+            Step::Deliver(message) => {
+                if let Message::Request { .. } = message
+                    && sends.is_empty()
+                {
+                    self.note_deferral(message)?;
+                }
+            }
+            Step::Leave { .. } => {
+                for message in sends {
+                    if let Message::Reply { .. } = message {
+                        self.deferrals.end(message, self.now);
+                    }
+                }
+            }
+            _ => {}
+        }
+        Ok(())
+    }
+
     /// Makes a step, and notes what it takes and what it sends.
     fn make_step(
         &mut self,
@@ -131,9 +183,21 @@ impl Course {
     ) -> Result<(), Memory> {
         self.note(alloc, step)?;
         match world.step(alloc, step) {
-            Ok(outcome) => self.note_sends(alloc, outcome.sends.as_slice()),
+            Ok(outcome) => {
+                self.note_deferrals(step, outcome.sends.as_slice())?;
+                self.note_sends(alloc, outcome.sends.as_slice())
+            }
             // No step of a trace is refused, so memory ran out.
             Err(_) => Err(Memory),
+        }
+    }
+
+    /// Takes a mark of the last step.
+    fn take_mark(&mut self, mark: &Mark) {
+        match mark {
+            Mark::Requested(entry) => self.stays.request(&Seat::of(entry), self.now),
+            Mark::Entered(entry) => self.stays.enter(&Seat::of(entry), self.now),
+            Mark::Left(entry) => self.stays.leave(&Seat::of(entry), self.now),
         }
     }
 
@@ -151,11 +215,25 @@ impl Course {
                 self.begin_row(number, step, is_drawn)?;
                 self.make_step(alloc, world, step)?;
             }
-            Line::Marked(Mark::Entered(entry)) => self.stays.enter(&Seat::of(entry), self.now),
-            Line::Marked(Mark::Left(entry)) => self.stays.leave(&Seat::of(entry), self.now),
-            Line::Marked(Mark::Requested(_)) | Line::First { .. } | Line::Last => {}
+            Line::Marked(mark) => self.take_mark(mark),
+            Line::First { .. } | Line::Last => {}
         }
         Ok(())
+    }
+
+    /// Takes the marks at the start of what follows the part: they are of its last step, which has at most this many.
+    fn take_last_marks(&mut self, following: &[u8]) {
+        let mut rest = following;
+        for _mark in 0..MOST_MARKS {
+            let (text, Some(after)) = cut(rest, b'\n') else {
+                return;
+            };
+            let Some(Line::Marked(mark)) = Line::parse(text) else {
+                return;
+            };
+            self.take_mark(&mark);
+            rest = after;
+        }
     }
 
     /// Takes the lines of a trace, to the last one of the part.
@@ -178,7 +256,43 @@ impl Course {
                 self.take(alloc, world, number, &line, number >= part.from)?;
             }
         }
+        self.take_last_marks(rest);
         self.ways.close()
+    }
+
+    /// Takes a line of a mark log. A request has its number at once.
+    fn take_logged(&mut self, number: u64, mark: &Mark, is_drawn: bool) -> Result<(), Memory> {
+        self.now.line = number;
+        if is_drawn {
+            self.now.row = self.now.row.saturating_add(1);
+            self.rows.push(Row {
+                line: number,
+                act: act_of_mark(mark),
+            })?;
+        }
+        if let Mark::Requested(entry) = mark {
+            self.nodes = self.nodes.max(entry.stamp.node.get());
+            self.stays.ask(&Seat::of(entry), entry.mode, self.now)?;
+        }
+        self.take_mark(mark);
+        Ok(())
+    }
+
+    /// Follows a mark log from its beginning to the end of the part.
+    pub fn follow_marks(&mut self, log: &[u8], part: Part) -> Result<(), Memory> {
+        let mut rest = log;
+        for before in 0..part.to {
+            // The last line of a log ends with a line feed, too.
+            let (text, Some(after)) = cut(rest, b'\n') else {
+                break;
+            };
+            rest = after;
+            if let Some(Line::Marked(mark)) = Line::parse(text) {
+                let number = before + 1;
+                self.take_logged(number, &mark, number >= part.from)?;
+            }
+        }
+        Ok(())
     }
 
     /// Follows the run of a trace from its beginning to the end of the part. Each resource begins with this number.

@@ -14,7 +14,7 @@ use std::alloc::Global;
 use std::io::{Read, Write};
 
 /// The most bytes that a text may have.
-const MAX_TEXT: usize = 16_777_216;
+pub const MAX_TEXT: usize = 16_777_216;
 
 /// The most lines that are drawn, since who reads a trace can count them. A line has at most 126 arrows.
 const MAX_LINES: u64 = 4096;
@@ -58,12 +58,12 @@ fn verdict_on(alloc: Global, text: &[u8]) -> Result<Verdict, DrawError>
     }
 }
 
-/// Returns the picture of a part of a trace, where it has no more lines than are drawn.
+/// Returns the picture of a part of a text that is a trace or a mark log, as the totals say, where it has no more lines than are drawn.
 ///
 /// # Errors
 ///
 /// `TooLong`, `Memory`.
-fn picture_within(
+pub fn picture_within(
     alloc: Global,
     trace: &[u8],
     part: Part,
@@ -104,7 +104,8 @@ fn draw_text<W: Write>(
 {
     let verdict = verdict_on(alloc, text)?;
     if let Verdict::Valid { requests, messages } = verdict {
-        let picture = picture_within(alloc, text, part, Totals { requests, messages })?;
+        let totals = Totals::Trace { requests, messages };
+        let picture = picture_within(alloc, text, part, totals)?;
         write_out(writer, &picture)?;
     }
     Ok(verdict)

@@ -16,7 +16,7 @@ text{font-family:sans-serif;font-size:11px;fill:#222}
 .headline{font-size:17px;font-weight:bold}
 .node{font-weight:bold;font-size:12px;text-anchor:middle}
 .client{font-size:9px;fill:#555;text-anchor:middle}
-.row{font-size:9px;fill:#888;text-anchor:end}
+.row{font-size:11px;fill:#555;text-anchor:end}
 .label{font-size:10px;paint-order:stroke;stroke:#fff;stroke-width:3px;stroke-linejoin:round}
 .to-right{text-anchor:start}.to-left{text-anchor:end}.centered{text-anchor:middle}
 .of-request{fill:#0072b2}.of-reply{fill:#333}
@@ -25,30 +25,35 @@ text{font-family:sans-serif;font-size:11px;fill:#222}
 .reply{stroke:#333;stroke-width:1.2;stroke-dasharray:5 2.5;fill:none}
 .arrow.request{marker-end:url(#head-request)}.arrow.reply{marker-end:url(#head-reply)}
 .under-way{stroke-dasharray:1.5 4}
+.hit{stroke:#000;stroke-opacity:0;stroke-width:12;fill:none;pointer-events:stroke}
+.copies{stroke:#999;stroke-width:1;stroke-dasharray:1 5}
+.deferral{stroke:#000;stroke-width:1;fill:none}.deferred{fill:#000}
 .cross{stroke:#000;stroke-width:2.2;fill:none}
 .loop{fill:#fff;stroke:#000;stroke-width:1.6;stroke-dasharray:none}
 .ask{fill:#000}.leave{fill:#fff;stroke:#000;stroke-width:1.5}
 .S{fill:url(#mode-S);stroke:#0072b2}.X{fill:url(#mode-X);stroke:#8a3c00}.IS{fill:url(#mode-IS);stroke:#009e73}
 .IX{fill:url(#mode-IX);stroke:#b87f00}.SIX{fill:url(#mode-SIX);stroke:#a34f7d}
-.waiting{fill-opacity:.3;stroke-dasharray:3 2;stroke-width:1.3}.inside{stroke-width:1.3}
+.queued{fill:#fff;stroke-width:1}.waiting{fill-opacity:.3;stroke-dasharray:3 2;stroke-width:1.3}.inside{stroke-width:1.3}
 </style>
 ";
 
-/// What the shapes mean.
+/// What the shapes mean. A letter takes at most some seven pixels.
 pub const LEGEND: &str = "<g>
-<line x1=\"16\" y1=\"56\" x2=\"40\" y2=\"56\" class=\"arrow request\"/><text x=\"46\" y=\"60\">request, with its number</text>
-<line x1=\"186\" y1=\"56\" x2=\"210\" y2=\"56\" class=\"arrow reply\"/><text x=\"216\" y=\"60\">reply</text>
-<line x1=\"260\" y1=\"56\" x2=\"284\" y2=\"56\" class=\"request under-way\"/><text x=\"290\" y=\"60\">still under way</text>
-<path class=\"cross\" d=\"M392 56m-5 -5l10 10m0 -10l-10 10\"/><text x=\"404\" y=\"60\">lost</text>
-<path class=\"loop\" d=\"M446 56m5 -3.6a6.2 6.2 0 1 0 1 3.6l-3.4 -2.2m3.4 2.2l2.6 -3\"/><text x=\"460\" y=\"60\">repeated</text>
-<circle cx=\"528\" cy=\"56\" r=\"3.5\" class=\"ask\"/><text x=\"538\" y=\"60\">asks</text>
-<circle cx=\"580\" cy=\"56\" r=\"3.5\" class=\"leave\"/><text x=\"590\" y=\"60\">leaves</text>
-<rect x=\"644\" y=\"49\" width=\"10\" height=\"14\" class=\"waiting X\"/><text x=\"660\" y=\"60\">waits</text>
-<rect x=\"706\" y=\"49\" width=\"18\" height=\"14\" class=\"inside X\"/><text x=\"730\" y=\"60\">is inside</text>
-<rect x=\"16\" y=\"75\" width=\"18\" height=\"14\" class=\"inside S\"/><text x=\"40\" y=\"86\">S, shared</text>
-<rect x=\"116\" y=\"75\" width=\"18\" height=\"14\" class=\"inside X\"/><text x=\"140\" y=\"86\">X, exclusive</text>
-<rect x=\"232\" y=\"75\" width=\"18\" height=\"14\" class=\"inside IS\"/><text x=\"256\" y=\"86\">IS, intent shared</text>
-<rect x=\"372\" y=\"75\" width=\"18\" height=\"14\" class=\"inside IX\"/><text x=\"396\" y=\"86\">IX, intent exclusive</text>
-<rect x=\"526\" y=\"75\" width=\"18\" height=\"14\" class=\"inside SIX\"/><text x=\"550\" y=\"86\">SIX, shared and intent exclusive</text>
+<line x1=\"16\" y1=\"54\" x2=\"40\" y2=\"54\" class=\"arrow request\"/><text x=\"48\" y=\"58\">request: number, name, mode</text>
+<line x1=\"256\" y1=\"54\" x2=\"280\" y2=\"54\" class=\"arrow reply\"/><text x=\"288\" y=\"58\">reply: number, name</text>
+<line x1=\"440\" y1=\"54\" x2=\"464\" y2=\"54\" class=\"request under-way\"/><text x=\"472\" y=\"58\">still under way</text>
+<path class=\"cross\" d=\"M604 54m-5 -5l10 10m0 -10l-10 10\"/><text x=\"617\" y=\"58\">lost</text>
+<path class=\"loop\" d=\"M676 54m5 -3.6a6.2 6.2 0 1 0 1 3.6l-3.4 -2.2m3.4 2.2l2.6 -3\"/><text x=\"691\" y=\"58\">repeated: a copy</text>
+<circle cx=\"25\" cy=\"76\" r=\"4\" class=\"ask\"/><text x=\"48\" y=\"80\">asks</text>
+<circle cx=\"112\" cy=\"76\" r=\"4\" class=\"leave\"/><text x=\"124\" y=\"80\">leaves</text>
+<path class=\"deferral\" d=\"M204 70h-8V82h8\"/><path class=\"deferred\" d=\"M196 70m-3 -3h6v6h-6z\"/><text x=\"214\" y=\"80\">deferred, until the reply is sent</text>
+<rect x=\"456\" y=\"69\" width=\"4\" height=\"14\" class=\"queued X\"/><text x=\"472\" y=\"80\">is queued</text>
+<rect x=\"571\" y=\"69\" width=\"10\" height=\"14\" class=\"waiting X\"/><text x=\"590\" y=\"80\">waits</text>
+<rect x=\"664\" y=\"69\" width=\"18\" height=\"14\" class=\"inside X\"/><text x=\"691\" y=\"80\">is inside</text>
+<rect x=\"16\" y=\"95\" width=\"18\" height=\"14\" class=\"inside S\"/><text x=\"42\" y=\"106\">S, shared</text>
+<rect x=\"124\" y=\"95\" width=\"18\" height=\"14\" class=\"inside X\"/><text x=\"150\" y=\"106\">X, exclusive</text>
+<rect x=\"252\" y=\"95\" width=\"18\" height=\"14\" class=\"inside IS\"/><text x=\"278\" y=\"106\">IS, intent shared</text>
+<rect x=\"410\" y=\"95\" width=\"18\" height=\"14\" class=\"inside IX\"/><text x=\"436\" y=\"106\">IX, intent exclusive</text>
+<rect x=\"588\" y=\"95\" width=\"18\" height=\"14\" class=\"inside SIX\"/><text x=\"614\" y=\"106\">SIX, shared and intent exclusive</text>
 </g>
 ";

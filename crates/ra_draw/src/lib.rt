@@ -1,10 +1,13 @@
-//! Pictures of runs: a space-time diagram of a trace, as one SVG file.
+//! Pictures of runs: a space-time diagram of a trace, or the bars of a mark log, as one SVG file.
 #![tactic(auto)]
 
 mod course;
+mod deferrals;
 mod drawing;
 mod error;
 mod legend;
+mod log_drawing;
+mod names;
 mod page;
 mod part;
 mod pen;
@@ -17,4 +20,5 @@ mod words;
 
 pub use drawing::draw;
 pub use error::DrawError;
+pub use log_drawing::draw_marks;
 pub use part::Part;

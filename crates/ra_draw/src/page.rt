@@ -1,27 +1,41 @@
 //! Where everything stands on the page. Lengths are in pixels, and none comes near its greatest: so they are added without a refusal.
 use crate::course::Course;
+use crate::names::{Cut, cut_of};
 use crate::stays::Stay;
 use indexmap::IndexMap;
+use itoa::Buffer;
 use ra_stamp::{Memory, NodeId};
 use std::alloc::Global;
 
 /// Where the rows begin.
-pub const TOP: u64 = 160;
+pub const TOP: u64 = 186;
 
-/// What stands to the left of the first lane and its bars: the numbers of lines, and a label.
-const LEFT: u64 = 112;
+/// What stands to the left of all else: the numbers of lines.
+const LEFT: u64 = 64;
 
-/// What stands to the right of the last lane: a label.
-const RIGHT: u64 = 120;
+/// What stands to the right of a label.
+const RIGHT: u64 = 24;
 
 /// The least width of a page, which is that of the legend.
-const LEGEND: u64 = 800;
+const LEGEND: u64 = 860;
 
 /// The width of a column of bars.
-pub const COLUMN: u64 = 20;
+pub const COLUMN: u64 = 24;
 
-/// What stands between a lane and its bars.
-const BESIDE: u64 = 6;
+/// What stands between a lane and its bars: the lines of deferrals.
+const BESIDE: u64 = 28;
+
+/// How many rows stand between two that name the nodes again.
+const BAND: u32 = 40;
+
+/// The height of what names the nodes again.
+const BAND_HEIGHT: u64 = 30;
+
+/// The most messages under way at the end that have rows of their own.
+const LEFT_ROWS: u32 = 64;
+
+/// The letters of a label beside the number and the name: `request`, `deferred`, a mode and spaces.
+const LABEL_LETTERS: usize = 22;
 
 /// The most nodes of which the lanes are wide enough for labels.
 const WIDE: u16 = 12;
@@ -109,8 +123,16 @@ pub struct Bar {
 #[derive(Drop)]
 pub struct Page {
     nodes: u16,
+    /// The last row of a step.
+    steps: u32,
     /// The row after the last one.
     end: u32,
+    /// How names are shortened.
+    pub cut: Cut,
+    /// How wide a label is.
+    label: u64,
+    /// Whether a message comes from the lane of copies.
+    pub has_copies: bool,
     /// The lanes of the nodes, from node 1 on.
     lanes: Vec<Lane>,
     pub bars: Vec<Bar>,
@@ -119,9 +141,16 @@ pub struct Page {
 impl Page {
     /// Makes an empty one for what is drawn of a run.
     pub fn new(alloc: Global, course: &Course) -> Page {
+        let steps = short(course.rows.len());
+        let left = course.ways.left.min(LEFT_ROWS);
+        let cut = cut_of(course);
         Page {
             nodes: course.nodes,
-            end: short(course.rows.len()).saturating_add(1),
+            steps,
+            end: steps.saturating_add(left).saturating_add(1),
+            cut,
+            label: label_width(course, &cut),
+            has_copies: has_copies(course),
             lanes: Vec::new(alloc),
             bars: Vec::new(alloc),
         }
@@ -173,7 +202,7 @@ impl Page {
     /// Places the lanes from left to right, each after its bars.
     fn place_lanes(&mut self) {
         let gap = self.gap();
-        let mut x = LEFT;
+        let mut x = LEFT.saturating_add(self.label);
         for lane in &mut self.lanes {
             x = u64::saturating_add(x, lane.gutter());
             lane.x = x;
@@ -184,10 +213,10 @@ impl Page {
     /// Returns what stands between a lane and the bars of the next one.
     fn gap(&self) -> u64 {
         match self.nodes {
-            0..=3 => 210,
-            4 => 170,
-            5 => 140,
-            6..=WIDE => 110,
+            0..=3 => 210.max(self.label),
+            4..=5 => self.label,
+            // A label may reach over the bars of the next node, since its row has no other one.
+            6..=WIDE => (self.label / 4).saturating_mul(3),
             _ => 36,
         }
     }
@@ -199,8 +228,32 @@ impl Page {
 
     /// Returns how far down a row is.
     pub fn y(&self, row: u32) -> u64 {
-        let height = if self.is_wide() { 24 } else { 12 };
-        u64::from(row).saturating_mul(height).saturating_add(TOP)
+        let height = if self.is_wide() { 24 } else { 14 };
+        let bands = u64::from(row.saturating_sub(1) / BAND);
+        u64::from(row)
+            .saturating_mul(height)
+            .saturating_add(bands.saturating_mul(BAND_HEIGHT))
+            .saturating_add(TOP)
+    }
+
+    /// Returns how many times the nodes are named again, each time above a row.
+    pub fn bands(&self) -> u32 {
+        self.end.saturating_sub(1) / BAND
+    }
+
+    /// Returns how far down the nodes are named again for this time, counted from 0.
+    pub fn band_y(&self, band: u32) -> u64 {
+        let row = band.saturating_add(1).saturating_mul(BAND);
+        self.y(row).saturating_add(BAND_HEIGHT)
+    }
+
+    /// Returns the row of a message under way at the end, and whether it has one of its own.
+    pub fn left_row(&self, place: u32) -> (u32, bool) {
+        if place < LEFT_ROWS {
+            (self.steps.saturating_add(place).saturating_add(1), true)
+        } else {
+            (self.end, false)
+        }
     }
 
     /// Returns how far down the row after the last one is.
@@ -246,19 +299,58 @@ impl Page {
             .saturating_sub(BESIDE + (u64::from(column) + 1) * COLUMN)
     }
 
-    /// Returns its width.
-    pub fn width(&self) -> u64 {
-        let last = match self.lanes.last() {
+    /// Returns how far to the right the last node is.
+    fn last_x(&self) -> u64 {
+        match self.lanes.last() {
             Some(lane) => lane.x,
             None => 0,
+        }
+    }
+
+    /// Returns how far to the right the lane of copies is: after that of the last node, and a label.
+    pub fn copies_x(&self) -> u64 {
+        self.last_x().saturating_add(self.gap())
+    }
+
+    /// Returns its width.
+    pub fn width(&self) -> u64 {
+        let last = if self.has_copies {
+            self.copies_x().saturating_add(100)
+        } else {
+            self.last_x()
         };
-        last.saturating_add(RIGHT).max(LEGEND)
+        last.saturating_add(self.label)
+            .saturating_add(RIGHT)
+            .max(LEGEND)
     }
 
     /// Returns its height.
     pub fn height(&self) -> u64 {
         self.bottom().saturating_add(24)
     }
+}
+
+/// Returns how wide a label is at most, or about that: letters have different widths.
+fn label_width(course: &Course, cut: &Cut) -> u64 {
+    let mut most = 0;
+    for way in &course.ways.drawn {
+        most = u64::max(most, way.message.seq());
+    }
+    let digits = Buffer::new().format(most).len();
+    let letters = digits
+        .saturating_add(cut.letters())
+        .saturating_add(LABEL_LETTERS);
+    (letters as u64).saturating_mul(6)
+}
+
+/// Returns whether the copy of a message is drawn.
+fn has_copies(course: &Course) -> bool {
+    for way in &course.ways.drawn {
+        if way.start.copied {
+            return true;
+        }
+    }
+    false
 }
 
 /// Returns a place as a short number: a trace has no more bytes.

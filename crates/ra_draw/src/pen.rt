@@ -1,11 +1,9 @@
 //! How the text of a picture is written.
+use crate::names::Cut;
 use itoa::Buffer;
 use ra_stamp::{Memory, Name, NodeId};
 use ra_text::cut;
 use std::alloc::Global;
-
-/// The most letters of a name in a label. What a shape says in words has all of them.
-const LABEL: usize = 10;
 
 /// What stands in a place of a pattern.
 #[derive(Clone, Copy)]
@@ -14,8 +12,8 @@ pub enum Piece<'a> {
     Node(NodeId),
     Text(&'a str),
     Whole(&'a Name),
-    /// A name, of which a long one is cut off.
-    Prefix(&'a Name),
+    /// A name without what is left out.
+    Short(&'a Name, Cut),
 }
 
 /// A text that is written from its start to its end. Where memory runs out nothing more is written, and `finish` says so: so what is
@@ -50,13 +48,14 @@ impl Pen {
         self.put(Buffer::new().format(number).as_bytes());
     }
 
-    /// Adds a prefix of a name, and dots where that is not all of it.
-    fn put_prefix(&mut self, name: &[u8]) {
-        if name.len() > LABEL {
-            self.put(&name[..LABEL]);
+    /// Adds a name, with dots in place of what is left out.
+    fn put_short(&mut self, name: &[u8], cut: Cut) {
+        if cut.before > 0 {
             self.put(b"..");
-        } else {
-            self.put(name);
+        }
+        self.put(cut.shown(name));
+        if cut.after > 0 {
+            self.put(b"..");
         }
     }
 
@@ -67,7 +66,7 @@ impl Pen {
             Piece::Node(node) => self.put_number(u64::from(node.get())),
             Piece::Text(text) => self.put(text.as_bytes()),
             Piece::Whole(name) => self.put(name.bytes()),
-            Piece::Prefix(name) => self.put_prefix(name.bytes()),
+            Piece::Short(name, cut) => self.put_short(name.bytes(), *cut),
         }
     }
 

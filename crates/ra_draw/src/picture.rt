@@ -15,11 +15,11 @@ use ra_text::cut;
 use ra_trace::Line;
 use std::alloc::Global;
 
-/// How many requests and messages the whole run has.
+/// How many requests the whole run has, and how many messages, if it is a trace, or grants, if it is a mark log.
 #[derive(Clone, Copy)]
-pub struct Totals {
-    pub requests: u128,
-    pub messages: u128,
+pub enum Totals {
+    Trace { requests: u128, messages: u128 },
+    Marks { requests: u64, grants: u64 },
 }
 
 /// What stands in the headline: how many nodes, requests and messages there are, and which lines are drawn.
@@ -27,7 +27,9 @@ pub struct Totals {
 struct Headline {
     nodes: u16,
     requests: u64,
-    messages: u64,
+    /// What else is counted, and how much of it there is.
+    counted: &'static str,
+    count: u64,
     part: Part,
 }
 
@@ -35,14 +37,15 @@ struct Headline {
 fn put_headline(pen: &mut Pen, headline: &Headline) {
     let nodes = u64::from(headline.nodes);
     pen.write(
-        "$ node$, $ request$, $ message$",
+        "$ node$, $ request$, $ $$",
         &[
             Number(nodes),
             Text(ending_of(nodes)),
             Number(headline.requests),
             Text(ending_of(headline.requests)),
-            Number(headline.messages),
-            Text(ending_of(headline.messages)),
+            Number(headline.count),
+            Text(headline.counted),
+            Text(ending_of(headline.count)),
         ],
     );
     if headline.part.from > 1 {
@@ -81,16 +84,14 @@ fn short(count: u128) -> u64 {
     }
 }
 
-/// Follows the part of a trace in which each resource begins with this number, and draws it, the attributes of the picture first.
+/// Draws what was followed of a run, the attributes of the picture first, or nothing if memory ran out.
 fn draw_course(
     alloc: Global,
     sheet: &mut Sheet,
-    course: &mut Course,
-    start: u64,
-    trace: &[u8],
+    course: &Course,
+    followed: Result<(), Memory>,
     headline: &Headline,
 ) {
-    let followed = course.follow(alloc, start, trace, headline.part);
     let mut page = Page::new(alloc, course);
     if followed.is_ok() && page.fill(alloc, &course.stays.all).is_ok() {
         put_head(&mut sheet.shapes, &page, headline);
@@ -103,7 +104,22 @@ fn draw_course(
 /// Draws the part of a trace in which each resource begins with this number.
 fn draw_trace(alloc: Global, sheet: &mut Sheet, start: u64, trace: &[u8], headline: &Headline) {
     let mut course = Course::new(alloc, headline.nodes);
-    draw_course(alloc, sheet, &mut course, start, trace, headline);
+    let followed = course.follow(alloc, start, trace, headline.part);
+    draw_course(alloc, sheet, &course, followed, headline);
+}
+
+/// Draws the part of a mark log. Its nodes are those up to the highest one that it names in or before the part.
+fn draw_marks(alloc: Global, sheet: &mut Sheet, log: &[u8], headline: &Headline) {
+    let mut course = Course::new(alloc, 1);
+    let followed = course.follow_marks(log, headline.part);
+    let nodes = course.nodes;
+    draw_course(
+        alloc,
+        sheet,
+        &course,
+        followed,
+        &Headline { nodes, ..*headline },
+    );
 }
 
 /// Returns the number of nodes and that with which each resource begins, where this is the first line of a trace.
@@ -114,21 +130,45 @@ fn opening_of(line: &Line) -> Option<(u16, u64)> {
     }
 }
 
-/// Returns what stands in the picture of a part of a trace, its attributes first.
-fn inner_of(alloc: Global, trace: &[u8], part: Part, totals: Totals) -> Result<Vec<u8>, Memory> {
+/// Returns the headline of a trace or a log of so many nodes.
+fn headline_of(nodes: u16, part: Part, totals: Totals) -> Headline {
+    match totals {
+        Totals::Trace { requests, messages } => Headline {
+            nodes,
+            requests: short(requests),
+            counted: "message",
+            count: short(messages),
+            part,
+        },
+        Totals::Marks { requests, grants } => Headline {
+            nodes,
+            requests,
+            counted: "grant",
+            count: grants,
+            part,
+        },
+    }
+}
+
+/// Returns what stands in the picture of a part of a text, its attributes first.
+fn inner_of(alloc: Global, text: &[u8], part: Part, totals: Totals) -> Result<Vec<u8>, Memory> {
     let mut sheet = Sheet::new(alloc);
-    let (first, _) = cut(trace, b'\n');
+    if let Totals::Marks { .. } = totals {
+        draw_marks(alloc, &mut sheet, text, &headline_of(1, part, totals));
+        return sheet.finish();
+    }
+    let (first, _) = cut(text, b'\n');
     // A trace begins with a first line.
     if let Some(line) = Line::parse(first)
         && let Some((nodes, start)) = opening_of(&line)
     {
-        let headline = Headline {
-            nodes,
-            requests: short(totals.requests),
-            messages: short(totals.messages),
-            part,
-        };
-        draw_trace(alloc, &mut sheet, start, trace, &headline);
+        draw_trace(
+            alloc,
+            &mut sheet,
+            start,
+            text,
+            &headline_of(nodes, part, totals),
+        );
     }
     sheet.finish()
 }

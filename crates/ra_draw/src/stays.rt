@@ -5,12 +5,14 @@ use indexmap::IndexMap;
 use ra_stamp::{Memory, Mode};
 use std::alloc::Global;
 
-/// A client asks for a name, is granted it and gives it back, as far as the run goes.
+/// A client asks for a name, gets a number for its request, is granted the name and gives it back, as far as the run goes.
 #[derive(Clone, Copy)]
 pub struct Stay {
     pub seat: Seat,
     pub mode: Mode,
     pub asked: Moment,
+    /// When its request got a number: until then the client is queued.
+    pub requested: Option<Moment>,
     pub entered: Option<Moment>,
     pub left: Option<Moment>,
 }
@@ -38,10 +40,20 @@ impl Stays {
             seat: *seat,
             mode,
             asked,
+            requested: None,
             entered: None,
             left: None,
         })?;
         Ok(())
+    }
+
+    /// Notes that the request of a client gets its number.
+    pub fn request(&mut self, seat: &Seat, requested: Moment) {
+        if let Some(place) = self.open.get(seat) {
+            if let Some(stay) = self.all.get_mut(*place) {
+                stay.requested = Some(requested);
+            }
+        }
     }
 
     /// Notes that a client is granted what it asked for.

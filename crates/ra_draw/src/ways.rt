@@ -24,7 +24,14 @@ pub struct Start {
 pub enum Fate {
     Delivered(Moment),
     Lost(Moment),
-    UnderWay,
+    UnderWay(Place),
+}
+
+/// The place of a message among those that are under way at the end: equal ones have the same place, and the first of them has the label.
+#[derive(Clone, Copy)]
+pub struct Place {
+    pub number: u32,
+    pub is_first: bool,
 }
 
 impl Fate {
@@ -32,7 +39,7 @@ impl Fate {
     fn is_drawn(&self) -> bool {
         match self {
             Fate::Delivered(end) | Fate::Lost(end) => end.row > 0,
-            Fate::UnderWay => true,
+            Fate::UnderWay(_) => true,
         }
     }
 }
@@ -43,6 +50,8 @@ pub struct Way {
     pub message: Message,
     pub start: Start,
     pub fate: Fate,
+    /// It is a REQUEST, and the node to which it was delivered deferred its REPLY.
+    pub is_deferred: bool,
 }
 
 /// How equal messages came under way, the first one first, of which some were taken since.
@@ -66,6 +75,8 @@ impl Equals {
 pub struct Ways {
     under_way: IndexMap<Message, Equals>,
     pub drawn: Vec<Way>,
+    /// How many different messages are drawn as under way at the end.
+    pub left: u32,
 }
 
 impl Ways {
@@ -74,6 +85,7 @@ impl Ways {
         Ways {
             under_way: IndexMap::new(alloc),
             drawn: Vec::new(alloc),
+            left: 0,
         }
     }
 
@@ -112,31 +124,49 @@ impl Ways {
                 message: *message,
                 start,
                 fate,
+                is_deferred: false,
             })?;
         }
         Ok(())
     }
 
+    /// Notes that the message that was delivered last, which is drawn, is a REQUEST that was deferred.
+    pub fn defer_last(&mut self) {
+        if let Some(way) = self.drawn.last_mut() {
+            way.is_deferred = true;
+        }
+    }
+
     /// Notes that those under way, which came so in the part, are drawn.
     pub fn close(&mut self) -> Result<(), Memory> {
         for (message, equals) in self.under_way.iter() {
-            push_under_way(&mut self.drawn, message, equals)?;
+            if push_under_way(&mut self.drawn, message, equals, self.left)? {
+                self.left = self.left.saturating_add(1);
+            }
         }
         Ok(())
     }
 }
 
-/// Adds equal messages that are still under way.
-fn push_under_way(drawn: &mut Vec<Way>, message: &Message, equals: &Equals) -> Result<(), Memory> {
+/// Adds equal messages that are still under way, and returns whether any is drawn.
+fn push_under_way(
+    drawn: &mut Vec<Way>,
+    message: &Message,
+    equals: &Equals,
+    number: u32,
+) -> Result<bool, Memory> {
+    let mut is_first = true;
     for place in equals.taken..equals.starts.len() {
         let start = equals.starts[place];
         if start.moment.row > 0 {
             drawn.push(Way {
                 message: *message,
                 start,
-                fate: Fate::UnderWay,
+                fate: Fate::UnderWay(Place { number, is_first }),
+                is_deferred: false,
             })?;
+            is_first = false;
         }
     }
-    Ok(())
+    Ok(!is_first)
 }

@@ -1,10 +1,10 @@
 //! If any growth is refused, the call answers `Memory`, writes nothing, and does what it should when it is made again.
 use crate::acts::one_lock;
 use crate::explained_runs::{A_DEADLOCK, A_KEEPER, DEADLOCK_NOTE};
-use crate::helpers::{ONE_LOCK, ONE_LOCK_SCRIPT, failing};
+use crate::helpers::{ONE_LOCK, ONE_LOCK_SCRIPT, TWO_LOCKS, failing};
 use crate::mark_logs::TWO_WRITERS;
 use crate::performing::ONE_LOCK_LINES;
-use ra_draw::{DrawError, Part, draw};
+use ra_draw::{DrawError, Part, draw, draw_marks};
 use ra_explain::{
     LineCause, Unanswered, choices_note, digits_note, frame_note, line_note, order_note,
     script_end_note, unanswered_note, unfinished_note,
@@ -529,10 +529,10 @@ impl Write for Counter {
     }
 }
 
-/// Draws a trace. If that is refused, returns whether memory ran out and nothing was written.
+/// Draws a trace in which a REQUEST is deferred. If that is refused, returns whether memory ran out and nothing was written.
 fn try_drawing(alloc: Global) -> Result<Tried, bool> {
     let (mut reader, mut writer) = (
-        ONE_LOCK.as_bytes(),
+        TWO_LOCKS.as_bytes(),
         Counter {
             bytes: 0,
             open: 0,
@@ -540,8 +540,8 @@ fn try_drawing(alloc: Global) -> Result<Tried, bool> {
         },
     );
     let valid = Verdict::Valid {
-        requests: 1,
-        messages: 2,
+        requests: 2,
+        messages: 8,
     };
     match draw(alloc, &mut reader, &mut writer, Part::WHOLE) {
         Ok(verdict) => {
@@ -550,6 +550,37 @@ fn try_drawing(alloc: Global) -> Result<Tried, bool> {
         }
         Err(fault) => Err(fault == DrawError::Memory && writer.bytes == 0),
     }
+}
+
+/// Draws a mark log. If that is refused, returns whether memory ran out and nothing was written.
+fn try_drawing_marks(alloc: Global) -> Result<Tried, bool> {
+    let (mut reader, mut writer) = (
+        b"request 1 1 r X 1\nenter 1 1 r X 1\nleave 1 1 r X 1\n".as_slice(),
+        Counter {
+            bytes: 0,
+            open: 0,
+            close: 0,
+        },
+    );
+    let valid = MarksVerdict::Valid {
+        requests: 1,
+        grants: 1,
+    };
+    match draw_marks(alloc, &mut reader, &mut writer, Part::WHOLE) {
+        Ok(verdict) => {
+            let is_whole = writer.open > 0 && writer.open == writer.close;
+            Ok(tried_if(verdict == valid && is_whole))
+        }
+        Err(fault) => Err(fault == DrawError::Memory && writer.bytes == 0),
+    }
+}
+
+#[test]
+fn growth_of_a_picture_of_marks(rt: HostRuntime) {
+    end(
+        &rt,
+        again(try_drawing_marks(rt.alloc()), try_drawing_marks(rt.alloc())),
+    );
 }
 
 #[test]

@@ -1,8 +1,8 @@
 //! Pictures of traces: what stands in them, in words, and when there is none.
 use crate::helpers::Part::{Text, Times};
 use crate::helpers::{ONE_LOCK, TWO_LOCKS, assert_rows, failing, printed, text_of};
-use ra_draw::{DrawError, Part, draw};
-use ra_trace::{Cause, Verdict};
+use ra_draw::{DrawError, Part, draw, draw_marks};
+use ra_trace::{Cause, MarksVerdict, Verdict};
 use std::alloc::Global;
 use std::io;
 use std::process::Abort;
@@ -62,9 +62,24 @@ fn have(picture: &str, words: &[(&str, u64)]) -> bool {
     true
 }
 
-/// Returns whether a row is so, and the picture is one element without a script or another file.
+/// Returns the picture of a part of a mark log.
+fn log_picture_of(alloc: Global, log: &[u8], part: Part) -> Option<String> {
+    let mut reader = log;
+    let mut picture = Vec::new(alloc);
+    match draw_marks(alloc, &mut reader, &mut picture, part) {
+        Ok(MarksVerdict::Valid { .. }) => String::from_utf8(picture).ok(),
+        _ => None,
+    }
+}
+
+/// Returns whether a row of a trace is so.
 fn is_so(alloc: Global, row: &Row) -> bool {
-    match picture_of(alloc, row.0.as_bytes(), row.1) {
+    has_row(picture_of(alloc, row.0.as_bytes(), row.1), row)
+}
+
+/// Returns whether a picture is as a row says, and is one element without a script or another file.
+fn has_row(picture: Option<String>, row: &Row) -> bool {
+    match picture {
         Some(picture) => {
             picture
                 .as_str()
@@ -119,15 +134,26 @@ const ONE_LOCK_WORDS: &[(&str, u64)] = &[
         1,
     ),
     ("<title>client 1 at node 1 leaves r</title>", 1),
-    (">request 1</text>", 1),
-    (">reply 1</text>", 1),
+    (">request 1 r X</text>", 1),
+    (">reply 1 r</text>", 1),
+    (">asks r X</text>", 1),
+    (">leaves r</text>", 1),
+    // Each message has its line, and a wide one beneath it that is not seen.
+    (" class=\"arrow request\"/></g>", 1),
+    (" class=\"arrow reply\"/></g>", 1),
+    (" class=\"hit\"/>", 2),
+    (" defers ", 0),
+    (" is queued for ", 0),
+    (">copies</text>", 0),
+    (">end</text>", 0),
+    (">node 1</text>", 1),
 ];
 
 /// What stands in that of two clients: the lower node goes first, and the REPLY to the other one waits until it leaves.
 const TWO_LOCKS_WORDS: &[(&str, u64)] = &[
     ("<title>3 nodes, 2 requests, 8 messages</title>", 1),
     (", delivered at line ", 8),
-    ("<title>node ", 3),
+    (" class=\"lane\"/>", 3),
     (
         "<title>reply 1 from node 1 to node 2 for r, sent at line 13, delivered at line 16</title>",
         1,
@@ -140,6 +166,14 @@ const TWO_LOCKS_WORDS: &[(&str, u64)] = &[
         "<title>client 2 at node 2 waits for r, exclusive, from line 4 to line 16</title>",
         1,
     ),
+    // It waits there from the delivery of the REQUEST on.
+    (
+        "<title>node 1 defers its reply to request 1 of node 2 for r, from line 8 to line 13</title>",
+        1,
+    ),
+    (", delivered at line 8 deferred</title>", 1),
+    (">request 1 r X deferred</text>", 1),
+    (" defers ", 1),
     (", still under way", 0),
     (", lost at ", 0),
 ];
@@ -165,6 +199,62 @@ const LOST_AND_REPEATED_WORDS: &[(&str, u64)] = &[
     ),
     (" is inside ", 0),
     (", delivered at ", 0),
+    (">copies</text>", 1),
+    (">request 1 disk.2 SIX, 1 to 2</text>", 1),
+    (">request 1 disk.2 SIX lost</text>", 1),
+    (">request 1 disk.2 SIX to node 2</text>", 1),
+    (">end</text>", 1),
+];
+
+/// The trace of two clients of a node: the second one is queued until the first one leaves, and has a number from then on.
+const QUEUED: &str = "trace 2 1 0
+ask 1 1 r X
+request 1 1 r X 1
+enter 1 1 r X 1
+ask 1 2 r S
+ask 1 3 r S
+release 1 1 r
+leave 1 1 r X 1
+request 1 2 r S 2
+enter 1 2 r S 2
+end
+";
+
+/// What stands in that of the two clients.
+const QUEUED_WORDS: &[(&str, u64)] = &[
+    (
+        "<title>client 2 at node 1 is queued for r, shared, from line 5 to line 7</title>",
+        1,
+    ),
+    (
+        "<title>client 3 at node 1 is queued for r, shared, from line 6 on</title>",
+        1,
+    ),
+    (" is queued for ", 2),
+    (" waits for ", 0),
+    (" is inside r, shared, from line 7 on</title>", 1),
+    (">asks r S</text>", 2),
+];
+
+/// The trace of two names that differ in the middle, where the longer one has fourteen letters.
+const LONG_NAMES: &str = "trace 2 1 0
+ask 1 1 rows.aa.locks X
+request 1 1 rows.aa.locks X 1
+enter 1 1 rows.aa.locks X 1
+ask 1 1 rows.bbb.locks S
+request 1 1 rows.bbb.locks S 1
+enter 1 1 rows.bbb.locks S 1
+release 1 1 rows.aa.locks
+leave 1 1 rows.aa.locks X 1
+end
+";
+
+/// What stands in that of the two names: the shorter one keeps eight letters, and words have all of them.
+const LONG_NAMES_WORDS: &[(&str, u64)] = &[
+    (">asks ..aa.locks X</text>", 1),
+    (">asks ..bbb.locks S</text>", 1),
+    (">leaves ..aa.locks</text>", 1),
+    (" asks for rows.aa.locks, exclusive</title>", 1),
 ];
 
 #[test]
@@ -173,8 +263,81 @@ fn each_shape_says_what_it_is(rt: HostRuntime) {
         Row(ONE_LOCK, Part::WHOLE, ONE_LOCK_WORDS),
         Row(TWO_LOCKS, Part::WHOLE, TWO_LOCKS_WORDS),
         Row(LOST_AND_REPEATED, Part::WHOLE, LOST_AND_REPEATED_WORDS),
+        Row(QUEUED, Part::WHOLE, QUEUED_WORDS),
+        Row(LONG_NAMES, Part::WHOLE, LONG_NAMES_WORDS),
     ];
     assert_rows(&rt, are_so(rt.alloc(), &rows), rows.len());
+}
+
+/// A mark log of two clients: the second one is at node 3, and still inside at the end.
+const LOG: &str = "request 1 7 r X 3
+request 3 8 r S 5
+enter 1 7 r X 3
+leave 1 7 r X 3
+enter 3 8 r S 5
+";
+
+/// What stands in the picture of that log.
+const LOG_WORDS: &[(&str, u64)] = &[
+    ("<title>3 nodes, 2 requests, 2 grants</title>", 1),
+    (" class=\"lane\"/>", 3),
+    (
+        "<title>client 7 at node 1 waits for r, exclusive, from line 1 to line 3</title>",
+        1,
+    ),
+    (
+        "<title>client 7 at node 1 is inside r, exclusive, from line 3 to line 4</title>",
+        1,
+    ),
+    (
+        "<title>client 8 at node 3 waits for r, shared, from line 2 to line 5</title>",
+        1,
+    ),
+    (
+        "<title>client 8 at node 3 is inside r, shared, from line 5 on</title>",
+        1,
+    ),
+    (">asks r X</text>", 1),
+    (">asks r S</text>", 1),
+    (">leaves r</text>", 1),
+    (" class=\"row\">", 5),
+    (" is queued for ", 0),
+    ("<title>request ", 0),
+    ("<title>reply ", 0),
+];
+
+#[test]
+fn a_mark_log_has_bars_alone(rt: HostRuntime) {
+    let alloc = rt.alloc();
+    let rows = [
+        Row(LOG, Part::WHOLE, LOG_WORDS),
+        Row(
+            "",
+            Part::WHOLE,
+            &[("<title>1 node, 0 requests, 0 grants</title>", 1)],
+        ),
+        Row(
+            LOG,
+            lines(4, 4),
+            &[
+                (
+                    "<title>3 nodes, 2 requests, 2 grants, from line 4, to line 4</title>",
+                    1,
+                ),
+                (" is inside r, exclusive, from line 3 to line 4</title>", 1),
+                (" waits for r, shared, from line 2 on</title>", 1),
+                (" class=\"row\">", 1),
+            ],
+        ),
+    ];
+    let mut same = 0;
+    for row in &rows {
+        if !has_row(log_picture_of(alloc, row.0.as_bytes(), row.1), row) {
+            break;
+        }
+        same = usize::saturating_add(same, 1);
+    }
+    assert_rows(&rt, same, rows.len());
 }
 
 #[test]
@@ -210,6 +373,28 @@ fn a_part_has_what_reaches_into_it(rt: HostRuntime) {
             ONE_LOCK,
             lines(0, 2),
             &[(" asks for ", 1), (", still under way</title>", 1)],
+        ),
+        // The marks of the last step are drawn with it.
+        Row(
+            QUEUED,
+            lines(5, 5),
+            &[
+                (
+                    "<title>client 1 at node 1 is inside r, exclusive, from line 2 on</title>",
+                    1,
+                ),
+                (" is queued for r, shared, from line 5 on</title>", 1),
+                (" is queued for ", 1),
+            ],
+        ),
+        Row(
+            QUEUED,
+            lines(7, 7),
+            &[
+                (" is inside r, exclusive, from line 2 to line 7</title>", 1),
+                (" is inside r, shared, from line 7 on</title>", 1),
+                (" is queued for r, shared, from line 5 to line 7</title>", 1),
+            ],
         ),
         Row(
             ONE_LOCK,

@@ -1,0 +1,149 @@
+//! How names are shortened in labels.
+use crate::course::Course;
+use ra_stamp::Name;
+
+/// The most letters that the longest name may have if none is shortened.
+const WHOLE: usize = 12;
+
+/// The letters that the shortest name keeps.
+const KEPT: usize = 8;
+
+/// The fewest letters that are left out, since two dots take their place.
+const WORTH: usize = 3;
+
+/// How many letters of each name are left out at its beginning and at its end. All names have them in common, so different names stay
+/// different.
+#[derive(Clone, Copy)]
+pub struct Cut {
+    pub before: usize,
+    pub after: usize,
+    /// The letters of the longest label of a name.
+    pub longest: usize,
+}
+
+/// What names have in common.
+#[derive(Clone, Copy)]
+struct Common {
+    first: Option<Name>,
+    before: usize,
+    after: usize,
+    shortest: usize,
+    longest: usize,
+}
+
+/// Returns how many letters two names have in common at their beginnings.
+fn same_before(one: &[u8], other: &[u8]) -> usize {
+    let most = one.len().min(other.len());
+    for place in 0..most {
+        if one[place] != other[place] {
+            return place;
+        }
+    }
+    most
+}
+
+/// Returns how many letters two names have in common at their ends.
+fn same_after(one: &[u8], other: &[u8]) -> usize {
+    let most = one.len().min(other.len());
+    for place in 0..most {
+        if one[one.len() - 1 - place] != other[other.len() - 1 - place] {
+            return place;
+        }
+    }
+    most
+}
+
+/// Returns so many letters, or none if they are too few to be left out.
+fn worth(letters: usize) -> usize {
+    if letters < WORTH { 0 } else { letters }
+}
+
+impl Common {
+    /// Begins with the first name.
+    fn begin(&mut self, name: &Name) {
+        let letters = name.bytes().len();
+        *self = Common {
+            first: Some(*name),
+            before: letters,
+            after: letters,
+            shortest: letters,
+            longest: letters,
+        };
+    }
+
+    /// Goes on with another name.
+    fn go_on(&mut self, first: &Name, name: &Name) {
+        let (one, other) = (first.bytes(), name.bytes());
+        self.before = self.before.min(same_before(one, other));
+        self.after = self.after.min(same_after(one, other));
+        self.shortest = self.shortest.min(other.len());
+        self.longest = self.longest.max(other.len());
+    }
+
+    /// Takes a name.
+    fn take(&mut self, name: &Name) {
+        match self.first {
+            Some(first) => self.go_on(&first, name),
+            None => self.begin(name),
+        }
+    }
+
+    /// Returns what is left out.
+    fn cut(&self) -> Cut {
+        if self.longest <= WHOLE {
+            return Cut {
+                before: 0,
+                after: 0,
+                longest: self.longest,
+            };
+        }
+        let spare = self.shortest.saturating_sub(KEPT);
+        let before = worth(self.before.min(spare));
+        let after = worth(self.after.min(spare.saturating_sub(before)));
+        Cut {
+            before,
+            after,
+            longest: self.longest,
+        }
+    }
+}
+
+/// Returns how the names of what is drawn are shortened. It is linear in what is drawn.
+pub fn cut_of(course: &Course) -> Cut {
+    let mut common = Common {
+        first: None,
+        before: 0,
+        after: 0,
+        shortest: 0,
+        longest: 0,
+    };
+    for way in &course.ways.drawn {
+        common.take(&way.message.name());
+    }
+    for row in &course.rows {
+        if let Some(act) = &row.act {
+            common.take(&act.seat.name);
+        }
+    }
+    common.cut()
+}
+
+impl Cut {
+    /// Returns what a label has of a name.
+    pub fn shown<'a>(&self, name: &'a [u8]) -> &'a [u8] {
+        let from = self.before.min(name.len());
+        let to = name.len().saturating_sub(self.after).max(from);
+        &name[from..to]
+    }
+
+    /// Returns the letters of the longest label of a name.
+    pub fn letters(&self) -> usize {
+        if self.before == 0 && self.after == 0 {
+            self.longest
+        } else {
+            self.longest
+                .saturating_sub(self.before.saturating_add(self.after))
+                .saturating_add(4)
+        }
+    }
+}
