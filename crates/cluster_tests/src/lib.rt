@@ -5,8 +5,6 @@
 #[cfg(test)]
 mod asleep;
 #[cfg(test)]
-mod audits;
-#[cfg(test)]
 mod books;
 #[cfg(test)]
 mod changed_frames;
