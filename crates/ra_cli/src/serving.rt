@@ -436,7 +436,7 @@ fn do_task<T: Threads + Wait + Sync, R: BufRead, W: Write, O: Observer>(
         (W.contents writer.old) (W.contents writer.new) (reader.new ≡ reader.old) }
     ensures unfinished { result.status ≡ 3
         → IsLeftBy task.entry (R.remaining reader.old) (R.remaining reader.new) (W.contents writer.old) (W.contents writer.new) }
-    // A script whose clients take names in order and give them all back is finished.
+    // A script whose clients take names in order and give them all back is not left unfinished by a faithful task.
     ensures finished { IfSome (R.remaining reader.old) (λ input. IsOrderly input → RunsFaithfully task.entry → result.status ≢ 3) }
     ensures refused { result.status ≡ 2
         → IsRefusedBy task.entry (R.remaining reader.old) (W.contents writer.old) (W.contents writer.new) }

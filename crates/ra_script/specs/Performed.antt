@@ -103,8 +103,8 @@ pub record IsOrderly (input : List ℕ) : Type 0 where
   pub released : IsUnreleased script → ⊥
 
 -- Whatever the script, a policy that repeats no message never comes to the limit of turns, and one that also chooses by
--- itself is refused no turn. If a policy chooses by itself, loses no message, and the input is orderly, then the answer
--- is that its run is finished.
+-- itself is refused no turn. If a policy chooses by itself, loses no message, and the input is orderly, then an answer,
+-- if there is one, is that its run is finished.
 pub record BringsToEnd (policy : Policy) (known : Option (List ℕ)) (result : Result Bool PerformError) : Type 0 where
   pub below_limit : RepeatsNothing policy → IsErrOf result (fault.Drive TurnLimit) → ⊥
   pub every_turn : RepeatsNothing policy → ChoosesItself policy → (cause : DriveError) → IsErrOf result (fault.Drive cause) → ⊥
