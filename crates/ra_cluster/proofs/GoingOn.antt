@@ -1,4 +1,5 @@
--- In a quiet settled run of books whose clients take names in order, some client that holds a name waits for nothing.
+-- In a quiet settled run of books whose clients take names in order, each name that is waited for is held, in order, and
+-- some client that holds a name waits for nothing.
 use Rattle.std.proofs.Common.{◌≡◌, ℕ, ◌+◌, ◌-◌, ◌<◌, ◌≤◌, List, [], ◌∷◌, ◌++◌, map, length, refl, sym, ap, ◌∙◌, subst, append_assoc, arith}
 use Rattle.std.specs.Prelude.{All, Contains}
 use Rattle.std.proofs.lemmas.List.{get_or_default, map-append}
@@ -26,13 +27,18 @@ use Rattle.ra_cluster.specs.declared.sent.Sent.{Sent}
 use Rattle.ra_cluster.specs.History.{IsHistory, node_event}
 use Rattle.ra_cluster.specs.Book.{BookState, HasHistory, LeadsTo}
 use Rattle.ra_cluster.specs.Settled.{IsCluster, IsSettledRun, start_of}
-use Rattle.ra_cluster.specs.Progress.{TakesNamesInOrder, SomeoneCanGoOn}
+use Rattle.ra_cluster.specs.Progress.{TakesNamesInOrder, SomeoneCanGoOn, IsHeldInOrder}
 use Rattle.ra_cluster.proofs.Merging.{number_at}
 use Rattle.ra_cluster.proofs.NodeMarks.{Fit, history_by}
 use Rattle.ra_cluster.proofs.SettledNodes.{nobody, book_at, few, book_ends}
 
 -- what the law rests on
 pub record GoingOnLaws : Type 0 where
+  pub held : (n start : ℕ) (moves : List Move) (nodes : ℕ → NodeState)
+      → IsNodeNumber n → IsRun n start moves → EndsWith n start moves nodes → IsQuiet moves → TakeNamesInOrder n start moves
+      → start + requests_in (marks_of moves) < greatest_number
+      → (node client : ℕ) (name : List ℕ) → (1 ≤ node) × (node ≤ n) → WaitsForName (nodes node) client name
+      → any.IsHeldInOrder n nodes name
   pub goes_on : (n start : ℕ) (moves : List Move) (nodes : ℕ → NodeState)
       → IsNodeNumber n → IsRun n start moves → EndsWith n start moves nodes → IsQuiet moves → TakeNamesInOrder n start moves
       → start + requests_in (marks_of moves) < greatest_number
@@ -171,28 +177,82 @@ module _ (laws : GoingOnLaws) (books : List BookState) (moves : List Move) (repo
       let other = history_by b (histories k nobody within) (happened_at b.me moves) (nodes b.me) fit (book_ends books cluster moves nodes settled.run.ends.1 k within) in
       laws.one_node b.me b.nodes b.start b.events b.sent _ node (nodes b.me) leads other.0
 
-  pub books_go_on : (book : BookState) (node : NodeState) (client : ℕ) (name : List ℕ) → Contains books book → LeadsTo book node → WaitsForName node client name
-      → SomeoneCanGoOn books name
-  books_go_on book node client name (k, within, is) leads waits =
-      let same : book ≡ book_at books k = sym (get_or_default books k nobody book within ∙ is) in
-      let b = book_at books k in
-      let there = node_is k within node (subst (λ (x : BookState). LeadsTo x node) same leads) in
-      let me = number_at books cluster k nobody within in
-      let requests : start + requests_in (marks_of moves) < greatest_number = omega (arith, left, reports.requests) in
-      let found = laws.goes_on n start moves settled.run.ends.0 (few books cluster histories) settled.run settled.run.ends.1 is_quiet in_order requests b.me client name
-      (omega (arith, me), omega (arith, me, within)) (subst (λ (s : NodeState). WaitsForName s client name) there waits) in
-      let j = found.node - 1 in
-      let low = place found.node found.within in
+  -- the node of a book among these, in the run
+  record Standing (book : BookState) (node : NodeState) : Type 0 where
+    pub me : ℕ
+    pub within : (1 ≤ me) × (me ≤ n)
+    pub node_is : node ≡ settled.run.ends.0 me
+
+  standing : (book : BookState) (node : NodeState) → Contains books book → LeadsTo book node → Standing book node
+  standing book node (k, low, is) leads =
+      let same : book ≡ book_at books k = sym (get_or_default books k nobody book low ∙ is) in
+      let number = number_at books cluster k nobody low in
+      record {
+        me = (book_at books k).me;
+        within = (omega (arith, number), omega (arith, number, low));
+        node_is = node_is k low node (subst (λ (x : BookState). LeadsTo x node) same leads);
+      }
+
+  -- the book of a node of the run
+  record Kept (i : ℕ) : Type 0 where
+    pub book : BookState
+    pub among : Contains books book
+    pub node : NodeState
+    pub leads : LeadsTo book node
+    pub node_is : node ≡ settled.run.ends.0 i
+
+  kept : (i : ℕ) → (1 ≤ i) × (i ≤ n) → Kept i
+  kept i at =
+      let j = i - 1 in
+      let low = place i at in
       let history = histories j nobody low in
-      let its : history.node ≡ settled.run.ends.0 found.node = node_is j low history.node history.leads ∙ ap settled.run.ends.0 (me_at found.node found.within) in
       record {
         book = book_at books j;
         among = (j, low, get_or_default books j (book_at books j) nobody low);
         node = history.node;
         leads = history.leads;
+        node_is = node_is j low history.node history.leads ∙ ap settled.run.ends.0 (me_at i at);
+      }
+
+  -- numbers are left
+  some_left : start + requests_in (marks_of moves) < greatest_number
+  some_left = omega (arith, left, reports.requests)
+
+  pub books_go_on : (book : BookState) (node : NodeState) (client : ℕ) (name : List ℕ) → Contains books book → LeadsTo book node → WaitsForName node client name
+      → SomeoneCanGoOn books name
+  books_go_on book node client name among leads waits =
+      let s = standing book node among leads in
+      let found = laws.goes_on n start moves settled.run.ends.0 (few books cluster histories) settled.run settled.run.ends.1 is_quiet in_order some_left s.me client name
+      s.within (subst (λ (x : NodeState). WaitsForName x client name) s.node_is waits) in
+      let its = kept found.node found.within in
+      record {
+        book = its.book;
+        among = its.among;
+        node = its.node;
+        leads = its.leads;
         client = found.client;
         held = found.held;
-        holds = subst (λ (s : NodeState). HoldsName s found.client found.held) (sym its) found.holds;
+        holds = subst (λ (x : NodeState). HoldsName x found.client found.held) (sym its.node_is) found.holds;
         not_below = found.not_below;
-        free = λ other w. found.free other (subst (λ (s : NodeState). WaitsForName s found.client other) its w);
+        free = λ other w. found.free other (subst (λ (x : NodeState). WaitsForName x found.client other) its.node_is w);
+      }
+
+  pub books_are_held : (book : BookState) (node : NodeState) (client : ℕ) (name : List ℕ) → Contains books book → LeadsTo book node → WaitsForName node client name
+      → IsHeldInOrder books name
+  books_are_held book node client name among leads waits =
+      let s = standing book node among leads in
+      let found = laws.held n start moves settled.run.ends.0 (few books cluster histories) settled.run settled.run.ends.1 is_quiet in_order some_left s.me client name
+      s.within (subst (λ (x : NodeState). WaitsForName x client name) s.node_is waits) in
+      let its = kept found.node found.within in
+      record {
+        book = its.book;
+        among = its.among;
+        node = its.node;
+        leads = its.leads;
+        client = found.client;
+        holds = subst (λ (x : NodeState). HoldsName x found.client name) (sym its.node_is) found.holds;
+        ascends = λ book' node' holder other among' leads' holds w.
+            let there = standing book' node' among' leads' in
+            found.ascends there.me holder other there.within (subst (λ (x : NodeState). HoldsName x holder name) there.node_is holds)
+            (subst (λ (x : NodeState). WaitsForName x holder other) there.node_is w);
       }

@@ -32,3 +32,14 @@ pub record SomeoneCanGoOn (books : List BookState) (name : List ℕ) : Type 0 wh
   pub holds : HoldsName node client held
   pub not_below : (held ≡ name) ⊎ IsBelow name held
   pub free : (other : List ℕ) → WaitsForName node client other → ⊥
+
+-- some client of these books holds this name, and each client that holds it waits for nothing or for names above it
+pub record IsHeldInOrder (books : List BookState) (name : List ℕ) : Type 0 where
+  pub book : BookState
+  pub among : Contains books book
+  pub node : NodeState
+  pub leads : LeadsTo book node
+  pub client : ℕ
+  pub holds : HoldsName node client name
+  pub ascends : (book' : BookState) (node' : NodeState) (holder : ℕ) (other : List ℕ) → Contains books book' → LeadsTo book' node'
+      → HoldsName node' holder name → WaitsForName node' holder other → IsBelow name other

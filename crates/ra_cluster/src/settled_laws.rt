@@ -8,7 +8,7 @@ ghost use Rattle.ra_world.specs.Traffic.{Move};
 ghost use Rattle.ra_world.specs.World.{Reports};
 ghost use Rattle.ra_schedule.specs.Orderly.{WaitsForName};
 ghost use Rattle.ra_cluster.specs.Book.{BookState, HasHistory, LeadsTo};
-ghost use Rattle.ra_cluster.specs.Progress.{TakesNamesInOrder, SomeoneCanGoOn};
+ghost use Rattle.ra_cluster.specs.Progress.{TakesNamesInOrder, SomeoneCanGoOn, IsHeldInOrder};
 ghost use Rattle.ra_cluster.specs.Settled.{IsCluster, IsSettledRun, start_of};
 ghost use Rattle.ra_cluster.specs.SettlingParts.{FramesAreFromTheirNodes, StepsMakeSettledRuns, FittingBooksSettle, GrantsAreInTheBooks};
 
@@ -54,12 +54,18 @@ pub fn grants_of_settled_runs_are_in_the_books()
     messages_under_way_are_between_nodes();
 }
 
-/// Clients of threads never deadlock if each takes names in ascending order, one at a time. If the report of a settled
-/// run says that nothing was lost and nothing is under way, then whoever waits for a name, by the books, waits in the
-/// end for a client that can go on. That one waits for nothing, and holds the name or one above it. Numbers must be left
-/// for the queued ones, of which there are 2^64-1.
+/// Clients of threads never deadlock if each takes names in ascending order, one at a time. Suppose that the report of a
+/// settled run says that nothing was lost and nothing is under way. Then, by the books, each name that is waited for is
+/// held, and a client that holds it waits for nothing or for greater names. So a client that waits for a name waits in
+/// the end for a client that can go on: that one waits for nothing, and holds the name or one above it. Numbers end at
+/// 2^64-1, and some must be left for queued clients.
 pub fn clients_of_settled_books_never_deadlock()
-    ensures { (books : List BookState) (moves : List Move) (report : Report) → IsCluster books → All HasHistory books
+    ensures held { (books : List BookState) (moves : List Move) (report : Report) → IsCluster books → All HasHistory books
+        → IsSettledRun books moves → Reports (length books) (start_of books) moves report → IsQuietReport report
+        → All TakesNamesInOrder books → start_of books + report.requests < greatest_number
+        → (book : BookState) (node : NodeState) (client : ℕ) (name : List ℕ)
+        → Contains books book → LeadsTo book node → WaitsForName node client name → IsHeldInOrder books name }
+    ensures goes_on { (books : List BookState) (moves : List Move) (report : Report) → IsCluster books → All HasHistory books
         → IsSettledRun books moves → Reports (length books) (start_of books) moves report → IsQuietReport report
         → All TakesNamesInOrder books → start_of books + report.requests < greatest_number
         → (book : BookState) (node : NodeState) (client : ℕ) (name : List ℕ)

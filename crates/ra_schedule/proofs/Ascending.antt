@@ -1,4 +1,4 @@
--- In a run whose clients take names in order, a client that waits for a name holds all others at which it stands, and
+-- In a run whose clients take names in order, a client that waits for a name holds all others for which it has asked, and
 -- each of them is below that name.
 use Rattle.std.proofs.Common.{◌≡◌, ◌≢◌, ℕ, List, [], ◌∷◌, ◌++◌, Contains, refl, sym, ap, ◌∙◌, subst, append_assoc, inl, inr}
 use Rattle.std.proofs.lemmas.Bool.{cases_eq}
@@ -49,7 +49,7 @@ one_more_name (m ∷ moves) move =
 
 -- ---- A client that waits
 
--- at each node: a client that waits for a name holds all others at which it stands, each below that name
+-- at each node: a client that waits for a name holds all others for which it has asked, each below that name
 pub record AllAscend (n start : ℕ) (moves : List Move) : Type 0 where
   pub nodes : ℕ → NodeState
   pub ends : EndsWith n start moves nodes

@@ -1,5 +1,5 @@
--- In a quiet run whose clients take names in order, whoever waits for a name waits in the end for a client that waits for
--- nothing: of the names that are waited for, the holder of the greatest one does not wait.
+-- In a quiet run whose clients take names in order, each name that is waited for is held, and a client that holds it waits
+-- only for names above it. So of the names that are waited for, the holder of the greatest one does not wait.
 use Rattle.std.proofs.Common.{◌≡◌, ◌≢◌, ◌⊎◌, ℕ, zero, suc, ◌+◌, ◌<◌, List, [], ◌∷◌, Contains, refl, sym, subst, arith, inl, inr}
 use Rattle.std.specs.Cmp.Lexicographic.{nat_list_cmp_total}
 use Rattle.std.proofs.lemmas.Bool.{cases_eq}
@@ -11,9 +11,9 @@ use Rattle.ra_world.specs.Traffic.{Move}
 use Rattle.ra_world.specs.Run.{IsRun, EndsWith, happened_at, marks_of}
 use Rattle.ra_world.specs.Quiet.{IsQuiet, requests_in}
 use Rattle.ra_schedule.specs.LockOrder.{IsBelow}
-use Rattle.ra_schedule.specs.Orderly.{HoldsName, WaitsForName, TakeNamesInOrder, SomeoneCanGoOn}
+use Rattle.ra_schedule.specs.Orderly.{HoldsName, WaitsForName, TakeNamesInOrder, SomeoneCanGoOn, IsHeldInOrder}
 use Rattle.ra_schedule.specs.BelowFinishing.{LawsOfNodes, LawsOfRuns}
-use Rattle.ra_schedule.proofs.ClientTurns.{HasIt, has_or_not, holder_stands}
+use Rattle.ra_schedule.proofs.ClientTurns.{has_or_not, holder_stands}
 use Rattle.ra_schedule.proofs.MovedNodes.{IsNode}
 use Rattle.ra_schedule.proofs.Climbing.{climbed}
 use Rattle.ra_schedule.proofs.TakenNames.{IsTaken, below_or_not, never_below, by_use}
@@ -73,6 +73,23 @@ module _ (nodes_laws : LawsOfNodes) (laws : LawsOfRuns) (n start : ℕ) (count :
       let r = resource_at (all.nodes i) name in
       by_use laws n start count moves run quiet all.nodes all.ends (λ k here. (all.each k here).consistent) left i name client at waits.0 (use_of r) (refl {a = use_of r})
 
+  -- a client that holds this name and waits for another waits for one above it
+  ascends : (i client : ℕ) (name other : List ℕ) → IsNode n i → HoldsName (all.nodes i) client name → WaitsForName (all.nodes i) client other → IsBelow name other
+  ascends i client name other at holds waits =
+      (all.above i client other name at waits (holder_stands (resource_at (all.nodes i) name) client holds) (λ same.
+      waits.1 (subst (λ (x : List ℕ). HoldsName (all.nodes i) client x) same holds))).1
+
+  held_in_order : (i client : ℕ) (name : List ℕ) → IsNode n i → WaitsForName (all.nodes i) client name → IsHeldInOrder n all.nodes name
+  held_in_order i client name at waits =
+      let t = taken i client name at waits in
+      record {
+        node = t.i;
+        within = t.within;
+        client = t.client;
+        holds = t.has;
+        ascends = λ j holder other there holds waits_there. ascends j holder name other there holds waits_there;
+      }
+
   -- somebody waits for this name
   record IsWanted (name : List ℕ) : Type 0 where
     pub i : ℕ
@@ -87,12 +104,10 @@ module _ (nodes_laws : LawsOfNodes) (laws : LawsOfRuns) (n start : ℕ) (count :
   rises : (first name : List ℕ) → IsWantedFrom first name → SomeoneCanGoOn n all.nodes first ⊎ ((other : List ℕ) × IsWantedFrom first other × IsBelow name other)
   rises first name (wanted, from) =
       let t = taken wanted.i wanted.client name wanted.within wanted.waits in
-      let stands = holder_stands (resource_at (all.nodes t.i) name) t.client t.has in
       elim (one_or_none (all.nodes t.i) t.client (names_asked moves)) [
         | inl waits ↦
             let other = waits.0 in
-            let up : IsBelow name other = (all.above t.i t.client other name t.within waits.1 stands (λ same.
-            waits.1.1 (subst (λ (x : List ℕ). HasIt (resource_at (all.nodes t.i) x) t.client) same t.has))).1 in
+            let up = ascends t.i t.client name other t.within t.has waits.1 in
             inr (other, (record { i = t.i; client = t.client; within = t.within; waits = waits.1 }, inr (higher first name other from up)), up)
         | inr none ↦ inl (record {
           node = t.i;
@@ -115,21 +130,40 @@ module _ (nodes_laws : LawsOfNodes) (laws : LawsOfRuns) (n start : ℕ) (count :
       (λ x p. all.known p.0.i p.0.client x p.0.within p.0.waits.0) (rises name) name
       (record { i = i; client = client; within = at; waits = waits }, inl refl)
 
-pub someone_can_go_on : LawsOfNodes → LawsOfRuns → (n start : ℕ) (moves : List Move) (nodes : ℕ → NodeState) → IsNodeNumber n → IsRun n start moves → EndsWith n start moves nodes → IsQuiet moves
-    → TakeNamesInOrder n start moves → start + requests_in (marks_of moves) < greatest_number → (node client : ℕ) (name : List ℕ) → IsNode n node → WaitsForName (nodes node) client name
-    → SomeoneCanGoOn n nodes name
-someone_can_go_on nodes_laws laws n start moves nodes count run ends quiet ordered few node client name at waits =
-    let all = all_ascend nodes_laws laws n start count moves run ordered in
-    let same : (i : ℕ) → IsNode n i → all.nodes i ≡ nodes i = λ i within.
-    nodes_laws.one_end (opening_node i n start) (all.nodes i) (nodes i) (happened_at i moves) (all.ends i within.0 within.1) (ends i within.0 within.1) in
-    let found = can_go_on nodes_laws laws n start count moves run quiet all few node client name at (subst (λ (s : NodeState). WaitsForName s client name) (sym (same node at)) waits) in
-    let is = same found.node found.within in
-    record {
-      node = found.node;
-      within = found.within;
-      client = found.client;
-      held = found.held;
-      holds = subst (λ (s : NodeState). HoldsName s found.client found.held) is found.holds;
-      not_below = found.not_below;
-      free = λ other w. found.free other (subst (λ (s : NodeState). WaitsForName s found.client other) (sym is) w);
-    }
+-- ---- At the nodes after the run
+
+module _ (nodes_laws : LawsOfNodes) (laws : LawsOfRuns) (n start : ℕ) (moves : List Move) (nodes : ℕ → NodeState) (count : IsNodeNumber n) (run : IsRun n start moves)
+    (ends : EndsWith n start moves nodes) (quiet : IsQuiet moves) (ordered : TakeNamesInOrder n start moves) (few : start + requests_in (marks_of moves) < greatest_number) where
+  all : AllAscend n start moves
+  all = all_ascend nodes_laws laws n start count moves run ordered
+
+  same : (i : ℕ) → IsNode n i → all.nodes i ≡ nodes i
+  same i within = nodes_laws.one_end (opening_node i n start) (all.nodes i) (nodes i) (happened_at i moves) (all.ends i within.0 within.1) (ends i within.0 within.1)
+
+  waited : (i client : ℕ) (name : List ℕ) → IsNode n i → WaitsForName (nodes i) client name → WaitsForName (all.nodes i) client name
+  waited i client name at waits = subst (λ (s : NodeState). WaitsForName s client name) (sym (same i at)) waits
+
+  pub someone_can_go_on : (node client : ℕ) (name : List ℕ) → IsNode n node → WaitsForName (nodes node) client name → SomeoneCanGoOn n nodes name
+  someone_can_go_on node client name at waits =
+      let found = can_go_on nodes_laws laws n start count moves run quiet all few node client name at (waited node client name at waits) in
+      record {
+        node = found.node;
+        within = found.within;
+        client = found.client;
+        held = found.held;
+        holds = subst (λ (s : NodeState). HoldsName s found.client found.held) (same found.node found.within) found.holds;
+        not_below = found.not_below;
+        free = λ other w. found.free other (waited found.node found.client other found.within w);
+      }
+
+  pub someone_holds_it : (node client : ℕ) (name : List ℕ) → IsNode n node → WaitsForName (nodes node) client name → IsHeldInOrder n nodes name
+  someone_holds_it node client name at waits =
+      let found = held_in_order nodes_laws laws n start count moves run quiet all few node client name at (waited node client name at waits) in
+      record {
+        node = found.node;
+        within = found.within;
+        client = found.client;
+        holds = subst (λ (s : NodeState). HoldsName s found.client name) (same found.node found.within) found.holds;
+        ascends = λ i holder other there holds w.
+            found.ascends i holder other there (subst (λ (s : NodeState). HoldsName s holder name) (sym (same i there)) holds) (waited i holder other there w);
+      }

@@ -37,3 +37,12 @@ pub record SomeoneCanGoOn (n : ℕ) (nodes : ℕ → NodeState) (name : List ℕ
   pub holds : HoldsName (nodes node) client held
   pub not_below : (held ≡ name) ⊎ IsBelow name held
   pub free : (other : List ℕ) → WaitsForName (nodes node) client other → ⊥
+
+-- some client holds this name, and each client that holds it waits for nothing or for names above it
+pub record IsHeldInOrder (n : ℕ) (nodes : ℕ → NodeState) (name : List ℕ) : Type 0 where
+  pub node : ℕ
+  pub within : (1 ≤ node) × (node ≤ n)
+  pub client : ℕ
+  pub holds : HoldsName (nodes node) client name
+  pub ascends : (i holder : ℕ) (other : List ℕ) → (1 ≤ i) × (i ≤ n) → HoldsName (nodes i) holder name → WaitsForName (nodes i) holder other
+      → IsBelow name other

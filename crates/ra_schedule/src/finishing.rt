@@ -16,7 +16,7 @@ ghost use Rattle.ra_schedule.specs.Faults.{FaultRates};
 ghost use Rattle.ra_schedule.specs.declared.outcomes.Survey.{Survey};
 ghost use Rattle.ra_schedule.specs.Survey.{chance, is_finished, IsOutcome, IsSurvey, SeedsFinish};
 ghost use Rattle.ra_schedule.specs.LockOrder.{IsOutOfOrder, IsUnreleased};
-ghost use Rattle.ra_schedule.specs.Orderly.{TakeNamesInOrder, WaitsForName, SomeoneCanGoOn};
+ghost use Rattle.ra_schedule.specs.Orderly.{TakeNamesInOrder, WaitsForName, SomeoneCanGoOn, IsHeldInOrder};
 ghost use Rattle.ra_schedule.specs.Performing.{Performs, IsAtRest, ChoosesItself, LosesNothing, most_turns};
 ghost use Rattle.ra_schedule.specs.Schedule.{steps_of, Follows, Ends, Stops, IsFinished, RepeatsNothing};
 ghost use Rattle.ra_schedule.specs.Script.{ScriptState, IsScript};
@@ -115,12 +115,18 @@ pub fn seeds_finish_ordered_scripts()
     endings_rest_on_nodes_and_runs();
 }
 
-/// In any run, not only of a script: if nothing was lost and nothing is under way, and each client takes names in
-/// ascending order, one at a time, then whoever waits for a name waits in the end for a client that can go on. That one
-/// waits for nothing, and holds the name or one above it. So these clients never deadlock. Numbers must be left for the
-/// queued ones, of which there are 2^64-1.
+/// In any run, not only of a script: suppose that nothing was lost, nothing is under way, and each client takes names in
+/// ascending order, one at a time. Then each name that is waited for is held, and a client that holds it waits for
+/// nothing or for greater names. So a client that waits for a name waits in the end for a client that can go on: that one
+/// waits for nothing, and holds the name or one above it. These clients never deadlock. Numbers end at 2^64-1, and some
+/// must be left for queued clients.
 pub fn clients_in_order_never_deadlock()
-    ensures { (n start : ℕ) (moves : List Move) (nodes : ℕ → NodeState)
+    ensures held { (n start : ℕ) (moves : List Move) (nodes : ℕ → NodeState)
+        → IsNodeNumber n → IsRun n start moves → EndsWith n start moves nodes → IsQuiet moves → TakeNamesInOrder n start moves
+        → start + requests_in (marks_of moves) < greatest_number
+        → (node client : ℕ) (name : List ℕ) → (1 ≤ node) × (node ≤ n) → WaitsForName (nodes node) client name
+        → IsHeldInOrder n nodes name }
+    ensures goes_on { (n start : ℕ) (moves : List Move) (nodes : ℕ → NodeState)
         → IsNodeNumber n → IsRun n start moves → EndsWith n start moves nodes → IsQuiet moves → TakeNamesInOrder n start moves
         → start + requests_in (marks_of moves) < greatest_number
         → (node client : ℕ) (name : List ℕ) → (1 ≤ node) × (node ≤ n) → WaitsForName (nodes node) client name
