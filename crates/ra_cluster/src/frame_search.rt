@@ -53,8 +53,11 @@ fn first_at(sent: &[Sent], clock: u64) -> usize
 fn is_kept_of(sent: &Sent, frame: &Frame) -> bool
     ensures { IsTrue result ↔ (sent.now ≡ record { frame = frame.now; lost = false }) }
 {
-    let (frame, lost) = (*frame, false);
-    *sent == Sent { frame, lost }
+    *sent
+        == Sent {
+            frame: *frame,
+            lost: false,
+        }
 }
 
 /// Returns whether it is this frame that was sent.

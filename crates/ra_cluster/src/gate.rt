@@ -33,12 +33,12 @@ impl Gate for OpenGate {
     fn step(&self, _node: NodeId) -> bool
         ensures { result ≡ true }
     {
-        true // No node is held up.
+        true
     }
 
     fn inside(&self, _entry: &Entry) -> bool
         ensures { result ≡ true }
     {
-        true // No client is.
+        true
     }
 }
