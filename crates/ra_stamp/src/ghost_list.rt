@@ -14,6 +14,9 @@ impl<T> Model for GhostList<T> {
     ghost also_owns = { λ _. ftrue };
 }
 
+// It owns nothing, so it may go to another thread, whatever its items are.
+unsafe impl<T> Send for GhostList<T> {}
+
 impl<T> GhostList<T> {
     /// Makes the empty list.
     pub fn new() -> GhostList<T>
