@@ -99,7 +99,7 @@ suits words (task.Help text) help numbers marks = (tt, tt, asks_for_help words h
 pub done : (words : List (String Global)) (asked : Task) (old new before after : Option (List ℕ)) (Untouched : Type 0)
     → OnHelp asked (Any (λ word. IsHelpWord (string_bytes word)) words) → Suits (map string_bytes words) asked
     → IsDoneBy asked old new before after Untouched
-    → (Untouched × Any (λ word. IsHelpWord (string_bytes word)) words)
+    → (Untouched × Any IsHelpWord (map string_bytes words))
     ⊎ IsDone (map string_bytes words) old new before after ⊎ RunsCluster old new before after
 done words (task.Answer node nodes) old new before after Untouched help fits h = inr (inl (inl (node, nodes, fits.0, h)))
 done words (task.Sim policy choices format) old new before after Untouched help fits (chosen, named, h) = inr (inl (inr (inl (chosen, format, h))))
@@ -110,7 +110,7 @@ done words task.CheckMarks old new before after Untouched help fits h = inr (inl
 done words (task.Draw part) old new before after Untouched help fits (input, requests, messages, read, verdict, draws) =
     inr (inl (inr (inr (inr (inl (of_drawn part old new before after requests messages (input, read, verdict, draws)))))))
 done words task.Cluster old new before after Untouched help fits h = inr (inr h)
-done words (task.Help text) old new before after Untouched help fits h = inl (h.0, help)
+done words (task.Help text) old new before after Untouched help fits h = inl (h.0, asks_for_help words help)
 
 -- status 3
 pub left : (words : List (List ℕ)) (asked : Task) (old new before after : Option (List ℕ)) → Suits words asked

@@ -1,5 +1,5 @@
 -- What the exit statuses of the commands mean.
-use Rattle.std.specs.Prelude.{◌≡◌, ◌≢◌, ℕ, ◌⊎◌, List, [], ◌++◌, Bool, true, false, Option, IfSome, Any, codes}
+use Rattle.std.specs.Prelude.{◌≡◌, ◌≢◌, ℕ, ◌≤◌, ◌⊎◌, List, [], ◌++◌, Bool, true, false, Option, IfSome, Any, codes}
 use Rattle.std.specs.Io.KnownBytes.{Consumes, Appends}
 use Rattle.ra_schedule.specs.declared.choice.Policy.{Policy}
 use Rattle.ra_schedule.specs.declared.finding.Ending.{Ending}
@@ -11,7 +11,7 @@ use Rattle.ra_cli.specs.Answer.{IsAnswered}
 use Rattle.ra_cli.specs.Words.{IsHelpWord, GivesNode}
 use Rattle.ra_cli.specs.Performs.{Performs}
 use Rattle.ra_cli.specs.Checks.{Judges, IsJudged}
-use Rattle.ra_cli.specs.ClusterRun.{IsClusterRun}
+use Rattle.ra_cli.specs.ClusterRun.{IsClusterRun, RunsCluster}
 use Rattle.ra_cli.specs.Pictures.{IsDrawn, IsNoTrace, IsDrawing}
 use Rattle.ra_cli.specs.Surveyed.{IsTold, Surveys}
 use Rattle.ra_cli.specs.Refusals.{IsOfReader, IsOfWriter, refused_line, word_of}
@@ -69,3 +69,22 @@ BreaksOff words input before after = (prefix rest : List ℕ) × IsPrinted words
 abbrev pub IsBroken : (words : List (List ℕ)) → (old before after : Option (List ℕ)) → Type 0
 IsBroken words old before after =
     Appends before after (codes "refused Read\n") ⊎ IfSome old (λ input. BreaksOff words input before after)
+
+-- What the program did when it was run with these words and ended with this status. `old` and `new` are what is left in
+-- the reader before and after it, and `before` and `after` what the writer contains, if they tell. `Untouched` says that
+-- nothing was read.
+pub record Serves (words : List (List ℕ)) (old new before after : Option (List ℕ)) (Untouched : Type 0) (status : ℕ) : Type 0 where
+  pub range : status ≤ 3
+  -- Status 0 comes only if the input was answered or drawn, was performed to its end, under one seed or each of many, or
+  -- was run by threads to its end; or if it is the trace of a run or, with the word `--marks`, the log of one of the lock
+  -- table; or if a word asks for a text of help or for the version, and nothing was read.
+  pub done : status ≡ 0 → (Untouched × Any IsHelpWord words) ⊎ IsDone words old new before after ⊎ RunsCluster old new before after
+  -- Status 3 comes only if the input was performed and something is left to do, under one seed or some of many, or is the
+  -- trace or the log of no run.
+  pub unfinished : status ≡ 3 → IsUnfinished words old new before after
+  -- Status 2 comes only with the line of a refusal that is neither the reader's nor the writer's.
+  pub refused : status ≡ 2 → IsRefused before after
+  -- Status 1 comes only if the reader or the writer failed, with the line that says so of the reader, or a prefix of what
+  -- is printed. If the reader tells nothing of its input, it is not said of what a prefix was written; nor is it ever said
+  -- what the texts of help and of the version are, which are the parser's.
+  pub broken : status ≡ 1 → IsBroken words old before after

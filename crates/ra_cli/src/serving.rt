@@ -1,6 +1,6 @@
-ghost use Rattle.std.specs.Prelude.{true, false, [], ◌++◌, None, ◌≢◌, ◌↔◌, IsErr, IsTrue, IfOk, IfErr, IfNone, Option, ◌≡◌, ◌≤◌, ◌⊎◌, List, ℕ, Any, map, IfSome, string_bytes};
+ghost use Rattle.std.specs.Prelude.{true, false, [], ◌++◌, None, ◌≢◌, ◌↔◌, IsErr, IsTrue, IfOk, IfErr, IfNone, Option, ◌≡◌, ◌≤◌, ◌⊎◌, List, ℕ, map, IfSome, string_bytes};
 ghost use Rattle.std.specs.Io.KnownBytes.{Appends};
-ghost use Rattle.ra_cli.specs.Words.{GivesNode, HasMarksWord, IsHelpWord};
+ghost use Rattle.ra_cli.specs.Words.{GivesNode, HasMarksWord};
 ghost use Rattle.ra_cli.specs.Answer.{Refuses};
 ghost use Rattle.ra_cli.specs.Performs.{IsNamed};
 ghost use Rattle.ra_cli.specs.Checks.{Checks, ChecksMarks, is_run, is_valid};
@@ -9,8 +9,7 @@ ghost use Rattle.ra_trace.specs.declared.error.TraceError.{TraceError};
 ghost use Rattle.ra_trace.specs.declared.verdict.Verdict.{Verdict};
 ghost use Rattle.ra_draw.specs.declared.error.DrawError.{DrawError};
 ghost use Rattle.ra_cli.specs.Pictures.{IsNoTrace};
-ghost use Rattle.ra_cli.specs.Statuses.{IsBroken, IsDone, IsPrinted, IsRefused, IsSaid, IsUnfinished};
-ghost use Rattle.ra_cli.specs.ClusterRun.{RunsCluster};
+ghost use Rattle.ra_cli.specs.Statuses.{IsBroken, IsPrinted, IsSaid, Serves};
 ghost use Rattle.ra_cli.specs.Surveyed.{RefusesSurvey, SurveysBy};
 ghost use Rattle.ra_cli.specs.Tasks.{AnswersAs, DrawsPart, IsDoneBy, IsLeftBy, IsRefusedBy, IsRefusedFor, PerformsNamed, RefusesNamed, RefusesPart, Suits};
 ghost use Rattle.ra_cli.specs.Finishing.{RunsFaithfully};
@@ -462,18 +461,8 @@ fn outcome_of<T: Threads + Wait + Sync, R: BufRead, W: Write, O: Observer>(
     writer: &mut W,
     observer: &mut O,
 ) -> Outcome
-    ensures range { result.status ≤ 3 }
-    ensures done { result.status ≡ 0
-        → ((reader.new ≡ reader.old) × Any (λ word. IsHelpWord (string_bytes word)) words.now)
-        ⊎ IsDone (map string_bytes words.now) (R.remaining reader.old) (R.remaining reader.new)
-        (W.contents writer.old) (W.contents writer.new)
-        ⊎ RunsCluster (R.remaining reader.old) (R.remaining reader.new) (W.contents writer.old) (W.contents writer.new) }
-    ensures unfinished { result.status ≡ 3
-        → IsUnfinished (map string_bytes words.now) (R.remaining reader.old) (R.remaining reader.new)
-        (W.contents writer.old) (W.contents writer.new) }
-    ensures refused { result.status ≡ 2 → IsRefused (W.contents writer.old) (W.contents writer.new) }
-    ensures broken { result.status ≡ 1
-        → IsBroken (map string_bytes words.now) (R.remaining reader.old) (W.contents writer.old) (W.contents writer.new) }
+    ensures { Serves (map string_bytes words.now) (R.remaining reader.old) (R.remaining reader.new)
+        (W.contents writer.old) (W.contents writer.new) (reader.new ≡ reader.old) result.status }
 {
     match parse(alloc, words) {
         Ok(task) => do_task(rt, alloc, task, reader, writer, observer),
@@ -493,25 +482,8 @@ pub fn serve<T: Threads + Wait + Sync, R: BufRead, W: Write>(
     reader: &mut R,
     writer: &mut W,
 ) -> u8
-    ensures range { result ≤ 3 }
-    // Status 0 comes only where the input was answered, or performed to its end, under one seed or each of many, or run by threads to its
-    // end, or is the trace of a run, or was drawn, or with the word `--marks` is the log of one of the lock table, or where a word asks for
-    // a text of help or for the version and nothing was read; and status 3 only where the input was performed and something is left to do,
-    // under one seed or some of many, or is the trace or the log of no run.
-    ensures done { result ≡ 0
-        → ((reader.new ≡ reader.old) × Any (λ word. IsHelpWord (string_bytes word)) words.now)
-        ⊎ IsDone (map string_bytes words.now) (R.remaining reader.old) (R.remaining reader.new)
-        (W.contents writer.old) (W.contents writer.new)
-        ⊎ RunsCluster (R.remaining reader.old) (R.remaining reader.new) (W.contents writer.old) (W.contents writer.new) }
-    ensures unfinished { result ≡ 3
-        → IsUnfinished (map string_bytes words.now) (R.remaining reader.old) (R.remaining reader.new)
-        (W.contents writer.old) (W.contents writer.new) }
-    // Status 2 comes only with the line of a refusal that is neither the reader's nor the writer's; and status 1 only where one of
-    // these failed: with the line that says so of the reader, or a prefix of what is printed. Of a reader that tells nothing of its input
-    // no clause says of what a prefix was written; nor is it said what the texts of help and of the version are, which are the parser's.
-    ensures refused { result ≡ 2 → IsRefused (W.contents writer.old) (W.contents writer.new) }
-    ensures broken { result ≡ 1
-        → IsBroken (map string_bytes words.now) (R.remaining reader.old) (W.contents writer.old) (W.contents writer.new) }
+    ensures { Serves (map string_bytes words.now) (R.remaining reader.old) (R.remaining reader.new)
+        (W.contents writer.old) (W.contents writer.new) (reader.new ≡ reader.old) result }
 {
     outcome_of(rt, alloc, words, reader, writer, &mut ()).status
 }
@@ -532,20 +504,8 @@ pub fn serve_with_notes<T: Threads + Wait + Sync, R: BufRead, W: Write, N: Write
     notes: &mut N,
 ) -> u8
     // What is promised of the status, the reader and the writer is the same, whatever becomes of the note.
-    ensures range { result ≤ 3 }
-    ensures done { result ≡ 0
-        → ((reader.new ≡ reader.old) × Any (λ word. IsHelpWord (string_bytes word)) words.now)
-        ⊎ IsDone (map string_bytes words.now) (R.remaining reader.old.inner) (R.remaining reader.new.inner)
-        (W.contents writer.old.inner) (W.contents writer.new.inner)
-        ⊎ RunsCluster (R.remaining reader.old.inner) (R.remaining reader.new.inner)
-        (W.contents writer.old.inner) (W.contents writer.new.inner) }
-    ensures unfinished { result ≡ 3
-        → IsUnfinished (map string_bytes words.now) (R.remaining reader.old.inner) (R.remaining reader.new.inner)
-        (W.contents writer.old.inner) (W.contents writer.new.inner) }
-    ensures refused { result ≡ 2 → IsRefused (W.contents writer.old.inner) (W.contents writer.new.inner) }
-    ensures broken { result ≡ 1
-        → IsBroken (map string_bytes words.now) (R.remaining reader.old.inner)
-        (W.contents writer.old.inner) (W.contents writer.new.inner) }
+    ensures { Serves (map string_bytes words.now) (R.remaining reader.old.inner) (R.remaining reader.new.inner)
+        (W.contents writer.old.inner) (W.contents writer.new.inner) (reader.new ≡ reader.old) result }
 {
     let mut progress = SeedProgress::new(alloc, notes);
     let outcome = outcome_of(rt, alloc, words, reader, writer, &mut progress);

@@ -17,10 +17,10 @@ use Rattle.ra_script.proofs.ReadScripts.{ok_same}
 abbrev failed : PerformError → Result Bool PerformError
 failed why = Err why
 
-no_err : {x : Bool} {y : PerformError} → ◌≡◌ {A = Result Bool PerformError} (Ok x) (Err y) → ⊥
+pub no_err : {x : Bool} {y : PerformError} → ◌≡◌ {A = Result Bool PerformError} (Ok x) (Err y) → ⊥
 no_err e = cc
 
-same_fault : {x y : PerformError} → ◌≡◌ {A = Result Bool PerformError} (Err x) (Err y) → x ≡ y
+pub same_fault : {x y : PerformError} → ◌≡◌ {A = Result Bool PerformError} (Err x) (Err y) → x ≡ y
 same_fault e = cc
 
 pub ends_finished : (format : Format) (policy : Policy) (input output : List ℕ) (finished : Bool) → IsPerformedAs format policy input output finished

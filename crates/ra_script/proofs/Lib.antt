@@ -12,3 +12,4 @@ mod Spelled
 mod Inputs
 mod Words
 mod BroughtToEnd
+mod Performs

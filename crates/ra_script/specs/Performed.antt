@@ -1,5 +1,6 @@
--- What `perform` and `perform_trace` make of their input.
-use Rattle.std.specs.Prelude.{◌≡◌, ◌≢◌, ℕ, List, [], ◌++◌, Bool, All, Option, IfSome, Result, Ok, Err, IfOk, IsErrOf, IsTrue, codes}
+-- What `perform`, `perform_as` and `perform_trace` make of their input.
+use Rattle.std.specs.Prelude.{◌≡◌, ◌≢◌, ℕ, ◌<◌, ◌≤◌, List, [], ◌++◌, length, Bool, All, Option, IfSome, Result, Ok, Err, IfOk, IfErr, IsErrOf, IsTrue, codes}
+use Rattle.std.specs.Io.KnownBytes.{Consumes, Appends}
 use Rattle.ra_stamp.specs.Sequence.{Listed as Listing}
 use Rattle.ra_world.specs.declared.report.Report.{Report}
 use Rattle.ra_world.specs.Traffic.{Move}
@@ -52,10 +53,6 @@ pub record IsPerformedAs (format : Format) (policy : Policy) (input output : Lis
   pub run : IsWholeRun script policy turn_limit moves report finished
   pub says : Says format policy script moves report output
 
--- the same, and the output is the lines of the report
-abbrev pub IsPerformed : Policy → List ℕ → List ℕ → Bool → Type 0
-IsPerformed policy input output finished = IsPerformedAs Lines policy input output finished
-
 -- the same, and the output is the trace
 abbrev pub IsTraced : Policy → List ℕ → List ℕ → Bool → Type 0
 IsTraced policy input output finished = IsPerformedAs Trace policy input output finished
@@ -89,10 +86,6 @@ RefusesAs format policy input fault.Memory = Unit {0}
 RefusesAs format policy input fault.Write = (output : List ℕ) × (finished : Bool)
     × IsPerformedAs format policy input output finished × (output ≢ [])
 
--- when each refusal of `perform` may come, which writes the lines of the report
-abbrev pub Refuses : Policy → List ℕ → PerformError → Type 0
-Refuses policy input why = RefusesAs Lines policy input why
-
 -- ---- Waiting ends
 
 -- the input is a script whose clients take names in ascending order and give them all back
@@ -109,3 +102,26 @@ pub record BringsToEnd (policy : Policy) (known : Option (List ℕ)) (result : R
   pub below_limit : RepeatsNothing policy → IsErrOf result (fault.Drive TurnLimit) → ⊥
   pub every_turn : RepeatsNothing policy → ChoosesItself policy → (cause : DriveError) → IsErrOf result (fault.Drive cause) → ⊥
   pub finished : LosesNothing policy → ChoosesItself policy → IfSome known (λ input. IsOrderly input → IfOk result IsTrue)
+
+-- ---- The answer
+
+-- The answer of each of the three, which write what comes of a script in this format. `old` and `new` are what is left in
+-- the reader before and after it, and `before` and `after` what the writer contains, if they tell. `Untouched` says that
+-- the writer is as before.
+pub record PerformsScript (format : Format) (policy : Policy) (old new before after : Option (List ℕ)) (Untouched : Type 0)
+    (result : Result Bool PerformError) : Type 0 where
+  -- what is read is a script to its end, and what is written is what comes of it and nothing else
+  pub ok : IfOk result (λ finished. IfSome old (λ input. (output : List ℕ) × IsPerformedAs format policy input output finished
+      × Consumes old new input × Appends before after output))
+  pub refused : IfErr result (λ why. IfSome old (λ input. RefusesAs format policy input why))
+  -- if the reader tells nothing of its input, there still is one of which this holds
+  pub performed : IfOk result (λ finished. (input output : List ℕ) × IsPerformedAs format policy input output finished
+      × Appends before after output)
+  pub cause : IfErr result (λ why. (input : List ℕ) × RefusesAs format policy input why)
+  pub waiting_ends : BringsToEnd policy old result
+  pub unwritten : IfErr result (λ why. why ≢ fault.Write → Untouched)
+  -- a fault of the writer comes only with something left to write
+  pub prefix : IsErrOf result fault.Write → IfSome old (λ input. (written rest : List ℕ) × (finished : Bool)
+      × IsPerformedAs format policy input (written ++ rest) finished × (rest ≢ []) × Appends before after written)
+  pub failed : IsErrOf result fault.Read → (taken : List ℕ) × (length taken < 65537) × Consumes old new taken
+  pub at_most : (taken : List ℕ) × (length taken ≤ 65537) × Consumes old new taken

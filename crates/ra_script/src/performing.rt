@@ -1,8 +1,8 @@
-ghost use Rattle.std.specs.Prelude.{◌≡◌, ◌≢◌, ◌≤◌, ◌<◌, List, ℕ, [], ◌++◌, Bool, length, string_bytes, codes, Ok, OnOk, IfOk, IfErr, IfSome, IsErrOf};
-ghost use Rattle.std.specs.Io.KnownBytes.{Consumes, Appends};
+ghost use Rattle.std.specs.Prelude.{◌≡◌, ◌≢◌, ◌≤◌, ◌<◌, List, ℕ, ◌++◌, length, string_bytes, codes, Ok, OnOk, IfOk, IfErr, IfSome, IsErrOf};
+ghost use Rattle.std.specs.Io.KnownBytes.{Consumes};
 ghost use Rattle.ra_script.specs.declared.format.Format.{Format};
 ghost use Rattle.ra_script.specs.ScriptText.{script_of};
-ghost use Rattle.ra_script.specs.Performed.{BringsToEnd, IsPerformed, IsPerformedAs, IsTraced, Refuses, RefusesAs};
+ghost use Rattle.ra_script.specs.Performed.{IsPerformedAs, PerformsScript, RefusesAs};
 
 use crate::format::Format;
 use crate::laws::read_scripts_come_to_rest;
@@ -198,31 +198,8 @@ pub fn perform_as<R: Read, W: Write>(
     format: Format,
     policy: &Policy,
 ) -> Result<bool, PerformError>
-    // What is read is a script to its end, and what is written is what comes of it and nothing else.
-    ensures ok { IfOk result (λ finished. IfSome (R.remaining reader.old) (λ input. (output : List ℕ)
-        × IsPerformedAs format policy.now input output finished
-        × Consumes (R.remaining reader.old) (R.remaining reader.new) input
-        × Appends (W.contents writer.old) (W.contents writer.new) output)) }
-
-    ensures refused { IfErr result (λ fault.
-        IfSome (R.remaining reader.old) (λ input. RefusesAs format policy.now input fault)) }
-    // Where the reader tells nothing of its input, there still is one of which this holds.
-    ensures performed { IfOk result (λ finished. (input output : List ℕ)
-        × IsPerformedAs format policy.now input output finished
-        × Appends (W.contents writer.old) (W.contents writer.new) output) }
-    ensures cause { IfErr result (λ fault. (input : List ℕ) × RefusesAs format policy.now input fault) }
-    ensures waiting_ends { BringsToEnd policy.now (R.remaining reader.old) result }
-
-    ensures unwritten { IfErr result (λ fault. fault ≢ PerformError.Write → writer.new ≡ writer.old) }
-    // A fault of the writer comes only with something left to write.
-    ensures prefix { IsErrOf result PerformError.Write → IfSome (R.remaining reader.old) (λ input.
-        (prefix rest : List ℕ) × (finished : Bool) × IsPerformedAs format policy.now input (prefix ++ rest) finished × (rest ≢ [])
-        × Appends (W.contents writer.old) (W.contents writer.new) prefix) }
-
-    ensures failed { IsErrOf result PerformError.Read → (taken : List ℕ) × (length taken < 65537)
-        × Consumes (R.remaining reader.old) (R.remaining reader.new) taken }
-    ensures at_most { (taken : List ℕ) × (length taken ≤ 65537)
-        × Consumes (R.remaining reader.old) (R.remaining reader.new) taken }
+    ensures { PerformsScript format policy.now (R.remaining reader.old) (R.remaining reader.new)
+        (W.contents writer.old) (W.contents writer.new) (writer.new ≡ writer.old) result }
 {
     read_scripts_come_to_rest();
     let done = read_printed(alloc, reader, format, policy)?;
@@ -251,31 +228,8 @@ pub fn perform<R: Read, W: Write>(
     writer: &mut W,
     policy: &Policy,
 ) -> Result<bool, PerformError>
-    // What is read is a script to its end, and what is written is what comes of it and nothing else.
-    ensures ok { IfOk result (λ finished. IfSome (R.remaining reader.old) (λ input. (output : List ℕ)
-        × IsPerformed policy.now input output finished
-        × Consumes (R.remaining reader.old) (R.remaining reader.new) input
-        × Appends (W.contents writer.old) (W.contents writer.new) output)) }
-
-    ensures refused { IfErr result (λ fault.
-        IfSome (R.remaining reader.old) (λ input. Refuses policy.now input fault)) }
-    // Where the reader tells nothing of its input, there still is one of which this holds.
-    ensures performed { IfOk result (λ finished. (input output : List ℕ)
-        × IsPerformed policy.now input output finished
-        × Appends (W.contents writer.old) (W.contents writer.new) output) }
-    ensures cause { IfErr result (λ fault. (input : List ℕ) × Refuses policy.now input fault) }
-    ensures waiting_ends { BringsToEnd policy.now (R.remaining reader.old) result }
-
-    ensures unwritten { IfErr result (λ fault. fault ≢ PerformError.Write → writer.new ≡ writer.old) }
-    // A fault of the writer comes only with something left to write.
-    ensures prefix { IsErrOf result PerformError.Write → IfSome (R.remaining reader.old) (λ input.
-        (prefix rest : List ℕ) × (finished : Bool) × IsPerformed policy.now input (prefix ++ rest) finished × (rest ≢ [])
-        × Appends (W.contents writer.old) (W.contents writer.new) prefix) }
-
-    ensures failed { IsErrOf result PerformError.Read → (taken : List ℕ) × (length taken < 65537)
-        × Consumes (R.remaining reader.old) (R.remaining reader.new) taken }
-    ensures at_most { (taken : List ℕ) × (length taken ≤ 65537)
-        × Consumes (R.remaining reader.old) (R.remaining reader.new) taken }
+    ensures { PerformsScript Format.Lines policy.now (R.remaining reader.old) (R.remaining reader.new)
+        (W.contents writer.old) (W.contents writer.new) (writer.new ≡ writer.old) result }
 {
     perform_as(alloc, reader, writer, Format::Lines, policy)
 }
@@ -300,31 +254,8 @@ pub fn perform_trace<R: Read, W: Write>(
     writer: &mut W,
     policy: &Policy,
 ) -> Result<bool, PerformError>
-    // What is read is a script to its end, and what is written is what comes of it and nothing else.
-    ensures ok { IfOk result (λ finished. IfSome (R.remaining reader.old) (λ input. (output : List ℕ)
-        × IsTraced policy.now input output finished
-        × Consumes (R.remaining reader.old) (R.remaining reader.new) input
-        × Appends (W.contents writer.old) (W.contents writer.new) output)) }
-
-    ensures refused { IfErr result (λ fault.
-        IfSome (R.remaining reader.old) (λ input. RefusesAs Format.Trace policy.now input fault)) }
-    // Where the reader tells nothing of its input, there still is one of which this holds.
-    ensures performed { IfOk result (λ finished. (input output : List ℕ)
-        × IsTraced policy.now input output finished
-        × Appends (W.contents writer.old) (W.contents writer.new) output) }
-    ensures cause { IfErr result (λ fault. (input : List ℕ) × RefusesAs Format.Trace policy.now input fault) }
-    ensures waiting_ends { BringsToEnd policy.now (R.remaining reader.old) result }
-
-    ensures unwritten { IfErr result (λ fault. fault ≢ PerformError.Write → writer.new ≡ writer.old) }
-    // A fault of the writer comes only with something left to write.
-    ensures prefix { IsErrOf result PerformError.Write → IfSome (R.remaining reader.old) (λ input.
-        (prefix rest : List ℕ) × (finished : Bool) × IsTraced policy.now input (prefix ++ rest) finished × (rest ≢ [])
-        × Appends (W.contents writer.old) (W.contents writer.new) prefix) }
-
-    ensures failed { IsErrOf result PerformError.Read → (taken : List ℕ) × (length taken < 65537)
-        × Consumes (R.remaining reader.old) (R.remaining reader.new) taken }
-    ensures at_most { (taken : List ℕ) × (length taken ≤ 65537)
-        × Consumes (R.remaining reader.old) (R.remaining reader.new) taken }
+    ensures { PerformsScript Format.Trace policy.now (R.remaining reader.old) (R.remaining reader.new)
+        (W.contents writer.old) (W.contents writer.new) (writer.new ≡ writer.old) result }
 {
     perform_as(alloc, reader, writer, Format::Trace, policy)
 }

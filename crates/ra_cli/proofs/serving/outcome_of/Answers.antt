@@ -1,43 +1,45 @@
-use Rattle.std.proofs.Common.{map, refl, string_bytes}
+use Rattle.std.proofs.Common.{arith, ◌≡◌, ℕ, ◌≤◌, map, refl, string_bytes}
 use Rattle.ra_cli.specs.declared.refusal.Refusal.TheVariants.{Command}
 use Rattle.ra_cli.proofs.Statuses.{none_of_command, refused, broken}
 use Rattle.ra_cli.proofs.TaskLemmas.{done, left, suits, without_cause}
 use Rattle.ra_cli.proofs.serving.outcome_of.Goals as goal
 
-pub returns-in-Ok-clause-done : goal.returns-in-Ok-clause-done
-returns-in-Ok-clause-done g c is =
+pub returns-in-Ok : goal.returns-in-Ok
+returns-in-Ok g c =
     let words = c.args.words.now in
     let asked = c.in-Ok.task in
-    let fits = suits words asked c.in-Ok.ensures.help c.in-Ok.ensures.numbers c.in-Ok.ensures.marks in
-    done words asked (g.R.Read.remaining c.args.reader.now) (g.R.Read.remaining c.do_task.new.reader) (g.W.Write.contents c.args.writer.now)
-    (g.W.Write.contents c.do_task.new.writer) _ c.in-Ok.ensures.help fits (c.do_task.ensures.done is)
-
-pub returns-in-Ok-clause-unfinished : goal.returns-in-Ok-clause-unfinished
-returns-in-Ok-clause-unfinished g c is =
-    let words = c.args.words.now in
-    let asked = c.in-Ok.task in
-    let fits = suits words asked c.in-Ok.ensures.help c.in-Ok.ensures.numbers c.in-Ok.ensures.marks in
-    left (map string_bytes words) asked (g.R.Read.remaining c.args.reader.now) (g.R.Read.remaining c.do_task.new.reader)
-    (g.W.Write.contents c.args.writer.now) (g.W.Write.contents c.do_task.new.writer) fits (c.do_task.ensures.unfinished is)
-
-pub returns-in-Ok-clause-refused : goal.returns-in-Ok-clause-refused
-returns-in-Ok-clause-refused g c is =
-    without_cause _ (g.W.Write.contents c.args.writer.now) (g.W.Write.contents c.do_task.new.writer) (c.do_task.ensures.refused is)
-
-pub returns-in-Ok-clause-broken : goal.returns-in-Ok-clause-broken
-returns-in-Ok-clause-broken g c is =
-    let words = c.args.words.now in
-    let fits = suits words c.in-Ok.task c.in-Ok.ensures.help c.in-Ok.ensures.numbers c.in-Ok.ensures.marks in
-    c.do_task.ensures.broken (map string_bytes words) fits is
-
-pub returns-in-Err-clause-refused : goal.returns-in-Err-clause-refused
-returns-in-Err-clause-refused g c two =
+    let task = c.do_task.ensures in
+    let old = g.R.Read.remaining c.args.reader.now in
+    let new = g.R.Read.remaining c.do_task.new.reader in
     let before = g.W.Write.contents c.args.writer.now in
-    refused (Command c.in-Err.fault) before before (g.W.Write.contents c.refuse.new.writer) (λ other. refl) (c.refuse.ensures.refused two)
+    let after = g.W.Write.contents c.do_task.new.writer in
+    let fits = suits words asked c.in-Ok.ensures.help c.in-Ok.ensures.numbers c.in-Ok.ensures.marks in
+    record {
+      range = task.range;
+      done = λ is. done words asked old new before after _ c.in-Ok.ensures.help fits (task.done is);
+      unfinished = λ is. left (map string_bytes words) asked old new before after fits (task.unfinished is);
+      refused = λ is. without_cause _ before after (task.refused is);
+      broken = λ is. task.broken (map string_bytes words) fits is;
+    }
 
-pub returns-in-Err-clause-broken : goal.returns-in-Err-clause-broken
-returns-in-Err-clause-broken g c one =
+not_done : (status : ℕ) → 1 ≤ status → status ≡ 0 → ⊥
+not_done status least is = omega (arith, least, is)
+
+not_three : (status : ℕ) → status ≤ 2 → status ≡ 3 → ⊥
+not_three status most is = omega (arith, most, is)
+
+pub returns-in-Err : goal.returns-in-Err
+returns-in-Err g c =
+    let why = Command c.in-Err.fault in
+    let status = c.refuse.result.status in
     let before = g.W.Write.contents c.args.writer.now in
+    let after = g.W.Write.contents c.refuse.new.writer in
     let never = none_of_command c.in-Err.fault in
-    broken (map string_bytes c.args.words.now) (g.R.Read.remaining c.args.reader.now) before before (g.W.Write.contents c.refuse.new.writer)
-    (Command c.in-Err.fault) (λ is. absurd (never is)) (λ is. absurd (never is)) (λ other. refl) (c.refuse.ensures.broken one)
+    record {
+      range = omega (arith, c.refuse.ensures.range);
+      done = λ is. absurd (not_done status c.refuse.ensures.not_done is);
+      unfinished = λ is. absurd (not_three status c.refuse.ensures.range is);
+      refused = λ two. refused why before before after (λ other. refl) (c.refuse.ensures.refused two);
+      broken = λ one. broken (map string_bytes c.args.words.now) (g.R.Read.remaining c.args.reader.now) before before after why
+          (λ is. absurd (never is)) (λ is. absurd (never is)) (λ other. refl) (c.refuse.ensures.broken one);
+    }
