@@ -11,3 +11,4 @@ mod Helping
 mod PictureLemmas
 mod TaskLemmas
 mod Orderly
+mod Faithful

@@ -1,5 +1,5 @@
 -- What comes of a script under many seeds, told of the input.
-use Rattle.std.proofs.Common.{◌≡◌, ◌↔◌, ◌≢◌, ◌++◌, ℕ, Bool, List, Option, Ok, IsTrue, refl}
+use Rattle.std.proofs.Common.{◌≡◌, ◌↔◌, ◌≢◌, ℕ, Bool, List, Option, Ok, IsTrue, refl}
 use Rattle.std.specs.Prelude.{IfSome}
 use Rattle.std.specs.Io.KnownBytes.{Consumes, Appends}
 use Rattle.ra_schedule.specs.declared.finding.Ending.{Ending}

@@ -1,5 +1,5 @@
 -- What is known of a task that was done, as the statuses tell it of the words.
-use Rattle.std.proofs.Common.{◌≡◌, ℕ, ◌<◌, List, Option, Some, None, map, String, Global, string_bytes, refl, sym, ap, subst, inl, inr}
+use Rattle.std.proofs.Common.{◌≡◌, ℕ, ◌<◌, List, Option, Some, None, map, String, Global, string_bytes, refl, sym, subst, inl, inr}
 use Rattle.std.specs.Prelude.{◌⊎◌, IfSome, Any}
 use Rattle.std.specs.Io.KnownBytes.{Appends}
 use Rattle.ra_script.specs.ChoicesText.{choices_of}
@@ -17,10 +17,9 @@ use Rattle.ra_draw.specs.declared.part.Part.{Part}
 use Rattle.ra_draw.specs.Drawing.{IsInput, drawn_lines, line_limit}
 use Rattle.ra_cli.specs.ClusterRun.{RunsCluster}
 use Rattle.ra_cli.specs.Performs.{IsNamed}
-use Rattle.ra_cli.specs.Pictures.{IsDrawn}
 use Rattle.ra_cli.specs.Refusals.{IsOfReader, IsOfWriter, refused_line, word_of}
 use Rattle.ra_cli.specs.Statuses.{IsDone, IsRefused, IsUnfinished}
-use Rattle.ra_cli.specs.Tasks.{DrawsPart, IsDoneBy, IsLeftBy, IsRefusedFor, RefusesNamed, RefusesPart, Suits}
+use Rattle.ra_cli.specs.Tasks.{IsDoneBy, IsLeftBy, IsRefusedFor, RefusesNamed, RefusesPart, Suits}
 use Rattle.ra_cli.specs.Words.{ChecksBy, GivesNode, IsHelpWord, OnAnswer, OnHelp}
 use Rattle.ra_cli.specs.declared.command_line.PolicyName.{PolicyName}
 use Rattle.ra_cli.specs.declared.command_line.Task.{Task}

@@ -1,5 +1,5 @@
 -- Which tasks run every orderly script to its end.
-use Rattle.std.specs.Prelude.{◌≡◌, ⊤, ℕ, ◌≤◌}
+use Rattle.std.specs.Prelude.{◌≡◌, ⊤, ◌≤◌}
 use Rattle.ra_schedule.specs.Survey.{NoneIsLost, NoneIsRepeated}
 use Rattle.ra_cli.specs.declared.command_line.PolicyName.{PolicyName}
 use Rattle.ra_cli.specs.declared.command_line.PolicyName.TheVariants.{Oldest, Newest, Seeded, Faulty, Listed}

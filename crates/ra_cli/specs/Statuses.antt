@@ -5,10 +5,10 @@ use Rattle.ra_schedule.specs.declared.choice.Policy.{Policy}
 use Rattle.ra_schedule.specs.declared.finding.Ending.{Ending}
 use Rattle.ra_schedule.specs.Faults.{FaultRates}
 use Rattle.ra_script.specs.declared.format.Format.{Format}
-use Rattle.ra_script.specs.Performed.{IsPerformedAs}
+use Rattle.ra_script.specs.Performed.{IsOrderly, IsPerformedAs}
 use Rattle.ra_cli.specs.declared.refusal.Refusal.{Refusal}
 use Rattle.ra_cli.specs.Answer.{IsAnswered}
-use Rattle.ra_cli.specs.Words.{IsHelpWord, GivesNode}
+use Rattle.ra_cli.specs.Words.{IsHelpWord, GivesNode, SimsFaithfully}
 use Rattle.ra_cli.specs.Performs.{Performs}
 use Rattle.ra_cli.specs.Checks.{Judges, IsJudged}
 use Rattle.ra_cli.specs.ClusterRun.{IsClusterRun, RunsCluster}
@@ -82,6 +82,9 @@ pub record Serves (words : List (List ℕ)) (old new before after : Option (List
   -- Status 3 comes only if the input was performed and something is left to do, under one seed or some of many, or is the
   -- trace or the log of no run.
   pub unfinished : status ≡ 3 → IsUnfinished words old new before after
+  -- It never comes of a script whose clients take names in ascending order and give them all back, if the words ask for
+  -- `ra sim` by a policy that neither loses nor repeats a message.
+  pub finished : SimsFaithfully words → IfSome old (λ input. IsOrderly input → status ≢ 3)
   -- Status 2 comes only with the line of a refusal that is neither the reader's nor the writer's.
   pub refused : status ≡ 2 → IsRefused before after
   -- Status 1 comes only if the reader or the writer failed, with the line that says so of the reader, or a prefix of what

@@ -19,9 +19,26 @@ abbrev pub Gives : (words : List (List ℕ)) → (option : List ℕ) → ℕ →
 Gives words option number = (text : List ℕ) × GivesText words option text × IsNumeral 10 (without_leading_plus text)
     × (digits_value 10 (without_leading_plus text) ≡ number)
 
+-- the words give the option no other number
+abbrev pub GivesNothingBut : (words : List (List ℕ)) → (option : List ℕ) → ℕ → Type 0
+GivesNothingBut words option number = (other : ℕ) → Gives words option other → other ≡ number
+
 -- the words give the number of a node and the number of nodes
 abbrev pub GivesNode : (words : List (List ℕ)) → ℕ → ℕ → Type 0
 GivesNode words node nodes = Gives words (codes "--node") node × Gives words (codes "--nodes") nodes
+
+-- the policy that the words name, if any, chooses by itself and neither loses nor repeats a message: it isn't `listed`,
+-- and `faulty` only with both rates at 0
+pub record NamesFaithfully (words : List (List ℕ)) : Type 0 where
+  pub unlisted : GivesText words (codes "--policy") (codes "listed") → ⊥
+  pub faultless : GivesText words (codes "--policy") (codes "faulty")
+      → GivesNothingBut words (codes "--lose") 0 × GivesNothingBut words (codes "--repeat") 0
+
+-- The words ask for `ra sim` by such a policy: after the program's name comes `sim`, and no word asks for help.
+pub record SimsFaithfully (words : List (List ℕ)) : Type 0 where
+  pub command : slice_get words 1 ≡ Some (codes "sim")
+  pub no_help : Any IsHelpWord words → ⊥
+  pub names : NamesFaithfully words
 
 -- a fact about the two numbers of the command `answer`; for any other command it says nothing
 abbrev pub OnAnswer : Task → (ℕ → ℕ → Type 0) → Type 0

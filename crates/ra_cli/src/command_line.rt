@@ -1,6 +1,8 @@
 //! What the words of a command line ask for.
-ghost use Rattle.std.specs.Prelude.{◌≡◌, ◌↔◌, ◌∷◌, ◌++◌, ℕ, List, Any, map, IsTrue, IfOk, IfSome, string_bytes};
-ghost use Rattle.ra_cli.specs.Words.{ChecksBy, Gives, GivesNode, GivesText, IsHelpWord, OnAnswer, OnHelp};
+ghost use Rattle.std.specs.Prelude.{◌≡◌, ◌⊎◌, ◌≤◌, ◌↔◌, ◌∷◌, ◌++◌, ℕ, List, Any, Some, map, codes, slice_get, IsTrue, IfOk, IfSome, string_bytes};
+ghost use Rattle.ra_schedule.specs.Survey.{NoneIsLost, NoneIsRepeated};
+ghost use Rattle.ra_cli.specs.Words.{ChecksBy, Gives, GivesNode, GivesNothingBut, GivesText, IsHelpWord, NamesFaithfully, OnAnswer, OnHelp, SimsFaithfully};
+ghost use Rattle.ra_cli.specs.Finishing.{IsFaithful, RunsFaithfully};
 
 use crate::command_rows::command;
 use clap::error::ErrorKind;
@@ -113,13 +115,43 @@ fn answer_task<'a>(words: &[String]) -> Option<Task<'a>>
     Some(Task::Answer { node, nodes })
 }
 
+/// Returns the number that the words give an option whose default is 0. The parser has found that it is one of 16 bits,
+/// if they give one; it also takes `-0`, which is 0 here, too. It does not allocate.
+fn number_or_zero(words: &[String], option: &str) -> u16
+    ensures { GivesNothingBut (map string_bytes words.now) option.now 0 → result ≡ 0 }
+{
+    match number_of(words, option) {
+        Some(number) => number,
+        None => 0,
+    }
+}
+
 /// Returns the faults of chance that the words of the command `sim` give, or `None` where there are no such.
-fn faults_of(sim: &ArgMatches) -> Option<Faults> {
-    Faults::new(sim.get_one("lose")?, sim.get_one("repeat")?)
+fn faults_of(words: &[String]) -> Option<Faults>
+    ensures { IfSome result (λ faults. GivesNothingBut (map string_bytes words.now) (codes "--lose") 0
+        → GivesNothingBut (map string_bytes words.now) (codes "--repeat") 0 → (faults.lose ≡ 0) × (faults.repeat ≡ 0)) }
+{
+    let lose = number_or_zero(words, "--lose");
+    let repeat = number_or_zero(words, "--repeat");
+    let faults = Faults::new(lose, repeat)?;
+    Some(faults)
+}
+
+/// Returns the word for the policy that the words give, or its default. It does not allocate.
+pub fn policy_word(words: &[String]) -> &str
+    ensures { (result.now ≡ codes "oldest") ⊎ GivesText (map string_bytes words.now) (codes "--policy") result.now }
+{
+    match text_of(words, "--policy") {
+        Some(word) => word,
+        None => "oldest",
+    }
 }
 
 /// Returns the policy of a word, with what the words give policies of chance.
-fn policy_called(word: &str, seed: u64, faults: Faults) -> PolicyName {
+fn policy_called(word: &str, seed: u64, faults: Faults) -> PolicyName
+    ensures { ¬ (word.now ≡ codes "listed") → (word.now ≡ codes "faulty" → (faults.lose ≡ 0) × (faults.repeat ≡ 0))
+        → IsFaithful result }
+{
     match word {
         "newest" => PolicyName::Newest,
         "seeded" => PolicyName::Seeded(seed),
@@ -129,17 +161,23 @@ fn policy_called(word: &str, seed: u64, faults: Faults) -> PolicyName {
     }
 }
 
-/// Returns the policy that the words of the command `sim` name, or `None` where there are no such faults, whatever the policy.
-pub fn policy_name(sim: &ArgMatches) -> Option<PolicyName> {
+/// Returns the policy that the words of the command `sim` name, or `None` if there are no such faults, whatever the
+/// policy. The parser has found that the words give each option at most once, and tells less of them in its contract than
+/// the words do.
+pub fn policy_name(words: &[String], sim: &ArgMatches) -> Option<PolicyName>
+    ensures { IfSome result (λ policy. NamesFaithfully (map string_bytes words.now) → IsFaithful policy) }
+{
     let seed = sim.get_one("seed")?;
-    let faults = faults_of(sim)?;
-    let word = sim.get_str("policy")?;
+    let faults = faults_of(words)?;
+    let word = policy_word(words);
     Some(policy_called(word, seed, faults))
 }
 
 /// Returns the first and the last seed of a text, as of `1..1000`, or `None` where it is none, or the first is above the last. It does not
 /// allocate.
-fn seeds_of(text: &str) -> Option<(u64, u64)> {
+fn seeds_of(text: &str) -> Option<(u64, u64)>
+    ensures { IfSome result (λ seeds. seeds.0 ≤ seeds.1) }
+{
     let (first, last) = text.split_once("..")?;
     let first = first.parse().ok()?;
     let last = last.parse().ok()?;
@@ -171,6 +209,17 @@ fn ending_of(sim: &ArgMatches) -> Option<Ending> {
     }
 }
 
+/// Returns the faults of a policy of chance, or `None` if the policy draws nothing. It does not allocate.
+fn chance_of(policy: PolicyName) -> Option<Option<Faults>>
+    ensures { IfSome result (λ faults. IsFaithful policy → NoneIsLost faults × NoneIsRepeated faults) }
+{
+    match policy {
+        PolicyName::Seeded(_) => Some(None),
+        PolicyName::Faulty { faults, .. } => Some(Some(faults)),
+        _ => None,
+    }
+}
+
 /// Returns the task of the command `sim` with many seeds: under a policy of chance, and in no format of one run.
 fn survey_task<'a>(
     policy: PolicyName,
@@ -181,12 +230,9 @@ fn survey_task<'a>(
     ensures help { IfSome result (λ task. OnHelp task ⊥) }
     ensures numbers { IfSome result (λ task. OnAnswer task (λ _ _. ⊥)) }
     ensures marks { IfSome result (λ task. (any : List (List ℕ)) → ChecksBy any task) }
+    ensures faithful { IfSome result (λ task. IsFaithful policy → RunsFaithfully task) }
 {
-    let faults = match policy {
-        PolicyName::Seeded(_) => None,
-        PolicyName::Faulty { faults, .. } => Some(faults),
-        _ => return None,
-    };
+    let faults = chance_of(policy)?;
     if !matches!(format, Format::Lines) {
         return None;
     }
@@ -200,12 +246,13 @@ fn survey_task<'a>(
 }
 
 /// Returns the task of the command `sim`.
-fn sim_task<'a>(sim: &ArgMatches<'a>) -> Option<Task<'a>>
+fn sim_task<'a>(words: &[String], sim: &ArgMatches<'a>) -> Option<Task<'a>>
     ensures help { IfSome result (λ task. OnHelp task ⊥) }
     ensures numbers { IfSome result (λ task. OnAnswer task (λ _ _. ⊥)) }
     ensures marks { IfSome result (λ task. (any : List (List ℕ)) → ChecksBy any task) }
+    ensures faithful { IfSome result (λ task. NamesFaithfully (map string_bytes words.now) → RunsFaithfully task) }
 {
-    let policy = policy_name(sim)?;
+    let policy = policy_name(words, sim)?;
     let choices = sim.get_str("choices")?;
     let format = format_of(&policy, sim)?;
     let find = ending_of(sim);
@@ -262,16 +309,28 @@ fn check_task<'a>(words: &[String]) -> Task<'a>
     }
 }
 
-/// Returns the task of a command line that was understood, or `None` where it has no command.
+/// Returns the word for the command, the first after the program's name, or `None` if there is none. It does not
+/// allocate.
+fn command_word(words: &[String]) -> Option<&str>
+    ensures { IfSome result (λ word. slice_get (map string_bytes words.now) 1 ≡ Some word.now) }
+{
+    let word = words.get(1)?;
+    Some(word.as_str())
+}
+
+/// Returns the task of a command line that was understood, or `None` if it has no command. The parser has found that
+/// the first word is the command, and tells less of it in its contract than the words do.
 fn task_of<'a>(words: &[String], matches: &ArgMatches<'a>) -> Option<Task<'a>>
     ensures help { IfSome result (λ task. OnHelp task ⊥) }
     ensures numbers { IfSome result (λ task. OnAnswer task (GivesNode (map string_bytes words.now))) }
     ensures marks { IfSome result (ChecksBy (map string_bytes words.now)) }
+    ensures faithful { IfSome result (λ task. SimsFaithfully (map string_bytes words.now) → RunsFaithfully task) }
 {
-    let (name, given) = matches.subcommand()?;
-    match name {
+    let (_, given) = matches.subcommand()?;
+    let word = command_word(words)?;
+    match word {
         "answer" => answer_task(words),
-        "sim" => sim_task(given),
+        "sim" => sim_task(words, given),
         "cluster" => Some(Task::Cluster),
         "check" => Some(check_task(words)),
         "draw" => draw_task(given),
@@ -309,6 +368,7 @@ pub fn parse<'a>(alloc: Global, words: &'a [String]) -> Result<Task<'a>, Command
         OnHelp task (Any (λ word. IsHelpWord (string_bytes word)) words.now)) }
     ensures numbers { IfOk result (λ task. OnAnswer task (GivesNode (map string_bytes words.now))) }
     ensures marks { IfOk result (ChecksBy (map string_bytes words.now)) }
+    ensures faithful { IfOk result (λ task. SimsFaithfully (map string_bytes words.now) → RunsFaithfully task) }
 {
     let Ok(command) = command(alloc) else {
         return Err(CommandFault::Memory);
@@ -333,6 +393,7 @@ fn help_of<'a>(
         OnHelp task (Any (λ word. IsHelpWord (string_bytes word)) words.now)) }
     ensures numbers { IfOk result (λ task. OnAnswer task (λ _ _. ⊥)) }
     ensures marks { IfOk result (ChecksBy (map string_bytes words.now)) }
+    ensures faithful { IfOk result (λ task. SimsFaithfully (map string_bytes words.now) → RunsFaithfully task) }
 {
     match error.kind() {
         // No contract of the parser's says that it gives these only to those who ask.

@@ -114,7 +114,7 @@ fn push_error(alloc: Global, note: &mut Note, words: &[String], error: &ParseErr
 /// Returns what is said about words of the command `sim` in which the parser finds nothing wrong. The causes are tried
 /// in the order in which a task is made from the words.
 fn unseen_text(words: &[String], sim: &ArgMatches) -> &'static str {
-    let Some(policy) = policy_name(sim) else {
+    let Some(policy) = policy_name(words, sim) else {
         return FAULTS_TEXT;
     };
     if format_of(&policy, sim).is_none() {

@@ -1,12 +1,7 @@
-use Rattle.std.proofs.Common.{◌≡◌, ◌∙◌, sym, subst, refl, inl, inr, arith, string_bytes}
-use Rattle.std.specs.Io.KnownBytes.{Appends}
-use Rattle.ra_trace.specs.declared.error.TraceError.{TraceError}
+use Rattle.std.proofs.Common.{inl, inr, arith}
 use Rattle.ra_cli.specs.Statuses.{IsPrinted}
-use Rattle.ra_cli.specs.declared.refusal.Refusal.{Refusal}
-use Rattle.ra_cli.specs.declared.refusal.Refusal.TheVariants.{Check}
 use Rattle.ra_cli.proofs.Statuses.{prefix_of}
 use Rattle.ra_cli.proofs.Helping.{for_each}
-use Rattle.ra_cli.proofs.TaskLemmas.{refused_as}
 use Rattle.ra_cli.proofs.serving.do_alone.Goals as goal
 
 pub returns-in-Answer-clause-done : goal.returns-in-Answer-clause-done

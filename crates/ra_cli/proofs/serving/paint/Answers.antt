@@ -1,8 +1,8 @@
-use Rattle.std.proofs.Common.{◌≡◌, ℕ, List, Option, Ok, Err, ap, subst, inl, inr}
+use Rattle.std.proofs.Common.{◌≡◌, ℕ, List, Option, Ok, Err, ap, subst, inr}
 use Rattle.std.specs.Prelude.{IfSome}
 use Rattle.std.specs.Io.KnownBytes.{Appends}
 use Rattle.ra_draw.specs.declared.error.DrawError.{DrawError}
-use Rattle.ra_draw.specs.declared.error.DrawError.TheVariants.{Memory, TooLong}
+use Rattle.ra_draw.specs.declared.error.DrawError.TheVariants.{Memory}
 use Rattle.ra_draw.specs.declared.part.Part.{Part}
 use Rattle.ra_trace.specs.declared.verdict.Verdict.TheVariants.{Invalid}
 use Rattle.ra_cli.specs.Checks.{verdict_text}

@@ -1,4 +1,4 @@
-use Rattle.std.proofs.Common.{◌≡◌, List, ℕ, Err, refl, ap, inl, inr}
+use Rattle.std.proofs.Common.{◌≡◌, Err, refl, ap, inl}
 use Rattle.ra_cli.specs.Answer.{Refuses}
 use Rattle.ra_cli.specs.declared.error.AnswerError.{AnswerError}
 use Rattle.ra_cli.specs.declared.refusal.Refusal.TheVariants.{Answer}

@@ -1,4 +1,4 @@
-use Rattle.std.proofs.Common.{◌≡◌, List, ℕ, Err, refl, ap, inl, inr}
+use Rattle.std.proofs.Common.{◌≡◌, Err, refl, ap, inl, inr}
 use Rattle.ra_cli.specs.declared.refusal.Refusal.TheVariants.{Cluster}
 use Rattle.ra_cli.specs.Surveyed.{RefusesSurvey}
 use Rattle.ra_cli.specs.declared.error.RunScriptError.{RunScriptError}
