@@ -1,7 +1,7 @@
 -- Which words ask for a task that neither loses nor repeats a message.
 use Rattle.std.proofs.Common.{◌≡◌, ◌≢◌, ℕ, List, length, Option, Some, None, codes, slice_get, sym, ap, ◌∙◌}
 use Rattle.std.specs.Prelude.{IfSome}
-use Rattle.ra_cli.specs.Finishing.{RunsFaithfully}
+use Rattle.ra_cli.specs.Finishing.{HasNoChoices, RunsFaithfully}
 use Rattle.ra_cli.specs.Words.{SimsFaithfully}
 use Rattle.ra_cli.specs.declared.command_line.Task.{Task}
 
@@ -23,3 +23,8 @@ no_other words word command first is long sims = long (ap length (sym is ∙ is_
 pub other : (words : List (List ℕ)) → (SimsFaithfully words → ⊥) → (result : Option Task) → IfSome result (λ task. SimsFaithfully words → RunsFaithfully task)
 other words never None = tt
 other words never (Some task) = λ sims. absurd (never sims)
+
+-- what is so needs no premise
+pub anyway : (P : Type 0) (result : Option Task) → IfSome result HasNoChoices → IfSome result (λ task. P → HasNoChoices task)
+anyway P None h = tt
+anyway P (Some task) h = λ p. h

@@ -32,6 +32,10 @@ word_of [] k bytes less is = absurd (omega arith)
 word_of (x ∷ xs) zero bytes less is = (x, omega arith, refl, is)
 word_of (x ∷ xs) (suc k) bytes less is = let rest = word_of xs k bytes (omega arith) is in (rest.0, omega (arith, rest.1), rest.2, rest.3)
 
+pub as_choices_word : (words : List (String Global)) → Any (λ word. string_bytes word ≡ codes "--as-choices") words
+    → Any (λ word. word ≡ codes "--as-choices") (map string_bytes words)
+as_choices_word words (k, word, less, is, asked) = let at = help_at words k word less is in (k, string_bytes word, at.0, at.1, asked)
+
 pub marks_word : (words : List (String Global)) → Any (λ word. string_bytes word ≡ codes "--marks") words ↔ HasMarksWord (map string_bytes words)
 marks_word words = (there, back)
   where

@@ -1,7 +1,8 @@
 -- An orderly script is finished by `ra sim`.
-use Rattle.std.proofs.Common.{◌≡◌, ◌≢◌, ℕ, ◌≤◌, Bool, true, false, Option, Some, None, Result, Ok, inl, inr, List, sym, ◌∙◌, subst, arith}
+use Rattle.std.proofs.Common.{◌≡◌, ◌≢◌, ℕ, ◌≤◌, Bool, true, false, Option, Some, None, Result, Ok, inl, inr, List, [], refl, sym, ap, ◌∙◌, subst, arith}
 use Rattle.std.proofs.lemmas.Bool.{false≢true}
-use Rattle.std.specs.Prelude.{IfSome, IsTrue}
+use Rattle.std.specs.Prelude.{IfSome, IsTrue, codes}
+use Rattle.std.specs.Io.KnownBytes.{Appends}
 use Rattle.ra_schedule.specs.declared.choice.Policy.{Policy}
 use Rattle.ra_schedule.specs.declared.error.DriveError.{DriveError}
 use Rattle.ra_schedule.specs.declared.finding.Ending.{Ending}
@@ -14,21 +15,30 @@ use Rattle.ra_schedule.specs.Performing.{ChoosesItself, LosesNothing, most_turns
 use Rattle.ra_schedule.specs.Schedule.{RepeatsNothing}
 use Rattle.ra_schedule.specs.Script.{ScriptState, IsScript}
 use Rattle.ra_schedule.specs.Survey.{chance, is_finished, IsOutcome, IsSurvey, NoneIsLost, NoneIsRepeated, SeedsFinish}
+use Rattle.ra_script.specs.declared.error.PerformError.{PerformError}
+use Rattle.ra_script.specs.declared.error.ChoicesError.{ChoicesError}
+use Rattle.ra_script.specs.declared.error.ChoicesError.TheVariants.{Choice, Memory}
 use Rattle.ra_script.specs.declared.error.PerformError.TheVariants.{Drive}
+use Rattle.ra_script.specs.declared.error.PerformError.TheVariants as perform
 use Rattle.ra_script.specs.declared.format.Format.{Format}
-use Rattle.ra_script.specs.declared.format.Format.TheVariants.{Trace}
+use Rattle.ra_script.specs.declared.format.Format.TheVariants.{Lines, Trace, Choices}
+use Rattle.ra_script.specs.ChoicesText.{choices_of}
 use Rattle.ra_script.specs.declared.error.ScriptError.{ScriptError}
-use Rattle.ra_script.specs.Performed.{RefusesAs, IsPerformedAs, IsOrderly}
+use Rattle.ra_script.specs.Performed.{RefusesAs, IsPerformedAs, IsOrderly, Unwritten}
 use Rattle.ra_script.specs.ScriptText.{script_of}
 use Rattle.ra_cli.specs.declared.command_line.PolicyName.{PolicyName}
 use Rattle.ra_cli.specs.declared.command_line.PolicyName.TheVariants.{Oldest, Newest, Seeded, Faulty, Listed}
 use Rattle.ra_cli.specs.declared.command_line.Task.{Task}
 use Rattle.ra_cli.specs.declared.command_line.Task.TheVariants as task
+use Rattle.ra_cli.specs.declared.refusal.Refusal.{Refusal}
 use Rattle.ra_cli.specs.declared.refusal.Refusal.TheVariants as refusal
-use Rattle.ra_cli.specs.Finishing.{IsFaithful, RunsFaithfully}
+use Rattle.ra_cli.specs.Finishing.{HasNoChoices, IsFaithful, RunsFaithfully}
 use Rattle.ra_cli.specs.Performs.{IsNamed}
-use Rattle.ra_cli.specs.Surveyed.{IsTold}
-use Rattle.ra_cli.specs.Tasks.{IsCauseFor, IsLeftBy}
+use Rattle.ra_cli.specs.Refusals.{IsOfReader, IsOfWriter, choices_word, perform_word, refused_line, run_word, word_of}
+use Rattle.ra_cli.specs.Surveyed.{IsTold, RefusesSurvey}
+use Rattle.ra_cli.specs.Tasks.{IsCauseFor, IsLeftBy, IsRefusedBy}
+use Rattle.ra_cli.specs.declared.error.RunScriptError.{RunScriptError}
+use Rattle.ra_cli.specs.declared.error.RunScriptError.TheVariants as run
 
 -- the laws of the crates below, as far as this rests on them
 pub record FinishingLaws : Type 0 where
@@ -136,6 +146,48 @@ always_driven laws (task.Draw part) input cause faithful refuses = faithful
 always_driven laws task.Cluster input cause faithful refuses = faithful
 always_driven laws (task.Help text) input cause faithful refuses = faithful
 
+-- it is refused for want of memory only
+pub refused_for_memory : FinishingLaws → (asked : Task) (input : List ℕ) (why : Refusal) → IsOrderly input → RunsFaithfully asked → HasNoChoices asked
+    → (IsOfReader why → ⊥) → (IsOfWriter why → ⊥) → IsCauseFor asked input why → word_of why ≡ codes "Memory"
+refused_for_memory laws (task.Answer node nodes) input why orderly faithful plain reader writer cause = absurd faithful
+refused_for_memory laws (task.Sim name choices format) input why orderly faithful plain reader writer (inl (fault, is, cause)) =
+    ap word_of is ∙ of_choices fault cause
+  where
+    of_choices : (fault : ChoicesError) → (fault ≡ Choice → choices_of choices.now ≡ None) → choices_word fault ≡ codes "Memory"
+    of_choices Choice none = let bad : choices_of [] ≡ None = subst (λ (text : List ℕ). choices_of text ≡ None) plain.0 (none refl) in cc
+    of_choices Memory none = refl
+refused_for_memory laws (task.Sim name choices format) input why orderly faithful plain reader writer (inr (fault, is, policy, named, cause)) =
+    ap word_of is ∙ of_run fault is cause
+  where
+    unwritten : (format : Format) → format ≢ Choices → Unwritten format policy input → ⊥
+    unwritten Lines not h = h
+    unwritten Trace not h = h
+    unwritten Choices not h = not refl
+
+    of_run : (fault : PerformError) → why ≡ refusal.Perform fault → RefusesAs format policy input fault → perform_word fault ≡ codes "Memory"
+    of_run perform.Read is h = absurd (reader (inr (inl is)))
+    of_run (perform.Script wrong) is h = let read = orderly.script_is in let other = h.1 in absurd cc
+    of_run (perform.Drive cause) is h =
+        let chosen = willing name choices.now policy faithful named in
+        absurd (laws.never_refused format policy input cause chosen.unrepeated chosen.itself h)
+    of_run perform.Choice is h = absurd (unwritten format plain.1 h)
+    of_run perform.Memory is h = refl
+    of_run perform.Write is h = absurd (writer (inr (inl is)))
+refused_for_memory laws (task.Survey faults find first last) input why orderly faithful plain reader writer (fault, is, cause) =
+    ap word_of is ∙ of_survey fault is cause
+  where
+    of_survey : (fault : RunScriptError) → why ≡ refusal.Cluster fault → RefusesSurvey faults find first last input fault → run_word fault ≡ codes "Memory"
+    of_survey run.Read is h = absurd (reader (inr (inr (inr (inl is)))))
+    of_survey (run.Script wrong) is h = let read = orderly.script_is in absurd cc
+    of_survey (run.Cluster wrong) is h = absurd h
+    of_survey run.Memory is h = refl
+    of_survey run.Write is h = absurd (writer (inr (inr (inl is))))
+refused_for_memory laws task.Check input why orderly faithful plain reader writer cause = absurd faithful
+refused_for_memory laws task.CheckMarks input why orderly faithful plain reader writer cause = absurd faithful
+refused_for_memory laws (task.Draw part) input why orderly faithful plain reader writer cause = absurd faithful
+refused_for_memory laws task.Cluster input why orderly faithful plain reader writer cause = absurd faithful
+refused_for_memory laws (task.Help text) input why orderly faithful plain reader writer cause = absurd faithful
+
 -- so a status that would say that the task was left is not 3
 pub never_three : ((asked : Task) (input : List ℕ) (new before after : Option (List ℕ)) → IsOrderly input → RunsFaithfully asked → IsLeftBy asked (Some input) new before after → ⊥)
     → (asked : Task) (known new before after : Option (List ℕ)) (status : ℕ) → (status ≡ 3 → IsLeftBy asked known new before after)
@@ -146,3 +198,19 @@ never_three law asked (Some input) new before after status left = λ orderly fai
 pub less_than_three : (asked : Task) (known : Option (List ℕ)) (status : ℕ) → status ≤ 2 → IfSome known (λ input. IsOrderly input → RunsFaithfully asked → status ≢ 3)
 less_than_three asked None status low = tt
 less_than_three asked (Some input) status low = λ orderly faithful is. omega (arith, low, is)
+
+-- and status 2 comes only with the line for want of memory
+pub only_memory : ((asked : Task) (input : List ℕ) (why : Refusal) → IsOrderly input → RunsFaithfully asked → HasNoChoices asked
+    → (IsOfReader why → ⊥) → (IsOfWriter why → ⊥) → IsCauseFor asked input why → word_of why ≡ codes "Memory")
+    → (asked : Task) (known before after : Option (List ℕ)) (status : ℕ) → (status ≡ 2 → IsRefusedBy asked known before after)
+    → IfSome known (λ input. IsOrderly input → RunsFaithfully asked → HasNoChoices asked → status ≡ 2 → Appends before after (refused_line (codes "Memory")))
+only_memory law asked None before after status refused = tt
+only_memory law asked (Some input) before after status refused = λ orderly faithful plain is.
+    let (why, reader, writer, out, cause) = refused is in
+    subst (λ (word : List ℕ). Appends before after (refused_line word)) (law asked input why orderly faithful plain reader writer cause) out
+
+-- a cluster of threads is no such task
+pub not_by_threads : (asked : Task) (known before after : Option (List ℕ)) (status : ℕ) → asked ≡ task.Cluster
+    → IfSome known (λ input. IsOrderly input → RunsFaithfully asked → HasNoChoices asked → status ≡ 2 → Appends before after (refused_line (codes "Memory")))
+not_by_threads asked None before after status is = tt
+not_by_threads asked (Some input) before after status is = λ orderly faithful plain two. absurd (subst RunsFaithfully is faithful)

@@ -1,8 +1,8 @@
 //! What the words of a command line ask for.
-ghost use Rattle.std.specs.Prelude.{◌≡◌, ◌⊎◌, ◌≤◌, ◌↔◌, ◌∷◌, ◌++◌, ℕ, List, Any, Some, map, codes, slice_get, IsTrue, IfOk, IfSome, string_bytes};
+ghost use Rattle.std.specs.Prelude.{◌≡◌, ◌≢◌, ◌⊎◌, [], ◌≤◌, ◌↔◌, ◌∷◌, ◌++◌, ℕ, List, Any, Some, map, codes, slice_get, IsTrue, IfOk, IfSome, string_bytes};
 ghost use Rattle.ra_schedule.specs.Survey.{NoneIsLost, NoneIsRepeated};
-ghost use Rattle.ra_cli.specs.Words.{ChecksBy, Gives, GivesNode, GivesNothingBut, GivesText, IsHelpWord, NamesFaithfully, OnAnswer, OnHelp, SimsFaithfully};
-ghost use Rattle.ra_cli.specs.Finishing.{IsFaithful, RunsFaithfully};
+ghost use Rattle.ra_cli.specs.Words.{ChecksBy, Gives, GivesNode, GivesNothingBut, GivesText, IsHelpWord, NamesFaithfully, NamesNoChoices, OnAnswer, OnHelp, SimsFaithfully};
+ghost use Rattle.ra_cli.specs.Finishing.{HasNoChoices, IsFaithful, RunsFaithfully};
 
 use crate::command_rows::command;
 use clap::error::ErrorKind;
@@ -107,6 +107,7 @@ fn number_of(words: &[String], option: &str) -> Option<u16>
 /// tells less of them in its contract than the words do.
 fn answer_task<'a>(words: &[String]) -> Option<Task<'a>>
     ensures help { IfSome result (λ task. OnHelp task ⊥) }
+    ensures choices { IfSome result HasNoChoices }
     ensures numbers { IfSome result (λ task. OnAnswer task (GivesNode (map string_bytes words.now))) }
     ensures marks { IfSome result (λ task. (any : List (List ℕ)) → ChecksBy any task) }
 {
@@ -188,16 +189,41 @@ fn seeds_of(text: &str) -> Option<(u64, u64)>
     }
 }
 
+/// Returns whether one of the words is this one. It does not allocate.
+pub fn has_word(words: &[String], sought: &str) -> bool
+    ensures { IsTrue result ↔ Any (λ word. string_bytes word ≡ sought.now) words.now }
+{
+    for word in words {
+        if word.as_str() == sought {
+            return true;
+        }
+    }
+    false
+}
+
 /// Returns what is to be printed of a run, or `None` where the words ask for two things, or for the choices where some may be repeats,
 /// for which there is no word. It does not allocate.
-pub fn format_of(policy: &PolicyName, sim: &ArgMatches) -> Option<Format> {
+pub fn format_of(policy: &PolicyName, words: &[String], sim: &ArgMatches) -> Option<Format>
+    ensures { IfSome result (λ format. ¬ Any (λ word. string_bytes word ≡ codes "--as-choices") words.now
+        → format ≢ Format.Choices) }
+{
     let repeat: u16 = sim.get_one("repeat")?;
     let has_words = repeat == 0 || !matches!(policy, PolicyName::Faulty { .. });
-    match (sim.get_flag("trace"), sim.get_flag("as-choices")) {
+    match (sim.get_flag("trace"), has_word(words, "--as-choices")) {
         (false, false) => Some(Format::Lines),
         (true, false) => Some(Format::Trace),
         (false, true) if has_words => Some(Format::Choices),
         _ => None,
+    }
+}
+
+/// Returns the text of the choices that the words give, or its default, no text. It does not allocate.
+pub fn choices_word<'a>(words: &'a [String]) -> &'a str
+    ensures { (result.now ≡ []) ⊎ GivesText (map string_bytes words.now) (codes "--choices") result.now }
+{
+    match text_of(words, "--choices") {
+        Some(text) => text,
+        None => "",
     }
 }
 
@@ -231,6 +257,7 @@ fn survey_task<'a>(
     ensures numbers { IfSome result (λ task. OnAnswer task (λ _ _. ⊥)) }
     ensures marks { IfSome result (λ task. (any : List (List ℕ)) → ChecksBy any task) }
     ensures faithful { IfSome result (λ task. IsFaithful policy → RunsFaithfully task) }
+    ensures choices { IfSome result HasNoChoices }
 {
     let faults = chance_of(policy)?;
     if !matches!(format, Format::Lines) {
@@ -246,15 +273,16 @@ fn survey_task<'a>(
 }
 
 /// Returns the task of the command `sim`.
-fn sim_task<'a>(words: &[String], sim: &ArgMatches<'a>) -> Option<Task<'a>>
+fn sim_task<'a>(words: &'a [String], sim: &ArgMatches<'a>) -> Option<Task<'a>>
     ensures help { IfSome result (λ task. OnHelp task ⊥) }
     ensures numbers { IfSome result (λ task. OnAnswer task (λ _ _. ⊥)) }
     ensures marks { IfSome result (λ task. (any : List (List ℕ)) → ChecksBy any task) }
     ensures faithful { IfSome result (λ task. NamesFaithfully (map string_bytes words.now) → RunsFaithfully task) }
+    ensures choices { IfSome result (λ task. NamesNoChoices (map string_bytes words.now) → HasNoChoices task) }
 {
     let policy = policy_name(words, sim)?;
-    let choices = sim.get_str("choices")?;
-    let format = format_of(&policy, sim)?;
+    let choices = choices_word(words);
+    let format = format_of(&policy, words, sim)?;
     let find = ending_of(sim);
     if let Some(seeds) = sim.get_str("seeds") {
         return survey_task(policy, seeds, find, format);
@@ -272,6 +300,7 @@ fn sim_task<'a>(words: &[String], sim: &ArgMatches<'a>) -> Option<Task<'a>>
 /// Returns the task of the command `draw`, or `None` if no line is in its part, whatever the trace.
 fn draw_task<'a>(given: &ArgMatches<'a>) -> Option<Task<'a>>
     ensures help { IfSome result (λ task. OnHelp task ⊥) }
+    ensures choices { IfSome result HasNoChoices }
     ensures numbers { IfSome result (λ task. OnAnswer task (λ _ _. ⊥)) }
     ensures marks { IfSome result (λ task. (any : List (List ℕ)) → ChecksBy any task) }
 {
@@ -283,22 +312,11 @@ fn draw_task<'a>(given: &ArgMatches<'a>) -> Option<Task<'a>>
     Some(Task::Draw(Part { from, to }))
 }
 
-/// Returns whether one of the words is this one. It does not allocate.
-pub fn has_word(words: &[String], sought: &str) -> bool
-    ensures { IsTrue result ↔ Any (λ word. string_bytes word ≡ sought.now) words.now }
-{
-    for word in words {
-        if word.as_str() == sought {
-            return true;
-        }
-    }
-    false
-}
-
 /// Returns the task of the command `check`: that of mark logs where a word says so. The parser has found that it is an option then, and
 /// tells less of it in its contract than the words do.
 fn check_task<'a>(words: &[String]) -> Task<'a>
     ensures help { OnHelp result ⊥ }
+    ensures choices { HasNoChoices result }
     ensures numbers { OnAnswer result (λ _ _. ⊥) }
     ensures marks { ChecksBy (map string_bytes words.now) result }
 {
@@ -320,11 +338,12 @@ fn command_word(words: &[String]) -> Option<&str>
 
 /// Returns the task of a command line that was understood, or `None` if it has no command. The parser has found that
 /// the first word is the command, and tells less of it in its contract than the words do.
-fn task_of<'a>(words: &[String], matches: &ArgMatches<'a>) -> Option<Task<'a>>
+fn task_of<'a>(words: &'a [String], matches: &ArgMatches<'a>) -> Option<Task<'a>>
     ensures help { IfSome result (λ task. OnHelp task ⊥) }
     ensures numbers { IfSome result (λ task. OnAnswer task (GivesNode (map string_bytes words.now))) }
     ensures marks { IfSome result (ChecksBy (map string_bytes words.now)) }
     ensures faithful { IfSome result (λ task. SimsFaithfully (map string_bytes words.now) → RunsFaithfully task) }
+    ensures choices { IfSome result (λ task. NamesNoChoices (map string_bytes words.now) → HasNoChoices task) }
 {
     let (_, given) = matches.subcommand()?;
     let word = command_word(words)?;
@@ -369,6 +388,7 @@ pub fn parse<'a>(alloc: Global, words: &'a [String]) -> Result<Task<'a>, Command
     ensures numbers { IfOk result (λ task. OnAnswer task (GivesNode (map string_bytes words.now))) }
     ensures marks { IfOk result (ChecksBy (map string_bytes words.now)) }
     ensures faithful { IfOk result (λ task. SimsFaithfully (map string_bytes words.now) → RunsFaithfully task) }
+    ensures choices { IfOk result (λ task. NamesNoChoices (map string_bytes words.now) → HasNoChoices task) }
 {
     let Ok(command) = command(alloc) else {
         return Err(CommandFault::Memory);
@@ -394,6 +414,7 @@ fn help_of<'a>(
     ensures numbers { IfOk result (λ task. OnAnswer task (λ _ _. ⊥)) }
     ensures marks { IfOk result (ChecksBy (map string_bytes words.now)) }
     ensures faithful { IfOk result (λ task. SimsFaithfully (map string_bytes words.now) → RunsFaithfully task) }
+    ensures choices { IfOk result (λ task. NamesNoChoices (map string_bytes words.now) → HasNoChoices task) }
 {
     match error.kind() {
         // No contract of the parser's says that it gives these only to those who ask.

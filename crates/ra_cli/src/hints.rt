@@ -1,6 +1,6 @@
 //! Hints for the user when nothing was refused but something may surprise: options that have no effect, names that stay
 //! locked, and, on a terminal, what the command waits for.
-use crate::command_line::{asks_for_help, has_word, policy_word, text_of};
+use crate::command_line::{asks_for_help, choices_word, has_word, policy_word, text_of};
 use crate::said::write_line;
 use crate::seen::Seen;
 use ra_explain::script_end_note;
@@ -70,7 +70,7 @@ fn write_limits<N: Write>(words: &[String], options: &[Limited], policy: &str, n
 fn write_sim_hints<N: Write>(words: &[String], notes: &mut N) {
     let policy = policy_word(words);
     write_limits(words, LIMITED, policy, notes);
-    if policy == "listed" && text_of(words, "--choices").unwrap_or("").is_empty() {
+    if policy == "listed" && choices_word(words).is_empty() {
         write_line(
             notes,
             "--policy listed has nothing to do: --choices is missing or empty",

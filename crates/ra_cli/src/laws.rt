@@ -1,22 +1,26 @@
 //! What is true of the statuses of `ra sim`. Each function does nothing, and its contract is the law.
-ghost use Rattle.std.specs.Prelude.{ℕ, List, Option, Some};
+ghost use Rattle.std.specs.Prelude.{◌≡◌, ℕ, List, Option, Some, codes};
 ghost use Rattle.ra_schedule.specs.declared.error.DriveError.{DriveError};
 ghost use Rattle.ra_script.specs.declared.error.PerformError.{PerformError};
 ghost use Rattle.ra_script.specs.Performed.{IsOrderly};
 ghost use Rattle.ra_cli.specs.declared.command_line.Task.{Task};
 ghost use Rattle.ra_cli.specs.declared.refusal.Refusal.{Refusal};
-ghost use Rattle.ra_cli.specs.Finishing.{RunsFaithfully};
+ghost use Rattle.ra_cli.specs.Finishing.{HasNoChoices, RunsFaithfully};
+ghost use Rattle.ra_cli.specs.Refusals.{IsOfReader, IsOfWriter, word_of};
 ghost use Rattle.ra_cli.specs.Tasks.{IsCauseFor, IsLeftBy};
 
 use ra_schedule::{scripts_come_to_rest, seeds_finish_ordered_scripts};
 use ra_script::read_scripts_come_to_rest;
 
 /// A script whose clients take names in ascending order and give them all back is finished by `ra sim`: status 3 can't
-/// come, by one policy or under each of many seeds, unless a message is lost or repeated or the choices are listed. And
+/// come, by one policy or under each of many seeds, unless a message is lost or repeated or the choices are listed. If no
+/// choices are given or printed either, it is refused for want of memory only, unless the reader or the writer fails. And
 /// whatever the script, no turn is refused.
 pub fn orderly_scripts_are_finished()
     ensures finished { (asked : Task) (input : List ℕ) (new before after : Option (List ℕ)) → IsOrderly input → RunsFaithfully asked
         → ¬ IsLeftBy asked (Some input) new before after }
+    ensures only_memory { (asked : Task) (input : List ℕ) (why : Refusal) → IsOrderly input → RunsFaithfully asked
+        → HasNoChoices asked → ¬ IsOfReader why → ¬ IsOfWriter why → IsCauseFor asked input why → word_of why ≡ codes "Memory" }
     ensures driven { (asked : Task) (input : List ℕ) (cause : DriveError) → RunsFaithfully asked
         → ¬ IsCauseFor asked input (Refusal.Perform (PerformError.Drive cause)) }
 {

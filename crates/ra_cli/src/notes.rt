@@ -1,5 +1,5 @@
 //! The note that tells the user what came of a command: one line, which begins with `ra: `.
-use crate::command_line::text_of;
+use crate::command_line::{choices_word, text_of};
 use crate::error::RunScriptError;
 use crate::hints::write_hints;
 use crate::note_texts::{
@@ -150,7 +150,7 @@ fn range_note(alloc: Global, words: &[String], option: &str, most: &str) -> Said
 fn of_choices(alloc: Global, words: &[String], why: ChoicesError) -> Said {
     match why {
         ChoicesError::Choice => {
-            let choices = text_of(words, "--choices").unwrap_or("");
+            let choices = choices_word(words);
             no_choice_note(alloc, first_no_choice(alloc, choices))
         }
         ChoicesError::Memory => Said::Text(NO_MEMORY),

@@ -1,6 +1,6 @@
 //! Where in what was read stands what a note is about, and who waits for whom.
 use crate::AnswerError;
-use crate::command_line::{Task, parse, text_of};
+use crate::command_line::{Task, choices_word, parse, text_of};
 use crate::error::RunScriptError;
 use crate::note_texts::{cause_text, mark_cause_text};
 use crate::outcome::Remark;
@@ -26,9 +26,7 @@ type Said = Result<Option<String>, Memory>;
 fn perform_place(alloc: Global, words: &[String], script: &[u8], why: PerformError) -> Said {
     match why {
         PerformError::Script(_) => explain_script(alloc, script),
-        PerformError::Drive(_) => {
-            choices_note(alloc, script, text_of(words, "--choices").unwrap_or(""))
-        }
+        PerformError::Drive(_) => choices_note(alloc, script, choices_word(words)),
         _ => Ok(None),
     }
 }

@@ -1,4 +1,4 @@
-ghost use Rattle.std.specs.Prelude.{true, false, [], ◌++◌, None, ◌≢◌, ◌↔◌, IsErr, IsTrue, IfOk, IfErr, IfNone, Option, ◌≡◌, ◌≤◌, ◌⊎◌, List, ℕ, map, IfSome, string_bytes};
+ghost use Rattle.std.specs.Prelude.{true, false, [], ◌++◌, None, ◌≢◌, ◌↔◌, IsErr, IsTrue, IfOk, IfErr, IfNone, Option, ◌≡◌, ◌≤◌, ◌⊎◌, List, ℕ, map, IfSome, codes, string_bytes};
 ghost use Rattle.std.specs.Io.KnownBytes.{Appends};
 ghost use Rattle.ra_cli.specs.Words.{GivesNode, HasMarksWord};
 ghost use Rattle.ra_cli.specs.Answer.{Refuses};
@@ -12,7 +12,7 @@ ghost use Rattle.ra_cli.specs.Pictures.{IsNoTrace};
 ghost use Rattle.ra_cli.specs.Statuses.{IsBroken, IsPrinted, IsSaid, Serves};
 ghost use Rattle.ra_cli.specs.Surveyed.{RefusesSurvey, SurveysBy};
 ghost use Rattle.ra_cli.specs.Tasks.{AnswersAs, DrawsPart, IsDoneBy, IsLeftBy, IsRefusedBy, IsRefusedFor, PerformsNamed, RefusesNamed, RefusesPart, Suits};
-ghost use Rattle.ra_cli.specs.Finishing.{RunsFaithfully};
+ghost use Rattle.ra_cli.specs.Finishing.{HasNoChoices, RunsFaithfully};
 ghost use Rattle.ra_script.specs.ChoicesText.{choices_of};
 ghost use Rattle.ra_script.specs.Performed.{IsOrderly};
 ghost use Rattle.ra_schedule.specs.declared.choice.Policy.{Policy};
@@ -437,6 +437,9 @@ fn do_task<T: Threads + Wait + Sync, R: BufRead, W: Write, O: Observer>(
         → IsLeftBy task.entry (R.remaining reader.old) (R.remaining reader.new) (W.contents writer.old) (W.contents writer.new) }
     // A script whose clients take names in order and give them all back is not left unfinished by a faithful task.
     ensures finished { IfSome (R.remaining reader.old) (λ input. IsOrderly input → RunsFaithfully task.entry → result.status ≢ 3) }
+    ensures only_memory { IfSome (R.remaining reader.old) (λ input. IsOrderly input → RunsFaithfully task.entry
+        → HasNoChoices task.entry → result.status ≡ 2
+        → Appends (W.contents writer.old) (W.contents writer.new) (refused_line (codes "Memory"))) }
     ensures refused { result.status ≡ 2
         → IsRefusedBy task.entry (R.remaining reader.old) (W.contents writer.old) (W.contents writer.new) }
     ensures broken { (words : List (List ℕ)) → Suits words task.entry → result.status ≡ 1

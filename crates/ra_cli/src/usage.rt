@@ -117,7 +117,7 @@ fn unseen_text(words: &[String], sim: &ArgMatches) -> &'static str {
     let Some(policy) = policy_name(words, sim) else {
         return FAULTS_TEXT;
     };
-    if format_of(&policy, sim).is_none() {
+    if format_of(&policy, words, sim).is_none() {
         AS_CHOICES_TEXT
     } else if is_given(words, "--seeds") {
         SEEDS_TEXT

@@ -1,9 +1,26 @@
-use Rattle.std.proofs.Common.{map, string_bytes}
+use Rattle.std.proofs.Common.{◌≡◌, ◌⊎◌, List, ℕ, [], map, codes, string_bytes, inl, inr}
 use Rattle.ra_cli.specs.Finishing.{IsFaithful}
-use Rattle.ra_cli.specs.Words.{NamesFaithfully}
-use Rattle.ra_cli.proofs.Faithful.{under}
+use Rattle.ra_cli.specs.Words.{GivesText, NamesFaithfully, NamesNoChoices}
+use Rattle.ra_cli.proofs.Helping.{as_choices_word}
+use Rattle.ra_cli.proofs.Faithful.{anyway, under}
 use Rattle.ra_cli.proofs.command_line.sim_task.Goals as goal
 
 pub returns-in-Some-clause-faithful : goal.returns-in-Some-clause-faithful
 returns-in-Some-clause-faithful c =
     under (NamesFaithfully (map string_bytes c.args.words.now)) (IsFaithful c.in_ok-policy.policy) c.in_ok-policy.ensures c.survey_task.result c.survey_task.ensures.faithful
+
+pub returns-in-Some-clause-choices : goal.returns-in-Some-clause-choices
+returns-in-Some-clause-choices c =
+    anyway (NamesNoChoices (map string_bytes c.args.words.now)) c.survey_task.result c.survey_task.ensures.choices
+
+-- no choices are given
+none : (words : List (List ℕ)) (text : List ℕ) → NamesNoChoices words → (text ≡ []) ⊎ GivesText words (codes "--choices") text → text ≡ []
+none words text names (inl is) = is
+none words text names (inr given) = absurd (names.none_given text given)
+
+pub returns-clause-choices : goal.returns-clause-choices
+returns-clause-choices c names =
+    let words = c.args.words.now in (
+      none (map string_bytes words) c.choices_word-choices.result.now names c.choices_word-choices.ensures,
+      c.in_ok-format.ensures (λ any. names.none_asked (as_choices_word words any)),
+    )

@@ -1,4 +1,4 @@
-use Rattle.ra_cli.proofs.Orderly.{FinishingLaws, never_left, always_driven}
+use Rattle.ra_cli.proofs.Orderly.{FinishingLaws, never_left, refused_for_memory, always_driven}
 use Rattle.ra_cli.proofs.laws.orderly_scripts_are_finished.Goals as goal
 
 pub returns : goal.returns
@@ -14,5 +14,6 @@ returns c =
     } in
     record {
       finished = never_left laws;
+      only_memory = refused_for_memory laws;
       driven = always_driven laws;
     }

@@ -5,7 +5,7 @@ use Rattle.ra_cli.specs.Statuses.{IsBroken}
 use Rattle.ra_cli.specs.declared.error.RunScriptError.{RunScriptError}
 use Rattle.ra_cli.specs.declared.refusal.Refusal.TheVariants.{Cluster}
 use Rattle.ra_cli.proofs.ClusterRuns.{of_known}
-use Rattle.ra_cli.proofs.Orderly.{never_three, less_than_three}
+use Rattle.ra_cli.proofs.Orderly.{never_three, less_than_three, only_memory, not_by_threads}
 use Rattle.ra_cli.proofs.Statuses.{of_run, of_cluster_run, broken}
 use Rattle.ra_cli.proofs.TaskLemmas.{refused_for}
 use Rattle.ra_cli.proofs.serving.do_task.Goals as goal
@@ -50,3 +50,16 @@ returns-in-Ok-clause-finished g c =
 pub returns-in-Err-clause-finished : goal.returns-in-Err-clause-finished
 returns-in-Err-clause-finished g c =
     less_than_three c.args.task (g.R.Read.remaining c.args.reader.now) c.refuse.result.status c.refuse.ensures.range
+
+pub returns-in-Some-clause-only_memory : goal.returns-in-Some-clause-only_memory
+returns-in-Some-clause-only_memory g c =
+    only_memory c.orderly_scripts_are_finished.ensures.only_memory c.args.task (g.R.Read.remaining c.args.reader.now)
+    (g.W.Write.contents c.args.writer.now) (g.W.Write.contents c.do_alone.new.writer) c.in-Some.outcome.status c.in-Some.ensures.refused
+
+pub returns-in-Ok-clause-only_memory : goal.returns-in-Ok-clause-only_memory
+returns-in-Ok-clause-only_memory g c =
+    not_by_threads c.args.task (g.R.Read.remaining c.args.reader.now) (g.W.Write.contents c.args.writer.now) _ c.new.result.status c.in_default.ensures.none.0
+
+pub returns-in-Err-clause-only_memory : goal.returns-in-Err-clause-only_memory
+returns-in-Err-clause-only_memory g c =
+    not_by_threads c.args.task (g.R.Read.remaining c.args.reader.now) (g.W.Write.contents c.args.writer.now) _ c.refuse.result.status c.in_default.ensures.none.0

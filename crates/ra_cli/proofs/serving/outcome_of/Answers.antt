@@ -1,12 +1,24 @@
-use Rattle.std.proofs.Common.{arith, ◌≡◌, ◌≢◌, ℕ, ◌≤◌, map, refl, string_bytes}
+use Rattle.std.proofs.Common.{arith, ◌≡◌, ◌≢◌, ◌⊎◌, ℕ, ◌≤◌, List, Option, codes, map, refl, string_bytes, inl, inr}
+use Rattle.std.specs.Io.KnownBytes.{Appends}
 use Rattle.ra_script.specs.Performed.{IsOrderly}
 use Rattle.ra_cli.specs.declared.refusal.Refusal.TheVariants.{Command}
-use Rattle.ra_cli.specs.Finishing.{RunsFaithfully}
+use Rattle.ra_cli.specs.Finishing.{HasNoChoices, RunsFaithfully}
+use Rattle.ra_cli.specs.Refusals.{command_word, refused_line}
+use Rattle.ra_cli.specs.declared.command_line.CommandFault.{CommandFault}
+use Rattle.ra_cli.specs.declared.command_line.CommandFault.TheVariants as command
 use Rattle.ra_cli.proofs.ClusterRuns.{of_known}
 use Rattle.ra_cli.proofs.Helping.{for_each}
 use Rattle.ra_cli.proofs.Statuses.{none_of_command, refused, broken}
 use Rattle.ra_cli.proofs.TaskLemmas.{done, left, suits, without_cause}
 use Rattle.ra_cli.proofs.serving.outcome_of.Goals as goal
+
+-- the line for want of memory was written, or that for words that are no command line
+abbrev MemoryOrUsage : (before after : Option (List ℕ)) → Type 0
+MemoryOrUsage before after = Appends before after (refused_line (codes "Memory")) ⊎ Appends before after (refused_line (codes "Usage"))
+
+of_fault : (fault : CommandFault) (before after : Option (List ℕ)) → Appends before after (refused_line (command_word fault)) → MemoryOrUsage before after
+of_fault command.Usage before after out = inr out
+of_fault command.Memory before after out = inl out
 
 pub returns-in-Ok : goal.returns-in-Ok
 returns-in-Ok g c =
@@ -25,6 +37,10 @@ returns-in-Ok g c =
       unfinished = λ is. left (map string_bytes words) asked old new before after fits (task.unfinished is);
       finished = λ sims. of_known old (λ input. IsOrderly input → RunsFaithfully asked → status ≢ 3) (λ input. IsOrderly input → status ≢ 3)
           (λ input h orderly. h orderly (c.in-Ok.ensures.faithful sims)) task.finished;
+      only_memory = λ sims none two. of_known old
+          (λ input. IsOrderly input → RunsFaithfully asked → HasNoChoices asked → status ≡ 2 → Appends before after (refused_line (codes "Memory")))
+          (λ input. IsOrderly input → MemoryOrUsage before after)
+          (λ input h orderly. inl (h orderly (c.in-Ok.ensures.faithful sims) (c.in-Ok.ensures.choices none) two)) task.only_memory;
       refused = λ is. without_cause _ before after (task.refused is);
       broken = λ is. task.broken (map string_bytes words) fits is;
     }
@@ -48,6 +64,8 @@ returns-in-Err g c =
       unfinished = λ is. absurd (not_three status c.refuse.ensures.range is);
       finished = λ sims. for_each (g.R.Read.remaining c.args.reader.now) (λ input. IsOrderly input → status ≢ 3)
           (λ input orderly is. not_three status c.refuse.ensures.range is);
+      only_memory = λ sims none two. for_each (g.R.Read.remaining c.args.reader.now) (λ input. IsOrderly input → MemoryOrUsage before after)
+          (λ input orderly. of_fault c.in-Err.fault before after (c.refuse.ensures.refused two).2);
       refused = λ two. refused why before before after (λ other. refl) (c.refuse.ensures.refused two);
       broken = λ one. broken (map string_bytes c.args.words.now) (g.R.Read.remaining c.args.reader.now) before before after why
           (λ is. absurd (never is)) (λ is. absurd (never is)) (λ other. refl) (c.refuse.ensures.broken one);
