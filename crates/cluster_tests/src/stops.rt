@@ -10,7 +10,7 @@ use std::sync::atomic::{AtomicU64, Ordering};
 use std::thread;
 use std::thread::Threads;
 
-/// A gate that keeps whoever steps, under the lock of its node, until it is told to let go, and refuses the step then.
+/// A gate that keeps a thread that steps, under the lock of its node, until it is told to let go, and refuses the step then.
 #[derive(Drop)]
 struct Keeps {
     /// How many came.

@@ -240,7 +240,7 @@ fn hammer<R: Wait>(
         let Ok(grant) = all.lock_at(rt, alloc, site, 1, name, x, &OpenGate) else {
             return;
         };
-        // It holds the name, and whoever waits for it would wait for ever.
+        // It holds the name, and a client that waits for it would wait for ever.
         if grants.lock(rt).push(grant).is_err() {
             stop_all(rt, &all.sites, Stop::Memory);
             return;

@@ -239,7 +239,7 @@ impl Book {
     }
 
     /// Gives the book a fault, if it has none. From then on `ask`, `leave` and `receive` answer `Failed`, and frames can still be flagged
-    /// as lost: whoever stops the nodes does both, in any order. It does not allocate.
+    /// as lost: a thread that stops the nodes does both, in any order. It does not allocate.
     pub fn fail(&mut self, stop: Stop)
         ensures value { self.new ≡ record self.old { fault = Some (unwrap_or self.old.fault stop) } }
         ensures history { HasHistory self.new }

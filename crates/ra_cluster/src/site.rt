@@ -218,7 +218,7 @@ impl Site {
     }
 
     /// Stops the node for this cause, unless it is stopped already, and wakes all clients that wait at it. They get `Stopped`,
-    /// and whoever calls from then on gets `Refused` with `Failed`. Its pump ends when the post is closed. It waits for the
+    /// and a client that calls from then on gets `Refused` with `Failed`. Its pump ends when the post is closed. It waits for the
     /// lock, and does not allocate. The cost is linear in the number of clients that wait.
     pub fn stop<R: Wait>(&self, rt: &R, stop: Stop) {
         let (cause, waiters) = self.desk.lock(rt).fail(self.alloc, stop);

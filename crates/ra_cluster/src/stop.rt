@@ -16,7 +16,7 @@ pub enum Stop {
     Frame,
     /// A node refused what it was asked or handed.
     Refused,
-    /// Whoever watches the steps of the cluster stopped it.
+    /// The gate, which watches the steps of the cluster, stopped it.
     Gate,
     /// A thread could not be started.
     Spawn,

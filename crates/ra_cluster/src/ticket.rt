@@ -10,7 +10,7 @@ pub type Outcome = Result<Grant, Stop>;
 /// A ticket that two threads share: the one that waits, and the one that tells it what came of its request.
 pub type SharedTicket = Arc<Ticket, Global>;
 
-/// Where the one thread that made a request waits. Whoever tells it what came of the request wakes this thread alone.
+/// Where the one thread that made a request waits. The thread that tells it what came of the request wakes it alone.
 #[derive(Drop)]
 pub struct Ticket {
     outcome: Mutex<Option<Outcome>>,
