@@ -119,7 +119,7 @@ fn entry(name: Name) -> Option<Entry> {
 }
 
 /// Returns the message.
-fn message(name: Name, wire: Wire) -> Option<Message> {
+pub fn message(name: Name, wire: Wire) -> Option<Message> {
     match wire {
         Wire::Asks => helpers::request(name, 1, 2, Mode::Exclusive),
         Wire::Replies => helpers::reply(name, 2, 1),

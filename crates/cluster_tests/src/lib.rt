@@ -5,6 +5,8 @@
 #[cfg(test)]
 mod asleep;
 #[cfg(test)]
+mod audits;
+#[cfg(test)]
 mod books;
 #[cfg(test)]
 mod changed_frames;
@@ -16,6 +18,14 @@ mod endings;
 mod gates;
 #[cfg(test)]
 mod growth;
+#[cfg(test)]
+mod growth_of_auditors;
+#[cfg(test)]
+mod growth_of_clusters;
+#[cfg(test)]
+mod growth_of_settling;
+#[cfg(test)]
+mod growth_of_sites;
 #[cfg(test)]
 mod helpers;
 #[cfg(test)]

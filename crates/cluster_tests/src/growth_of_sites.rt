@@ -1,0 +1,215 @@
+//! Each growth of a post or a site is refused: the call answers that memory ran out, and does what it should when it is
+//! made again; or a frame is lost, and all sites are stopped.
+use crate::growth::end;
+use crate::helpers::{books_of, r, request, sites_of};
+use crate::steps::{have_ended, make_cluster, stopped};
+use ra_cluster::{
+    Book, BookError, Inbox, NewPostError, OpenGate, Post, SendError, Site, SiteError, Stop,
+    is_site_of,
+};
+use ra_frame::Frame;
+use ra_stamp::{Entry, Mode, Name};
+use std::alloc::Global;
+use std::sync::Wait;
+use test_support::{Tried, again};
+
+/// Sends a frame from node 1 to node 2, and sends it again if it was refused.
+fn try_send<R: Wait>(rt: &R, alloc: Global, post: &Post) -> Tried {
+    let message = match r() {
+        Some(name) => request(name, 1, 2, Mode::Exclusive),
+        None => None,
+    };
+    let Some(message) = message else {
+        return Tried::Wrong;
+    };
+    let frame = Frame { clock: 1, message };
+    if !frame.fits() {
+        return Tried::Wrong;
+    }
+    match post.send(rt, alloc, &frame) {
+        Ok(()) => Tried::AtOnce,
+        Err(SendError::Refused) if post.send(rt, alloc, &frame).is_ok() => Tried::Again,
+        Err(_) => Tried::Wrong,
+    }
+}
+
+/// Makes a post and sends a frame through it. If the post cannot be made, returns whether memory ran out.
+fn try_post<R: Wait>(rt: &R, alloc: Global) -> Result<Tried, bool> {
+    match Post::new(alloc, 2) {
+        Ok((post, _inboxes)) => Ok(try_send(rt, alloc, &post)),
+        Err(fault) => Err(fault == NewPostError::Memory),
+    }
+}
+
+#[test]
+fn growth_of_a_post(rt: HostRuntime) {
+    let alloc = rt.alloc();
+    end(&rt, again(try_post(&rt, alloc), try_post(&rt, alloc)));
+}
+
+/// Returns `Ok` if a site took a call; otherwise returns whether memory ran out.
+fn taken<T: Drop>(answer: Result<T, SiteError>) -> Result<(), bool> {
+    match answer {
+        Ok(_) => Ok(()),
+        Err(fault) => Err(fault == SiteError::Refused(BookError::Memory)),
+    }
+}
+
+/// Returns whether a site is as it was before a call found no memory: this many events, this holder of the name, and no
+/// client waiting.
+fn is_as_before<R: Wait>(
+    rt: &R,
+    site: &Site,
+    name: &Name,
+    events: u64,
+    holder: &Option<Entry>,
+) -> bool {
+    site.events(rt) == events
+        && site.holder(rt, name) == *holder
+        && site.waiting(rt) == 0
+        && site.queued(rt) == 0
+        && site.fault(rt).is_none()
+}
+
+/// What client 1 does at a site.
+#[derive(Clone, Copy)]
+enum Act {
+    Locks,
+    Unlocks,
+}
+
+/// Makes a call of the one site.
+fn call_at<R: Wait>(
+    rt: &R,
+    alloc: Global,
+    act: Act,
+    name: &Name,
+    post: &Post,
+    sites: &[Site],
+) -> Result<(), bool> {
+    let [site] = sites else {
+        return Err(false);
+    };
+    if !is_site_of(site, sites) {
+        return Err(false);
+    }
+    let mode = Mode::Exclusive;
+    match act {
+        Act::Locks => taken(site.lock(rt, alloc, 1, *name, mode, post, sites, &OpenGate)),
+        Act::Unlocks => taken(site.unlock(rt, alloc, 1, *name, post, sites, &OpenGate)),
+    }
+}
+
+/// Makes a call of the one site, and makes it again if memory ran out and the site is as before.
+fn try_at<R: Wait>(
+    rt: &R,
+    alloc: Global,
+    act: Act,
+    name: &Name,
+    post: &Post,
+    sites: &[Site],
+) -> Tried {
+    let [site] = sites else {
+        return Tried::Wrong;
+    };
+    let (events, holder) = (site.events(rt), site.holder(rt, name));
+    match call_at(rt, alloc, act, name, post, sites) {
+        Ok(()) => Tried::AtOnce,
+        Err(is_memory)
+            if is_memory
+                && is_as_before(rt, site, name, events, &holder)
+                && call_at(rt, alloc, act, name, post, sites).is_ok() => { Tried::Again }
+        Err(_) => Tried::Wrong,
+    }
+}
+
+/// A client locks `r` at the one site and unlocks it, which needs no memory.
+fn try_site<R: Wait>(rt: &R, alloc: Global, name: &Name, post: &Post, sites: &[Site]) -> Tried {
+    let locked = try_at(rt, alloc, Act::Locks, name, post, sites);
+    match call_at(rt, alloc, Act::Unlocks, name, post, sites) {
+        Ok(()) => locked,
+        Err(_) => Tried::Wrong,
+    }
+}
+
+/// Makes a cluster of one site, at which a client locks `r` and unlocks it. If it cannot be made, returns whether
+/// memory ran out.
+fn try_sites<R: Wait>(rt: &R, alloc: Global) -> Result<Tried, bool> {
+    let (Some(name), Some(sites)) = (r(), sites_of(alloc, 1, 0)) else {
+        return Err(true);
+    };
+    match Post::new(alloc, 1) {
+        Ok((post, _inboxes)) => Ok(try_site(rt, alloc, &name, &post, &sites)),
+        Err(fault) => Err(fault == NewPostError::Memory),
+    }
+}
+
+#[test]
+fn growth_of_a_site(rt: HostRuntime) {
+    let alloc = rt.alloc();
+    end(&rt, again(try_sites(&rt, alloc), try_sites(&rt, alloc)));
+}
+
+/// The answer of a call that found no memory and did nothing.
+pub const WANTING: SiteError = SiteError::Refused(BookError::Memory);
+
+/// Returns how many frames are left in the inbox at a place, that of the node with this number, which a new site of the
+/// node takes. The post has to be closed before. Returns `None` if memory ran out.
+fn frames_left<R: Wait>(rt: &R, alloc: Global, inbox: &Inbox, number: u16) -> Option<u64> {
+    let fresh = make_cluster(alloc, 3, 0, u64::MAX)?;
+    let site = fresh.sites.get(usize::from(number).wrapping_sub(1))?;
+    if !fresh.pump_at(rt, alloc, site, inbox, &OpenGate) || site.fault(rt) == Some(Stop::Memory) {
+        return None;
+    }
+    Some(site.events(rt))
+}
+
+/// Returns whether the frame for node 2 is lost, and that for node 3 either is the one that is left in its inbox, or is
+/// lost too.
+fn are_accounted_for(books: &[Book], left: u64) -> Tried {
+    let send = Stop::Send;
+    let ended = [stopped(send, 1), stopped(send, 0), stopped(send, 0)];
+    let Some(one) = books.first() else {
+        return Tried::Wrong;
+    };
+    match (have_ended(books, &ended), one.sent(0), one.sent(1)) {
+        (true, Some(two), Some(three)) if two.lost && !three.lost && left == 1 => Tried::AtOnce,
+        (true, Some(two), Some(three)) if two.lost && three.lost && left == 0 => Tried::Again,
+        _ => Tried::Wrong,
+    }
+}
+
+/// Has client 1 of node 1 of three lock `r`. The inbox of node 2 is gone, so at least the frame for node 2 is lost. If the
+/// client was refused, or what came of it cannot be looked at, returns whether memory ran out.
+fn try_losing<R: Wait>(rt: &R, alloc: Global) -> Result<Tried, bool> {
+    let (Some(name), Some(mut all)) = (r(), make_cluster(alloc, 3, 0, u64::MAX)) else {
+        return Err(true);
+    };
+    if all.inboxes.len() != 3 {
+        return Err(false);
+    }
+    drop(all.inboxes.remove(1));
+    let (Some(site), Some(inbox)) = (all.sites.first(), all.inboxes.get(1)) else {
+        return Err(false);
+    };
+    let mode = Mode::Exclusive;
+    let answer = all.lock_at(rt, alloc, site, 1, &name, mode, &OpenGate);
+    all.post.close(rt);
+    if answer != Err(SiteError::Stopped(Stop::Send)) {
+        return Err(answer == Err(WANTING));
+    }
+    let Some(left) = frames_left(rt, alloc, inbox, 3) else {
+        return Err(true);
+    };
+    match books_of(alloc, all.sites) {
+        Some(books) => Ok(are_accounted_for(&books, left)),
+        None => Err(true),
+    }
+}
+
+/// A frame for which there is no memory is flagged as lost, and the others of its event are sent.
+#[test]
+fn growth_of_lost_frames(rt: HostRuntime) {
+    let alloc = rt.alloc();
+    end(&rt, again(try_losing(&rt, alloc), try_losing(&rt, alloc)));
+}
