@@ -1,8 +1,8 @@
 -- The frames that a node sent ascend by clock, as its events do.
-use Rattle.std.proofs.Common.{◌≡◌, ℕ, zero, suc, ◌<◌, ◌≤◌, List, [], ◌∷◌, ◌++◌, length, get_or, map, sym, ap, subst, arith}
+use Rattle.std.proofs.Common.{◌≡◌, ℕ, zero, suc, ◌+◌, ◌<◌, ◌≤◌, List, [], ◌∷◌, ◌++◌, length, get_or, map, sym, ap, subst, arith}
 use Rattle.std.specs.Prelude.{All}
 use Rattle.std.specs.List.Sorted.{IsNonDecreasingBy}
-use Rattle.std.proofs.lemmas.List.{get_or-map, length-map}
+use Rattle.std.proofs.lemmas.List.{get_or-map, length-map, length-append, get_or-append-add}
 use Rattle.std.proofs.lemmas.List.Elements.{All-nil, All-cons, All-weaker}
 use Rattle.ra_stamp.specs.declared.message.Message.{Message}
 use Rattle.ra_frame.specs.declared.frame.Frame.{Frame}
@@ -44,6 +44,19 @@ all_ascend clock (p ∷ ps) clocked =
     let later : clock ≤ p.event.clock = omega (arith, clocked.0, later_clock clock p.event.kind) in (
       All-weaker (λ (f : Frame). p.event.clock ≤ f.clock) (λ (f : Frame). clock ≤ f.clock) (λ f low. omega (arith, low, later)) (frames_of (p ∷ ps)) here.0,
       here.1,
+    )
+
+-- what is last of a list that ascends ascends
+pub ascends_last : (first last : List Sent) → Ascends (first ++ last) → Ascends last
+ascends_last first last whole i j d le within =
+    let at : (k : ℕ) → (get_or (first ++ last) (length first + k) d).frame.clock ≡ (get_or last k d).frame.clock =
+    λ k. ap (λ (s : Sent). s.frame.clock) (get_or-append-add first last k d)
+    in
+    omega (
+      arith,
+      whole (length first + i) (length first + j) d (omega (arith, le)) (omega (arith, within, length-append first last)),
+      at i,
+      at j,
     )
 
 pub history_ascends : (me n start : ℕ) (events : List BookEvent) (sent : List Sent) (node : NodeState) → IsHistory me n start events sent node → Ascends sent

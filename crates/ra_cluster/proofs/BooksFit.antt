@@ -18,7 +18,7 @@ use Rattle.ra_world.specs.Fitting.{sent_in, happened_by, WasSentBy, NamesNode, F
 use Rattle.ra_cluster.specs.declared.event.BookKind.{BookKind}
 use Rattle.ra_cluster.specs.declared.event.BookKind.TheVariants.{Asked, Gave, Got}
 use Rattle.ra_cluster.specs.History.{node_event, happening_of}
-use Rattle.ra_cluster.specs.Book.{BookState, HasHistory}
+use Rattle.ra_cluster.specs.Book.{BookState, nothing_taken, HasHistory}
 use Rattle.ra_cluster.specs.Settled.{IsCluster, IsSettledOrder, Placed, WasSent, BooksFit, events_of, step_at, steps_of, all_lost, lost_among, all_received, settled_steps, start_of}
 use Rattle.ra_cluster.proofs.Merging.{number_at}
 use Rattle.ra_cluster.proofs.Projections.{projected, nothing_by_losses, none_repeated, nothing_repeated, all_addressed}
@@ -28,6 +28,7 @@ use Rattle.ra_cluster.proofs.Happened.{happened_in, happened_at_place, events_of
 use Rattle.ra_cluster.proofs.Deliveries.{all_of_each, delivered, happened, sent_all, sent_before, delivered_apart}
 use Rattle.ra_cluster.proofs.SentApart.{different_at}
 use Rattle.ra_cluster.proofs.LossesApart.{messages_of, lost_is_sent, all_apart}
+use Rattle.ra_cluster.proofs.Whole.{HasWholeHistory, whole_histories}
 
 -- ---- Where a place of a list is
 
@@ -89,7 +90,7 @@ names n i (Got frame) within = tt
 
 -- ---- The steps fit together
 
-module _ (books : List BookState) (placed : List Placed) (cluster : IsCluster books) (histories : All HasHistory books) (order : IsSettledOrder books placed)
+module _ (books : List BookState) (placed : List Placed) (cluster : IsCluster books) (histories : All HasWholeHistory books) (order : IsSettledOrder books placed)
     (all_sent : All (λ f. WasSent books f) (all_received books)) (came : AreDifferent (map (λ f. f.message) (all_received books))) where
   abbrev n : ℕ
   n = length books
@@ -101,12 +102,12 @@ module _ (books : List BookState) (placed : List Placed) (cluster : IsCluster bo
   happens = happened books placed cluster histories order
 
   abbrev no_book : BookState
-  no_book = record { me = 0; nodes = 0; start = 0; events = []; sent = []; fault = None }
+  no_book = record { me = 0; nodes = 0; start = 0; taken = nothing_taken; events = []; sent = []; fault = None }
 
   -- the book of a node, and what happened there
   record OfNode (i : ℕ) : Type 0 where
     book : BookState
-    history : HasHistory book
+    history : HasWholeHistory book
     me_is : book.me ≡ i
     nodes_is : book.nodes ≡ n
     start_is : book.start ≡ start
@@ -210,7 +211,7 @@ module _ (books : List BookState) (placed : List Placed) (cluster : IsCluster bo
       (fitting : (n start : ℕ) (steps : List Step) (happened : ℕ → List Happening) → IsNodeNumber n → FitTogether n start steps happened
       → (moves : List Move) × (map (λ move. move.step) moves ≡ steps) × IsRun n start moves × ((i : ℕ) → 1 ≤ i → i ≤ n → happened_at i moves ≡ happened i))
       (differ : (n start : ℕ) (moves : List Move) → IsNodeNumber n → IsRun n start moves → repeated_by moves ≡ [] → AreDifferent (sent_by moves))
-      (own : (b : BookState) → HasHistory b → All (λ s. from_of s.frame.message ≡ b.me) b.sent) where
+      (own : All (λ b. All (λ s. from_of s.frame.message ≡ b.me) b.sent) books) where
     came_once : AreDifferent (delivered placed)
     came_once = delivered_apart books placed cluster histories order came
 
@@ -245,7 +246,7 @@ module _ (books : List BookState) (placed : List Placed) (cluster : IsCluster bo
     settled_ran : Ran (settled_steps books placed)
     settled_ran = fitting n start (settled_steps books placed) happens count
         (fit (all_lost books) lost_went_out
-        (all_apart books cluster (λ k d low. own (get_or books k d) (histories k d low)) each_different placed (sent_all books placed cluster histories order all_sent) came_once))
+        (all_apart books cluster own each_different placed (sent_all books placed cluster histories order all_sent) came_once))
 
     pub is_run : WorldRun n start (settled_steps books placed)
     is_run = (settled_ran.0, settled_ran.1, settled_ran.2)
@@ -265,5 +266,6 @@ pub books_ran :
     → (books : List BookState) (placed : List Placed) → IsCluster books → All HasHistory books → IsSettledOrder books placed → BooksFit books
     → WorldRun (length books) (start_of books) (settled_steps books placed)
 books_ran fitting differ own books placed cluster histories order fit =
-    is_run books placed cluster histories order (all_were_sent books fit.0) (never_twice (map (λ f. f.message) (all_received books)) fit.1)
-    (node_count books cluster histories) fitting differ own
+    let whole = whole_histories books cluster histories in
+    is_run books placed cluster whole order (all_were_sent books fit.0) (never_twice (map (λ f. f.message) (all_received books)) fit.1)
+    (node_count books cluster histories) fitting differ (λ k d low. own (get_or books k d) (histories k d low))

@@ -6,13 +6,13 @@ use Rattle.std.proofs.lemmas.List.{get_or-map, get_or_default, length-map, same_
 use Rattle.std.proofs.lemmas.List.FromFn.{length-range_with_len, get_or-range_with_len}
 use Rattle.std.proofs.lemmas.Option.{same_Some, none-some, slice_get_within}
 use Rattle.std.proofs.lemmas.Bool.{cases_lt}
-use Rattle.ra_cluster.specs.Book.{BookState}
+use Rattle.ra_cluster.specs.Book.{BookState, IsWhole}
 use Rattle.ra_cluster.specs.Settled.{IsCluster, start_of}
 use Rattle.ra_cluster.proofs.Merging.{number_at}
 
--- the book is that of the node with this place, of this many nodes and from this start
+-- the book is that of the node with this place, of this many nodes and from this start, and nothing was taken from it
 abbrev pub IsMember : BookState → ℕ → ℕ → ℕ → Type 0
-IsMember b place count start = (b.me ≡ place + 1) × (b.nodes ≡ count) × (b.start ≡ start)
+IsMember b place count start = (b.me ≡ place + 1) × (b.nodes ≡ count) × (b.start ≡ start) × IsWhole b
 
 -- so many of the books are
 abbrev pub AreMembers : List BookState → ℕ → ℕ → Type 0
@@ -45,7 +45,8 @@ cluster_of books first is start from i all members =
           get_or-map (λ (b : BookState). b.me) books k first d within ∙ (member k first within).0 ∙ sym (get_or-range_with_len 1 (length books) k d within ∙ omega arith));
       one_count = λ k d within. (member k d within).1;
       one_start = λ k d within. (member k d within).2 ∙ from ∙ start_is books first is;
+      whole = λ k d within. (member k d within).3;
     }
 
 pub member_of : (books : List BookState) (first : BookState) → slice_get books 0 ≡ Some first → IsCluster books → (k : ℕ) (d : BookState) → k < length books → IsMember (get_or books k d) k (length books) first.start
-member_of books first is cluster k d within = (number_at books cluster k d within, cluster.one_count k d within, cluster.one_start k d within ∙ sym (start_is books first is))
+member_of books first is cluster k d within = (number_at books cluster k d within, cluster.one_count k d within, cluster.one_start k d within ∙ sym (start_is books first is), cluster.whole k d within)

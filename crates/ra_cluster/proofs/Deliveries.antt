@@ -16,7 +16,7 @@ use Rattle.ra_cluster.specs.declared.event.BookKind.{BookKind}
 use Rattle.ra_cluster.specs.declared.event.BookKind.TheVariants.{Asked, Gave, Got}
 use Rattle.ra_cluster.specs.declared.event.BookEvent.{BookEvent}
 use Rattle.ra_cluster.specs.History.{AreClocked, clock_after, node_event, happening_of}
-use Rattle.ra_cluster.specs.Book.{BookState, HasHistory}
+use Rattle.ra_cluster.specs.Book.{BookState, nothing_taken}
 use Rattle.ra_cluster.specs.Keys.{messages_among}
 use Rattle.ra_cluster.specs.Settled.{IsCluster, IsSettledOrder, IsBefore, Placed, WasSent, events_of, step_at, steps_of, frames_in, received_among, all_received}
 use Rattle.ra_cluster.proofs.Merging.{number_at}
@@ -24,6 +24,7 @@ use Rattle.ra_cluster.proofs.Projections.{IsAddressed, projected, all_placed, al
 use Rattle.ra_cluster.proofs.Received.{all_received_split}
 use Rattle.ra_cluster.proofs.Distinct.{AreDifferent, all_left, all_right, pairs_left, pairs_right, pairs_first, kept_apart}
 use Rattle.ra_cluster.proofs.Happened.{happened_in, happened_at_place, sent_by_first}
+use Rattle.ra_cluster.proofs.Whole.{HasWholeHistory}
 
 -- ---- The clocks of the frames that came
 
@@ -116,7 +117,7 @@ delivered_to i (p ∷ placed) all =
 
 -- ---- In a settled order
 
-module _ (books : List BookState) (placed : List Placed) (cluster : IsCluster books) (histories : All HasHistory books) (order : IsSettledOrder books placed) where
+module _ (books : List BookState) (placed : List Placed) (cluster : IsCluster books) (histories : All HasWholeHistory books) (order : IsSettledOrder books placed) where
   abbrev n : ℕ
   n = length books
 
@@ -208,7 +209,7 @@ module _ (books : List BookState) (placed : List Placed) (cluster : IsCluster bo
   delivered_apart different i j d below within same =
       let to = to_of (get_or (delivered placed) i d) in
       let node = to_nodes i d (omega (arith, below, within)) in
-      let e : BookState = record { me = 0; nodes = 0; start = 0; events = []; sent = []; fault = None } in
+      let e : BookState = record { me = 0; nodes = 0; start = 0; taken = nothing_taken; events = []; sent = []; fault = None } in
       let low : to - 1 < length books = omega (arith, node.0, node.1) in
       let b = get_or books (to - 1) e in
       let me : b.me ≡ to = number_at books cluster (to - 1) e low ∙ omega (arith, node.0) in

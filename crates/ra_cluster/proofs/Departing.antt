@@ -132,3 +132,14 @@ pub room_grown : (nodes count spare spare' len len' capacity capacity' : ℕ) �
     → HasRoomFor nodes count spare len capacity → HasRoomFor nodes count spare' len' capacity'
 room_grown nodes count spare spare' len len' capacity capacity' events same grows room =
     record { events = omega (arith, room.events, events); sent = omega (arith, room.sent, same, grows) }
+
+-- a list of events that was exchanged for an empty one with room for the same leaves, and one of sent frames
+pub events_anew : (nodes : ℕ) (node : NodeState) (spare spare' len capacity : ℕ) (departures : List Departure)
+    → IsReserved nodes node spare len capacity departures → length departures ≤ spare' → IsReserved nodes node spare' len capacity departures
+events_anew nodes node spare spare' len capacity departures was room =
+    record { many = was.many; each = was.each; room = record { events = room; sent = was.room.sent } }
+
+pub sent_anew : (nodes : ℕ) (node : NodeState) (spare len len' capacity capacity' : ℕ) (departures : List Departure)
+    → IsReserved nodes node spare len capacity departures → len' ≡ 0 → length departures * (2 * nodes) ≤ capacity' → IsReserved nodes node spare len' capacity' departures
+sent_anew nodes node spare len len' capacity capacity' departures was none room =
+    record { many = was.many; each = was.each; room = record { events = was.room.events; sent = omega (arith, none, room) } }

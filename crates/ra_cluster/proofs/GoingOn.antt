@@ -25,11 +25,12 @@ use Rattle.ra_cluster.specs.declared.event.BookKind.{BookKind}
 use Rattle.ra_cluster.specs.declared.event.BookKind.TheVariants.{Asked, Gave, Got}
 use Rattle.ra_cluster.specs.declared.sent.Sent.{Sent}
 use Rattle.ra_cluster.specs.History.{IsHistory, node_event}
-use Rattle.ra_cluster.specs.Book.{BookState, HasHistory, LeadsTo}
+use Rattle.ra_cluster.specs.Book.{BookState, whole_events, HasHistory, LeadsTo}
 use Rattle.ra_cluster.specs.Settled.{IsCluster, IsSettledRun, start_of}
 use Rattle.ra_cluster.specs.Progress.{TakesNamesInOrder, SomeoneCanGoOn, IsHeldInOrder}
 use Rattle.ra_cluster.proofs.Merging.{number_at}
 use Rattle.ra_cluster.proofs.NodeMarks.{Fit, history_by}
+use Rattle.ra_cluster.proofs.Whole.{whole_history, whole_events_are, whole_leads}
 use Rattle.ra_cluster.proofs.SettledNodes.{nobody, book_at, few, book_ends}
 
 -- what the law rests on
@@ -162,8 +163,9 @@ module _ (laws : GoingOnLaws) (books : List BookState) (moves : List Move) (repo
       ap (events_at b.me) step ∙ subst (λ (i : ℕ). events_at i (Ask node client name mode) ≡ event ∷ []) (sym me) (at_node node event) in
       let s = split_there k within before after ask event moves_are here in
       let kind = asked_kind s.event.kind client name mode s.event_is in
-      let events_are : b.events ≡ s.before ++ record { clock = s.event.clock; kind = Asked client name mode } ∷ s.after =
-      subst (λ (x : BookKind). b.events ≡ s.before ++ record { clock = s.event.clock; kind = x } ∷ s.after) kind s.events_are in
+      let events_are : whole_events b ≡ s.before ++ record { clock = s.event.clock; kind = Asked client name mode } ∷ s.after =
+      whole_events_are b (cluster.whole k nobody within)
+      ∙ subst (λ (x : BookKind). b.events ≡ s.before ++ record { clock = s.event.clock; kind = x } ∷ s.after) kind s.events_are in
       let held = ordered k nobody within s.before s.after s.event.clock client name mode (nodes b.me) events_are
       (happened_at b.me before, s.before_is, book_ends books cluster before nodes ends k within) in
       subst (λ (i : ℕ). IsInOrder (nodes i) client name) me held
@@ -173,9 +175,10 @@ module _ (laws : GoingOnLaws) (books : List BookState) (moves : List Move) (repo
   node_is k within node leads =
       let b = book_at books k in
       let nodes = settled.run.ends.0 in
+      let whole = cluster.whole k nobody within in
       let fit : Fit b.events (happened_at b.me moves) = settled.events k nobody within in
-      let other = history_by b (histories k nobody within) (happened_at b.me moves) (nodes b.me) fit (book_ends books cluster moves nodes settled.run.ends.1 k within) in
-      laws.one_node b.me b.nodes b.start b.events b.sent _ node (nodes b.me) leads other.0
+      let other = history_by b (whole_history b whole (histories k nobody within)) (happened_at b.me moves) (nodes b.me) fit (book_ends books cluster moves nodes settled.run.ends.1 k within) in
+      laws.one_node b.me b.nodes b.start b.events b.sent _ node (nodes b.me) (whole_leads b whole node leads) other.0
 
   -- the node of a book among these, in the run
   record Standing (book : BookState) (node : NodeState) : Type 0 where

@@ -10,20 +10,21 @@ use Rattle.ra_world.specs.Fitting.{sent_in}
 use Rattle.ra_cluster.specs.declared.event.BookEvent.{BookEvent}
 use Rattle.ra_cluster.specs.declared.sent.Sent.{Sent}
 use Rattle.ra_cluster.specs.History.{Posting, happening_of, node_event, frames_at, frames_of}
-use Rattle.ra_cluster.specs.Book.{BookState, HasHistory}
+use Rattle.ra_cluster.specs.Book.{BookState}
 use Rattle.ra_cluster.proofs.Distinct.{all_of_map, in_map}
+use Rattle.ra_cluster.proofs.Whole.{HasWholeHistory}
 
 -- what happened at the node whose book has this place
-abbrev pub happened_in : (books : List BookState) → All HasHistory books → ℕ → List Happening
+abbrev pub happened_in : (books : List BookState) → All HasWholeHistory books → ℕ → List Happening
 happened_in [] histories place = []
-happened_in (b ∷ books) histories zero = map happening_of (All-head HasHistory b books histories).leads.postings
-happened_in (b ∷ books) histories (suc place) = happened_in books (All-tail HasHistory b books histories) place
+happened_in (b ∷ books) histories zero = map happening_of (All-head HasWholeHistory b books histories).leads.postings
+happened_in (b ∷ books) histories (suc place) = happened_in books (All-tail HasWholeHistory b books histories) place
 
-pub happened_at_place : (books : List BookState) (histories : All HasHistory books) (place : ℕ) (d : BookState) → place < length books
-    → (history : HasHistory (get_or books place d)) × (happened_in books histories place ≡ map happening_of history.leads.postings)
+pub happened_at_place : (books : List BookState) (histories : All HasWholeHistory books) (place : ℕ) (d : BookState) → place < length books
+    → (history : HasWholeHistory (get_or books place d)) × (happened_in books histories place ≡ map happening_of history.leads.postings)
 happened_at_place [] histories place d low = absurd (omega (arith, low))
-happened_at_place (b ∷ books) histories zero d low = (All-head HasHistory b books histories, refl)
-happened_at_place (b ∷ books) histories (suc place) d low = happened_at_place books (All-tail HasHistory b books histories) place d (omega (arith, low))
+happened_at_place (b ∷ books) histories zero d low = (All-head HasWholeHistory b books histories, refl)
+happened_at_place (b ∷ books) histories (suc place) d low = happened_at_place books (All-tail HasWholeHistory b books histories) place d (omega (arith, low))
 
 -- ---- The events of postings
 
@@ -31,7 +32,7 @@ events_happened : (postings : List Posting) → map (λ h. h.event) (map happeni
 events_happened [] = refl
 events_happened (p ∷ postings) = ap (λ (es : List Event). node_event p.event.kind ∷ es) (events_happened postings)
 
-pub events_of_book : (b : BookState) (history : HasHistory b) → map (λ h. h.event) (map happening_of history.leads.postings) ≡ map (λ e. node_event e.kind) b.events
+pub events_of_book : (b : BookState) (history : HasWholeHistory b) → map (λ h. h.event) (map happening_of history.leads.postings) ≡ map (λ e. node_event e.kind) b.events
 events_of_book b history = events_happened history.leads.postings ∙ ap (map (λ e. node_event e.kind)) history.leads.events_are
 
 -- ---- What postings sent
@@ -51,7 +52,7 @@ messages_sent [] = refl
 messages_sent (s ∷ sent) = ap (λ (ms : List Message). s.frame.message ∷ ms) (messages_sent sent)
 
 -- the messages that happened to be sent at a node are those that its book sent
-pub sent_of_book : (b : BookState) (history : HasHistory b) → sent_in (map happening_of history.leads.postings) ≡ map (λ s. s.frame.message) b.sent
+pub sent_of_book : (b : BookState) (history : HasWholeHistory b) → sent_in (map happening_of history.leads.postings) ≡ map (λ s. s.frame.message) b.sent
 sent_of_book b history = sent_in_frames history.leads.postings ∙ ap (map (λ f. f.message)) (sym history.leads.sent_are) ∙ messages_sent b.sent
 
 -- ---- What was sent before a clock
@@ -78,7 +79,7 @@ sent_earlier clock (p ∷ prefix) rest f late less is =
     ]
 
 -- the same, of the events of a book
-pub sent_by_first : (b : BookState) (history : HasHistory b) (f : Frame) (clock : ℕ) (done left : List BookEvent) → b.events ≡ done ++ left → All (λ e. clock ≤ e.clock) left → f.clock < clock
+pub sent_by_first : (b : BookState) (history : HasWholeHistory b) (f : Frame) (clock : ℕ) (done left : List BookEvent) → b.events ≡ done ++ left → All (λ e. clock ≤ e.clock) left → f.clock < clock
     → Contains b.sent (record { frame = f; lost = false }) → Contains (sent_in (take (length done) (map happening_of history.leads.postings))) f.message
 sent_by_first b history f clock done left parts late less kept =
     let postings = history.leads.postings in

@@ -11,7 +11,7 @@ use Rattle.ra_cluster.specs.declared.error.BookError.{BookError}
 use Rattle.ra_cluster.specs.declared.error.BookError.TheVariants.{Failed, Frame, Busy, Exhausted, NotHeld, WrongNode, Stranger, ClockFull, Memory}
 use Rattle.ra_cluster.specs.declared.event.BookKind.TheVariants.{Got}
 use Rattle.ra_cluster.specs.History.{clock_after, clock_of}
-use Rattle.ra_cluster.specs.Book.{BookState, HasHistory, HasClock, Hears}
+use Rattle.ra_cluster.specs.Book.{BookState, whole_events, HasHistory, HasClock, Hears}
 use Rattle.ra_cluster.specs.Keeping.{ComesNext, IsChecked, AnswersReceive, IsFrameFor, IsHeard, NotHeard}
 use Rattle.ra_cluster.proofs.Running.{ComesAt, has_fault, has_next, comes_next, passed, passed_allowed, other}
 
@@ -66,7 +66,7 @@ module _ (book : BookState) (bytes : List ℕ) where
     allowed = (λ is. absurd (cc), λ h. absurd (has_fault book.fault some h.no_fault));
   }
 
-  module _ (none : book.fault ≡ None) (clock : ℕ) (clock_is : clock ≡ clock_of book.events) (r : Result (OneFrame × ℕ) BookError)
+  module _ (none : book.fault ≡ None) (clock : ℕ) (clock_is : clock ≡ clock_of (whole_events book)) (r : Result (OneFrame × ℕ) BookError)
       (hears : IsHeard book.me book.nodes clock bytes r)
     where
       -- the frame that is heard is the one of which it is said

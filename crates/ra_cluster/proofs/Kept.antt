@@ -1,5 +1,6 @@
 -- What a book keeps.
-use Rattle.std.proofs.Common.{◌≡◌, ℕ, ◌*◌, ◌≤◌, ◌^◌, Option, List, [], ◌∷◌, ◌++◌, length, map, All, refl, sym, ◌∙◌, subst, arith}
+use Rattle.std.proofs.Common.{◌≡◌, ℕ, ◌*◌, ◌≤◌, ◌^◌, Option, true, List, [], ◌∷◌, ◌++◌, length, map, All, refl, sym, ap, ◌∙◌, subst, arith, append_assoc}
+use Rattle.std.proofs.lemmas.List.{map-append, append-nil}
 use Rattle.std.proofs.lemmas.List.Elements.{All-map}
 use Rattle.ra_stamp.specs.declared.entry.Mark.{Mark}
 use Rattle.ra_stamp.specs.declared.message.Message.{Message}
@@ -18,7 +19,7 @@ use Rattle.ra_cluster.specs.declared.event.BookEvent.{BookEvent}
 use Rattle.ra_cluster.specs.declared.sent.Sent.{Sent}
 use Rattle.ra_cluster.specs.declared.stop.Stop.{Stop}
 use Rattle.ra_cluster.specs.History.{IsHistory, node_event, happening_of, clock_after, clock_of, frames_at}
-use Rattle.ra_cluster.specs.Book.{BookState, opening_book, LeadsTo, HasHistory, HasClock, as_sent, next_clock, with_event}
+use Rattle.ra_cluster.specs.Book.{BookState, TakenState, opening_book, whole_events, whole_sent, with_events_taken, with_sent_taken, LeadsTo, HasHistory, HasClock, as_sent, next_clock, with_event}
 use Rattle.ra_cluster.specs.Keeping.{Keeps, answers_to, sends_by}
 
 -- a book that is kept has a history
@@ -65,7 +66,15 @@ module _
         record {
           count = keeps.count;
           member = keeps.member;
-          leads = on book.me book.nodes book.start book.events book.sent old new kind sends marks keeps.leads first happens low;
+          leads =
+              let clock = next_clock book kind in
+              let one : List BookEvent = record { clock = clock; kind = kind } ∷ [] in
+              let frames : List Sent = as_sent (frames_at clock sends) in
+              subst (λ (events : List BookEvent). IsHistory book.me book.nodes book.start events (book.taken.sent ++ (book.sent ++ frames)) new)
+              (append_assoc book.taken.events book.events one)
+              (subst (λ (sent : List Sent). IsHistory book.me book.nodes book.start ((book.taken.events ++ book.events) ++ one) sent new)
+              (append_assoc book.taken.sent book.sent frames)
+              (on book.me book.nodes book.start (whole_events book) (whole_sent book) old new kind sends marks keeps.leads first happens low));
         }
 
     module _
@@ -136,7 +145,7 @@ module _
             (λ k d lt.
             let send = to k d lt in
             record {
-              clock = (clock_rises (clock_of book.events) kind, low);
+              clock = (clock_rises (clock_of (whole_events book)) kind, low);
               seq = number k d lt;
               apart = λ same. send.to.other (sym same ∙ send.from);
             })
@@ -152,14 +161,58 @@ flags law book sent node keeps same =
     record {
       count = keeps.count;
       member = keeps.member;
-      leads = law book.me book.nodes book.start book.events book.sent sent node keeps.leads same;
+      leads =
+          law book.me book.nodes book.start (whole_events book) (whole_sent book) (book.taken.sent ++ sent) node keeps.leads
+          (map-append (λ (s : Sent). s.frame) book.taken.sent sent
+          ∙ ap (λ (frames : List Frame). map (λ (s : Sent). s.frame) book.taken.sent ++ frames) same
+          ∙ sym (map-append (λ (s : Sent). s.frame) book.taken.sent book.sent));
     }
+
+-- the book after its events were taken
+pub events_taken_is : (now book : BookState) → book ≡ now → (taken : TakenState) (events : List BookEvent)
+    → taken ≡ record book.taken { some = true; events = whole_events book } → events ≡ []
+    → record book { taken = taken; events = events } ≡ with_events_taken now
+events_taken_is now book is taken events taken_is none =
+    (λ i. record book { taken = taken_is i; events = none i }) ∙ ap with_events_taken is
+
+pub events_taken : (book : BookState) (node : NodeState) (taken : TakenState) (events : List BookEvent) → Keeps book node
+    → taken ≡ record book.taken { some = true; events = whole_events book } → events ≡ []
+    → Keeps (record book { taken = taken; events = events }) node
+events_taken book node taken events keeps taken_is none =
+    subst (λ (b : BookState). Keeps b node) (sym (events_taken_is book book refl taken events taken_is none))
+    (record {
+      count = keeps.count;
+      member = keeps.member;
+      leads =
+          subst (λ (es : List BookEvent). IsHistory book.me book.nodes book.start es (whole_sent book) node) (sym (append-nil (whole_events book)))
+          keeps.leads;
+    })
+
+-- the book after its frames were taken
+pub sent_taken_is : (now book : BookState) → book ≡ now → (taken : TakenState) (sent : List Sent)
+    → taken ≡ record book.taken { some = true; sent = whole_sent book } → sent ≡ []
+    → record book { taken = taken; sent = sent } ≡ with_sent_taken now
+sent_taken_is now book is taken sent taken_is none =
+    (λ i. record book { taken = taken_is i; sent = none i }) ∙ ap with_sent_taken is
+
+pub sent_taken : (book : BookState) (node : NodeState) (taken : TakenState) (sent : List Sent) → Keeps book node
+    → taken ≡ record book.taken { some = true; sent = whole_sent book } → sent ≡ []
+    → Keeps (record book { taken = taken; sent = sent }) node
+sent_taken book node taken sent keeps taken_is none =
+    subst (λ (b : BookState). Keeps b node) (sym (sent_taken_is book book refl taken sent taken_is none))
+    (record {
+      count = keeps.count;
+      member = keeps.member;
+      leads =
+          subst (λ (ss : List Sent). IsHistory book.me book.nodes book.start (whole_events book) ss node) (sym (append-nil (whole_sent book)))
+          keeps.leads;
+    })
 
 pub determined :
     ((me n start : ℕ) (events : List BookEvent) (sent sent' : List Sent) (a b : NodeState)
     → IsHistory me n start events sent a → IsHistory me n start events sent' b → a ≡ b)
     → (book : BookState) (a b : NodeState) → Keeps book a → LeadsTo book b → b ≡ a
-determined law book a b keeps leads = law book.me book.nodes book.start book.events book.sent book.sent b a leads keeps.leads
+determined law book a b keeps leads = law book.me book.nodes book.start (whole_events book) (whole_sent book) (whole_sent book) b a leads keeps.leads
 
 -- a fault is no matter of the history
 pub faulty_history : (book : BookState) (node : NodeState) (fault : Option Stop) → Keeps book node → HasHistory (record book { fault = fault })

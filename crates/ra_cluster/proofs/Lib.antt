@@ -15,6 +15,7 @@ mod WasSent
 mod LostSteps
 mod Taking
 pub mod Merging
+mod Whole
 mod Projections
 mod NodeMarks
 mod NodeSends
@@ -44,3 +45,5 @@ mod AuditSteps
 mod RunTheorems
 mod LeastWaiting
 mod Departing
+mod AuditRounds
+mod TakenEvents

@@ -11,10 +11,11 @@ use Rattle.std.proofs.lemmas.Option.{slice_get_within, get_or_from_slice_get, sl
 use Rattle.ra_world.specs.declared.step.Step.{Step}
 use Rattle.ra_cluster.specs.declared.event.BookEvent.{BookEvent}
 use Rattle.ra_cluster.specs.declared.event_merge.Turn.{Turn}
-use Rattle.ra_cluster.specs.Book.{BookState, HasHistory}
+use Rattle.ra_cluster.specs.Book.{BookState, IsWhole, HasHistory}
 use Rattle.ra_cluster.specs.Settled.{IsCluster, IsSettledOrder, Placed, IsBefore, events_of, steps_of, step_at}
 use Rattle.ra_cluster.specs.EventMerge.{IsNext, IsNotAfter, IsEarliest}
 use Rattle.ra_cluster.proofs.Taking.{clocks_rise}
+use Rattle.ra_cluster.proofs.Whole.{HasWholeHistory, whole_history}
 
 abbrev pub at_place : ℕ → BookEvent → Placed
 at_place k event = record { node = k + 1; event = event }
@@ -52,7 +53,7 @@ one_event_of : (i : ℕ) (p : Placed) (b : Bool) → eqb p.node i ≡ b → even
 one_event_of i p true e = ap (λ b. map (λ (p : Placed). p.event) (cond b (p ∷ []) [])) e
 one_event_of i p false e = ap (λ b. map (λ (p : Placed). p.event) (cond b (p ∷ []) [])) e
 
-module _ (books : List BookState) (taken : List ℕ) (placed : List Placed) (turn : Turn) (book : BookState) (history : HasHistory book)
+module _ (books : List BookState) (taken : List ℕ) (placed : List Placed) (turn : Turn) (book : BookState) (history : HasWholeHistory book)
     (at : slice_get books turn.place ≡ Some book) (here : slice_get book.events (slice_index taken turn.place) ≡ Some turn.event)
     (least : (place : ℕ) (e : BookEvent) → place < length books → IsNext books taken place e → IsNotAfter turn place e)
     (before : Merges books taken placed) where
@@ -210,12 +211,14 @@ turn_taken books taken seen placed turn book written node step steps steps' clus
     let one : earliest.1.0 ≡ book = same_Some earliest.1.0 book (sym earliest.1.1 ∙ at) in
     let here : slice_get book.events (slice_index taken place) ≡ Some turn.event = ap (λ (b : BookState). slice_get b.events (slice_index taken place)) (sym one) ∙ earliest.1.2 in
     let number : node ≡ place + 1 = node_is ∙ ap (λ (b : BookState). b.me) is ∙ number_at books cluster place book earliest.0 in
+    let whole : IsWhole book = subst IsWhole (sym is) (cluster.whole place book earliest.0) in
     let next : List Placed = placed ++ at_place place turn.event ∷ [] in (
       (
         next,
         more ∙ (λ i. steps_are i ++ (step_is ∙ ap (λ (n : ℕ). step_at n turn.event.kind) number) i ∷ [])
             ∙ sym (map-append (λ (p : Placed). step_at p.node p.event.kind) placed (at_place place turn.event ∷ [])),
-        subst (λ (n : ℕ). Merges books (set taken place (n + 1)) next) value (merges_more books taken placed turn book history at here earliest.2 before),
+        subst (λ (n : ℕ). Merges books (set taken place (n + 1)) next) value
+            (merges_more books taken placed turn book (whole_history book whole history) at here earliest.2 before),
       ),
       subst (λ (n : ℕ). left books (set taken place (n + 1)) < left books taken) value (one_less books taken place turn.event within earliest.1),
     )

@@ -20,9 +20,10 @@ use Rattle.ra_world.specs.Traffic.{Move, IsUnderWay}
 use Rattle.ra_world.specs.Run.{IsRun, IsFit, AreFit, events_at, happened_at, marks_of}
 use Rattle.ra_cluster.specs.declared.event.BookEvent.{BookEvent}
 use Rattle.ra_cluster.specs.History.{IsHistory, Posting, happening_of, node_event, frames_of}
-use Rattle.ra_cluster.specs.Book.{BookState, HasHistory, as_sent}
+use Rattle.ra_cluster.specs.Book.{BookState, as_sent}
 use Rattle.ra_cluster.specs.Settled.{marks_in}
 use Rattle.ra_cluster.proofs.Projections.{of_map, for_this_node}
+use Rattle.ra_cluster.proofs.Whole.{HasWholeHistory}
 
 -- ---- At which node a mark is made
 
@@ -158,14 +159,14 @@ as_they_were : (frames : List Frame) → map (λ s. s.frame) (as_sent frames) �
 as_they_were [] = refl
 as_they_were (f ∷ frames) = ap (λ (fs : List Frame). f ∷ fs) (as_they_were frames)
 
-pub happened_here : (b : BookState) → HasHistory b → (happened : List Happening) → Fit b.events happened → AreForThisNode (opening_node b.me b.nodes b.start) happened
+pub happened_here : (b : BookState) → HasWholeHistory b → (happened : List Happening) → Fit b.events happened → AreForThisNode (opening_node b.me b.nodes b.start) happened
 happened_here b history happened fit =
     let old = opening_node b.me b.nodes b.start in
     of_map (λ e. IsForThisNode old e) (λ h. h.event) happened
     (subst (λ (es : List Event). All (λ e. IsForThisNode old e) es) (sym fit) (All-map (λ e. IsForThisNode old e) (λ e. node_event e.kind) b.events (for_this_node b history)))
 
 -- the history that these happenings are, and its postings
-pub history_by : (b : BookState) (history : HasHistory b) (happened : List Happening) (new : NodeState) → Fit b.events happened → NodeEvents (opening_node b.me b.nodes b.start) happened new
+pub history_by : (b : BookState) (history : HasWholeHistory b) (happened : List Happening) (new : NodeState) → Fit b.events happened → NodeEvents (opening_node b.me b.nodes b.start) happened new
     → (h : IsHistory b.me b.nodes b.start b.events (as_sent (frames_of (posted b.events happened))) new) × (h.postings ≡ posted b.events happened)
 history_by b history happened new fit leads =
     let old = opening_node b.me b.nodes b.start in (

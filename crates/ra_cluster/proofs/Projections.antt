@@ -20,9 +20,10 @@ use Rattle.ra_cluster.specs.declared.event.BookKind.{BookKind}
 use Rattle.ra_cluster.specs.declared.event.BookKind.TheVariants.{Asked, Gave, Got}
 use Rattle.ra_cluster.specs.declared.event.BookEvent.{BookEvent}
 use Rattle.ra_cluster.specs.History.{happening_of, node_event}
-use Rattle.ra_cluster.specs.Book.{BookState, HasHistory}
+use Rattle.ra_cluster.specs.Book.{BookState, nothing_taken}
 use Rattle.ra_cluster.specs.Settled.{IsCluster, IsSettledOrder, IsSettledRun, Placed, events_of, step_at, steps_of, settled_steps, all_lost, start_of}
 use Rattle.ra_cluster.proofs.Merging.{number_at}
+use Rattle.ra_cluster.proofs.Whole.{HasWholeHistory}
 
 -- ---- The steps of moves
 
@@ -118,7 +119,7 @@ pub of_map : {X Y : Type 0} (P : Y → Type 0) (f : X → Y) (xs : List X) → A
 of_map P f xs h k d low = subst P (get_or-map f xs k d (f d) low) (h k (f d) (omega (arith, low, length-map xs f)))
 
 -- the events of a book are those of its node
-pub for_this_node : (b : BookState) → HasHistory b → All (λ e. IsForThisNode (opening_node b.me b.nodes b.start) (node_event e.kind)) b.events
+pub for_this_node : (b : BookState) → HasWholeHistory b → All (λ e. IsForThisNode (opening_node b.me b.nodes b.start) (node_event e.kind)) b.events
 for_this_node b history =
     let old = opening_node b.me b.nodes b.start in
     let postings = history.leads.postings in
@@ -149,7 +150,7 @@ all_placed P books placed cluster order each k d low =
     let p = get_or placed k d in
     let node = order.no_others k d low in
     let place : p.node - 1 < length books = omega (arith, node.0, node.1) in
-    let e : BookState = record { me = 0; nodes = 0; start = 0; events = []; sent = []; fault = None } in
+    let e : BookState = record { me = 0; nodes = 0; start = 0; taken = nothing_taken; events = []; sent = []; fault = None } in
     let b = get_or books (p.node - 1) e in
     let me : b.me ≡ p.node = number_at books cluster (p.node - 1) e place ∙ omega (arith, node.0) in
     let here : Contains b.events p.event =
@@ -157,7 +158,7 @@ all_placed P books placed cluster order each k d low =
     in
     subst (λ (i : ℕ). P i p.event) me (All-contains (P b.me) b.events p.event (each (p.node - 1) e place) here)
 
-pub all_addressed : (books : List BookState) (placed : List Placed) → IsCluster books → All HasHistory books → IsSettledOrder books placed → All (λ p. IsAddressed p.node p.event.kind) placed
+pub all_addressed : (books : List BookState) (placed : List Placed) → IsCluster books → All HasWholeHistory books → IsSettledOrder books placed → All (λ p. IsAddressed p.node p.event.kind) placed
 all_addressed books placed cluster histories order =
     all_placed (λ i e. IsAddressed i e.kind) books placed cluster order
     (λ k d low.
@@ -166,7 +167,7 @@ all_addressed books placed cluster histories order =
 
 -- ---- The settled run
 
-pub settled : (books : List BookState) (placed : List Placed) (moves : List Move) → IsCluster books → All HasHistory books → IsSettledOrder books placed → IsRun (length books) (start_of books) moves
+pub settled : (books : List BookState) (placed : List Placed) (moves : List Move) → IsCluster books → All HasWholeHistory books → IsSettledOrder books placed → IsRun (length books) (start_of books) moves
     → map (λ m. m.step) moves ≡ settled_steps books placed → IsSettledRun books moves
 settled books placed moves cluster histories order run steps =
     record {

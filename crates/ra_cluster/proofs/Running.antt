@@ -16,7 +16,7 @@ use Rattle.ra_cluster.specs.declared.event.BookKind.TheVariants.{Asked, Gave}
 use Rattle.ra_cluster.specs.declared.stop.Stop.{Stop}
 use Rattle.ra_cluster.specs.Refused.{refusal_of_ask}
 use Rattle.ra_cluster.specs.History.{clock_after, clock_of}
-use Rattle.ra_cluster.specs.Book.{BookState, LeadsTo, HasHistory, HasClock, Runs}
+use Rattle.ra_cluster.specs.Book.{BookState, whole_events, LeadsTo, HasHistory, HasClock, Runs}
 use Rattle.ra_cluster.specs.Keeping.{Keeps, IsForThisBook, ComesNext, IsChecked, AnswersAsk, AnswersLeave}
 
 -- a book leads to one node, so what is said of that node is said of the one that is kept
@@ -56,7 +56,7 @@ ComesAt clock kind r =
 abbrev pub HasNext : {T : Type 0} → BookState → BookKind → Result T BookError → Type 0
 HasNext book kind r = MatchResult r (λ _. HasClock book kind) (λ e. (e ≡ ClockFull) × (HasClock book kind → ⊥))
 
-pub has_next : (book : BookState) (clock : ℕ) (kind : BookKind) → clock ≡ clock_of book.events → (r : Result ℕ BookError) → ComesAt clock kind r → HasNext book kind r
+pub has_next : (book : BookState) (clock : ℕ) (kind : BookKind) → clock ≡ clock_of (whole_events book) → (r : Result ℕ BookError) → ComesAt clock kind r → HasNext book kind r
 has_next book clock kind is (Ok next) comes =
     let low : clock_after clock kind ≤ 2 ^ 62 = subst (λ (k : ℕ). k ≤ 2 ^ 62) comes.0 comes.1 in
     subst (λ (k : ℕ). clock_after k kind ≤ 2 ^ 62) is low
@@ -64,7 +64,7 @@ has_next book clock kind is (Err e) comes =
     let full = subst (λ (k : ℕ). 2 ^ 62 < clock_after k kind) is comes.1 in
     (comes.0, λ has. omega (arith, full, has))
 
-pub comes_next : (book : BookState) (clock : ℕ) (kind : BookKind) → IsForThisBook book kind → clock ≡ clock_of book.events
+pub comes_next : (book : BookState) (clock : ℕ) (kind : BookKind) → IsForThisBook book kind → clock ≡ clock_of (whole_events book)
     → (next : ℕ) → ComesAt clock kind (Ok next) → ComesNext book next kind
 comes_next book clock kind for_it is next comes =
     record {
@@ -93,7 +93,7 @@ module _ {T : Type 0} (book : BookState) (Next : T → Type 0) (history : HasHis
 pub full_is : {P : Type 0} (e : BookError) → (e ≡ ClockFull) × P → e ≢ Memory
 full_is e full m = let wrong = sym full.0 ∙ m in absurd (cc)
 
-pub checked_next : (book : BookState) (clock : ℕ) (kind : BookKind) → HasHistory book → IsForThisBook book kind → clock ≡ clock_of book.events
+pub checked_next : (book : BookState) (clock : ℕ) (kind : BookKind) → HasHistory book → IsForThisBook book kind → clock ≡ clock_of (whole_events book)
     → (r : Result ℕ BookError) → ComesAt clock kind r → IsChecked book (λ next. ComesNext book next kind) r
 checked_next book clock kind history for_it is (Ok next) comes =
     checked_ok book (λ next. ComesNext book next kind) history next (comes_next book clock kind for_it is next comes)
@@ -163,7 +163,7 @@ module _ (book : BookState) (client : ℕ) (name : List ℕ) (mode : Mode) where
     ask_refused ask.Memory busy exhausted memory (Err x) h = absurd (memory refl)
 
     -- the node allows it
-    pub ask_next : (clock : ℕ) → MayAsk (resource_at node name) client → clock ≡ clock_of book.events
+    pub ask_next : (clock : ℕ) → MayAsk (resource_at node name) client → clock ≡ clock_of (whole_events book)
         → (r : Result ℕ BookError) → ComesAt clock (Asked client name mode) r → AnswersAsk book client name mode r
     ask_next clock may clock_is r comes = by_clock r (has_next book clock (Asked client name mode) clock_is r comes)
       where
@@ -234,7 +234,7 @@ module _ (book : BookState) (client : ℕ) (name : List ℕ) where
     }
 
     -- it holds it
-    pub leave_next : (clock : ℕ) → IsHeld node client name → clock ≡ clock_of book.events
+    pub leave_next : (clock : ℕ) → IsHeld node client name → clock ≡ clock_of (whole_events book)
         → (r : Result ℕ BookError) → ComesAt clock (Gave client name) r → AnswersLeave book client name r
     leave_next clock held clock_is r comes = by_clock r (has_next book clock (Gave client name) clock_is r comes)
       where

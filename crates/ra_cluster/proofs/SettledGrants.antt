@@ -18,11 +18,12 @@ use Rattle.ra_world.specs.Run.{IsRun, happened_at, marks_of}
 use Rattle.ra_cluster.specs.declared.event.BookEvent.{BookEvent}
 use Rattle.ra_cluster.specs.declared.sent.Sent.{Sent}
 use Rattle.ra_cluster.specs.History.{IsHistory, Posting}
-use Rattle.ra_cluster.specs.Book.{BookState, HasHistory}
+use Rattle.ra_cluster.specs.Book.{BookState, IsWhole, HasHistory}
 use Rattle.ra_cluster.specs.Settled.{IsCluster, IsSettledRun, IsGranted, HasMark, marks_in, start_of}
 use Rattle.ra_cluster.proofs.Merging.{number_at}
 use Rattle.ra_cluster.proofs.SettledNodes.{nobody, book_at, few as numbered, book_ends}
 use Rattle.ra_cluster.proofs.NodeMarks.{marks_by, Fit, made_at, made_there, own_marks, marks_posted, happened_here, history_by}
+use Rattle.ra_cluster.proofs.Whole.{HasWholeHistory, whole_history, whole_mark, mark_of_whole}
 
 -- the laws of the crates below, as far as this rests on them
 pub record GrantLaws : Type 0 where
@@ -52,8 +53,11 @@ module _ (laws : GrantLaws) (books : List BookState) (moves : List Move) (entry 
     abbrev b : BookState
     b = book_at books k
 
-    history : HasHistory b
-    history = histories k nobody within
+    whole : IsWhole b
+    whole = cluster.whole k nobody within
+
+    history : HasWholeHistory b
+    history = whole_history b whole (histories k nobody within)
 
     ends : NodeEvents (opening_node b.me b.nodes b.start) (happened_at b.me moves) (settled.run.ends.0 b.me)
     ends = book_ends books cluster moves settled.run.ends.0 settled.run.ends.1 k within
@@ -66,7 +70,11 @@ module _ (laws : GrantLaws) (books : List BookState) (moves : List Move) (entry 
         subst (λ (ps : List Posting). Contains (marks_in ps) mark) (sym same) (subst (λ (ms : List Mark). Contains ms mark) (sym (marks_posted b.events (happened_at b.me moves) fit)) is)
 
     marks_made : (mark : Mark) → HasMark b mark → Contains (marks_by (happened_at b.me moves)) mark
-    marks_made mark (node, leads, is) =
+    marks_made mark has =
+        let by_whole = whole_mark b whole mark has in
+        let node = by_whole.0 in
+        let leads = by_whole.1 in
+        let is = by_whole.2 in
         let fit : Fit b.events (happened_at b.me moves) = settled.events k nobody within in
         let other = history_by b history (happened_at b.me moves) (settled.run.ends.0 b.me) fit ends in
         let same = laws.one_history b.me b.nodes b.start b.events b.sent _ node (settled.run.ends.0 b.me) leads other.0 ∙ other.1 in
@@ -93,7 +101,10 @@ module _ (laws : GrantLaws) (books : List BookState) (moves : List Move) (entry 
         book_at books k,
         within,
         get_or_default books k (book_at books k) nobody within,
-        (sym own, ((history k within).node, (history k within).leads, marks_stand k within (Entered entry) here)),
+        (
+          sym own,
+          mark_of_whole (book_at books k) (whole k within) (Entered entry) ((history k within).node, (history k within).leads, marks_stand k within (Entered entry) here),
+        ),
       )
 
   pub entered_then : IsGranted books entry → Contains (marks_of moves) (Entered entry)

@@ -6,12 +6,12 @@ use Rattle.ra_node.specs.Node.{NodeState, opening_node}
 use Rattle.ra_node.specs.Events.{NodeEvents}
 use Rattle.ra_world.specs.Traffic.{Move}
 use Rattle.ra_world.specs.Run.{EndsWith, happened_at}
-use Rattle.ra_cluster.specs.Book.{BookState, HasHistory}
+use Rattle.ra_cluster.specs.Book.{BookState, nothing_taken, HasHistory}
 use Rattle.ra_cluster.specs.Settled.{IsCluster, start_of}
 use Rattle.ra_cluster.proofs.Merging.{number_at}
 
 abbrev pub nobody : BookState
-nobody = record { me = 0; nodes = 0; start = 0; events = []; sent = []; fault = None }
+nobody = record { me = 0; nodes = 0; start = 0; taken = nothing_taken; events = []; sent = []; fault = None }
 
 abbrev pub book_at : List BookState → ℕ → BookState
 book_at books k = get_or books k nobody

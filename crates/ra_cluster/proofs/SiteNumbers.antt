@@ -8,7 +8,7 @@ use Rattle.std.proofs.lemmas.Bool.{cases_lt}
 use Rattle.std.proofs.lemmas.List.Elements.{All-append, All-nil, All-cons}
 use Rattle.std.proofs.lemmas.List.FromFn.{length-range_with_len, get_or-range_with_len}
 use borrow.Author.Tests.{ltb-true}
-use Rattle.ra_cluster.specs.Book.{BookState, HasHistory}
+use Rattle.ra_cluster.specs.Book.{BookState, IsWhole, HasHistory}
 use Rattle.ra_cluster.specs.Settled.{IsCluster, start_of}
 
 -- there are as many sites as numbers
@@ -47,6 +47,7 @@ pub record Closes (n start : ℕ) (books : List BookState) (left : List ℕ) : T
   pub numbers : numbers_of books ++ left ≡ range_with_len 1 n
   pub counts : All (λ b. b.nodes ≡ n) books
   pub starts : All (λ b. b.start ≡ start) books
+  pub whole : All IsWhole books
   pub histories : All HasHistory books
 
 pub closes_none : (n start : ℕ) (sites : List ℕ) → sites ≡ range_with_len 1 n → Closes n start [] sites
@@ -54,6 +55,7 @@ closes_none n start sites is = record {
   numbers = is;
   counts = All-nil (λ (b : BookState). b.nodes ≡ n);
   starts = All-nil (λ (b : BookState). b.start ≡ start);
+  whole = All-nil IsWhole;
   histories = All-nil HasHistory;
 }
 
@@ -80,8 +82,8 @@ pub next_within : (n start : ℕ) (books : List BookState) (me : ℕ) (left : Li
 next_within n start books me left c = omega (arith, next_is n start books me left c, how_many n start books (me ∷ left) c)
 
 pub closes_more : (n start : ℕ) (books : List BookState) (me : ℕ) (left : List ℕ) (b : BookState) → Closes n start books (me ∷ left)
-    → b.me ≡ me → b.nodes ≡ n → b.start ≡ start → HasHistory b → Closes n start (books ++ b ∷ []) left
-closes_more n start books me left b c me_is nodes start_is history =
+    → b.me ≡ me → b.nodes ≡ n → b.start ≡ start → IsWhole b → HasHistory b → Closes n start (books ++ b ∷ []) left
+closes_more n start books me left b c me_is nodes start_is whole history =
     record {
       numbers =
           ap (λ (xs : List ℕ). xs ++ left) (map-append (λ (x : BookState). x.me) books (b ∷ []))
@@ -90,6 +92,7 @@ closes_more n start books me left b c me_is nodes start_is history =
           ∙ c.numbers;
       counts = All-append (λ (x : BookState). x.nodes ≡ n) books (b ∷ []) c.counts (All-cons (λ (x : BookState). x.nodes ≡ n) b [] nodes (All-nil (λ (x : BookState). x.nodes ≡ n)));
       starts = All-append (λ (x : BookState). x.start ≡ start) books (b ∷ []) c.starts (All-cons (λ (x : BookState). x.start ≡ start) b [] start_is (All-nil (λ (x : BookState). x.start ≡ start)));
+      whole = All-append IsWhole books (b ∷ []) c.whole (All-cons IsWhole b [] whole (All-nil IsWhole));
       histories = All-append HasHistory books (b ∷ []) c.histories (All-cons HasHistory b [] history (All-nil HasHistory));
     }
 
@@ -121,6 +124,7 @@ closes_all n start books left some empty c =
             ∙ ap (λ (k : ℕ). range_with_len 1 k) (sym count);
         one_count = λ k d within. c.counts k d within ∙ sym count;
         one_start = λ k d within. c.starts k d within ∙ sym first;
+        whole = c.whole;
       };
       count = count;
       start_is = first;

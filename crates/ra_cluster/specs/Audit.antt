@@ -120,6 +120,31 @@ pub record Advances (old : WorldState) (nodes : List ProgressState) (told : List
   pub told_are : told' ≡ told ++ marks_of moves
   pub taken : map taken_of nodes' ≡ map taken_of nodes
 
+-- of each node, further events were taken after those that were taken before, or none
+abbrev pub TakenGoOn : List ProgressState → List ProgressState → Type 0
+TakenGoOn [] [] = Unit {0}
+TakenGoOn [] (new ∷ news) = ⊥
+TakenGoOn (old ∷ olds) [] = ⊥
+TakenGoOn (old ∷ olds) (new ∷ news) =
+    (new.node ≡ old.node) × ((more : List BookEvent) × (taken_of new ≡ taken_of old ++ more)) × TakenGoOn olds news
+
+-- Further events were taken of nodes, and nothing else has changed.
+pub record TakesMore (old new : AuditState) : Type 0 where
+  pub taken : TakenGoOn old.nodes new.nodes
+  pub rest : new ≡ record old { nodes = new.nodes }
+  pub audited : IsAudited new.world new.nodes
+
+-- A round of the audit of a cluster: further events were taken of its nodes, and the run went on by some moves, whose marks
+-- were told in their order.
+pub record Audits (old : AuditState) (told : List Mark) (new : AuditState) (told' : List Mark) : Type 0 where
+  pub audited : IsAudited new.world new.nodes
+  pub count : new.world.count ≡ old.world.count
+  pub start : new.world.start ≡ old.world.start
+  pub moves : List Move
+  pub goes_on : new.world.moves ≡ old.world.moves ++ moves
+  pub told_are : told' ≡ told ++ marks_of moves
+  pub taken : TakenGoOn old.nodes new.nodes
+
 -- ---- What holds of the run
 
 -- What the main theorem says of a run of n nodes. A table is any table to which the marks of the run lead.

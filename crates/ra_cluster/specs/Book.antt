@@ -13,12 +13,23 @@ use Rattle.ra_cluster.specs.declared.sent.Sent.{Sent}
 use Rattle.ra_cluster.specs.declared.stop.Stop.{Stop}
 use Rattle.ra_cluster.specs.History.{IsHistory, node_event, clock_after, clock_of, frames_at}
 
--- the node's number, the number of nodes, the highest number with which each resource begins, the events so far, the
--- frames that they sent, and the fault, if there is one
+-- What was taken from a book: whether anything was, and the events and frames, which are not kept any more. An auditor has
+-- the events.
+pub record TakenState : Type 0 where
+  pub some : Bool
+  pub events : List BookEvent
+  pub sent : List Sent
+
+abbrev pub nothing_taken : TakenState
+nothing_taken = record { some = false; events = []; sent = [] }
+
+-- the node's number, the number of nodes, the highest number with which each resource begins, what was taken from the
+-- book, the events after that, the frames that they sent, and the fault, if there is one
 pub record BookState : Type 0 where
   pub me : ℕ
   pub nodes : ℕ
   pub start : ℕ
+  pub taken : TakenState
   pub events : List BookEvent
   pub sent : List Sent
   pub fault : Option Stop
@@ -26,11 +37,22 @@ pub record BookState : Type 0 where
 -- a book in which nothing has happened yet
 abbrev pub opening_book : ℕ → ℕ → ℕ → BookState
 opening_book me nodes start =
-    record { me = me; nodes = nodes; start = start; events = []; sent = []; fault = None }
+    record { me = me; nodes = nodes; start = start; taken = nothing_taken; events = []; sent = []; fault = None }
+
+-- all events of the node, and all frames that they sent, also those that were taken
+abbrev pub whole_events : BookState → List BookEvent
+whole_events book = book.taken.events ++ book.events
+
+abbrev pub whole_sent : BookState → List Sent
+whole_sent book = book.taken.sent ++ book.sent
+
+-- nothing was taken from the book
+abbrev pub IsWhole : BookState → Type 0
+IsWhole book = book.taken ≡ nothing_taken
 
 -- the events of the book lead to this node
 abbrev pub LeadsTo : BookState → NodeState → Type 0
-LeadsTo book node = IsHistory book.me book.nodes book.start book.events book.sent node
+LeadsTo book node = IsHistory book.me book.nodes book.start (whole_events book) (whole_sent book) node
 
 -- what holds of every book: it is the history of an existing node
 pub record HasHistory (book : BookState) : Type 0 where
@@ -43,7 +65,7 @@ pub record HasHistory (book : BookState) : Type 0 where
 
 -- the clock of an event of this kind that comes next
 abbrev pub next_clock : BookState → BookKind → ℕ
-next_clock book kind = clock_after (clock_of book.events) kind
+next_clock book kind = clock_after (clock_of (whole_events book)) kind
 
 -- a clock is left for an event of this kind, since the next one is at most 2^62
 abbrev pub HasClock : BookState → BookKind → Type 0
@@ -85,6 +107,17 @@ pub record Hears (book : BookState) (bytes : List ℕ) (P : Frame → Type 0) : 
   pub frame : Frame
   pub text : IsFrameText bytes frame
   pub holds : P frame
+
+-- ---- What is taken
+
+-- the book after all its events were taken
+abbrev pub with_events_taken : BookState → BookState
+with_events_taken book =
+    record book { taken = record book.taken { some = true; events = whole_events book }; events = [] }
+
+-- the book after all its frames were taken
+abbrev pub with_sent_taken : BookState → BookState
+with_sent_taken book = record book { taken = record book.taken { some = true; sent = whole_sent book }; sent = [] }
 
 -- ---- A loss
 

@@ -48,6 +48,7 @@ book_of b = record {
   me = b.me;
   nodes = b.nodes;
   start = b.start;
+  taken = b.taken;
   events = b.events.items;
   sent = b.sent.items;
   fault = b.fault;

@@ -9,6 +9,7 @@ pub mod EventMerge
 pub mod Progress
 pub mod Audit
 pub mod AuditKeeping
+mod TakenKeeping
 pub mod Keys
 pub mod StopCauses
 pub mod Sites

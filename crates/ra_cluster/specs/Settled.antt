@@ -18,7 +18,7 @@ use Rattle.ra_cluster.specs.declared.event.BookKind.TheVariants.{Asked, Gave, Go
 use Rattle.ra_cluster.specs.declared.event.BookEvent.{BookEvent}
 use Rattle.ra_cluster.specs.declared.sent.Sent.{Sent}
 use Rattle.ra_cluster.specs.History.{Posting, node_event}
-use Rattle.ra_cluster.specs.Book.{BookState, LeadsTo}
+use Rattle.ra_cluster.specs.Book.{BookState, LeadsTo, IsWhole}
 
 -- ---- The cluster
 
@@ -27,12 +27,13 @@ abbrev pub start_of : List BookState → ℕ
 start_of [] = 0
 start_of (book ∷ books) = book.start
 
--- the books of nodes 1 to n, in order, with one n and one start; there is at least one
+-- the books of nodes 1 to n, in order, with one n and one start, from which nothing was taken; there is at least one
 pub record IsCluster (books : List BookState) : Type 0 where
   pub some : 1 ≤ length books
   pub numbers : map (λ b. b.me) books ≡ range_with_len 1 (length books)
   pub one_count : All (λ b. b.nodes ≡ length books) books
   pub one_start : All (λ b. b.start ≡ start_of books) books
+  pub whole : All IsWhole books
 
 -- ---- The settled order
 

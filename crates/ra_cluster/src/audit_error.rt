@@ -41,11 +41,46 @@ pub enum TakeError {
     Memory,
 }
 
+/// Why a round of the audit of a cluster did not put all that it can into the run.
+#[derive(Clone, Copy, Debug, PartialEq, Eq, Error)]
+#[error("{:?}", self)]
+pub enum RoundError {
+    /// The events of a node were not taken.
+    NotTaken {
+        /// Of which node.
+        node: NodeId,
+        /// Why.
+        cause: TakeError,
+    },
+    /// An event does not fit, now or in an earlier round.
+    Fault(AuditFault),
+    /// Memory ran out.
+    Memory,
+}
+
+/// Why the audit of a cluster did not end with all that happened in the run.
+#[derive(Clone, Copy, Debug, PartialEq, Eq, Error)]
+#[error("{:?}", self)]
+pub enum FinishError {
+    /// The last round failed.
+    Round(RoundError),
+    /// A frame came that was never sent.
+    NeverSent(AuditFault),
+}
+
 impl From<Memory> for AuditError {
     ghost from_gives = { λ _ e. e ≡ audit.Memory };
 
     fn from(_refused: Memory) -> AuditError {
         AuditError::Memory
+    }
+}
+
+impl From<Memory> for TakeError {
+    ghost from_gives = { λ _ e. e ≡ take.Memory };
+
+    fn from(_refused: Memory) -> TakeError {
+        TakeError::Memory
     }
 }
 

@@ -10,13 +10,16 @@ ghost use Rattle.ra_cluster.specs.Audit.{Takes, NoneWaits, IsNeverSent, fresh_pr
 
 use crate::audit_laws::runs_meet_the_theorem;
 use crate::auditing::put_all;
+use crate::desk::Handed;
 use crate::progress::Progress;
 use crate::unsettled::first_unsettled;
-use crate::{AuditError, AuditFault, BookEvent, MarkObserver, TakeError};
+use crate::{AuditError, AuditFault, BookEvent, MarkObserver, Site, TakeError};
 use ra_stamp::{Memory, NodeId};
 use ra_world::{MarklessWorld, NewError};
 use std::alloc::Global;
 use std::marker::Model;
+use std::mem;
+use std::sync::Wait;
 
 /// Puts what happens at the nodes of a cluster together into one run while the nodes go on. From time to time each node's
 /// book hands over the events since the last time, which [`take`](Auditor::take) takes, and then
@@ -31,6 +34,8 @@ pub struct Auditor {
     /// By the nodes' numbers, from 1.
     nodes: Vec<Progress>,
     fault: Option<AuditFault>,
+    /// What the sites handed over and was not taken yet, by the nodes' numbers. It is taken at once, unless memory runs out.
+    handed: Vec<Handed>,
 }
 
 impl Model for Auditor {
@@ -44,7 +49,7 @@ impl Model for Auditor {
 }
 
 impl Auditor {
-    ghost use Rattle.ra_cluster.specs.Audit.{IsAudited, NoneIsReady, IsMisfit, Advances, RunTheorem};
+    ghost use Rattle.ra_cluster.specs.Audit.{IsAudited, NoneIsReady, IsMisfit, Advances, RunTheorem, TakesMore};
 
     /// Makes the auditor of a cluster of this many nodes, in which nothing has happened yet. The highest number of each
     /// resource begins at `start`, 0 to 2^64-1. The cost is linear in the number of nodes.
@@ -65,10 +70,12 @@ impl Auditor {
     {
         let world = MarklessWorld::new(alloc, nodes, start)?;
         let progress = none_taken(alloc, nodes)?;
+        let handed = none_handed(alloc, nodes)?;
         Ok(Auditor {
             world,
             nodes: progress,
             fault: None,
+            handed,
         })
     }
 
@@ -89,6 +96,71 @@ impl Auditor {
         ensures audited { IsAudited self.new.world self.new.nodes }
     {
         take_into(self.nodes.as_mut_slice(), node, after, events)
+    }
+
+    /// Has a site hand over what has happened since the last time, and takes it. What it handed over before and was not taken for
+    /// want of memory comes first.
+    ///
+    /// # Errors
+    ///
+    /// Those of `take`. After `Memory`, what was handed over is kept here, and what was not is kept at the node.
+    pub(crate) fn take_handed<R: Wait>(
+        &mut self,
+        rt: &R,
+        alloc: Global,
+        site: &Site,
+    ) -> Result<(), TakeError>
+        ensures { TakesMore self.old self.new }
+    {
+        let node = site.node();
+        self.take_kept(alloc, node)?;
+        let handed = site.hand_over(rt, alloc)?;
+        self.keep(node, handed);
+        self.take_kept(alloc, node)
+    }
+
+    /// Keeps what a node handed over, until it is taken.
+    fn keep(&mut self, node: NodeId, handed: Handed)
+        ensures { self.new ≡ self.old }
+    {
+        // Nodes are counted from 1.
+        if let Some(place) = self.handed.get_mut(usize::from(node.get()) - 1) {
+            *place = handed;
+        }
+    }
+
+    /// Takes what a node handed over and is kept here.
+    ///
+    /// # Errors
+    ///
+    /// Those of `take`, and it is still kept.
+    fn take_kept(&mut self, alloc: Global, node: NodeId) -> Result<(), TakeError>
+        ensures { TakesMore self.old self.new }
+    {
+        // Each reader tells what holds of every auditor.
+        let _fault = self.fault();
+        let Some(handed) = self.give(alloc, node) else {
+            return Err(TakeError::NoNode);
+        };
+        if handed.events.as_slice().is_empty() {
+            return Ok(());
+        }
+        match self.take(node, handed.after, handed.events.as_slice()) {
+            Ok(()) => Ok(()),
+            Err(cause) => {
+                self.keep(node, handed);
+                Err(cause)
+            }
+        }
+    }
+
+    /// Returns what a node handed over and is kept here, which is not kept any more, or `None` if there is no such node.
+    fn give(&mut self, alloc: Global, node: NodeId) -> Option<Handed>
+        ensures { self.new ≡ self.old }
+    {
+        // Nodes are counted from 1.
+        let place = self.handed.get_mut(usize::from(node.get()) - 1)?;
+        Some(mem::replace(place, Handed::nothing(alloc)))
     }
 
     /// Puts each event that can be put into the run, and tells the observer its marks: an ask or a leave at once after
@@ -227,4 +299,13 @@ fn push_fresh(alloc: Global, progress: &mut Vec<Progress>, number: u16) -> Resul
     };
     progress.push(Progress::new(alloc, node))?;
     Ok(())
+}
+
+/// Returns, for each of this many nodes, that nothing was handed over.
+fn none_handed(alloc: Global, nodes: u16) -> Result<Vec<Handed>, Memory> {
+    let mut handed = Vec::new(alloc);
+    for _ in 0..nodes {
+        handed.push(Handed::nothing(alloc))?;
+    }
+    Ok(handed)
 }

@@ -7,13 +7,15 @@ ghost use Rattle.ra_node.specs.Node.{resource_at};
 use crate::departure::Departure;
 use crate::frame_search::is_kept;
 use crate::heard::hear;
-use crate::keeping::{add, clock_after, flag_lost, kept_histories_go_on};
+use crate::keeping::{add, clock_after, events_for, flag_lost, kept_histories_go_on, sent_for};
+use crate::taken::{Taken, latest_of};
 use crate::{BookError, BookEvent, BookKind, Events, MarkLostError, NewError, Posted, Sent, Stop};
 use ra_frame::Frame;
 use ra_node::{Node, events_count_clients};
-use ra_stamp::{Entry, Mode, Name, NodeId};
+use ra_stamp::{Entry, Memory, Mode, Name, NodeId};
 use std::alloc::Global;
 use std::marker::Model;
+use std::mem;
 
 /// The book of a node: the node, its events with their clocks, the frames that it sent, each with a flag whether it was lost,
 /// and its fault, if it has one. Contracts see all of it but the node, which the events decide: a book is at all times the
@@ -27,8 +29,10 @@ pub struct Book {
     nodes: u16,
     start: u64,
     node: Node,
+    taken: Taken,
+    /// Those after the ones that were taken.
     events: Events,
-    /// In order of sending.
+    /// In order of sending, those after the ones that were taken.
     sent: Vec<Sent>,
     /// What the leaves of the clients that wait, are queued or hold will need. For each there is room among the events and
     /// the sent frames.
@@ -59,7 +63,7 @@ impl Book {
     ghost use Rattle.ra_node.specs.Turns.{MayAsk};
     ghost use Rattle.ra_node.specs.Node.{NodeState};
     ghost use Rattle.ra_cluster.specs.History.{clock_of};
-    ghost use Rattle.ra_cluster.specs.Book.{opening_book, LeadsTo, HasHistory, HasClock, Adds, Runs, Hears, IsFirst, Loses};
+    ghost use Rattle.ra_cluster.specs.Book.{opening_book, whole_events, with_events_taken, with_sent_taken, IsWhole, LeadsTo, HasHistory, HasClock, Adds, Runs, Hears, IsFirst, Loses};
     ghost use Rattle.ra_cluster.specs.Keeping.{ComesNext, IsChecked, AnswersAsk, AnswersLeave, AnswersReceive};
 
     /// Makes the book of node `me` of `nodes`, in which nothing has happened yet. The highest number of each resource begins
@@ -86,6 +90,7 @@ impl Book {
             nodes,
             start,
             node,
+            taken: Taken::nothing(),
             events: Events::new(alloc),
             sent: Vec::new(alloc),
             departures: Vec::new(alloc),
@@ -275,13 +280,26 @@ impl Book {
 
     /// Returns the clock of the last event, or 0 where there was none. It does not allocate.
     pub fn clock(&self) -> u64
-        ensures value { result ≡ clock_of self.now.events }
+        ensures value { result ≡ clock_of (whole_events self.now) }
         ensures history { HasHistory self.now }
     {
-        match self.events.as_slice().last() {
-            Some(event) => event.clock,
-            None => 0,
-        }
+        latest_of(self.taken.clock(), self.events.as_slice())
+    }
+
+    /// Returns the clock of the last event that was taken from the book, or 0 if none was. It does not allocate.
+    pub(crate) fn taken_clock(&self) -> u64
+        ensures value { result ≡ clock_of self.now.taken.events }
+        ensures history { HasHistory self.now }
+    {
+        self.taken.clock()
+    }
+
+    /// Returns whether nothing was taken from the book, as [`settle`](crate::settle) requires. It does not allocate.
+    pub fn is_whole(&self) -> bool
+        ensures value { IsTrue result ↔ IsWhole self.now }
+        ensures history { HasHistory self.now }
+    {
+        !self.taken.is_some()
     }
 
     /// Returns the node as it is after the events. It does not allocate.
@@ -315,6 +333,41 @@ impl Book {
         ensures history { HasHistory self.now }
     {
         self.sent.len() as u64
+    }
+
+    /// Hands over the events that the book still has, and goes on without them. The book keeps the clock of the last one, and
+    /// still has its history by its type. Room for the events of the leaves of the node's clients is made first, and that is
+    /// all the cost: it does not grow with the history.
+    ///
+    /// # Errors
+    ///
+    /// `Memory`: there is no such room. The book is as before.
+    pub(crate) fn take_events(&mut self, alloc: Global) -> Result<Events, Memory>
+        ensures events { IfOk result (λ events. events.items ≡ self.old.events) }
+        ensures ok { OnOk result (self.new ≡ with_events_taken self.old) }
+        ensures err { OnErr result (self.new ≡ self.old) }
+        ensures history { HasHistory self.new }
+    {
+        let events = events_for(alloc, self.departures.len())?;
+        self.taken.take_events(&self.events);
+        Ok(mem::replace(&mut self.events, events))
+    }
+
+    /// Hands over the sent frames that the book still has, each with its flag, and goes on without them. The book can't flag
+    /// them any more. Room for the frames of the leaves of the node's clients is made first, and that is all the cost.
+    ///
+    /// # Errors
+    ///
+    /// `Memory`: there is no such room. The book is as before.
+    pub(crate) fn take_sent(&mut self, alloc: Global) -> Result<Vec<Sent>, Memory>
+        ensures sent { IfOk result (λ sent. sent.items ≡ self.old.sent) }
+        ensures ok { OnOk result (self.new ≡ with_sent_taken self.old) }
+        ensures err { OnErr result (self.new ≡ self.old) }
+        ensures history { HasHistory self.new }
+    {
+        let sent = sent_for(alloc, self.nodes, self.departures.len())?;
+        self.taken.take_sent(&self.sent);
+        Ok(mem::replace(&mut self.sent, sent))
     }
 
     /// Returns the fault, or `None` where there is none. It does not allocate.

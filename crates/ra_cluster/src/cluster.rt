@@ -1,18 +1,19 @@
 //! A whole cluster in one value.
-ghost use Rattle.std.specs.Prelude.{◌≡◌, ◌↔◌, ◌<◌, ◌≤◌, IfOk, IfSome, IsNone, IsErrOf, IsOkUnless, All, vec_len};
+ghost use Rattle.std.specs.Prelude.{◌≡◌, ◌↔◌, ◌<◌, ◌≤◌, true, false, IfOk, IfSome, IsNone, IsErrOf, IsOkUnless, All, vec_len};
 ghost use Rattle.ra_stamp.specs.NodeId.{IsNodeNumber};
 ghost use Rattle.ra_cluster.specs.Book.{HasHistory};
 ghost use Rattle.ra_cluster.specs.ClientGrant.{IsGrantOf};
 ghost use Rattle.ra_cluster.specs.Settled.{IsCluster, start_of};
 ghost use Rattle.ra_cluster.specs.Sites.{AreSitesWith};
 
+use crate::book_room::BookRoom;
 use crate::site::stop_all;
 use crate::sites::make_sites;
 use crate::{Book, Gate, Grant, Inbox, NewPostError, Post, Site, SiteError, Stop};
 use ra_stamp::{Mode, Name, NodeId};
 use std::alloc::Global;
 use std::marker::Model;
-use std::sync::Wait;
+use std::sync::{Mutex, Wait};
 use std::thread;
 use std::thread::Threads;
 use thiserror::Error;
@@ -51,23 +52,24 @@ pub struct Cluster<G> {
     sites: Vec<Site>,
     post: Post,
     inboxes: Vec<Inbox>,
-    /// Empty, with room for the book of each node, so that a cluster can be closed without allocating.
-    books: Vec<Book>,
+    /// Where the books are put when the cluster is closed. It is under a lock, since threads share a cluster, and books can't be
+    /// shared.
+    room: Mutex<BookRoom>,
     gate: G,
+    audited: bool,
 }
 
 impl<G> Model for Cluster<G> {
-    ghost use Rattle.std.specs.Prelude.{◌≡◌, ◌≤◌, [], vec_len, vec_capacity};
+    ghost use Rattle.std.specs.Prelude.{◌≡◌, vec_len};
     ghost use Rattle.std.specs.List.{range_with_len};
     ghost use Rattle.ra_stamp.specs.NodeId.{IsNodeNumber};
     ghost use Rattle.ra_cluster.specs.Cluster.{ClusterState};
 
     ghost Value = { ClusterState };
 
-    ghost view = { λ c. record { nodes = vec_len c.sites; start = c.start } };
+    ghost view = { λ c. record { nodes = vec_len c.sites; start = c.start; audited = c.audited } };
 
-    ghost invariant = { λ c. IsNodeNumber (vec_len c.sites) × (c.sites.items ≡ range_with_len 1 (vec_len c.sites))
-        × (c.books.items ≡ []) × (vec_len c.sites ≤ vec_capacity c.books) };
+    ghost invariant = { λ c. IsNodeNumber (vec_len c.sites) × (c.sites.items ≡ range_with_len 1 (vec_len c.sites)) };
 }
 
 impl<G: Gate + Drop> Cluster<G> {
@@ -83,23 +85,69 @@ impl<G: Gate + Drop> Cluster<G> {
     pub fn new(alloc: Global, nodes: u16, start: u64, gate: G) -> Result<Cluster<G>, NewPostError>
         ensures nodes { IfOk result (λ cluster. cluster.nodes ≡ nodes) }
         ensures start { IfOk result (λ cluster. cluster.start ≡ start) }
+        ensures whole { IfOk result (λ cluster. cluster.audited ≡ false) }
         ensures bad_count { IsErrOf result NewPostError.BadCount ↔ (IsNodeNumber nodes → ⊥) }
         // Memory is the only other error.
         ensures allowed { IsOkUnless result NewPostError.Memory ↔ IsNodeNumber nodes }
     {
+        Cluster::make(alloc, nodes, start, gate, false)
+    }
+
+    /// Makes a cluster as `new` does, whose books hand over what has happened to [`Cluster::audit`] while it runs, so that they
+    /// don't grow with what happened before. It is audited as it goes, and not settled at the end.
+    ///
+    /// # Errors
+    ///
+    /// Those of `new`.
+    pub fn new_audited(
+        alloc: Global,
+        nodes: u16,
+        start: u64,
+        gate: G,
+    ) -> Result<Cluster<G>, NewPostError>
+        ensures nodes { IfOk result (λ cluster. cluster.nodes ≡ nodes) }
+        ensures start { IfOk result (λ cluster. cluster.start ≡ start) }
+        ensures audited { IfOk result (λ cluster. cluster.audited ≡ true) }
+        ensures bad_count { IsErrOf result NewPostError.BadCount ↔ (IsNodeNumber nodes → ⊥) }
+        // Memory is the only other error.
+        ensures allowed { IsOkUnless result NewPostError.Memory ↔ IsNodeNumber nodes }
+    {
+        Cluster::make(alloc, nodes, start, gate, true)
+    }
+
+    /// Makes a cluster, audited or not, as `new` does.
+    ///
+    /// # Errors
+    ///
+    /// Those of `new`.
+    fn make(
+        alloc: Global,
+        nodes: u16,
+        start: u64,
+        gate: G,
+        audited: bool,
+    ) -> Result<Cluster<G>, NewPostError>
+        ensures nodes { IfOk result (λ cluster. cluster.nodes ≡ nodes) }
+        ensures start { IfOk result (λ cluster. cluster.start ≡ start) }
+        ensures audited { IfOk result (λ cluster. cluster.audited ≡ audited) }
+        ensures bad_count { IsErrOf result NewPostError.BadCount ↔ (IsNodeNumber nodes → ⊥) }
+        ensures allowed { IsOkUnless result NewPostError.Memory ↔ IsNodeNumber nodes }
+    {
         let (post, inboxes) = Post::new(alloc, nodes)?;
-        let Ok(sites) = make_sites(alloc, nodes, start) else {
+        let Ok(sites) = make_sites(alloc, nodes, start, audited) else {
             return Err(NewPostError::Memory);
         };
-        let mut books = Vec::new(alloc);
-        books.reserve(sites.len())?;
+        let Ok(room) = BookRoom::new(alloc) else {
+            return Err(NewPostError::Memory);
+        };
         Ok(Cluster {
             start,
             sites,
             post,
             inboxes,
-            books,
+            room: Mutex::new(room),
             gate,
+            audited,
         })
     }
 
@@ -307,6 +355,9 @@ impl<G: Gate + Drop> Cluster<G> {
 
     /// Consumes the cluster, and returns the books of its nodes in their order. They are a cluster, as
     /// [`settle`](crate::settle) requires. It does not allocate. The cost is linear in the number of nodes.
+    ///
+    /// If a round of an audit has taken the events of a node, its history is not in its book any more. In place of that book
+    /// there is an empty one, which is stopped with [`Stop::Refused`].
     pub fn close(self, alloc: Global) -> Vec<Book>
         ensures cluster { IsCluster result.items }
         ensures count { vec_len result ≡ self.nodes }
@@ -318,9 +369,11 @@ impl<G: Gate + Drop> Cluster<G> {
             sites,
             post: _,
             inboxes: _,
-            mut books,
+            room,
             gate: _,
+            audited: _,
         } = self;
+        let mut books = room.into_inner().into_books();
         let nodes = sites.len() as u16;
         for site in sites {
             books.push_reserved(site.close_as(alloc, nodes, start));

@@ -3,8 +3,8 @@ ghost use Rattle.std.specs.Prelude.{◌≡◌, ◌<◌, All, IfSome, vec_len};
 ghost use Rattle.ra_frame.specs.Fits.{Fits};
 
 use crate::ticket::SharedTicket;
-use crate::{Book, BookError, Frames, Grant, Posted, Stop};
-use ra_stamp::{Entry, Mark, Mode, Name};
+use crate::{Book, BookError, Events, Frames, Grant, Posted, Sent, Stop};
+use ra_stamp::{Entry, Mark, Memory, Mode, Name};
 use std::alloc::Global;
 use std::mem;
 
@@ -35,6 +35,30 @@ pub struct Desk {
     pub book: Book,
     /// In any order.
     waiters: Vec<Waiter>,
+    /// Whether the book hands over what has happened.
+    audited: bool,
+}
+
+/// What a node hands over in a round of an audit.
+#[derive(Drop)]
+pub struct Handed {
+    /// The clock of the event before the first one, or 0 before the node's first event.
+    pub after: u64,
+    /// The events since the round before.
+    pub events: Events,
+    /// The frames that they sent. The run of an audit tells them by itself, so they are only let go, without the lock.
+    pub sent: Vec<Sent>,
+}
+
+impl Handed {
+    /// Makes that of a node at which nothing has happened.
+    pub fn nothing(alloc: Global) -> Handed {
+        Handed {
+            after: 0,
+            events: Events::new(alloc),
+            sent: Vec::new(alloc),
+        }
+    }
 }
 
 impl Waiter {
@@ -45,11 +69,12 @@ impl Waiter {
 }
 
 impl Desk {
-    /// Makes the desk of a book at which nobody waits.
-    pub fn new(alloc: Global, book: Book) -> Desk {
+    /// Makes the desk of a book at which nobody waits. If it is audited, the book hands over what has happened.
+    pub fn new(alloc: Global, book: Book, audited: bool) -> Desk {
         Desk {
             book,
             waiters: Vec::new(alloc),
+            audited,
         }
     }
 
@@ -108,6 +133,27 @@ impl Desk {
         self.book.fail(stop);
         let cause = self.book.fault().unwrap_or(stop);
         (cause, mem::replace(&mut self.waiters, Vec::new(alloc)))
+    }
+
+    /// Hands over the events since the round before, and the frames that they sent, in a time that does not grow with the
+    /// history. A node that is not audited hands over nothing, so that its book stays whole.
+    ///
+    /// # Errors
+    ///
+    /// `Memory`: there is no room for what the leaves of the node's clients will need. The book still has its events.
+    pub fn hand_over(&mut self, alloc: Global) -> Result<Handed, Memory> {
+        if !self.audited {
+            return Ok(Handed::nothing(alloc));
+        }
+        let after = self.book.taken_clock();
+        // Frames are let go, so it does not matter if the events are refused after them.
+        let sent = self.book.take_sent(alloc)?;
+        let events = self.book.take_events(alloc)?;
+        Ok(Handed {
+            after,
+            events,
+            sent,
+        })
     }
 
     /// Returns why a client cannot ask if there is no memory. Each other cause comes before `Memory`.

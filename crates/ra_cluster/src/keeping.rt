@@ -300,6 +300,34 @@ fn make_room(
     Ok(frames)
 }
 
+/// Makes an empty list of events, with room for those of this many leaves.
+///
+/// # Errors
+///
+/// `Memory`: memory ran out.
+pub fn events_for(alloc: Global, leaves: usize) -> Result<Events, Memory>
+    ensures { IfOk result (λ events. (events.items ≡ []) × (leaves ≤ events.spare)) }
+{
+    let mut events = Events::new(alloc);
+    events.reserve(leaves as u64)?;
+    Ok(events)
+}
+
+/// Makes an empty list of sent frames, with room for those of this many leaves at one of this many nodes.
+///
+/// # Errors
+///
+/// `Memory`: memory ran out.
+pub fn sent_for(alloc: Global, nodes: u16, leaves: usize) -> Result<Vec<Sent>, Memory>
+    ensures items { IfOk result (λ sent. sent.items ≡ []) }
+    ensures len { IfOk result (λ sent. vec_len sent ≡ 0) }
+    ensures room { IfOk result (λ sent. leaves * (2 * nodes) ≤ vec_capacity sent) }
+{
+    let mut sent = Vec::new(alloc);
+    sent.reserve(most_sent(nodes, 0, leaves)?)?;
+    Ok(sent)
+}
+
 /// Returns how many frames are sent by an event that sends this many, and this many leaves after it, at most.
 ///
 /// # Errors

@@ -10,7 +10,8 @@
 //!   closure runs, each node has a thread that carries its frames.
 //! - The clients lock and unlock names with [`Cluster::with_lock`], or with [`Cluster::lock`] and [`Cluster::unlock`],
 //!   and end if a node is stopped.
-//! - At the end it closes the cluster, and [`settle`] shows the run.
+//! - At the end it closes the cluster, and [`settle`] shows the run. A service that runs for long makes its cluster by
+//!   [`Cluster::new_audited`] instead, and calls [`Cluster::audit`] from time to time.
 //!
 //! docs/EMBEDDING.md explains the shortest such program line by line, and also how to start the threads of the nodes
 //! yourself, and how to use a [`Site`] for each node and the [`Post`] by themselves. [`run_cluster`] does all of it for
@@ -22,6 +23,7 @@ mod audit_laws;
 mod auditing;
 mod auditor;
 mod book;
+mod book_room;
 mod call;
 mod cluster;
 mod cluster_run;
@@ -47,6 +49,7 @@ mod plan;
 mod post;
 mod progress;
 mod receipts;
+mod round;
 mod sent;
 mod settle_books;
 mod settled;
@@ -55,11 +58,12 @@ mod site;
 mod sites;
 mod stop;
 mod stop_causes;
+mod taken;
 mod threads;
 mod ticket;
 mod unsettled;
 
-pub use audit_error::{AuditError, AuditFault, TakeError};
+pub use audit_error::{AuditError, AuditFault, FinishError, RoundError, TakeError};
 pub use auditor::Auditor;
 pub use book::Book;
 pub use cluster::{CallError, Cluster, Held};

@@ -3,6 +3,7 @@ ghost use Rattle.std.specs.List.{Any};
 ghost use Rattle.ra_world.specs.Traffic.{Move};
 ghost use Rattle.ra_world.specs.World.{Reports};
 ghost use Rattle.ra_world.specs.MainTheorem.{MainTheorem};
+ghost use Rattle.ra_cluster.specs.Book.{IsWhole};
 ghost use Rattle.ra_cluster.specs.Settled.{IsCluster, IsSettledOrder, IsSettledRun, Placed, settled_steps, start_of, IsGranted, HasUnsent, HasTwice, BooksFit, Repeats};
 ghost use Rattle.ra_cluster.specs.SettlingParts.{Settles, SettlesBooks, Refuses};
 
@@ -18,8 +19,8 @@ use crate::{Book, Grant, SettleError, Settled};
 use ra_world::{RunError, run};
 use std::alloc::Global;
 
-/// Returns whether the books are those of nodes 1 to n, in order, each of n nodes and all from one start. No books are no
-/// cluster. It does not allocate, and the cost is linear in the number of books.
+/// Returns whether the books are those of nodes 1 to n, in order, each of n nodes and all from one start, and nothing was
+/// taken from them. No books are no cluster. It does not allocate, and the cost is linear in the number of books.
 pub fn is_cluster(books: &[Book]) -> bool
     ensures { IsTrue result ↔ IsCluster books.now }
 {
@@ -36,13 +37,17 @@ pub fn is_cluster(books: &[Book]) -> bool
     true
 }
 
-/// Returns whether a book is that of the node with this place, counted from 0, of this many nodes and from this start.
+/// Returns whether a book is that of the node with this place, counted from 0, of this many nodes and from this start, and
+/// nothing was taken from it.
 fn is_member(book: &Book, place: usize, count: usize, start: u64) -> bool
-    ensures { IsTrue result ↔ ((book.now.me ≡ place + 1) × (book.now.nodes ≡ count) × (book.now.start ≡ start)) }
+    ensures { IsTrue result ↔ ((book.now.me ≡ place + 1) × (book.now.nodes ≡ count) × (book.now.start ≡ start) × IsWhole book.now) }
 {
     // Nodes are counted from 1.
     let number = usize::from(book.me().get());
-    number - 1 == place && usize::from(book.nodes()) == count && book.start() == start
+    number - 1 == place
+        && usize::from(book.nodes()) == count
+        && book.start() == start
+        && book.is_whole()
 }
 
 /// Settles the books of a cluster into one run of it: the events of all books by clock, and those of one clock by node, and then

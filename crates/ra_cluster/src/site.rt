@@ -3,7 +3,7 @@ ghost use Rattle.ra_stamp.specs.NodeId.{IsNodeNumber};
 ghost use Rattle.ra_frame.specs.Fits.{Fits};
 
 use crate::call::Call;
-use crate::desk::{Desk, Stepped};
+use crate::desk::{Desk, Handed, Stepped};
 use crate::stop_causes::stop_of;
 use crate::ticket::Ticket;
 use crate::{Book, BookError, Gate, Grant, Inbox, NewError, Post, Stop};
@@ -67,7 +67,7 @@ impl Model for Site {
 }
 
 impl Site {
-    ghost use Rattle.ra_cluster.specs.Book.{HasHistory};
+    ghost use Rattle.ra_cluster.specs.Book.{HasHistory, IsWhole};
     ghost use Rattle.ra_cluster.specs.ClientGrant.{IsGrantOf};
     ghost use Rattle.ra_cluster.specs.Sites.{AreSitesWith};
 
@@ -90,7 +90,29 @@ impl Site {
         Ok(Site {
             node: me,
             alloc,
-            desk: Mutex::new(Desk::new(alloc, book)),
+            desk: Mutex::new(Desk::new(alloc, book, false)),
+        })
+    }
+
+    /// Makes the site of a node of an audited cluster, as `new` does.
+    ///
+    /// # Errors
+    ///
+    /// Those of `new`.
+    pub(crate) fn new_audited(
+        alloc: Global,
+        me: NodeId,
+        nodes: u16,
+        start: u64,
+    ) -> Result<Site, NewError>
+        ensures { IfOk result (λ site. site ≡ me) }
+    {
+        let book = Book::new(alloc, me, nodes, start)?;
+        let (node, desk) = (me, Desk::new(alloc, book, true));
+        Ok(Site {
+            node,
+            alloc,
+            desk: Mutex::new(desk),
         })
     }
 
@@ -248,9 +270,19 @@ impl Site {
         self.desk.lock(rt).book.node().queued()
     }
 
-    /// Returns how many events the book of this node has.
+    /// Returns how many events the book of this node has. Those that an audit took are not counted.
     pub fn events<R: Wait>(&self, rt: &R) -> u64 {
         self.desk.lock(rt).book.events().len()
+    }
+
+    /// Hands over the events since the round before, as a round of an audit does. It waits for the lock, and has it for a time
+    /// that does not grow with the history.
+    ///
+    /// # Errors
+    ///
+    /// `Memory`: memory ran out. The node still has its events.
+    pub(crate) fn hand_over<R: Wait>(&self, rt: &R, alloc: Global) -> Result<Handed, Memory> {
+        self.desk.lock(rt).hand_over(alloc)
     }
 
     /// Gives up the lock, and returns the book. It does not allocate.
@@ -269,18 +301,20 @@ impl Site {
     }
 
     /// Does the same for a site that is one of this many, from this start. No contract tells what lies under a lock, so the book is
-    /// looked at; were it another one, as it never is, there would be an empty book of the node, which is stopped.
+    /// looked at. If it is not whole, or were it another one, as it never is, an empty book of the node is returned, which is
+    /// stopped.
     pub(crate) fn close_as(self, alloc: Global, nodes: u16, start: u64) -> Book
         requires count { IsNodeNumber nodes }
         requires member { self ≤ nodes }
         ensures me { result.me ≡ self }
         ensures nodes { result.nodes ≡ nodes }
         ensures start { result.start ≡ start }
+        ensures whole { IsWhole result }
         ensures history { HasHistory result }
     {
         let me = self.node;
         let book = self.close();
-        if book.me() == me && book.nodes() == nodes && book.start() == start {
+        if book.me() == me && book.nodes() == nodes && book.start() == start && book.is_whole() {
             return book;
         }
         let Ok(mut empty) = Book::new(alloc, me, nodes, start) else {
@@ -414,7 +448,7 @@ impl Site {
     /// Flags a frame that the book sent as lost.
     fn mark_lost<R: Wait>(&self, rt: &R, frame: &Frame) {
         let mut desk = self.desk.lock(rt);
-        // The book sent it, and nobody else flags it.
+        // The book sent it, and nobody else flags it. If an audit took it since, there is nothing to flag.
         let _ = desk.book.mark_lost(frame);
     }
 

@@ -3,7 +3,7 @@ ghost use Rattle.std.specs.Prelude.{◌≡◌, ◌↔◌, ◌++◌, ◌∷◌, [
 ghost use Rattle.std.specs.List.{range_with_len};
 ghost use Rattle.ra_cluster.specs.Sites.{AreSitesWith};
 
-use crate::Site;
+use crate::{NewError, Site};
 use ra_stamp::{Memory, NodeId};
 use std::alloc::Global;
 
@@ -28,17 +28,18 @@ fn are_in_order(sites: &[Site]) -> bool
     true
 }
 
-/// Makes the sites of a cluster of this many nodes, in the order of the nodes, whose numbers begin at `start`.
+/// Makes the sites of a cluster of this many nodes, in the order of the nodes, whose numbers begin at `start`. They are
+/// audited or not.
 ///
 /// # Errors
 ///
 /// `Memory`, also where there cannot be so many nodes.
-pub fn make_sites(alloc: Global, nodes: u16, start: u64) -> Result<Vec<Site>, Memory>
+pub fn make_sites(alloc: Global, nodes: u16, start: u64, audited: bool) -> Result<Vec<Site>, Memory>
     ensures { IfOk result (λ sites. sites.items ≡ range_with_len 1 nodes) }
 {
     let mut sites = Vec::new(alloc);
     for place in 0..nodes {
-        push_site(alloc, &mut sites, place + 1, nodes, start)?;
+        push_site(alloc, &mut sites, place + 1, nodes, start, audited)?;
     }
     Ok(sites)
 }
@@ -50,15 +51,33 @@ fn push_site(
     number: u16,
     nodes: u16,
     start: u64,
+    audited: bool,
 ) -> Result<(), Memory>
     ensures { OnOk result (sites.new.items ≡ sites.old.items ++ number ∷ []) }
 {
     let Some(me) = NodeId::new(number) else {
         return Err(Memory);
     };
-    let Ok(site) = Site::new(alloc, me, nodes, start) else {
+    let Ok(site) = new_site(alloc, me, nodes, start, audited) else {
         return Err(Memory);
     };
     sites.push(site)?;
     Ok(())
+}
+
+/// Makes the site of a node, audited or not.
+fn new_site(
+    alloc: Global,
+    me: NodeId,
+    nodes: u16,
+    start: u64,
+    audited: bool,
+) -> Result<Site, NewError>
+    ensures { IfOk result (λ site. site ≡ me) }
+{
+    if audited {
+        Site::new_audited(alloc, me, nodes, start)
+    } else {
+        Site::new(alloc, me, nodes, start)
+    }
 }

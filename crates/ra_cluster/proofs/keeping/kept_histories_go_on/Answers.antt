@@ -1,4 +1,5 @@
-use Rattle.ra_cluster.proofs.Ascending.{history_ascends}
+use Rattle.ra_cluster.specs.Book.{whole_events, whole_sent}
+use Rattle.ra_cluster.proofs.Ascending.{history_ascends, ascends_last}
 use Rattle.ra_cluster.proofs.Kept as kept
 use Rattle.ra_cluster.proofs.keeping.kept_histories_go_on.Goals as goal
 
@@ -15,5 +16,6 @@ returns c =
       fit = kept.fit node from events.sends events.numbered;
       node = kept.node_is node from;
       determined = kept.determined c.histories_are_determined.ensures.node;
-      ascends = λ book node keeps. history_ascends book.me book.nodes book.start book.events book.sent node keeps.leads;
+      ascends = λ book node keeps.
+          ascends_last book.taken.sent book.sent (history_ascends book.me book.nodes book.start (whole_events book) (whole_sent book) node keeps.leads);
     }

@@ -15,7 +15,7 @@ returns-then-not-is_member c = (
       let first : slice_get books 0 ≡ Some c.in-Some.first.now = sym c.in-Some.ensures.value in
       let member = member_of books c.in-Some.first.now first cluster place book c.loop-place-test.true in
       let here : IsMember book place (length books) c.in-Some.first.now.start = subst (λ (b : BookState). IsMember b place (length books) c.in-Some.first.now.start) (sym c.index-books-place.is) member in
-      absurd (false≢true (sym c.if-not-is_member.true ∙ c.is_member.ensures.1 (here.0, here.1, here.2 ∙ sym c.start-start.ensures.value))),
+      absurd (false≢true (sym c.if-not-is_member.true ∙ c.is_member.ensures.1 (here.0, here.1, here.2 ∙ sym c.start-start.ensures.value, here.3))),
 )
 
 pub loop-place-preserved : goal.loop-place-preserved

@@ -34,6 +34,7 @@ loop-site-preserved g c =
           c.close_as.ensures.me
           c.close_as.ensures.nodes
           c.close_as.ensures.start
+          c.close_as.ensures.whole
           c.close_as.ensures.history);
       counted = omega (arith, steps.1, more, c.loop-site.invariant.counted);
       room = omega (arith, steps.1, more, c.loop-site.invariant.room, c.push_reserved.ensures.len, c.push_reserved.ensures.capacity);

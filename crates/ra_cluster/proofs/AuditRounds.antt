@@ -1,0 +1,110 @@
+-- Rounds of an audit: the events that were taken of each node go on.
+use Rattle.std.proofs.Common.{◌≡◌, ℕ, zero, suc, ◌-◌, List, [], ◌∷◌, ◌++◌, map, drop, get_or, set, Option, Some, Result, Ok, Err, refl, sym, ap, ◌∙◌, subst, append_assoc}
+use Rattle.std.specs.Prelude.{slice_get, OnOk, IsErrOf}
+use Rattle.std.specs.List.{range_with_len}
+use Rattle.std.proofs.lemmas.List.{append-nil}
+use Rattle.std.proofs.lemmas.Option.{same_Some, none-some}
+use Rattle.ra_stamp.specs.declared.entry.Mark.{Mark}
+use Rattle.ra_cluster.specs.declared.audit_error.AuditFault.{AuditFault}
+use Rattle.ra_cluster.specs.declared.audit_error.RoundError.TheVariants as round
+use Rattle.ra_cluster.specs.declared.audit_error.TakeError.{TakeError}
+use Rattle.ra_cluster.specs.declared.event.BookEvent.{BookEvent}
+use Rattle.ra_cluster.specs.Audit.{ProgressState, AuditState, IsAudited, Advances, Audits, TakenGoOn, TakesMore, Takes, taken_of, with_more}
+
+pub go_nowhere : (nodes : List ProgressState) → TakenGoOn nodes nodes
+go_nowhere [] = tt
+go_nowhere (p ∷ ps) = (refl, ([], sym (append-nil (taken_of p))), go_nowhere ps)
+
+pub go_further : (a b c : List ProgressState) → TakenGoOn a b → TakenGoOn b c → TakenGoOn a c
+go_further [] [] c first second = second
+go_further [] (q ∷ qs) c first second = absurd first
+go_further (p ∷ ps) [] c first second = absurd first
+go_further (p ∷ ps) (q ∷ qs) [] first second = absurd second
+go_further (p ∷ ps) (q ∷ qs) (r ∷ rs) first second = (
+  second.0 ∙ first.0,
+  (
+    first.1.0 ++ second.1.0,
+    second.1.1 ∙ ap (λ (es : List BookEvent). es ++ second.1.0) first.1.1 ∙ append_assoc (taken_of p) first.1.0 second.1.0,
+  ),
+  go_further ps qs rs first.2 second.2,
+)
+
+-- further events of one node
+pub go_on_at : (nodes : List ProgressState) (place : ℕ) (p : ProgressState) (events : List BookEvent) → slice_get nodes place ≡ Some p
+    → TakenGoOn nodes (set nodes place (with_more p events))
+go_on_at [] place p events at = absurd (none-some p at)
+go_on_at (q ∷ qs) zero p events at =
+    let same : q ≡ p = same_Some q p at in
+    (ap (λ (x : ProgressState). x.node) (sym same), (events, sym (append_assoc p.settled p.waiting events) ∙ ap (λ (x : ProgressState). taken_of x ++ events) (sym same)), go_nowhere qs)
+go_on_at (q ∷ qs) (suc place) p events at = (refl, ([], sym (append-nil (taken_of q))), go_on_at qs place p events at)
+
+pub go_by_taking : (nodes : List ProgressState) (node after : ℕ) (events : List BookEvent) (answer : Result (Unit {0}) TakeError) (nodes' : List ProgressState)
+    → Takes nodes node after events answer nodes' → TakenGoOn nodes nodes'
+go_by_taking nodes node after events (Ok done) nodes' takes =
+    let at = takes.ok in
+    subst (TakenGoOn nodes) (sym at.2) (go_on_at nodes (node - 1) at.0 events at.1)
+go_by_taking nodes node after events (Err e) nodes' takes = subst (TakenGoOn nodes) (sym takes.err) (go_nowhere nodes)
+
+-- the same events of the same nodes
+pub go_as_before : (a b : List ProgressState) → map (λ p. p.node) b ≡ map (λ p. p.node) a → map taken_of b ≡ map taken_of a → TakenGoOn a b
+go_as_before [] [] numbers taken = tt
+go_as_before [] (q ∷ qs) numbers taken = absurd (cc)
+go_as_before (p ∷ ps) [] numbers taken = absurd (cc)
+go_as_before (p ∷ ps) (q ∷ qs) numbers taken = (
+  ap (λ (ns : List ℕ). get_or ns 0 0) numbers,
+  ([], ap (λ (es : List (List BookEvent)). get_or es 0 []) taken ∙ sym (append-nil (taken_of p))),
+  go_as_before ps qs (ap (λ (ns : List ℕ). drop 1 ns) numbers) (ap (λ (es : List (List BookEvent)). drop 1 es) taken),
+)
+
+-- ---- What is taken
+
+pub took_nothing : (old : AuditState) → IsAudited old.world old.nodes → TakesMore old old
+took_nothing old audited = record { taken = go_nowhere old.nodes; rest = refl; audited = audited }
+
+pub took_further : (a b c : AuditState) → TakesMore a b → TakesMore b c → TakesMore a c
+took_further a b c first second = record {
+  taken = go_further a.nodes b.nodes c.nodes first.taken second.taken;
+  rest = second.rest ∙ (λ i. record (first.rest i) { nodes = c.nodes });
+  audited = second.audited;
+}
+
+pub took_by_taking : (old new : AuditState) (node after : ℕ) (events : List BookEvent) (answer : Result (Unit {0}) TakeError)
+    → Takes old.nodes node after events answer new.nodes → new ≡ record old { nodes = new.nodes } → IsAudited new.world new.nodes → TakesMore old new
+took_by_taking old new node after events answer takes rest audited =
+    record { taken = go_by_taking old.nodes node after events answer new.nodes takes; rest = rest; audited = audited }
+
+pub took_as : (old new new' : AuditState) → new' ≡ new → TakesMore old new → TakesMore old new'
+took_as old new new' same takes = subst (TakesMore old) (sym same) takes
+
+-- ---- A round
+
+-- of which only the first part was done
+pub audits_nothing : (old new : AuditState) (told : List Mark) → TakesMore old new → Audits old told new told
+audits_nothing old new told takes = record {
+  audited = takes.audited;
+  count = ap (λ (a : AuditState). a.world.count) takes.rest;
+  start = ap (λ (a : AuditState). a.world.start) takes.rest;
+  moves = [];
+  goes_on = ap (λ (a : AuditState). a.world.moves) takes.rest ∙ sym (append-nil old.world.moves);
+  told_are = sym (append-nil told);
+  taken = takes.taken;
+}
+
+pub audits_all : (old mid new : AuditState) (told told' : List Mark) → TakesMore old mid
+    → Advances mid.world mid.nodes told new.world new.nodes told' → Audits old told new told'
+audits_all old mid new told told' takes advances = record {
+  audited = advances.audited;
+  count = advances.count ∙ ap (λ (a : AuditState). a.world.count) takes.rest;
+  start = advances.start ∙ ap (λ (a : AuditState). a.world.start) takes.rest;
+  moves = advances.moves;
+  goes_on = advances.goes_on ∙ ap (λ (a : AuditState). a.world.moves ++ advances.moves) takes.rest;
+  told_are = advances.told_are;
+  taken =
+      go_further old.nodes mid.nodes new.nodes takes.taken
+      (go_as_before mid.nodes new.nodes
+      (advances.audited.numbers ∙ ap (λ (n : ℕ). range_with_len 1 n) advances.count ∙ sym takes.audited.numbers) advances.taken);
+}
+
+-- a round tells the fault that the auditor told
+pub same_fault : (a b : AuditFault) → IsErrOf {T = Unit {0}} (Err (round.Fault a)) (round.Fault b) → a ≡ b
+same_fault a b h = cc
