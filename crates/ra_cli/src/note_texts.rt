@@ -58,11 +58,12 @@ pub fn cluster_text(fault: ClusterError) -> &'static str {
 /// Memory and threads belong to the whole process, so it is chance which node runs out of them first.
 fn stop_text(stop: Stop) -> &'static str {
     match stop {
-        Stop::Memory => "a node was stopped: out of memory",
+        // A node loses its inbox only after it was stopped or all clients are done, so a lack of memory is the first cause.
+        Stop::Memory | Stop::Send => "a node was stopped: out of memory",
         Stop::Spawn => {
             "a node was stopped: cannot start a thread (each node and each client needs one)"
         }
-        Stop::Clock | Stop::Exhausted | Stop::Send | Stop::Frame | Stop::Refused | Stop::Gate =>
+        Stop::Clock | Stop::Exhausted | Stop::Frame | Stop::Refused | Stop::Gate =>
             "a node was stopped in a way that no script can cause: this is a bug in ra",
     }
 }
