@@ -1,0 +1,311 @@
+//! A service that goes on for long. Clients lock and unlock names, and every so often the first of them audits the cluster, so
+//! that its memory does not grow with the number of locks.
+//!
+//! The arguments are how many locks to give in all, how many nodes and how many clients.
+#![tactic(auto)]
+
+use anyhow::{Context, Result, anyhow, ensure};
+use ra_cluster::{
+    Auditor, CallError, Cluster, Grant, MarkObserver, OpenGate, RoundError, SiteError, Stop, Told,
+};
+use ra_stamp::{Mark, Mode, Name, NodeId};
+use std::alloc::Global;
+use std::sync::{Mutex, Wait};
+use std::thread::Threads;
+use std::{env, thread};
+
+/// After about how many locks of all clients together the first client audits the cluster.
+const LOCKS_A_ROUND: u64 = 1_000;
+
+/// The names that the clients lock.
+const NAMES: [&[u8]; 4] = [b"disk", b"index", b"queue", b"table"];
+
+/// What to do.
+#[derive(Clone, Copy)]
+struct Plan {
+    locks: u64,
+    nodes: u16,
+    clients: u16,
+}
+
+/// Counts the marks of the run, as a service could check or keep them.
+#[derive(Drop)]
+struct Counts {
+    told: Told,
+    marks: u64,
+}
+
+impl MarkObserver for Counts {
+    ghost told = { λ c. c.told };
+
+    fn tell(&mut self, mark: &Mark) {
+        self.told.tell(mark);
+        self.marks = self.marks.saturating_add(1);
+    }
+}
+
+/// The audit that goes on with each round.
+#[derive(Drop)]
+struct Rounds {
+    auditor: Auditor,
+    counts: Counts,
+    rounds: u64,
+}
+
+impl Rounds {
+    /// Makes the audit of a cluster of this many nodes, in which nothing has happened yet.
+    fn new(alloc: Global, nodes: u16) -> Result<Rounds> {
+        let counts = Counts {
+            told: Told::new(),
+            marks: 0,
+        };
+        Ok(Rounds {
+            auditor: Auditor::new(alloc, nodes, 0)?,
+            counts,
+            rounds: 0,
+        })
+    }
+}
+
+/// What was audited while the service ran, and what is in the run at the end.
+#[derive(Clone, Copy)]
+struct Figures {
+    rounds: u64,
+    steps: u64,
+    marks: u64,
+    requests: u128,
+    messages: u128,
+    under_way: u64,
+}
+
+/// Why the service did not do its plan.
+#[derive(Clone, Copy, Debug)]
+enum Failure {
+    /// There is no such name or node.
+    Plan,
+    /// A call of a client failed.
+    Call(CallError),
+    /// A name was not given back.
+    Unlock(SiteError),
+    /// A round of the audit failed.
+    Round(RoundError),
+}
+
+/// What the clients share.
+#[derive(Drop)]
+struct Service<'a> {
+    plan: Plan,
+    cluster: &'a Cluster<OpenGate>,
+    audit: &'a Mutex<Rounds>,
+    failure: &'a Mutex<Option<Failure>>,
+}
+
+/// Audits what has happened since the round before. Other clients go on meanwhile.
+fn audit<R: Wait>(rt: &R, alloc: Global, service: &Service<'_>) -> Result<(), Failure> {
+    let mut audit = service.audit.lock(rt);
+    audit.rounds = audit.rounds.saturating_add(1);
+    let Rounds {
+        auditor,
+        counts,
+        ..
+    } = &mut *audit;
+    match service.cluster.audit(rt, alloc, auditor, counts) {
+        Ok(()) => Ok(()),
+        Err(refused) => Err(Failure::Round(refused)),
+    }
+}
+
+/// Returns how many locks a client gets.
+fn share_of(plan: Plan, client: u16) -> u64 {
+    let clients = u64::from(plan.clients);
+    match (
+        plan.locks.checked_div(clients),
+        plan.locks.checked_rem(clients),
+    ) {
+        (Some(each), Some(more)) if u64::from(client) < more => each.saturating_add(1),
+        (Some(each), Some(_)) => each,
+        _ => 0,
+    }
+}
+
+/// Returns the node of a client.
+fn node_of(plan: Plan, client: u16) -> Option<NodeId> {
+    NodeId::new(client.checked_rem(plan.nodes)?.saturating_add(1))
+}
+
+/// Returns the name that a client locks.
+fn name_of(client: u16) -> Option<Name> {
+    let name = NAMES.get(usize::from(client % 4))?;
+    Name::new(name).ok()
+}
+
+/// A client locks a name, uses what the name protects, and unlocks it.
+fn lock_once<R: Wait>(
+    rt: &R,
+    alloc: Global,
+    cluster: &Cluster<OpenGate>,
+    node: NodeId,
+    client: u32,
+    name: Name,
+) -> Result<(), Failure> {
+    let mode = Mode::Exclusive;
+    let held = cluster.with_lock(rt, alloc, node, client, name, mode, |_grant: Grant| {
+        // Here the client holds the name exclusively.
+    });
+    match held {
+        Ok(held) => match held.unlocked {
+            Ok(()) => Ok(()),
+            Err(refused) => Err(Failure::Unlock(refused)),
+        },
+        Err(refused) => Err(Failure::Call(refused)),
+    }
+}
+
+/// Returns after how many locks of its own the first client audits the cluster.
+fn locks_a_round(plan: Plan) -> u64 {
+    match LOCKS_A_ROUND.checked_div(u64::from(plan.clients)) {
+        Some(locks) => locks.max(1),
+        None => 1,
+    }
+}
+
+/// A client locks and unlocks its name at its node, as often as is its share. The first client also audits.
+fn lock_and_unlock<R: Wait>(
+    rt: &R,
+    alloc: Global,
+    service: &Service<'_>,
+    client: u16,
+) -> Result<(), Failure> {
+    let (Some(node), Some(name)) = (node_of(service.plan, client), name_of(client)) else {
+        return Err(Failure::Plan);
+    };
+    let mut since_round = 0u64;
+    for _ in 0..share_of(service.plan, client) {
+        lock_once(rt, alloc, service.cluster, node, u32::from(client), name)?;
+        since_round = since_round.saturating_add(1);
+        if client == 0 && since_round == locks_a_round(service.plan) {
+            audit(rt, alloc, service)?;
+            since_round = 0;
+        }
+    }
+    Ok(())
+}
+
+/// Does what a client does. The first failure stops the cluster.
+fn work<R: Wait>(rt: &R, alloc: Global, service: &Service<'_>, client: u16) {
+    if let Err(failure) = lock_and_unlock(rt, alloc, service, client) {
+        service.fail(rt, failure);
+    }
+}
+
+impl<'a> Service<'a> {
+    /// Notes the first failure, and stops the cluster.
+    fn fail<R: Wait>(&self, rt: &R, failure: Failure) {
+        let mut first = self.failure.lock(rt);
+        if first.is_none() {
+            *first = Some(failure);
+        }
+        self.cluster.stop(rt, Stop::Refused);
+    }
+}
+
+/// Runs the clients, each on a thread of its own.
+fn run_clients<R: Threads + Wait + Sync>(rt: &R, alloc: Global, service: &Service<'_>) {
+    thread::scope(thread::scope_env(), rt, move |clients| {
+        for client in 0..service.plan.clients {
+            let started = clients.spawn(move || work(rt, alloc, service, client));
+            if started.is_err() {
+                service.cluster.stop(rt, Stop::Spawn);
+            }
+        }
+    })
+}
+
+/// Returns the plan that the arguments are.
+fn plan_of(words: &[String]) -> Result<Plan> {
+    let [_program, locks, nodes, clients] = words else {
+        return Err(anyhow!("usage: long_service LOCKS NODES CLIENTS"));
+    };
+    Ok(Plan {
+        locks: locks.as_str().parse().ok().context("LOCKS is a number")?,
+        nodes: nodes.as_str().parse().ok().context("NODES is a number")?,
+        clients: clients
+            .as_str()
+            .parse()
+            .ok()
+            .context("CLIENTS is a number")?,
+    })
+}
+
+/// Runs the clients in the cluster, and returns the audit as it is then.
+fn run_in<R: Threads + Wait + Sync>(
+    rt: &R,
+    alloc: Global,
+    plan: Plan,
+    cluster: &Cluster<OpenGate>,
+) -> Result<Rounds> {
+    let rounds = Mutex::new(Rounds::new(alloc, plan.nodes)?);
+    let failure = Mutex::new(None);
+    let service = Service {
+        plan,
+        cluster,
+        audit: &rounds,
+        failure: &failure,
+    };
+    cluster.run(rt, alloc, || run_clients(rt, alloc, &service));
+    match failure.into_inner() {
+        Some(failure) => Err(anyhow!("the service failed: {failure:?}")),
+        None => Ok(rounds.into_inner()),
+    }
+}
+
+/// Ends the audit, and returns what is in its run.
+fn finish<R: Wait>(
+    rt: &R,
+    alloc: Global,
+    cluster: &mut Cluster<OpenGate>,
+    mut rounds: Rounds,
+) -> Result<Figures> {
+    let Rounds {
+        auditor,
+        counts,
+        ..
+    } = &mut rounds;
+    match cluster.finish(rt, alloc, auditor, counts) {
+        Ok(()) => Ok(figures_of(&rounds)),
+        Err(fault) => Err(anyhow!("the audit did not end: {fault:?}")),
+    }
+}
+
+/// Returns what is in the run of an audit.
+fn figures_of(rounds: &Rounds) -> Figures {
+    let auditor = &rounds.auditor;
+    Figures {
+        rounds: rounds.rounds,
+        steps: auditor.steps(),
+        marks: rounds.counts.marks,
+        requests: auditor.requests(),
+        messages: auditor.sent(),
+        under_way: auditor.under_way(),
+    }
+}
+
+/// Makes the cluster and has the clients do the plan.
+fn serve<R: Threads + Wait + Sync>(rt: &R, alloc: Global, plan: Plan) -> Result<Figures> {
+    let mut cluster = Cluster::new_audited(alloc, plan.nodes, 0, OpenGate)?;
+    let rounds = run_in(rt, alloc, plan, &cluster)?;
+    finish(rt, alloc, &mut cluster, rounds)
+}
+
+fn main(rt: HostRuntime) -> Result<()> {
+    let alloc = rt.alloc();
+    let words: Vec<String> = env::args(&rt)?.collect(alloc)?;
+    let figures = serve(&rt, alloc, plan_of(&words)?)?;
+    println!(rt; "rounds {}", figures.rounds)?;
+    println!(rt; "steps {}", figures.steps)?;
+    println!(rt; "marks {}", figures.marks)?;
+    println!(rt; "requests {}", figures.requests)?;
+    println!(rt; "messages {}", figures.messages)?;
+    ensure!(figures.under_way == 0, "messages are under way");
+    Ok(())
+}
