@@ -1,8 +1,8 @@
 //! If any growth is refused, `ra` prints `refused Memory` and nothing else, with status 2, and does what it should when it is
-//! run again. If memory runs out for a note alone, a shorter note is written in its place.
+//! run again.
 use crate::frames::{ANSWER, REPLY, REQUEST};
 use crate::helpers::words_of;
-use ra_cli::{AnswerError, SeenReader, SeenWriter, answer, serve, serve_with_notes};
+use ra_cli::{AnswerError, answer, serve};
 use std::alloc::Global;
 use std::io;
 use std::io::Write;
@@ -12,7 +12,7 @@ use std::thread::Threads;
 use test_support::{Tried, again};
 
 /// Ends a test.
-fn end(rt: &(impl Abort), tried: Tried) {
+pub fn end(rt: &(impl Abort), tried: Tried) {
     assert!(rt;
         tried != Tried::Wrong,
         "a refused growth had another answer, or changed something"
@@ -28,13 +28,14 @@ const ROOM: usize = 4_096;
 
 /// Takes bytes without allocating, as many as it has room for.
 #[derive(Drop)]
-struct Page {
+pub struct Page {
     bytes: [u8; ROOM],
     taken: usize,
 }
 
 impl Page {
-    fn new() -> Page {
+    /// Makes one that has taken nothing.
+    pub fn new() -> Page {
         Page {
             bytes: [0; ROOM],
             taken: 0,
@@ -42,7 +43,7 @@ impl Page {
     }
 
     /// Returns whether this text was taken, and nothing else.
-    fn has(&self, text: &str) -> bool {
+    pub fn has(&self, text: &str) -> bool {
         match self.bytes.get(..self.taken) {
             Some(bytes) => bytes == text.as_bytes(),
             None => false,
@@ -113,10 +114,10 @@ fn try_line<T: AllocGlobal + Threads + Wait + Sync>(
 }
 
 /// A script of one client at the first of two nodes.
-const SCRIPT: &str = "nodes = 2\nclient = [{ node = 1, ops = [\"X r\", \"U r\"] }]\n";
+pub const SCRIPT: &str = "nodes = 2\nclient = [{ node = 1, ops = [\"X r\", \"U r\"] }]\n";
 
 /// What comes of it.
-const LINES: &str = "request 1 1 r X 1
+pub const LINES: &str = "request 1 1 r X 1
 enter 1 1 r X 1
 leave 1 1 r X 1
 requests 1
@@ -213,124 +214,6 @@ fn try_drawing<T: AllocGlobal + Threads + Wait + Sync>(rt: &T) -> Result<Tried, 
 fn growth_of_the_command_draw(rt: HostRuntime) {
     let first = try_drawing(&rt);
     end(&rt, again(first, try_drawing(&rt)));
-}
-
-/// A command of which something is said.
-#[derive(Clone, Copy)]
-struct Noted {
-    words: &'static str,
-    input: &'static str,
-    status: u8,
-    output: &'static str,
-    note: &'static str,
-    /// What is said in place of the note if there is no memory for it, or not for all of it.
-    less: &'static [&'static str],
-}
-
-/// Is what was written one of these texts?
-fn has_one(page: &Page, texts: &[&str]) -> bool {
-    for text in texts {
-        if page.has(text) {
-            return true;
-        }
-    }
-    false
-}
-
-/// Runs `ra` on the words and the input. If memory runs out for the note alone, all else is as it should be.
-fn try_noted<T: AllocGlobal + Threads + Wait + Sync>(rt: &T, case: &Noted) -> Result<Tried, bool> {
-    let alloc = rt.alloc();
-    let Some(words) = words_of(alloc, case.words, None) else {
-        return Err(true);
-    };
-    let (mut output, mut notes) = (Page::new(), Page::new());
-    let mut reader = SeenReader::new(alloc, case.input.as_bytes());
-    let mut writer = SeenWriter::new(&mut output);
-    let status = serve_with_notes(
-        rt,
-        alloc,
-        words.as_slice(),
-        &mut reader,
-        &mut writer,
-        &mut notes,
-    );
-    if status == case.status && output.has(case.output) {
-        return if notes.has(case.note) {
-            Ok(Tried::AtOnce)
-        } else {
-            Err(has_one(&notes, case.less))
-        };
-    }
-    Err(status == 2 && output.has("refused Memory\n") && notes.has("ra: out of memory\n"))
-}
-
-/// Ends a test of a command of which something is said.
-fn end_noted<T: AllocGlobal + Threads + Wait + Sync + Abort>(rt: &T, case: &Noted) {
-    let first = try_noted(rt, case);
-    end(rt, again(first, try_noted(rt, case)));
-}
-
-#[test]
-fn growth_of_a_note_on_a_wrong_line(rt: HostRuntime) {
-    end_noted(
-        &rt,
-        &Noted {
-            words: "ra check",
-            input: "trace 2 2 0\nask 3 1 r X\n",
-            status: 3,
-            output: "invalid 2 Refused\n",
-            note: "ra: line 2, 'ask 3 1 r X': there is no node 3: the highest node of the trace is 2\n",
-            less: &[
-                "ra: line 2, 'ask 3 1 r X': the client may not ask or release here: the node does not exist, the client already waits, is queued or holds the name, it releases a name that it does not hold, or no number is left\n",
-                "ra: line 2: the client may not ask or release here: the node does not exist, the client already waits, is queued or holds the name, it releases a name that it does not hold, or no number is left\n",
-            ],
-        },
-    );
-}
-
-#[test]
-fn growth_of_a_note_on_a_frame(rt: HostRuntime) {
-    end_noted(
-        &rt,
-        &Noted {
-            words: ANSWER,
-            input: "0301",
-            status: 2,
-            output: "refused Version\n",
-            note: "ra: the version at offset 0 is 03: must be 01 or 02\n",
-            less: &["ra: standard output says what came of it; no memory is left to say more\n"],
-        },
-    );
-}
-
-#[test]
-fn growth_of_a_note_on_the_words(rt: HostRuntime) {
-    end_noted(
-        &rt,
-        &Noted {
-            words: "ra simm",
-            input: "",
-            status: 2,
-            output: "refused Usage\n",
-            note: "ra: unrecognized subcommand 'simm'; a similar subcommand exists: 'sim'; see ra --help\n",
-            less: &["ra: out of memory; see ra --help\n", "ra: out of memory\n"],
-        },
-    );
-}
-
-#[test]
-fn growth_of_a_note_on_a_run(rt: HostRuntime) {
-    end_noted(
-        &rt,
-        &Noted {
-            words: "ra sim --policy listed --choices=c1",
-            input: SCRIPT,
-            status: 3,
-            output: "request 1 1 r X 1\nrequests 1\nmessages 1\nunder-way 1\nlost 0\nwaiting 1\nqueued 0\n",
-            note: "ra: the run did not finish: client 1 at node 1 waits for 'r' (X): no client blocks it, but a message is under way\n",
-            less: &["ra: standard output says what came of it; no memory is left to say more\n"],
-        },
-    );
 }
 
 #[test]

@@ -24,6 +24,8 @@ mod frames;
 #[cfg(test)]
 mod growth;
 #[cfg(test)]
+mod growth_of_notes;
+#[cfg(test)]
 mod helpers;
 #[cfg(test)]
 mod many_seeds;

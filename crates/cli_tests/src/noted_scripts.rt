@@ -1,4 +1,5 @@
 //! The notes for texts that are not a script, and for scripts that threads may not run.
+use crate::helpers::repeated;
 use crate::notes::{Noted, assert_says, run_noted};
 use crate::scripts::{A_DEADLOCK, A_KEEPER};
 use std::process::Abort;
@@ -175,4 +176,40 @@ fn where_a_text_is_no_document_is_said(rt: HostRuntime) {
 #[test]
 fn what_is_wrong_with_a_script_is_said(rt: HostRuntime) {
     assert_says(&rt, SCRIPTS);
+}
+
+/// Returns whether a script of this many spaces and then this text is refused with this line and this note.
+fn says_after_spaces<T: AllocGlobal + Threads + Wait + Abort + Sync>(
+    rt: &T,
+    spaces: u64,
+    text: &str,
+    printed: &str,
+    said: &str,
+) -> bool {
+    let Some(script) = repeated(rt.alloc(), "", " ", spaces, text) else {
+        return false;
+    };
+    let mut input = script.as_bytes();
+    let (mut output, mut notes) = (Vec::new(rt.alloc()), Vec::new(rt.alloc()));
+    let status = run_noted(rt, "ra sim", None, &mut input, &mut output, &mut notes);
+    let is_refused = status == 2 && output.as_slice() == printed.as_bytes();
+    is_refused && notes.as_slice() == said.as_bytes()
+}
+
+/// As much of a script is remembered as may be read of it, so that its last line can be explained too.
+#[test]
+fn what_is_wrong_at_the_end_of_the_longest_script_is_said(rt: HostRuntime) {
+    let (text, said) = (
+        "nodes = 0\nclient = []\n",
+        "ra: nodes is 0: must be 1 to 64\n",
+    );
+    assert!(rt;
+        says_after_spaces(&rt, 65_514, text, "refused Nodes\n", said),
+        "{said}"
+    );
+    let said = "ra: the script has more than 65536 bytes\n";
+    assert!(rt;
+        says_after_spaces(&rt, 65_537, "", "refused Limit\n", said),
+        "{said}"
+    );
 }
