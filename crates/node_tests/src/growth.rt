@@ -470,15 +470,20 @@ fn try_one_more(bag: &mut Bag, one: &Messages) -> Tried {
     }
 }
 
-/// Puts a message into a bag 10,000 times. If there is no bag, memory ran out.
-fn try_many_puts(alloc: Global) -> Result<Tried, bool> {
+/// Puts a message into a bag 10,000 times, either after making room for it or without. If there is no bag, memory ran out.
+fn try_many_puts(alloc: Global, makes_room: bool) -> Result<Tried, bool> {
     let mut one = Messages::new(alloc);
     let mut tried = try_push(&mut one, 1);
     let Ok(mut bag) = Bag::new(alloc) else {
         return Err(true);
     };
     for _ in 0..10_000 {
-        tried = both(tried, try_one_more(&mut bag, &one));
+        let put = if makes_room {
+            try_one_more(&mut bag, &one)
+        } else {
+            try_put(&mut bag, &one)
+        };
+        tried = both(tried, put);
     }
     Ok(if bag.len() == 10_000 {
         tried
@@ -508,9 +513,13 @@ fn try_many_asks(alloc: Global) -> Tried {
 #[test]
 fn large_few_growths_of_ten_thousand_calls(rt: HostRuntime) {
     let alloc = rt.alloc();
-    let put = again(try_many_puts(alloc), try_many_puts(alloc));
+    let roomy = again(try_many_puts(alloc, true), try_many_puts(alloc, true));
+    let plain = again(try_many_puts(alloc, false), try_many_puts(alloc, false));
     end(
         &rt,
-        both(both(try_many_pushes(alloc), put), try_many_asks(alloc)),
+        both(
+            both(try_many_pushes(alloc), both(roomy, plain)),
+            try_many_asks(alloc),
+        ),
     );
 }
