@@ -140,24 +140,6 @@ fn growth_of_a_note_on_a_run(rt: HostRuntime) {
 }
 
 #[test]
-fn growth_of_a_note_on_a_line_of_no_trace(rt: HostRuntime) {
-    end_noted(
-        &rt,
-        &Noted {
-            words: "ra check",
-            input: "trace 2 2 0\nask 65 1 r X\n",
-            status: 3,
-            output: "invalid 2 Line\n",
-            note: "ra: line 2, 'ask 65 1 r X': NODE is '65': must be 1 to 64, without leading zeros\n",
-            less: &[
-                "ra: line 2, 'ask 65 1 r X': not a line that a trace may have here (see ra check --help); each line ends with a line feed alone, and the last line is end\n",
-                "ra: line 2: not a line that a trace may have here (see ra check --help); each line ends with a line feed alone, and the last line is end\n",
-            ],
-        },
-    );
-}
-
-#[test]
 fn growth_of_a_note_on_a_mark_that_is_not_due(rt: HostRuntime) {
     end_noted(
         &rt,
