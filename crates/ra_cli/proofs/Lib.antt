@@ -5,6 +5,7 @@ mod AnswerCallLemmas
 mod Scripts
 mod ClusterRuns
 mod Surveys
+mod NodeRuns
 mod Options
 mod Statuses
 mod Helping

@@ -8,6 +8,7 @@ pub mod Checks
 pub mod Pictures
 pub mod ClusterRun
 pub mod Surveyed
+pub mod NodeRun
 pub mod Statuses
 pub mod Tasks
 pub mod Finishing

@@ -12,6 +12,7 @@ use Rattle.ra_cli.specs.Words.{IsHelpWord, GivesNode, NamesNoChoices, SimsFaithf
 use Rattle.ra_cli.specs.Performs.{Performs}
 use Rattle.ra_cli.specs.Checks.{Judges, IsJudged}
 use Rattle.ra_cli.specs.ClusterRun.{IsClusterRun, RunsCluster}
+use Rattle.ra_cli.specs.NodeRun.{AreNodeWords, ServesNode}
 use Rattle.ra_cli.specs.Pictures.{IsDrawn, IsNoTrace, IsDrawing}
 use Rattle.ra_cli.specs.Surveyed.{IsTold, Surveys}
 use Rattle.ra_cli.specs.Refusals.{IsOfReader, IsOfWriter, refused_line, word_of}
@@ -77,8 +78,9 @@ pub record Serves (words : List (List ℕ)) (old new before after : Option (List
   pub range : status ≤ 3
   -- Status 0 comes only if the input was answered or drawn, was performed to its end, under one seed or each of many, or
   -- was run by threads to its end; or if it is the trace of a run or, with the word `--marks`, the log of one of the lock
-  -- table; or if a word asks for a text of help or for the version, and nothing was read.
+  -- table; or if a word asks for a text of help or for the version, and nothing was read; or for `ra node`.
   pub done : status ≡ 0 → (Untouched × Any IsHelpWord words) ⊎ IsDone words old new before after ⊎ RunsCluster old new before after
+      ⊎ AreNodeWords words
   -- Status 3 comes only if the input was performed and something is left to do, under one seed or some of many, or is the
   -- trace or the log of no run.
   pub unfinished : status ≡ 3 → IsUnfinished words old new before after
@@ -94,4 +96,6 @@ pub record Serves (words : List (List ℕ)) (old new before after : Option (List
   -- Status 1 comes only if the reader or the writer failed, with the line that says so of the reader, or a prefix of what
   -- is printed. If the reader tells nothing of its input, it is not said of what a prefix was written; nor is it ever said
   -- what the texts of help and of the version are, which are the parser's.
-  pub broken : status ≡ 1 → IsBroken words old before after
+  pub broken : status ≡ 1 → IsBroken words old before after ⊎ AreNodeWords words
+  -- `ra node` answers what it reads line by line, and its status says how that ended.
+  pub node : AreNodeWords words → ServesNode old new before after status

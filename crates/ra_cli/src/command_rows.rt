@@ -15,6 +15,7 @@ pub enum CommandKind {
     Cluster,
     Check,
     Draw,
+    Node,
 }
 
 /// A command, its name, and what its help says first.
@@ -51,6 +52,11 @@ const COMMANDS: &[CommandRow] = &[
         kind: CommandKind::Draw,
         name: "draw",
         about: "Draw the trace of a run as an SVG file",
+    },
+    CommandRow {
+        kind: CommandKind::Node,
+        name: "node",
+        about: "Be one node: read what happens at it, and answer line by line",
     },
 ];
 

@@ -207,6 +207,53 @@ Exit status:
      PlanUnmet, Lost or UnderWay if the nodes did not record one run of the
      whole script";
 
+/// The help of the command `node`, below its options.
+const NODE_HELP: &str = "\
+Be one node of a cluster, for a host in any language that carries the frames
+from node to node. Read a book from standard input: what happens at the node,
+one event per line. Answer each line on standard output.
+  book 1 NODE NODES START
+  ask CLIENT NAME MODE
+  release CLIENT NAME
+  receive HEX
+The first line has the node, 1 to NODES, the number of nodes, 1 to 64, and the
+number that each name begins with, 0 to 2^64 - 1. In the others, a client, 0 to
+2^32 - 1, asks for a name or releases it, or a frame of version 1 or 2 comes, as
+hexadecimal digits. A name is 1 to 32 characters from A-Z, a-z, 0-9, _, - and .
+  S    shared
+  X    exclusive
+  IS   intent shared
+  IX   intent exclusive
+  SIX  shared and intent exclusive
+
+The first line is answered `ok`. An event is answered with a line `send TO HEX`
+for each frame to carry to node TO, a line for each mark, and `ok`. Or the
+answer is `refused` and a word, and the node is as before:
+  Line       not a line of a book, or longer than 256 bytes
+  Hex        not an even number of hexadecimal digits
+  Busy       the client already waits for the name, is queued or holds it
+  Exhausted  no number is left for the name
+  NotHeld    the client does not hold the name
+  WrongNode  the frame is for another node
+  Stranger   the sender of the frame is this node, or there is no such node
+  ClockFull  the event clock would pass 2^62
+  Memory     memory ran out, and the line can be sent again
+A frame with a fault is refused with its word, as by `ra answer`.
+
+Answers are written before more input is waited for. The node ends with its
+input. It keeps no history: if the host keeps the book, a new node that reads it
+gives the same answers, and goes on from there.
+
+Example: node 2 of 3 answers a version 1 REQUEST of node 1 for the name r.
+  (echo book 1 2 3 0
+   echo receive 0101010201000000000000000100000000000000010172) | ra node
+
+Exit status:
+  0  the input was read to its end, whatever was refused
+  1  standard input or standard output failed
+  2  the command line was refused, or the first line, which is answered
+     `refused Line`";
+
 /// The help of the program, below its commands.
 const STATUS_HELP: &str = "\
 Example: ra sim < script.toml
@@ -243,6 +290,11 @@ fn draw_help() -> &'static str {
     DRAW_HELP
 }
 
+/// Returns the help of the command `node`.
+fn node_help() -> &'static str {
+    NODE_HELP
+}
+
 /// Returns the help of a command, below its options.
 pub fn help_on(kind: CommandKind) -> &'static str {
     match kind {
@@ -251,6 +303,7 @@ pub fn help_on(kind: CommandKind) -> &'static str {
         CommandKind::Cluster => cluster_help(),
         CommandKind::Check => check_help(),
         CommandKind::Draw => draw_help(),
+        CommandKind::Node => node_help(),
     }
 }
 

@@ -124,6 +124,7 @@ fn input_text(command: &str, reads_marks: bool) -> Option<&'static str> {
         "check" | "draw" => Some(
             "reading a trace from standard input: type it and then Ctrl-D, or redirect a file with < FILE",
         ),
+        "node" => Some("reading a book from standard input: type its lines, and Ctrl-D at the end"),
         _ => None,
     }
 }

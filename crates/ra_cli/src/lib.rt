@@ -10,6 +10,7 @@ mod hints;
 mod input;
 mod laws;
 mod marks_verdict;
+mod node_task;
 mod note_texts;
 mod notes;
 mod option_rows;

@@ -29,6 +29,10 @@ pub const TOO_MANY_BYTES: &str = "standard input has more than 16777216 bytes";
 pub const TOO_LONG: &str =
     "the trace has more than 4096 lines to draw: choose a part with --from and --to";
 
+/// What is said of the first line of a book if it is none.
+pub const NO_BOOK: &str =
+    "not the first line of a book: expected book 1 NODE NODES START, with NODE 1 to NODES, NODES 1 to 64 and START 0 to 2^64 - 1, separated by single spaces and ended by a line feed alone";
+
 /// What is said if a run goes on for too long.
 pub const TOO_MANY_TURNS: &str =
     "the run is not over after 16777216 turns, the most that it may take";

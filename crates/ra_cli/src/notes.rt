@@ -3,7 +3,7 @@ use crate::command_line::{choices_word, text_of};
 use crate::error::RunScriptError;
 use crate::hints::write_hints;
 use crate::note_texts::{
-    NO_INPUT, NO_OUTPUT, NO_SPACE, NO_TEXT, NO_WORD, SEEDS_LEFT, TOO_LONG, TOO_MANY_BYTES,
+    NO_BOOK, NO_INPUT, NO_OUTPUT, NO_SPACE, NO_TEXT, NO_WORD, SEEDS_LEFT, TOO_LONG, TOO_MANY_BYTES,
     TOO_MANY_TURNS, UNEXPLAINED, cause_text, cluster_text, mark_cause_text,
 };
 use crate::outcome::{Outcome, Remark, UNFINISHED};
@@ -87,6 +87,11 @@ fn cause_of(alloc: Global, words: &[String], remark: &Remark) -> Said {
             line: *line,
             text: mark_cause_text(*cause),
         },
+        Remark::NoBook => Said::Line {
+            line: 1,
+            text: NO_BOOK,
+        },
+        Remark::Unread => Said::Text(NO_INPUT),
     }
 }
 

@@ -157,7 +157,7 @@ pub fn options_of(kind: CommandKind) -> &'static [OptionRow<'static>] {
         CommandKind::Sim => SIM_OPTIONS,
         CommandKind::Check => CHECK_OPTIONS,
         CommandKind::Draw => DRAW_OPTIONS,
-        CommandKind::Cluster => &[],
+        CommandKind::Cluster | CommandKind::Node => &[],
     }
 }
 

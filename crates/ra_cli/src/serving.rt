@@ -26,6 +26,7 @@ use crate::command_line::{PolicyName, Task, parse};
 use crate::error::RunScriptError;
 use crate::laws::orderly_scripts_are_finished;
 use crate::marks_verdict::marks_verdict_text;
+use crate::node_task::{are_node_words, be_a_node};
 use crate::notes::{write_notes, write_output_note, write_words_note};
 use crate::outcome::{Outcome, Remark, UNFINISHED, marks_remark_of, remark_of};
 use crate::refusal::{Refusal, line_of};
@@ -467,6 +468,9 @@ fn outcome_of<T: Threads + Wait + Sync, R: BufRead, W: Write, O: Observer>(
     ensures { Serves (map string_bytes words.now) (R.remaining reader.old) (R.remaining reader.new)
         (W.contents writer.old) (W.contents writer.new) (reader.new ≡ reader.old) result.status }
 {
+    if are_node_words(words) {
+        return be_a_node(alloc, reader, writer);
+    }
     match parse(alloc, words) {
         Ok(task) => do_task(rt, alloc, task, reader, writer, observer),
         Err(fault) => refuse(writer, Refusal::Command(fault)),

@@ -26,9 +26,15 @@ const AS_CHOICES_TEXT: &str =
 /// What is said about a part of a trace that has no lines.
 const PART_TEXT: &str = "--from must be at least 1, and at most --to; see ra draw --help";
 
+/// What is said if `node` has an argument that the parser passes over, which only `--` is.
+const NODE_TEXT: &str = "node takes no arguments; see ra node --help";
+
 /// Returns whether a word is a command, each of which reads standard input.
 fn is_command(word: &str) -> bool {
-    matches!(word, "answer" | "sim" | "cluster" | "check" | "draw")
+    matches!(
+        word,
+        "answer" | "sim" | "cluster" | "check" | "draw" | "node"
+    )
 }
 
 /// Returns the command that the words name, or `None`.
@@ -132,6 +138,7 @@ fn push_usage<'a>(alloc: Global, note: &mut Note, words: &'a [String], command: 
         // The parser finds nothing wrong with the words, so the cause is something that it does not check.
         Ok(matches) => match matches.subcommand() {
             Some(("draw", _)) => note.push(PART_TEXT),
+            Some(("node", _)) => note.push(NODE_TEXT),
             Some((_, given)) => note.push(unseen_text(words, given)),
             None => push_help(note, words),
         },

@@ -5,6 +5,7 @@ complete -c ra -n __fish_use_subcommand -a sim -d 'Run a script in a simulated c
 complete -c ra -n __fish_use_subcommand -a cluster -d 'Run a script in a cluster of threads: who asks, enters and leaves'
 complete -c ra -n __fish_use_subcommand -a check -d 'Check the trace of a run, or the mark log of a lock service'
 complete -c ra -n __fish_use_subcommand -a draw -d 'Draw the trace of a run as an SVG file'
+complete -c ra -n __fish_use_subcommand -a node -d 'Be one node: read what happens at it, and answer line by line'
 complete -c ra -n '__fish_use_subcommand' -s h -l help -d 'Print help'
 complete -c ra -n '__fish_use_subcommand' -s V -l version -d 'Print version'
 complete -c ra -n '__fish_seen_subcommand_from answer' -l node -x -a '' -d 'Answer as this node, 1 to the value of --nodes'
@@ -26,3 +27,4 @@ complete -c ra -n '__fish_seen_subcommand_from check' -s h -l help -d 'Print hel
 complete -c ra -n '__fish_seen_subcommand_from draw' -l from -x -a '' -d 'Draw from this line on, counted from 1 [default: 1]'
 complete -c ra -n '__fish_seen_subcommand_from draw' -l to -x -a '' -d 'Draw up to and including this line [default: the last]'
 complete -c ra -n '__fish_seen_subcommand_from draw' -s h -l help -d 'Print help'
+complete -c ra -n '__fish_seen_subcommand_from node' -s h -l help -d 'Print help'

@@ -1,4 +1,5 @@
-use Rattle.std.proofs.Common.{arith, ◌≡◌, ◌≢◌, ◌⊎◌, ℕ, ◌≤◌, List, Option, codes, map, refl, string_bytes, inl, inr}
+use Rattle.std.proofs.Common.{arith, ◌≡◌, ◌≢◌, ◌⊎◌, ℕ, ◌≤◌, List, Option, codes, map, refl, sym, ◌∙◌, string_bytes, inl, inr}
+use Rattle.std.proofs.lemmas.Bool.{false≢true}
 use Rattle.std.specs.Io.KnownBytes.{Appends}
 use Rattle.ra_script.specs.Performed.{IsOrderly}
 use Rattle.ra_cli.specs.declared.refusal.Refusal.TheVariants.{Command}
@@ -8,6 +9,7 @@ use Rattle.ra_cli.specs.declared.command_line.CommandFault.{CommandFault}
 use Rattle.ra_cli.specs.declared.command_line.CommandFault.TheVariants as command
 use Rattle.ra_cli.proofs.ClusterRuns.{of_known}
 use Rattle.ra_cli.proofs.Helping.{for_each}
+use Rattle.ra_cli.proofs.NodeRuns.{no_book, no_sim}
 use Rattle.ra_cli.proofs.Statuses.{none_of_command, refused, broken}
 use Rattle.ra_cli.proofs.TaskLemmas.{done, left, suits, without_cause}
 use Rattle.ra_cli.proofs.serving.outcome_of.Goals as goal
@@ -19,6 +21,32 @@ MemoryOrUsage before after = Appends before after (refused_line (codes "Memory")
 of_fault : (fault : CommandFault) (before after : Option (List ℕ)) → Appends before after (refused_line (command_word fault)) → MemoryOrUsage before after
 of_fault command.Usage before after out = inr out
 of_fault command.Memory before after out = inl out
+
+not_three : (status : ℕ) → status ≤ 2 → status ≡ 3 → ⊥
+not_three status most is = omega (arith, most, is)
+
+pub returns-then-are_node_words : goal.returns-then-are_node_words
+returns-then-are_node_words g c =
+    let are = c.are_node_words.ensures.0 c.if-are_node_words.true in
+    let node = c.be_a_node.ensures in
+    let status = c.be_a_node.result.status in
+    record {
+      range = omega (arith, node.range);
+      done = λ zero. inr (inr (inr are));
+      unfinished = λ three. absurd (not_three status node.range three);
+      finished = λ sims. for_each (g.R.Read.remaining c.args.reader.now) (λ input. IsOrderly input → status ≢ 3)
+          (λ input orderly is. not_three status node.range is);
+      only_memory = λ sims none two. absurd (no_sim (map string_bytes c.args.words.now) are sims.command);
+      refused = no_book _ _ _ _ status node.serves;
+      broken = λ one. inr are;
+      node = λ words. node.serves;
+    }
+
+-- what was done by other words
+no_node_words : (A B C D : Type 0) → A ⊎ B ⊎ C → A ⊎ B ⊎ C ⊎ D
+no_node_words A B C D (inl a) = inl a
+no_node_words A B C D (inr (inl b)) = inr (inl b)
+no_node_words A B C D (inr (inr c)) = inr (inr (inl c))
 
 pub returns-in-Ok : goal.returns-in-Ok
 returns-in-Ok g c =
@@ -33,7 +61,7 @@ returns-in-Ok g c =
     let fits = suits words asked c.in-Ok.ensures.help c.in-Ok.ensures.numbers c.in-Ok.ensures.marks in
     record {
       range = task.range;
-      done = λ is. done words asked old new before after _ c.in-Ok.ensures.help fits (task.done is);
+      done = λ is. no_node_words _ _ _ _ (done words asked old new before after _ c.in-Ok.ensures.help fits (task.done is));
       unfinished = λ is. left (map string_bytes words) asked old new before after fits (task.unfinished is);
       finished = λ sims. of_known old (λ input. IsOrderly input → RunsFaithfully asked → status ≢ 3) (λ input. IsOrderly input → status ≢ 3)
           (λ input h orderly. h orderly (c.in-Ok.ensures.faithful sims)) task.finished;
@@ -42,14 +70,12 @@ returns-in-Ok g c =
           (λ input. IsOrderly input → MemoryOrUsage before after)
           (λ input h orderly. inl (h orderly (c.in-Ok.ensures.faithful sims) (c.in-Ok.ensures.choices none) two)) task.only_memory;
       refused = λ is. without_cause _ before after (task.refused is);
-      broken = λ is. task.broken (map string_bytes words) fits is;
+      broken = λ is. inl (task.broken (map string_bytes words) fits is);
+      node = λ are. absurd (false≢true (sym c.if-are_node_words.false ∙ c.are_node_words.ensures.1 are));
     }
 
 not_done : (status : ℕ) → 1 ≤ status → status ≡ 0 → ⊥
 not_done status least is = omega (arith, least, is)
-
-not_three : (status : ℕ) → status ≤ 2 → status ≡ 3 → ⊥
-not_three status most is = omega (arith, most, is)
 
 pub returns-in-Err : goal.returns-in-Err
 returns-in-Err g c =
@@ -67,6 +93,7 @@ returns-in-Err g c =
       only_memory = λ sims none two. for_each (g.R.Read.remaining c.args.reader.now) (λ input. IsOrderly input → MemoryOrUsage before after)
           (λ input orderly. of_fault c.in-Err.fault before after (c.refuse.ensures.refused two).2);
       refused = λ two. refused why before before after (λ other. refl) (c.refuse.ensures.refused two);
-      broken = λ one. broken (map string_bytes c.args.words.now) (g.R.Read.remaining c.args.reader.now) before before after why
-          (λ is. absurd (never is)) (λ is. absurd (never is)) (λ other. refl) (c.refuse.ensures.broken one);
+      broken = λ one. inl (broken (map string_bytes c.args.words.now) (g.R.Read.remaining c.args.reader.now) before before after why
+          (λ is. absurd (never is)) (λ is. absurd (never is)) (λ other. refl) (c.refuse.ensures.broken one));
+      node = λ are. absurd (false≢true (sym c.if-are_node_words.false ∙ c.are_node_words.ensures.1 are));
     }

@@ -1,0 +1,36 @@
+-- What it means for the statuses that `ra node` ended so.
+use Rattle.std.proofs.Common.{◌≡◌, ℕ, List, length, slice_get, Option, Some, Result, Ok, Err, sym, ap, subst, ◌∙◌, refl, inl, inr, codes, arith}
+use Rattle.std.proofs.lemmas.Option.{same_Some}
+use Rattle.std.specs.Io.KnownBytes.{Appends}
+use Rattle.ra_book.specs.declared.error.BookFault.{BookFault}
+use Rattle.ra_book.specs.declared.error.BookFault.TheVariants as book
+use Rattle.ra_cli.specs.NodeRun.{AreNodeWords, ServesNode}
+use Rattle.ra_cli.specs.Refusals.{IsOfReader, IsOfWriter, refused_line}
+use Rattle.ra_cli.specs.Statuses.{IsRefused}
+use Rattle.ra_cli.specs.declared.error.AnswerError.TheVariants.{Line}
+use Rattle.ra_cli.specs.declared.refusal.Refusal.TheVariants.{Answer}
+use Rattle.ra_cli.proofs.Statuses.{of_answer}
+
+no_reader : IsOfReader (Answer Line) → ⊥
+no_reader (inl is) = absurd cc
+no_reader (inr (inl is)) = absurd cc
+no_reader (inr (inr (inl is))) = absurd cc
+no_reader (inr (inr (inr (inl is)))) = absurd cc
+no_reader (inr (inr (inr (inr is)))) = absurd cc
+
+no_writer : IsOfWriter (Answer Line) → ⊥
+no_writer is = let wrong = of_answer Line is in absurd cc
+
+-- status 2 comes with the line of a refusal
+pub no_book : (old new before after : Option (List ℕ)) (status : ℕ) → ServesNode old new before after status → status ≡ 2 → IsRefused before after
+no_book old new before after status (answers, Ok done, owed, told, is) two = absurd cc
+no_book old new before after status (answers, Err book.Line, owed, told, is) two =
+    (Answer Line, no_reader, no_writer, subst (Appends before after) owed.1 told)
+no_book old new before after status (answers, Err book.Read, owed, told, is) two = absurd cc
+no_book old new before after status (answers, Err book.Write, owed, told, is) two = absurd cc
+
+-- and the words are not those of another command
+pub no_sim : (words : List (List ℕ)) → AreNodeWords words → slice_get words 1 ≡ Some (codes "sim") → ⊥
+no_sim words (name, is) sim =
+    let same : codes "node" ≡ codes "sim" = same_Some _ _ (sym (ap (λ (ws : List (List ℕ)). slice_get ws 1) is) ∙ sim) in
+    absurd (omega (arith, ap length same))
