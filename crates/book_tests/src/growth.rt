@@ -1,0 +1,163 @@
+//! If a growth is refused, the line is refused for lack of memory, nothing has changed, and the line can come again.
+use ra_book::{Refusal, TimedNode, answer_book, event_of};
+use ra_stamp::NodeId;
+use std::alloc::Global;
+use std::io;
+use std::io::Write;
+use std::process::Abort;
+use test_support::{Tried, again, both};
+
+/// Ends a test.
+fn end(rt: &(impl Abort), tried: Tried) {
+    assert!(rt;
+        tried != Tried::Wrong,
+        "a refused growth had another answer, or changed something"
+    );
+    assert!(rt;
+        tried != Tried::Again,
+        "a growth was refused, and the call made again"
+    );
+}
+
+/// A line that comes twice: the answer when it comes first, and the answer after that.
+struct Pair(&'static str, &'static str);
+
+/// The only node there is takes a lock, queues a client, and gives the lock back twice.
+const BOOK: &str = "book 1 1 1 0\nask 7 door X\nask 7 door X\nask 8 door S\nask 8 door S\n\
+    release 7 door\nrelease 7 door\nrelease 8 door\nrelease 8 door\n";
+
+const PAIRS: [Pair; 4] = [
+    Pair(
+        "request 1 7 door X 1\nenter 1 7 door X 1\nok\n",
+        "refused Busy\n",
+    ),
+    Pair("ok\n", "refused Busy\n"),
+    Pair(
+        "leave 1 7 door X 1\nrequest 1 8 door S 2\nenter 1 8 door S 2\nok\n",
+        "refused NotHeld\n",
+    ),
+    Pair("leave 1 8 door S 2\nok\n", "refused NotHeld\n"),
+];
+
+const MEMORY: &str = "refused Memory\n";
+
+/// Keeps what is written, without allocating.
+#[derive(Drop)]
+struct Kept {
+    bytes: [u8; 512],
+    count: usize,
+}
+
+impl Write for Kept {
+    fn write(&mut self, buf: &[u8]) -> io::Result<usize> {
+        let start = self.count.min(self.bytes.len());
+        let count = buf.len().min(self.bytes.len() - start);
+        self.bytes[start..start + count].copy_from_slice(&buf[..count]);
+        self.count = start + count;
+        Ok(count)
+    }
+
+    fn flush(&mut self) -> io::Result<()> {
+        Ok(())
+    }
+}
+
+/// Returns what follows two texts, or `None` if they are not there.
+fn after<'a>(text: &'a str, first: &str, second: &str) -> Option<&'a str> {
+    text.strip_prefix(first)?.strip_prefix(second)
+}
+
+/// Returns what became of a line that came twice, and the text after its answers.
+fn tried_of<'a>(text: &'a str, pair: &Pair) -> (Tried, &'a str) {
+    if let Some(rest) = after(text, pair.0, pair.1) {
+        return (Tried::AtOnce, rest);
+    }
+    match after(text, MEMORY, pair.0) {
+        Some(rest) => (Tried::Again, rest),
+        None => (Tried::Wrong, ""),
+    }
+}
+
+/// Returns what became of the lines with these answers.
+fn tried_in(text: &str) -> Tried {
+    let Some(mut rest) = text.strip_prefix("ok\n") else {
+        return Tried::Wrong;
+    };
+    let mut all = Tried::AtOnce;
+    for pair in &PAIRS {
+        let (tried, next) = tried_of(rest, pair);
+        all = both(all, tried);
+        rest = next;
+    }
+    if rest.is_empty() { all } else { Tried::Wrong }
+}
+
+#[test]
+fn lines_that_are_refused_for_memory_come_again(rt: HostRuntime) {
+    let mut reader = BOOK.as_bytes();
+    let mut kept = Kept {
+        bytes: [0; 512],
+        count: 0,
+    };
+    let result = answer_book(rt.alloc(), &mut reader, &mut kept);
+    assert_eq!(&rt; result, Ok(()));
+    let text = kept.bytes.get(..kept.count).unwrap_or(b"");
+    end(&rt, tried_in(str::from_utf8(text).unwrap_or("")));
+}
+
+/// The lines of node 1 of 2, each with the number of frames that it sends and of marks that it makes: a request, the reply
+/// to it, one of the other node that is deferred, and a leave that answers it.
+const LINES: [(&str, u64, u64); 4] = [
+    ("ask 7 door X", 1, 1),
+    (
+        "receive 020200020001000000000000000001000000000000000204646f6f72",
+        0,
+        1,
+    ),
+    (
+        "receive 020100020001010000000000000002000000000000000504646f6f72",
+        0,
+        0,
+    ),
+    ("release 7 door", 1, 1),
+];
+
+/// Hands a line to the node. If it is refused, returns whether that is for lack of memory and the clock is as before.
+fn hand(alloc: Global, node: &mut TimedNode, line: &(&str, u64, u64)) -> Result<Tried, bool> {
+    let text = line.0.as_bytes();
+    if text.len() > 256 {
+        return Err(false);
+    }
+    let Ok(kind) = event_of(text) else {
+        return Err(false);
+    };
+    let clock = node.clock();
+    match node.take(alloc, &kind) {
+        Ok(outcome) if outcome.sends.len() == line.1 && outcome.marks.len() == line.2 => {
+            Ok(Tried::AtOnce)
+        }
+        Ok(_) => Ok(Tried::Wrong),
+        Err(why) => Err(why == Refusal::Memory && node.clock() == clock),
+    }
+}
+
+#[test]
+fn events_that_are_refused_for_memory_come_again(rt: HostRuntime) {
+    let alloc = rt.alloc();
+    let mut all = Tried::AtOnce;
+    let (Some(one), Some(two)) = (NodeId::new(1), NodeId::new(2)) else {
+        return end(&rt, Tried::Wrong);
+    };
+    let Some(mut node) = TimedNode::new(alloc, one, two, 0) else {
+        return end(&rt, Tried::Wrong);
+    };
+    for line in &LINES {
+        let first = hand(alloc, &mut node, line);
+        let second = match first {
+            Err(true) => hand(alloc, &mut node, line),
+            _ => first,
+        };
+        all = both(all, again(first, second));
+    }
+    end(&rt, all);
+}
