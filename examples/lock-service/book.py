@@ -1,0 +1,97 @@
+"""The book of a node, in a file, and the node that it determines."""
+import fcntl
+import itertools
+import os
+import subprocess
+
+from failing import fail
+
+
+class Book:
+    """What was handed to a node, line by line, in a file. No two hosts can have it open."""
+
+    def __init__(self, options):
+        self.path, self.fsync = options.book, options.fsync
+        self.added = []  # lines that are not in the file yet
+        first = f"book 1 {options.node} {options.nodes} {options.start}"
+        try:
+            self.file = open(self.path, "ab")
+            fcntl.flock(self.file, fcntl.LOCK_EX | fcntl.LOCK_NB)
+            # A crash may have cut the last line off. Nothing that it caused went out, so it never happened.
+            whole = sum(len(line) for line in open(self.path, "rb") if line.endswith(b"\n"))
+            self.file.truncate(whole)
+            if not whole:
+                self.add(first)
+                self.write()
+                if self.fsync:
+                    self.sync_folder()
+        except BlockingIOError:
+            fail(f"another host has the book {self.path} open")
+        except OSError as why:
+            fail(f"cannot open the book: {why}")
+        found = next(self.lines())
+        if found != first:
+            fail(f"the book {self.path} begins with '{found}' instead of '{first}': it is of another node or cluster")
+
+    def sync_folder(self):
+        folder = os.open(os.path.dirname(os.path.abspath(self.path)), os.O_RDONLY)
+        os.fsync(folder)
+        os.close(folder)
+
+    def add(self, line):
+        self.added.append(line)
+
+    def write(self):
+        """Writes the lines that were added. After this they are in the file, even if the host is killed. They outlast a
+        power cut only with fsync."""
+        if not self.added:
+            return
+        try:
+            self.file.write("".join(f"{line}\n" for line in self.added).encode("latin-1"))
+            self.file.flush()
+            if self.fsync:
+                os.fsync(self.file.fileno())
+        except OSError as why:
+            fail(f"cannot write to the book {self.path}: {why}")
+        self.added.clear()
+
+    def lines(self):
+        """Returns the lines of the file, without their line feeds."""
+        with open(self.path, encoding="latin-1", newline="\n") as file:
+            yield from (line[:-1] for line in file)
+
+
+class Node:
+    """The program `ra node`, as a child process: lines of a book go in, and their answers come out. When the host dies,
+    its standard input ends, and so does the node."""
+
+    def __init__(self, program):
+        try:
+            self.process = subprocess.Popen([program, "node"], stdin=subprocess.PIPE, stdout=subprocess.PIPE)
+        except OSError as why:
+            fail(f"cannot start the node: {why}; `./ra --help` at the top of the repository builds the program")
+
+    def answers(self, lines):
+        """Hands these lines to the node, and returns the answer to each: its lines, as lists of words. The last one is
+        `ok` or `refused WORD`. The lines must fit into a pipe together, or both processes would wait for each other."""
+        try:
+            self.process.stdin.write("".join(f"{line}\n" for line in lines).encode("latin-1"))
+            self.process.stdin.flush()
+            return [self.read_answer() for _ in lines]
+        except OSError as why:
+            fail(f"the node has ended: {why}")
+
+    def read_answer(self):
+        answer = []
+        while not answer or answer[-1][0] not in ("ok", "refused"):
+            words = self.process.stdout.readline().decode("latin-1").split()
+            if not words:
+                fail("the node has ended")
+            answer.append(words)
+        return answer
+
+    def replay(self, lines):
+        """Hands a whole book to the node. Returns the answers in turn."""
+        lines = iter(lines)
+        while some := list(itertools.islice(lines, 100)):
+            yield from self.answers(some)
