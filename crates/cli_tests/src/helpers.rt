@@ -268,17 +268,19 @@ pub fn is_read_fault<T: AllocGlobal + Threads + Wait + Abort + Sync>(
     is_answer(&answered, 1, "refused Read\n") && bytes.get(before_fault..) == Some(reader.bytes)
 }
 
-/// Ends the test where it is not so of the first fault after one of the bytes, or before the first.
+/// Ends the test if it is not so of each fault of a reader, before the first byte and after each.
 pub fn assert_fails_at_each_byte<T: AllocGlobal + Threads + Wait + Abort + Sync>(
     rt: &T,
     line: &str,
     bytes: &[u8],
 ) {
-    for place in 0..=bytes.len() {
-        assert!(rt;
-            is_read_fault(rt, line, bytes, place, io::ErrorKind::Interrupted),
-            "{line}: behind {place} bytes"
-        );
+    for fault in FAULTS {
+        for place in 0..=bytes.len() {
+            assert!(rt;
+                is_read_fault(rt, line, bytes, place, fault),
+                "{line}: after {place} bytes"
+            );
+        }
     }
 }
 

@@ -344,10 +344,10 @@ fn knows_slots(bag: &mut Bag, taken: &Message, later: &Message) -> bool {
     bag.take(taken).is_some() && bag.find(later, 0) == before
 }
 
-/// Takes a message with each of the numbers from 1 to `count`, and returns whether all of them were there.
-fn takes_one_of_each(bag: &mut Bag, count: u64) -> bool {
+/// Takes a message with each of the `count` numbers after this one, and returns whether all of them were there.
+fn takes_one_of_each(bag: &mut Bag, after: u64, count: u64) -> bool {
     let mut all = true;
-    let mut seq = 0u64;
+    let mut seq = after;
     for _ in 0..count {
         seq = seq.wrapping_add(1);
         let sought = request(1, 2, seq);
@@ -367,7 +367,7 @@ fn try_equal_messages(alloc: Global, bag: &mut Bag) -> Tried {
     let found = bag.find(&request(1, 2, 70), 0).is_some();
     let room = try_reserve(bag, 0, 268);
     let knew = knows_slots(bag, &request(1, 2, 248), &request(1, 2, 258));
-    let taken = takes_one_of_each(bag, 238);
+    let taken = takes_one_of_each(bag, 0, 238);
     let knows = knows_slots(bag, &request(1, 2, 249), &request(1, 2, 258));
     if found && taken && knows == knew && bag.len() == 564 {
         both(put_all, room)
@@ -387,6 +387,45 @@ fn try_equal(alloc: Global) -> Result<Tried, bool> {
 #[test]
 fn growth_of_a_bag_with_equal_messages(rt: HostRuntime) {
     end(&rt, again(try_equal(rt.alloc()), try_equal(rt.alloc())));
+}
+
+/// Puts 3,000 messages into a bag, has it learn in which slot each one is, and takes more than half of them from after
+/// the first, so that it is closed up while more than 1,024 are left. Closing up needs no memory: if the bag knew the
+/// slots before, it knows them after.
+fn try_closing_up(alloc: Global, bag: &mut Bag) -> Tried {
+    let mut list = Messages::new(alloc);
+    let pushed = try_pushes(&mut list, 3_000);
+    let put = try_put(bag, &list);
+    let wanted = bag.take(&request(1, 2, 3_000)).is_some() && takes_one_of_each(bag, 2_989, 1);
+    let room = if bag.reserve(0).is_ok() {
+        Tried::AtOnce
+    } else {
+        Tried::Again
+    };
+    let knew = knows_slots(bag, &request(1, 2, 2_950), &request(1, 2, 2_960));
+    let taken = takes_one_of_each(bag, 1, 1_600);
+    let knows = knows_slots(bag, &request(1, 2, 2_951), &request(1, 2, 2_960));
+    if wanted && taken && knows == knew && bag.len() == 1_396 {
+        both(pushed, both(put, room))
+    } else {
+        Tried::Wrong
+    }
+}
+
+/// Makes a bag, puts many messages into it and takes more than half of them. If there is no bag, memory ran out.
+fn try_closed_up(alloc: Global) -> Result<Tried, bool> {
+    match Bag::new(alloc) {
+        Ok(mut bag) => Ok(try_closing_up(alloc, &mut bag)),
+        Err(_) => Err(true),
+    }
+}
+
+#[test]
+fn growth_of_a_bag_that_is_closed_up(rt: HostRuntime) {
+    end(
+        &rt,
+        again(try_closed_up(rt.alloc()), try_closed_up(rt.alloc())),
+    );
 }
 
 /// Returns whether a request may wait, whether it may enter, and whether it holds.
