@@ -18,7 +18,7 @@ use Rattle.ra_frame.specs.declared.frame.Frame.{Frame}
 use Rattle.ra_world.specs.declared.error.StepError.{StepError}
 use Rattle.ra_world.specs.declared.error.StepError.TheVariants as refusal
 use Rattle.ra_world.specs.declared.step.Step.{Step}
-use Rattle.ra_world.specs.Traffic.{Move, repeated_in, repeated_by}
+use Rattle.ra_world.specs.Traffic.{Move, lost_in, lost_by, repeated_in, repeated_by}
 use Rattle.ra_world.specs.Run.{IsRun, GoesOn, events_at, happened_at, marks_of}
 use Rattle.ra_world.specs.World.{WorldState, with_move}
 use Rattle.ra_cluster.specs.declared.event.BookEvent.{BookEvent}
@@ -33,7 +33,7 @@ use Rattle.ra_cluster.specs.declared.event.BookKind.TheVariants.{Got}
 use Rattle.ra_cluster.specs.History.{node_event, clock_of}
 use Rattle.ra_cluster.specs.Settled.{step_at}
 use Rattle.ra_cluster.specs.Audit.{ProgressState, IsAudited, HasSettled, IsForNumber, IsDue, IsReady, IsMisfit, Advances, AreNextAt, AtNumber, Takes, fresh_progress, taken_of, with_more}
-use Rattle.ra_cluster.proofs.Projections.{events_by, repeated_in_event, one_event}
+use Rattle.ra_cluster.proofs.Projections.{events_by, lost_in_event, repeated_in_event, one_event}
 use Rattle.ra_cluster.proofs.SiteNumbers.{numbers_more}
 
 -- the node at a place has the number after it
@@ -60,6 +60,10 @@ marks_append (m ∷ a) b = ap (λ (ms : List Mark). m.marks ++ ms) (marks_append
 repeated_more : (moves : List Move) (m : Move) → repeated_by (moves ++ m ∷ []) ≡ repeated_by moves ++ repeated_in m.step
 repeated_more [] m = append-nil (repeated_in m.step)
 repeated_more (x ∷ moves) m = ap (λ (ms : List Message). repeated_in x.step ++ ms) (repeated_more moves m) ∙ sym (append_assoc (repeated_in x.step) (repeated_by moves) (repeated_in m.step))
+
+lost_more : (moves : List Move) (m : Move) → lost_by (moves ++ m ∷ []) ≡ lost_by moves ++ lost_in m.step
+lost_more [] m = append-nil (lost_in m.step)
+lost_more (x ∷ moves) m = ap (λ (ms : List Message). lost_in x.step ++ ms) (lost_more moves m) ∙ sym (append_assoc (lost_in x.step) (lost_by moves) (lost_in m.step))
 
 module _ (w : WorldState) (nodes : List ProgressState) (place : ℕ) (p q : ProgressState) (e : BookEvent) (sends : List Message) (marks : List Mark)
     (a : IsAudited w nodes) (within : place < length nodes) (at : p ≡ get_or nodes place p) (for_node : IsForNumber p.node e.kind)
@@ -112,6 +116,7 @@ module _ (w : WorldState) (nodes : List ProgressState) (place : ℕ) (p q : Prog
               subst (HasSettled (w.moves ++ m ∷ [])) (sym is) (elsewhere (get_or nodes k d) apart (a.events k d low'))
         ];
     unrepeated = repeated_more w.moves m ∙ (λ j. a.unrepeated j ++ repeated_in_event p.node e.kind j);
+    unlost = lost_more w.moves m ∙ (λ j. a.unlost j ++ lost_in_event p.node e.kind j);
   }
 
   pub advances_one : (told told' : List Mark) → told' ≡ told ++ marks → Advances w nodes told (with_move w (step_at p.node e.kind) sends marks) (set nodes place q) told'
@@ -312,6 +317,7 @@ taken_audited w nodes nodes' node after events answer a takes = of answer takes.
           numbers = map-set_same (λ (p : ProgressState). p.node) nodes (node - 1) (with_more p events) p (ap (λ (x : ProgressState). x.node) (sym at)) ∙ a.numbers;
           events = All-set (HasSettled w.moves) nodes (node - 1) (with_more p events) (subst (HasSettled w.moves) at (a.events (node - 1) p within)) a.events;
           unrepeated = a.unrepeated;
+          unlost = a.unlost;
         })
 
 -- ---- The first moment
@@ -331,6 +337,7 @@ audited_at_first n start w count run is nodes nodes_are =
       numbers = fresh_numbers (range_with_len 1 n);
       events = All-map (HasSettled []) fresh_progress (range_with_len 1 n) (λ k d low. refl);
       unrepeated = refl;
+      unlost = refl;
     }))
 
 pub fresh_more : (n : ℕ) (nodes : List ProgressState) → nodes ≡ map fresh_progress (range_with_len 1 n) → nodes ++ fresh_progress (n + 1) ∷ [] ≡ map fresh_progress (range_with_len 1 (n + 1))

@@ -52,7 +52,7 @@ lost_by_losses : (ms : List Message) → flat_map lost_in (map (λ m. Lose m) ms
 lost_by_losses [] = refl
 lost_by_losses (m ∷ ms) = ap (λ (xs : List Message). m ∷ xs) (lost_by_losses ms)
 
-lost_in_event : (i : ℕ) (kind : BookKind) → lost_in (step_at i kind) ≡ []
+pub lost_in_event : (i : ℕ) (kind : BookKind) → lost_in (step_at i kind) ≡ []
 lost_in_event i (Asked client name mode) = refl
 lost_in_event i (Gave client name) = refl
 lost_in_event i (Got frame) = refl

@@ -6,7 +6,7 @@ use Rattle.ra_stamp.specs.NodeId.{IsNodeNumber}
 use Rattle.ra_stamp.specs.Message.{from_of, to_of}
 use Rattle.ra_table.specs.Table.{LockTable, TableRun, MayEnter}
 use Rattle.ra_table.specs.Laws.{IsConflictFree}
-use Rattle.ra_world.specs.Traffic.{Move, repeated_by}
+use Rattle.ra_world.specs.Traffic.{Move, lost_by, repeated_by}
 use Rattle.ra_world.specs.Run.{IsRun, GoesOn, happened_at, marks_of}
 use Rattle.ra_world.specs.Quiet.{IsQuiet, IsBlocked, MeetsMessageCount}
 use Rattle.ra_world.specs.World.{WorldState}
@@ -71,14 +71,15 @@ AreNextAt node clock (event ∷ events) = IsNextAt node clock event × AreNextAt
 abbrev pub HasSettled : List Move → ProgressState → Type 0
 HasSettled moves p = map (λ h. h.event) (happened_at p.node moves) ≡ map (λ e. node_event e.kind) p.settled
 
--- The moves are a run of these nodes in which nothing was repeated. What happened in it at each node are the settled
--- events, which are the first of those that were taken from the node.
+-- The moves are a run of these nodes in which nothing was repeated or lost. What happened in it at each node are the
+-- settled events, which are the first of those that were taken from the node.
 pub record IsAudited (world : WorldState) (nodes : List ProgressState) : Type 0 where
   pub count : IsNodeNumber world.count
   pub run : IsRun world.count world.start world.moves
   pub numbers : map (λ p. p.node) nodes ≡ range_with_len 1 world.count
   pub events : All (HasSettled world.moves) nodes
   pub unrepeated : repeated_by world.moves ≡ []
+  pub unlost : lost_by world.moves ≡ []
 
 -- ---- Which event can be put into the run
 

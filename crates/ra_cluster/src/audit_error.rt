@@ -12,7 +12,7 @@ use thiserror::Error;
 pub struct AuditFault {
     /// At which node.
     pub node: NodeId,
-    /// The event. If a frame came, it was never sent, it was lost, or its message came before.
+    /// The event. If a frame came, it was never sent, or its message came before.
     pub event: BookEvent,
 }
 

@@ -11,7 +11,7 @@ use ra_world::{MarklessWorld, StepError};
 use std::alloc::Global;
 
 /// Puts each event that can be put into the run, and tells the observer the marks. Each turn looks at the nodes from the
-/// one of the turn before on, so that it mostly looks at that one alone, and at each node at most once.
+/// one of the turn before on, so that it mostly looks at that one alone. If none from there on can go on, it looks at all.
 ///
 /// # Errors
 ///
