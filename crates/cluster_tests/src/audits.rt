@@ -171,7 +171,7 @@ fn advances(
 }
 
 /// Returns the event with its node.
-fn fault_of(name: Name, came: Came) -> Option<AuditFault> {
+pub fn fault_of(name: Name, came: Came) -> Option<AuditFault> {
     let Came(number, clock, sent, wire) = came;
     let node = NodeId::new(number)?;
     let frame = Frame {

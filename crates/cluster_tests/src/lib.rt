@@ -23,6 +23,8 @@ mod growth_of_auditors;
 #[cfg(test)]
 mod growth_of_clusters;
 #[cfg(test)]
+mod growth_of_rounds;
+#[cfg(test)]
 mod growth_of_settling;
 #[cfg(test)]
 mod growth_of_sites;
@@ -40,6 +42,8 @@ mod orders;
 mod outcomes;
 #[cfg(test)]
 mod plans;
+#[cfg(test)]
+mod rounds;
 #[cfg(test)]
 mod scripts;
 #[cfg(test)]

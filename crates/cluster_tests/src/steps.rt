@@ -174,7 +174,7 @@ fn site(sites: &[Site], number: u16) -> Option<&Site> {
 
 /// Sends a message in a frame with this clock. Returns whether it is refused for this reason, or is sent if there is no
 /// reason.
-fn sends<R: Wait>(
+pub fn sends<R: Wait>(
     rt: &R,
     alloc: Global,
     post: &Post,

@@ -1,4 +1,4 @@
-//! A service that goes on for long. Clients lock and unlock names, and every so often the first of them audits the cluster, so
+//! A service that goes on for long. Clients lock and unlock names, and every so often one of them audits the cluster, so
 //! that its memory does not grow with the number of locks.
 //!
 //! The arguments are how many locks to give in all, how many nodes and how many clients.
@@ -10,12 +10,13 @@ use ra_cluster::{
 };
 use ra_stamp::{Mark, Mode, Name, NodeId};
 use std::alloc::Global;
+use std::sync::atomic::{AtomicU64, Ordering};
 use std::sync::{Mutex, Wait};
 use std::thread::Threads;
 use std::{env, thread};
 
-/// After about how many locks of all clients together the first client audits the cluster.
-const LOCKS_A_ROUND: u64 = 1_000;
+/// After about how many events of all nodes together a client audits the cluster.
+const EVENTS_A_ROUND: u64 = 6_000;
 
 /// The names that the clients lock.
 const NAMES: [&[u8]; 4] = [b"disk", b"index", b"queue", b"table"];
@@ -83,6 +84,8 @@ struct Figures {
 enum Failure {
     /// There is no such name or node.
     Plan,
+    /// The thread of a client could not be started.
+    Spawn,
     /// A call of a client failed.
     Call(CallError),
     /// A name was not given back.
@@ -96,6 +99,8 @@ enum Failure {
 struct Service<'a> {
     plan: Plan,
     cluster: &'a Cluster<OpenGate>,
+    /// How many locks all clients together were given.
+    given: &'a AtomicU64,
     audit: &'a Mutex<Rounds>,
     failure: &'a Mutex<Option<Failure>>,
 }
@@ -161,15 +166,22 @@ fn lock_once<R: Wait>(
     }
 }
 
-/// Returns after how many locks of its own the first client audits the cluster.
+/// Returns after how many locks of all clients together one of them audits. Each lock makes two events for each node: an ask and a
+/// leave, and a REQUEST and a REPLY for each other node.
 fn locks_a_round(plan: Plan) -> u64 {
-    match LOCKS_A_ROUND.checked_div(u64::from(plan.clients)) {
+    match EVENTS_A_ROUND.checked_div(u64::from(plan.nodes).saturating_mul(2)) {
         Some(locks) => locks.max(1),
         None => 1,
     }
 }
 
-/// A client locks and unlocks its name at its node, as often as is its share. The first client also audits.
+/// Counts a lock that was given. Returns whether a round is due after it.
+fn ends_a_round(service: &Service<'_>) -> bool {
+    let given = service.given.fetch_add(1, Ordering::SeqCst).saturating_add(1);
+    given.checked_rem(locks_a_round(service.plan)) == Some(0)
+}
+
+/// A client locks and unlocks its name at its node, as often as is its share. It audits whenever a round is due after its lock.
 fn lock_and_unlock<R: Wait>(
     rt: &R,
     alloc: Global,
@@ -179,13 +191,10 @@ fn lock_and_unlock<R: Wait>(
     let (Some(node), Some(name)) = (node_of(service.plan, client), name_of(client)) else {
         return Err(Failure::Plan);
     };
-    let mut since_round = 0u64;
     for _ in 0..share_of(service.plan, client) {
         lock_once(rt, alloc, service.cluster, node, u32::from(client), name)?;
-        since_round = since_round.saturating_add(1);
-        if client == 0 && since_round == locks_a_round(service.plan) {
+        if ends_a_round(service) {
             audit(rt, alloc, service)?;
-            since_round = 0;
         }
     }
     Ok(())
@@ -215,7 +224,7 @@ fn run_clients<R: Threads + Wait + Sync>(rt: &R, alloc: Global, service: &Servic
         for client in 0..service.plan.clients {
             let started = clients.spawn(move || work(rt, alloc, service, client));
             if started.is_err() {
-                service.cluster.stop(rt, Stop::Spawn);
+                service.fail(rt, Failure::Spawn);
             }
         }
     })
@@ -246,9 +255,11 @@ fn run_in<R: Threads + Wait + Sync>(
 ) -> Result<Rounds> {
     let rounds = Mutex::new(Rounds::new(alloc, plan.nodes)?);
     let failure = Mutex::new(None);
+    let given = AtomicU64::new(0);
     let service = Service {
         plan,
         cluster,
+        given: &given,
         audit: &rounds,
         failure: &failure,
     };
@@ -300,12 +311,17 @@ fn serve<R: Threads + Wait + Sync>(rt: &R, alloc: Global, plan: Plan) -> Result<
 fn main(rt: HostRuntime) -> Result<()> {
     let alloc = rt.alloc();
     let words: Vec<String> = env::args(&rt)?.collect(alloc)?;
-    let figures = serve(&rt, alloc, plan_of(&words)?)?;
+    let plan = plan_of(&words)?;
+    let figures = serve(&rt, alloc, plan)?;
     println!(rt; "rounds {}", figures.rounds)?;
     println!(rt; "steps {}", figures.steps)?;
     println!(rt; "marks {}", figures.marks)?;
     println!(rt; "requests {}", figures.requests)?;
     println!(rt; "messages {}", figures.messages)?;
-    ensure!(figures.under_way == 0, "messages are under way");
+    let all_given = figures.requests == u128::from(plan.locks);
+    ensure!(
+        all_given && figures.under_way == 0,
+        "not all locks were given and taken back"
+    );
     Ok(())
 }

@@ -1,15 +1,16 @@
 -- Rounds of an audit: the events that were taken of each node go on.
 use Rattle.std.proofs.Common.{◌≡◌, ℕ, zero, suc, ◌-◌, List, [], ◌∷◌, ◌++◌, map, drop, get_or, set, Option, Some, Result, Ok, Err, refl, sym, ap, ◌∙◌, subst, append_assoc}
-use Rattle.std.specs.Prelude.{slice_get, OnOk, IsErrOf}
+use Rattle.std.specs.Prelude.{slice_get, All, IsOk, IsErrOf, OnOk}
 use Rattle.std.specs.List.{range_with_len}
 use Rattle.std.proofs.lemmas.List.{append-nil}
 use Rattle.std.proofs.lemmas.Option.{same_Some, none-some}
 use Rattle.ra_stamp.specs.declared.entry.Mark.{Mark}
+use Rattle.ra_cluster.specs.declared.audit_error.AuditError.{AuditError}
 use Rattle.ra_cluster.specs.declared.audit_error.AuditFault.{AuditFault}
 use Rattle.ra_cluster.specs.declared.audit_error.RoundError.TheVariants as round
 use Rattle.ra_cluster.specs.declared.audit_error.TakeError.{TakeError}
 use Rattle.ra_cluster.specs.declared.event.BookEvent.{BookEvent}
-use Rattle.ra_cluster.specs.Audit.{ProgressState, AuditState, IsAudited, Advances, Audits, TakenGoOn, TakesMore, Takes, taken_of, with_more}
+use Rattle.ra_cluster.specs.Audit.{ProgressState, AuditState, NoneIsReady, MayBePut, IsUnsent, IsAudited, Advances, Audits, TakenGoOn, TakesMore, Takes, taken_of, with_more}
 
 pub go_nowhere : (nodes : List ProgressState) → TakenGoOn nodes nodes
 go_nowhere [] = tt
@@ -105,6 +106,49 @@ audits_all old mid new told told' takes advances = record {
       (advances.audited.numbers ∙ ap (λ (n : ℕ). range_with_len 1 n) advances.count ∙ sym takes.audited.numbers) advances.taken);
 }
 
+-- what holds if all that can be put was put
+pub if_done : (A : Type 0) (r : Result (Unit {0}) AuditError) → IsOk r → OnOk r A → A
+if_done A (Ok x) done h = h
+if_done A (Err e) done h = absurd cc
+
 -- a round tells the fault that the auditor told
 pub same_fault : (a b : AuditFault) → IsErrOf {T = Unit {0}} (Err (round.Fault a)) (round.Fault b) → a ≡ b
 same_fault a b h = cc
+
+-- ---- With a fault that is noted at its end
+
+pub audits_noted : (old new noted : AuditState) (told told' : List Mark) (fault : AuditFault) → noted ≡ record new { fault = Some fault } → Audits old told new told'
+    → Audits old told noted told'
+audits_noted old new noted told told' fault same a = subst (λ (x : AuditState). Audits old told x told') (sym same) (record {
+  audited = a.audited;
+  count = a.count;
+  start = a.start;
+  moves = a.moves;
+  goes_on = a.goes_on;
+  told_are = a.told_are;
+  taken = a.taken;
+})
+
+pub fault_noted : (new noted : AuditState) (fault other : AuditFault) → noted ≡ record new { fault = Some fault } → fault ≡ other → noted.fault ≡ Some other
+fault_noted new noted fault other same is = ap (λ (a : AuditState). a.fault) same ∙ ap (λ (f : AuditFault). Some f) is
+
+pub unsent_noted : (clocks known : List ℕ) (new noted : AuditState) (fault other : AuditFault) → clocks ≡ known → noted ≡ record new { fault = Some fault } → fault ≡ other
+    → IsUnsent clocks new.nodes fault → IsUnsent known noted.nodes other
+unsent_noted clocks known new noted fault other clocks_are same is unsent =
+    subst (λ (cs : List ℕ). IsUnsent cs noted.nodes other) clocks_are
+    (subst (λ (ns : List ProgressState). IsUnsent clocks ns other) (sym (ap (λ (a : AuditState). a.nodes) same))
+    (subst (IsUnsent clocks new.nodes) is unsent))
+
+-- ---- With none
+
+pub audits_as : (old new noted : AuditState) (told told' : List Mark) → noted ≡ new → Audits old told new told' → Audits old told noted told'
+audits_as old new noted told told' same = subst (λ (x : AuditState). Audits old told x told') (sym same)
+
+pub none_ready_as : (new noted : AuditState) → noted ≡ new → NoneIsReady new.nodes → NoneIsReady noted.nodes
+none_ready_as new noted same = subst (λ (a : AuditState). NoneIsReady a.nodes) (sym same)
+
+pub may_be_put_as : (clocks known : List ℕ) (new noted : AuditState) → clocks ≡ known → noted ≡ new → All (MayBePut clocks new.nodes) new.nodes
+    → All (MayBePut known noted.nodes) noted.nodes
+may_be_put_as clocks known new noted clocks_are same may =
+    subst (λ (cs : List ℕ). All (MayBePut cs noted.nodes) noted.nodes) clocks_are
+    (subst (λ (a : AuditState). All (MayBePut clocks a.nodes) a.nodes) (sym same) may)

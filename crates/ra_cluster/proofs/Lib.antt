@@ -44,6 +44,7 @@ mod NextEvents
 mod AuditSteps
 mod RunTheorems
 mod LeastWaiting
+mod UnsentFrames
 mod Departing
 mod AuditRounds
 mod TakenEvents

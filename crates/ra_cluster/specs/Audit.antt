@@ -1,5 +1,5 @@
 -- An auditor as contracts see it: what has happened so far at running nodes, put into one run of the cluster.
-use Rattle.std.specs.Prelude.{◌≡◌, ◌≢◌, ◌↔◌, ℕ, ◌-◌, ◌<◌, ◌≤◌, ◌^◌, Option, Some, Result, IsErrOf, OnOk, OnErr, List, [], ◌∷◌, ◌++◌, length, map, All, slice_get, slice_set}
+use Rattle.std.specs.Prelude.{◌≡◌, ◌≢◌, ◌↔◌, ◌⊎◌, ℕ, true, ◌-◌, ◌<◌, ◌≤◌, ◌^◌, Option, Some, Result, IsErrOf, OnOk, OnErr, List, [], ◌∷◌, ◌++◌, length, map, All, slice_get, slice_index_or, slice_set}
 use Rattle.std.specs.List.{Any, range_with_len}
 use Rattle.ra_stamp.specs.declared.entry.Mark.{Mark}
 use Rattle.ra_stamp.specs.NodeId.{IsNodeNumber}
@@ -20,6 +20,7 @@ use Rattle.ra_cluster.specs.declared.event.BookKind.TheVariants.{Asked, Gave, Go
 use Rattle.ra_cluster.specs.declared.event.BookEvent.{BookEvent}
 use Rattle.ra_cluster.specs.History.{clock_after, clock_of, node_event}
 use Rattle.ra_cluster.specs.Settled.{step_at}
+use Rattle.ra_cluster.specs.Cluster.{ClusterState}
 
 -- ---- What an auditor knows
 
@@ -110,6 +111,12 @@ pub record IsMisfit (world : WorldState) (nodes : List ProgressState) (fault : A
 
 -- ---- What a round does
 
+-- the cluster is audited, and the auditor was made for as many nodes and the same start
+pub record IsAuditorOf (cluster : ClusterState) (auditor : AuditState) : Type 0 where
+  pub audited : cluster.audited ≡ true
+  pub count : auditor.world.count ≡ cluster.nodes
+  pub start : auditor.world.start ≡ cluster.start
+
 -- The run went on by some moves, whose marks were told in their order. Of each node the same events are taken as before.
 pub record Advances (old : WorldState) (nodes : List ProgressState) (told : List Mark) (new : WorldState)
     (nodes' : List ProgressState) (told' : List Mark) : Type 0 where
@@ -195,6 +202,43 @@ pub record IsNeverSent (nodes : List ProgressState) (fault : AuditFault) : Type 
   pub frame : Frame
   pub came : fault.event.kind ≡ Got frame
   pub no_event : All (λ p. p.node ≡ from_of frame.message → All (λ e. e.clock ≢ frame.clock) (taken_of p)) nodes
+
+-- ---- What waits after a round
+
+-- of each node, the clock of the last event that was taken from it, or 0 before the first
+abbrev pub clocks_taken : List ProgressState → List ℕ
+clocks_taken nodes = map (λ p. clock_of (taken_of p)) nodes
+
+-- among these clocks that of the node with this number, or 0
+abbrev pub clock_at : List ℕ → ℕ → ℕ
+clock_at clocks node = slice_index_or clocks (node - 1) 0
+
+-- The event that sent the frame may still be put into the run: the sender's events that were taken come to the frame's
+-- clock, and one waits that is not after it; or they do not, and the frame is new, so that the event may yet be taken.
+abbrev pub MayComeFrom : ℕ → Type 0 → ProgressState → Type 0
+MayComeFrom clock IsNew s =
+    ((clock ≤ clock_of (taken_of s)) × (first : BookEvent) × (slice_get s.waiting 0 ≡ Some first) × (first.clock ≤ clock))
+    ⊎ ((clock_of (taken_of s) < clock) × IsNew)
+
+-- of a frame that came, this holds of its sender
+abbrev pub MayCome : List ProgressState → Type 0 → BookKind → Type 0
+MayCome nodes IsNew (Asked client name mode) = Unit {0}
+MayCome nodes IsNew (Gave client name) = Unit {0}
+MayCome nodes IsNew (Got frame) = All (λ s. s.node ≡ from_of frame.message → MayComeFrom frame.clock IsNew s) nodes
+
+-- The node's next event, if one waits, may still be put into the run. A frame is new if it was taken after the nodes had
+-- these clocks.
+abbrev pub MayBePut : List ℕ → List ProgressState → ProgressState → Type 0
+MayBePut clocks nodes p = (event : BookEvent) → slice_get p.waiting 0 ≡ Some event
+    → MayCome nodes (clock_at clocks p.node < event.clock) event.kind
+
+-- The next event of the node is a frame that came, and no event of its sender has its clock: none that was taken has it,
+-- and they go beyond it, or the frame was taken by the time at which the nodes had these clocks. In the second case it is
+-- so if all events of the sender up to that time were taken since.
+pub record IsUnsent (clocks : List ℕ) (nodes : List ProgressState) (fault : AuditFault) : Type 0 where
+  pub never_sent : IsNeverSent nodes fault
+  pub sure : All (λ s. s.node ≡ from_of never_sent.frame.message
+      → (never_sent.frame.clock < clock_of (taken_of s)) ⊎ (fault.event.clock ≤ clock_at clocks fault.node)) nodes
 
 -- no event that was taken waits
 abbrev pub NoneWaits : List ProgressState → Type 0

@@ -1,8 +1,11 @@
 -- How an auditor keeps what it knows of a node. No public contract speaks of it.
-use Rattle.std.specs.Prelude.{◌≡◌, ◌≤◌, ◌++◌, List, Option, Some, None, All, slice_get}
+use Rattle.std.specs.Prelude.{◌≡◌, ◌≢◌, ◌⊎◌, ℕ, ◌<◌, ◌≤◌, ◌++◌, List, Option, Some, None, All, slice_get}
 use Rattle.std.specs.List.{Any}
 use Rattle.ra_cluster.specs.declared.progress.Progress.TheInside.{Inside}
+use Rattle.ra_stamp.specs.Message.{from_of}
+use Rattle.ra_frame.specs.declared.frame.Frame.{Frame}
 use Rattle.ra_cluster.specs.declared.audit_error.AuditFault.{AuditFault}
+use Rattle.ra_cluster.specs.declared.event.BookKind.TheVariants.{Got}
 use Rattle.ra_cluster.specs.declared.event.BookEvent.{BookEvent}
 use Rattle.ra_cluster.specs.History.{clock_of}
 use Rattle.ra_cluster.specs.Audit.{ProgressState, AreNextAt, NoneWaits, taken_of}
@@ -30,3 +33,12 @@ IsLeastOf nodes (Some fault) = IsLeastWaiting nodes fault
 -- the events of each of these nodes were taken one after the other
 abbrev pub AreTaken : List ProgressState → Type 0
 AreTaken nodes = All (λ p. AreNextAt p.node 0 (taken_of p)) nodes
+
+-- none of the node's events has this clock, and they go beyond it, or it is so that none is still to come
+abbrev pub HasNone : ℕ → Type 0 → ProgressState → Type 0
+HasNone clock NoneComes s = All (λ e. e.clock ≢ clock) (taken_of s) × ((clock < clock_of (taken_of s)) ⊎ NoneComes)
+
+-- the event is a frame that came, and of its sender that holds
+abbrev pub IsOfNone : List ProgressState → Type 0 → BookEvent → Type 0
+IsOfNone nodes NoneComes event = (frame : Frame) × (event.kind ≡ Got frame)
+    × All (λ s. s.node ≡ from_of frame.message → HasNone frame.clock NoneComes s) nodes

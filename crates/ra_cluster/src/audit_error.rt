@@ -45,6 +45,14 @@ pub enum TakeError {
 #[derive(Clone, Copy, Debug, PartialEq, Eq, Error)]
 #[error("{:?}", self)]
 pub enum RoundError {
+    /// The cluster was not made to be audited.
+    NotAudited,
+    /// The auditor was made for another number of nodes, or with another start.
+    OtherCluster,
+    /// An event does not fit, or a frame was never sent. This or an earlier round found it.
+    Fault(AuditFault),
+    /// Memory ran out before events were taken, or while they were put into the run.
+    Memory,
     /// The events of a node were not taken.
     NotTaken {
         /// Of which node.
@@ -52,10 +60,6 @@ pub enum RoundError {
         /// Why.
         cause: TakeError,
     },
-    /// An event does not fit, now or in an earlier round.
-    Fault(AuditFault),
-    /// Memory ran out.
-    Memory,
 }
 
 /// Why the audit of a cluster did not end with all that happened in the run.

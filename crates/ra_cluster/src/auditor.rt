@@ -1,4 +1,4 @@
-ghost use Rattle.std.specs.Prelude.{◌≡◌, ◌↔◌, ◌∷◌, ◌++◌, [], List, Some, None, length, map, IsErrOf, IfOk, OnOk, MatchOption};
+ghost use Rattle.std.specs.Prelude.{◌≡◌, ◌↔◌, ◌∷◌, ◌++◌, [], List, Some, None, All, length, map, sum_by, IsErrOf, IfOk, IfSome, IsNone, IsTrue, OnOk, MatchOption};
 ghost use Rattle.std.specs.List.{range_with_len};
 ghost use Rattle.ra_stamp.specs.NodeId.{IsNodeNumber};
 ghost use Rattle.ra_world.specs.Traffic.{LeavesUnderWay, sent_by};
@@ -6,13 +6,14 @@ ghost use Rattle.ra_world.specs.Quiet.{requests_in};
 ghost use Rattle.ra_world.specs.Run.{marks_of};
 ghost use Rattle.ra_cluster.specs.declared.audit_error.AuditFault as audit_fault;
 ghost use Rattle.ra_stamp.specs.declared.message.Message.{Message};
-ghost use Rattle.ra_cluster.specs.Audit.{Takes, NoneWaits, IsNeverSent, fresh_progress};
+ghost use Rattle.ra_cluster.specs.Audit.{Takes, NoneWaits, IsNeverSent, MayBePut, IsUnsent, clocks_taken, fresh_progress};
 
 use crate::audit_laws::runs_meet_the_theorem;
 use crate::auditing::put_all;
 use crate::desk::Handed;
 use crate::progress::Progress;
-use crate::unsettled::first_unsettled;
+use crate::unsent::{clocks_of, first_unsent};
+use crate::unsettled::{first_unsettled, waiting_at};
 use crate::{AuditError, AuditFault, BookEvent, MarkObserver, Site, TakeError};
 use ra_stamp::{Memory, NodeId};
 use ra_world::{MarklessWorld, NewError};
@@ -31,6 +32,9 @@ use std::sync::Wait;
 #[derive(Drop)]
 pub struct Auditor {
     world: MarklessWorld,
+    /// Of how many nodes the run is, and the start beyond which the numbers of requests begin.
+    count: u16,
+    start: u64,
     /// By the nodes' numbers, from 1.
     nodes: Vec<Progress>,
     fault: Option<AuditFault>,
@@ -39,13 +43,14 @@ pub struct Auditor {
 }
 
 impl Model for Auditor {
+    ghost use Rattle.std.specs.Prelude.{◌≡◌};
     ghost use Rattle.ra_cluster.specs.Audit.{AuditState, IsAudited};
 
     ghost Value = { AuditState };
 
     ghost view = { λ a. record { world = a.world; nodes = a.nodes.items; fault = a.fault } };
 
-    ghost invariant = { λ a. IsAudited a.world a.nodes.items };
+    ghost invariant = { λ a. IsAudited a.world a.nodes.items × (a.count ≡ a.world.count) × (a.start ≡ a.world.start) };
 }
 
 impl Auditor {
@@ -73,6 +78,8 @@ impl Auditor {
         let handed = none_handed(alloc, nodes)?;
         Ok(Auditor {
             world,
+            count: nodes,
+            start,
             nodes: progress,
             fault: None,
             handed,
@@ -98,12 +105,21 @@ impl Auditor {
         take_into(self.nodes.as_mut_slice(), node, after, events)
     }
 
+    /// Returns whether the auditor was made for this many nodes and this start.
+    pub(crate) fn is_for(&self, nodes: u16, start: u64) -> bool
+        ensures value { IsTrue result ↔ ((self.now.world.count ≡ nodes) × (self.now.world.start ≡ start)) }
+        ensures audited { IsAudited self.now.world self.now.nodes }
+    {
+        self.count == nodes && self.start == start
+    }
+
     /// Has a site hand over what has happened since the last time, and takes it. What it handed over before and was not taken for
     /// want of memory comes first.
     ///
     /// # Errors
     ///
-    /// Those of `take`. After `Memory`, what was handed over is kept here, and what was not is kept at the node.
+    /// Those of `take`. After `Memory`, what was handed over is kept here, and what was not is kept at the node. After any other
+    /// error, the node has handed over nothing.
     pub(crate) fn take_handed<R: Wait>(
         &mut self,
         rt: &R,
@@ -114,9 +130,21 @@ impl Auditor {
     {
         let node = site.node();
         self.take_kept(alloc, node)?;
-        let handed = site.hand_over(rt, alloc)?;
+        let Some(after) = self.latest_of(node) else {
+            return Err(TakeError::NoNode);
+        };
+        let mut handed = site.hand_over(rt, alloc, after)?;
+        // The frames are of no use here, and let go without the node's lock.
+        handed.sent = Vec::new(alloc);
         self.keep(node, handed);
         self.take_kept(alloc, node)
+    }
+
+    /// Returns the clock of the last event that was taken from a node, 0 before the first, or `None` if there is no such node.
+    fn latest_of(&self, node: NodeId) -> Option<u64> {
+        // Nodes are counted from 1.
+        let progress = self.nodes.get(usize::from(node.get()) - 1)?;
+        Some(progress.latest())
     }
 
     /// Keeps what a node handed over, until it is taken.
@@ -163,6 +191,30 @@ impl Auditor {
         Some(mem::replace(place, Handed::nothing(alloc)))
     }
 
+    /// Returns, of each node, the clock of the last event that was taken from it, or 0 before the first.
+    pub(crate) fn clocks(&self, alloc: Global) -> Result<Vec<u64>, Memory>
+        ensures { IfOk result (λ clocks. clocks.items ≡ clocks_taken self.now.nodes) }
+    {
+        clocks_of(alloc, &self.nodes)
+    }
+
+    /// Looks for a frame that is the next event of its node and was never sent, and notes it as the fault. The nodes had these
+    /// clocks before their last events were taken. Returns `None` if each frame that waits may still be put.
+    pub(crate) fn find_unsent(&mut self, clocks: &[u64]) -> Option<AuditFault>
+        requires { NoneIsReady self.old.nodes }
+        ensures none { IsNone result → (self.new ≡ self.old) × All (MayBePut clocks.now self.old.nodes) self.old.nodes }
+        ensures found { IfSome result (λ fault. (self.new ≡ record self.old { fault = Some fault })
+            × IsUnsent clocks.now self.old.nodes fault) }
+    {
+        match first_unsent(&self.nodes, clocks) {
+            Some(fault) => {
+                self.fault = Some(fault);
+                Some(fault)
+            }
+            None => None,
+        }
+    }
+
     /// Puts each event that can be put into the run, and tells the observer its marks: an ask or a leave at once after
     /// the node's earlier events, and a frame that came once all events of its sender up to the frame's clock are in the run.
     ///
@@ -173,7 +225,7 @@ impl Auditor {
     ///
     /// 1. `Fault`: an event does not fit, which was found by this call or an earlier one. The node would have
     ///    refused it; or it is a frame whose message is not under way, though all that its sender sent up to the frame's
-    ///    clock is in the run. From then on nothing is put.
+    ///    clock is in the run. Or a round found a frame that was never sent. From then on nothing is put.
     /// 2. `Memory`: memory ran out. The events before are in the run, and the call can be made again.
     pub fn advance<O: MarkObserver>(
         &mut self,
@@ -216,6 +268,15 @@ impl Auditor {
         ensures audited { IsAudited self.now.world self.now.nodes }
     {
         self.fault
+    }
+
+    /// Returns how many events were taken and are not in the run yet. After a round that is Ok, these are frames whose senders were
+    /// looked at too early in the round, and events behind them.
+    pub fn waiting(&self) -> u128
+        ensures value { result ≡ sum_by (λ p. length p.waiting) self.now.nodes }
+        ensures audited { IsAudited self.now.world self.now.nodes }
+    {
+        waiting_at(&self.nodes)
     }
 
     /// Returns how many steps the run has.

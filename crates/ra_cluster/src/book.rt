@@ -21,7 +21,8 @@ use std::mem;
 /// and its fault, if it has one. Contracts see all of it but the node, which the events decide: a book is at all times the
 /// history of its node.
 ///
-/// A book keeps its events and the frames that it sent. Each of `ask`, `leave` and `receive` costs what the call of the node
+/// A book keeps its events and the frames that it sent, until a round of an audit takes them: the calls that read or flag
+/// them see those that are left. Each of `ask`, `leave` and `receive` costs what the call of the node
 /// costs, plus amortized time linear in the number of nodes.
 #[derive(Drop)]
 pub struct Book {

@@ -45,7 +45,9 @@ pub struct Held<T> {
 /// number of nodes and the start.
 ///
 /// While clients lock and unlock names, each node needs a thread that carries its frames: [`Cluster::run`] starts and ends
-/// these threads. At the end [`Cluster::close`] returns the books, which [`settle`](crate::settle) takes as they are.
+/// these threads. At the end [`Cluster::close`] returns the books, which [`settle`](crate::settle) takes as they are. A cluster
+/// that is made to be audited is not settled: [`Cluster::audit`] takes what has happened while it runs, and
+/// [`Cluster::finish`] what is left at the end.
 #[derive(Drop)]
 pub struct Cluster<G> {
     start: u64,
@@ -156,6 +158,20 @@ impl<G: Gate + Drop> Cluster<G> {
         ensures { result ≡ self.now.nodes }
     {
         self.sites.len() as u16
+    }
+
+    /// Returns the start, beyond which the numbers of requests begin. It does not allocate.
+    pub(crate) fn start(&self) -> u64
+        ensures { result ≡ self.now.start }
+    {
+        self.start
+    }
+
+    /// Returns whether the cluster is audited while it runs. It does not allocate.
+    pub(crate) fn is_audited(&self) -> bool
+        ensures { result ≡ self.now.audited }
+    {
+        self.audited
     }
 
     /// Returns the site of a node, whose readers tell its state, or `None` if there is no such node. It does not
@@ -357,7 +373,8 @@ impl<G: Gate + Drop> Cluster<G> {
     /// [`settle`](crate::settle) requires. It does not allocate. The cost is linear in the number of nodes.
     ///
     /// If a round of an audit has taken the events of a node, its history is not in its book any more. In place of that book
-    /// there is an empty one, which is stopped with [`Stop::Refused`].
+    /// there is an empty one, which is stopped: for the cause of that book, or with [`Stop::Refused`] if it has none. What no
+    /// round has taken is lost, so call [`Cluster::finish`] first.
     pub fn close(self, alloc: Global) -> Vec<Book>
         ensures cluster { IsCluster result.items }
         ensures count { vec_len result ≡ self.nodes }

@@ -1,9 +1,10 @@
 //! What lies under the lock of a site: the book, and the clients that wait.
-ghost use Rattle.std.specs.Prelude.{◌≡◌, ◌<◌, All, IfSome, vec_len};
+ghost use Rattle.std.specs.Prelude.{◌≡◌, ◌≢◌, ◌↔◌, ◌<◌, true, All, IfOk, IfSome, IsErrOf, OnErr, vec_len};
 ghost use Rattle.ra_frame.specs.Fits.{Fits};
+ghost use Rattle.ra_cluster.specs.History.{clock_of};
 
 use crate::ticket::SharedTicket;
-use crate::{Book, BookError, Events, Frames, Grant, Posted, Sent, Stop};
+use crate::{Book, BookError, Events, Frames, Grant, Posted, Sent, Stop, TakeError};
 use ra_stamp::{Entry, Mark, Memory, Mode, Name};
 use std::alloc::Global;
 use std::mem;
@@ -46,7 +47,8 @@ pub struct Handed {
     pub after: u64,
     /// The events since the round before.
     pub events: Events,
-    /// The frames that they sent. The run of an audit tells them by itself, so they are only let go, without the lock.
+    /// The frames that the book let go, with the flags of lost ones. An auditor does not need them: its run tells what each
+    /// event sent.
     pub sent: Vec<Sent>,
 }
 
@@ -135,20 +137,34 @@ impl Desk {
         (cause, mem::replace(&mut self.waiters, Vec::new(alloc)))
     }
 
-    /// Hands over the events since the round before, and the frames that they sent, in a time that does not grow with the
-    /// history. A node that is not audited hands over nothing, so that its book stays whole.
+    /// Hands over the events after one with the clock `after`, or from the node's first one on if it is 0, and the frames that
+    /// the book has, in a time that does not grow with the history. A node that is not audited hands over nothing, so that its
+    /// book stays whole. Frames for which there is no memory are left for the next round.
     ///
     /// # Errors
     ///
-    /// `Memory`: there is no room for what the leaves of the node's clients will need. The book still has its events.
-    pub fn hand_over(&mut self, alloc: Global) -> Result<Handed, Memory> {
+    /// The first that holds, and the book is as before:
+    ///
+    /// 1. `OutOfTurn`: `after` is not the clock of the last event that was handed over, or 0 before the first.
+    /// 2. `Memory`: there is no room for what the leaves of the node's clients will need.
+    pub fn hand_over(&mut self, alloc: Global, after: u64) -> Result<Handed, TakeError>
+        ensures events { IfOk result (λ handed. self.old.audited ≡ true
+            → (handed.after ≡ after) × (handed.events.items ≡ self.old.book.events)) }
+        ensures out_of_turn { IsErrOf result TakeError.OutOfTurn
+            ↔ ((self.old.audited ≡ true) × (after ≢ clock_of self.old.book.taken.events)) }
+        ensures err { OnErr result (self.new.book ≡ self.old.book) }
+    {
         if !self.audited {
             return Ok(Handed::nothing(alloc));
         }
-        let after = self.book.taken_clock();
-        // Frames are let go, so it does not matter if the events are refused after them.
-        let sent = self.book.take_sent(alloc)?;
+        if self.book.taken_clock() != after {
+            return Err(TakeError::OutOfTurn);
+        }
         let events = self.book.take_events(alloc)?;
+        let sent = match self.book.take_sent(alloc) {
+            Ok(sent) => sent,
+            Err(Memory) => Vec::new(alloc),
+        };
         Ok(Handed {
             after,
             events,

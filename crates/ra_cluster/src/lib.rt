@@ -61,6 +61,7 @@ mod stop_causes;
 mod taken;
 mod threads;
 mod ticket;
+mod unsent;
 mod unsettled;
 
 pub use audit_error::{AuditError, AuditFault, FinishError, RoundError, TakeError};

@@ -56,11 +56,25 @@ impl Progress {
         self.node
     }
 
+    /// Returns the clock of the last event that was taken, 0 before the first.
+    pub fn latest(&self) -> u64
+        ensures { result ≡ clock_of (taken_of self.now) }
+    {
+        self.latest
+    }
+
     /// Returns the clock of the last event that is in the run, 0 before the first.
     pub fn clock(&self) -> u64
         ensures { result ≡ clock_of self.now.settled }
     {
         self.clock
+    }
+
+    /// Returns how many events are not in the run yet.
+    pub fn waiting(&self) -> usize
+        ensures { result ≡ length self.now.waiting }
+    {
+        self.waiting.len()
     }
 
     /// Returns the first event that is not in the run yet, or `None` if all are.

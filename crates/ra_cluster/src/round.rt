@@ -1,10 +1,12 @@
 //! A round of the audit of a cluster whose threads go on.
-ghost use Rattle.std.specs.Prelude.{◌≡◌, Some, IsErrOf, OnOk};
+ghost use Rattle.std.specs.Prelude.{◌≡◌, ◌↔◌, ◌⊎◌, true, false, ℕ, All, None, Some, IsOk, IsErrOf, OnOk};
 ghost use Rattle.ra_cluster.specs.declared.audit_error.AuditFault as audit_fault;
-ghost use Rattle.ra_cluster.specs.Audit.{NoneIsReady, NoneWaits, IsNeverSent, RunTheorem, Audits, TakesMore};
+ghost use Rattle.ra_cluster.specs.declared.audit_error.TakeError.{TakeError};
+ghost use Rattle.ra_cluster.specs.declared.audit_error.RoundError as round_error;
+ghost use Rattle.ra_cluster.specs.Audit.{NoneIsReady, NoneWaits, IsNeverSent, IsMisfit, IsUnsent, MayBePut, IsAudited, IsAuditorOf, RunTheorem, Audits, TakesMore, clocks_taken};
 
 use crate::audit_laws::runs_meet_the_theorem;
-use crate::{AuditError, Auditor, Cluster, FinishError, Gate, MarkObserver, RoundError};
+use crate::{AuditError, Auditor, Cluster, FinishError, Gate, MarkObserver, RoundError, TakeError};
 use ra_stamp::NodeId;
 use std::alloc::Global;
 use std::sync::Wait;
@@ -12,24 +14,32 @@ use std::sync::Wait;
 impl<G: Gate + Drop> Cluster<G> {
     /// Takes what has happened at each node since the round before, from node 1 up, and then puts all that it can into the run
     /// of the auditor, and tells the observer its marks, as [`Auditor::advance`] does. The cluster goes on meanwhile: a round
-    /// has one node's lock at a time, for a time that does not grow with the history, and puts with no lock held. A frame whose sender was looked at too
-    /// early in the round is put in the next one.
+    /// has one node's lock at a time, for a time that does not grow with the history, and puts with no lock held. A frame whose
+    /// sender was looked at too early in the round is put in the next one.
     ///
-    /// The cluster has to be made by [`Cluster::new_audited`]; one that was made by [`Cluster::new`] hands over nothing, since it is
-    /// settled at the end. Each round is to have the auditor of the one before, which was made for as many nodes and with the same start. Once
-    /// the threads of the cluster have ended, a round takes all that is left, and [`Auditor::unsettled`] says whether all of it
-    /// is in the run.
+    /// A frame that waits was never sent if an earlier round took it and its sender's events don't come to its clock yet, or if
+    /// they go beyond it and none has it. So a frame can't hold up the audit by a clock that is ahead of its sender's: the second
+    /// round after the one that took it finds it at the latest, if no other frame is at fault and no round is refused.
     ///
-    /// The cost is that of [`Auditor::take`] and [`Auditor::advance`] for the events since the round before.
+    /// Each round is to have the auditor of the one before. Once the threads of the cluster have ended, a round takes all that is
+    /// left, and [`Auditor::unsettled`] says whether all of it is in the run.
+    ///
+    /// The cost is that of [`Auditor::take`] and [`Auditor::advance`] for the events since the round before. A list of a clock for
+    /// each node is allocated.
     ///
     /// # Errors
     ///
-    /// The first that comes:
+    /// The first that holds:
     ///
-    /// 1. `NotTaken`: the auditor did not take the events of a node. If memory ran out, they are kept, and the next round
-    ///    takes them. Any other cause says that the auditor is not that of the round before.
-    /// 2. `Fault`: an event does not fit, as [`Auditor::advance`] says.
-    /// 3. `Memory`: memory ran out, and the next round goes on.
+    /// 1. `NotAudited`: the cluster was made by [`Cluster::new`], and is settled at its end. Nothing has changed.
+    /// 2. `OtherCluster`: the auditor was made for another number of nodes, or with another start. Nothing has changed.
+    /// 3. `Fault`: an event does not fit, as [`Auditor::advance`] says. If it was found by an earlier round, nothing has
+    ///    changed.
+    /// 4. `Memory`: memory ran out before events were taken, or while they were put. The next round goes on.
+    /// 5. `NotTaken`: the events of a node were not taken, nor those of the nodes after it. What was taken is in the run, as far
+    ///    as it can be. If the cause is `Memory`, the next round takes them. Any other cause says that the auditor is not that of
+    ///    the round before; the node still has its events.
+    /// 6. `Fault`: a frame that waits as the next event of its node was never sent.
     pub fn audit<R: Wait, O: MarkObserver>(
         &self,
         rt: &R,
@@ -40,15 +50,25 @@ impl<G: Gate + Drop> Cluster<G> {
         ensures audits { Audits auditor.old (O.told observer.old) auditor.new (O.told observer.new) }
         ensures theorem { RunTheorem auditor.new.world.count auditor.new.world.moves }
         ensures ok { OnOk result (NoneIsReady auditor.new.nodes) }
+        ensures may_be_put { OnOk result (All (MayBePut (clocks_taken auditor.old.nodes) auditor.new.nodes) auditor.new.nodes) }
+        ensures not_audited { IsErrOf result RoundError.NotAudited ↔ (self.now.audited ≡ false) }
+        ensures other_cluster { IsErrOf result RoundError.OtherCluster
+            ↔ ((self.now.audited ≡ true) × (IsAuditorOf self.now auditor.old → ⊥)) }
+        ensures unchanged { (IsAuditorOf self.now auditor.old → ⊥) → auditor.new ≡ auditor.old }
+        ensures kept { (fault : audit_fault.AuditFault) → IsAuditorOf self.now auditor.old → auditor.old.fault ≡ Some fault
+            → IsErrOf result (RoundError.Fault fault) × (auditor.new ≡ auditor.old) }
+        ensures found { (fault : audit_fault.AuditFault) → auditor.old.fault ≡ None → IsErrOf result (RoundError.Fault fault)
+            → IsMisfit auditor.new.world auditor.new.nodes fault
+            ⊎ IsUnsent (clocks_taken auditor.old.nodes) auditor.new.nodes fault }
         ensures fault { (fault : audit_fault.AuditFault) → IsErrOf result (RoundError.Fault fault)
             → auditor.new.fault ≡ Some fault }
+        ensures not_taken { (node : ℕ) (cause : TakeError) → IsErrOf result (RoundError.NotTaken node cause)
+            → NoneIsReady auditor.new.nodes }
     {
         runs_meet_the_theorem();
-        take_all(rt, alloc, self, auditor)?;
-        match auditor.advance(alloc, observer) {
-            Ok(()) => Ok(()),
-            Err(AuditError::Fault(fault)) => Err(RoundError::Fault(fault)),
-            Err(AuditError::Memory) => Err(RoundError::Memory),
+        match check_round(self, auditor) {
+            Ok(()) => go_round(rt, alloc, self, auditor, observer),
+            Err(refused) => Err(refused),
         }
     }
 
@@ -74,6 +94,9 @@ impl<G: Gate + Drop> Cluster<G> {
         ensures audits { Audits auditor.old (O.told observer.old) auditor.new (O.told observer.new) }
         ensures theorem { RunTheorem auditor.new.world.count auditor.new.world.moves }
         ensures ok { OnOk result (NoneWaits auditor.new.nodes) }
+        ensures not_audited { IsErrOf result (FinishError.Round RoundError.NotAudited) ↔ (self.old.audited ≡ false) }
+        ensures other_cluster { IsErrOf result (FinishError.Round RoundError.OtherCluster)
+            ↔ ((self.old.audited ≡ true) × (IsAuditorOf self.old auditor.old → ⊥)) }
         ensures never_sent { (fault : audit_fault.AuditFault) → IsErrOf result (FinishError.NeverSent fault)
             → IsNeverSent auditor.new.nodes fault }
     {
@@ -94,6 +117,7 @@ fn all_settled(auditor: &Auditor) -> Result<(), FinishError>
     ensures ok { OnOk result (NoneWaits auditor.now.nodes) }
     ensures never_sent { (fault : audit_fault.AuditFault) → IsErrOf result (FinishError.NeverSent fault)
         → IsNeverSent auditor.now.nodes fault }
+    ensures no_round { (refused : round_error.RoundError) → IsErrOf result (FinishError.Round refused) → ⊥ }
 {
     match auditor.unsettled() {
         None => Ok(()),
@@ -101,19 +125,111 @@ fn all_settled(auditor: &Auditor) -> Result<(), FinishError>
     }
 }
 
+/// Tells whether a round of this cluster can have this auditor.
+///
+/// # Errors
+///
+/// The first that holds:
+///
+/// 1. `NotAudited`: the cluster is settled at its end.
+/// 2. `OtherCluster`: the auditor was made for another number of nodes, or with another start.
+/// 3. `Fault`: the auditor has a fault.
+fn check_round<G: Gate + Drop>(cluster: &Cluster<G>, auditor: &Auditor) -> Result<(), RoundError>
+    ensures ok { OnOk result (IsAuditorOf cluster.now auditor.now × (auditor.now.fault ≡ None)) }
+    ensures not_audited { IsErrOf result RoundError.NotAudited ↔ (cluster.now.audited ≡ false) }
+    ensures other_cluster { IsErrOf result RoundError.OtherCluster
+        ↔ ((cluster.now.audited ≡ true) × (IsAuditorOf cluster.now auditor.now → ⊥)) }
+    ensures fault { (fault : audit_fault.AuditFault) → IsErrOf result (RoundError.Fault fault)
+        ↔ (IsAuditorOf cluster.now auditor.now × (auditor.now.fault ≡ Some fault)) }
+    ensures taken { (node : ℕ) (cause : TakeError) → IsErrOf result (RoundError.NotTaken node cause) → ⊥ }
+    ensures audited { IsAudited auditor.now.world auditor.now.nodes }
+{
+    let known = auditor.fault();
+    if !cluster.is_audited() {
+        return Err(RoundError::NotAudited);
+    }
+    if !auditor.is_for(cluster.nodes(), cluster.start()) {
+        return Err(RoundError::OtherCluster);
+    }
+    match known {
+        Some(fault) => Err(RoundError::Fault(fault)),
+        None => Ok(()),
+    }
+}
+
+/// Has a round of a cluster, whose auditor this is and has no fault.
+///
+/// # Errors
+///
+/// Those of [`Cluster::audit`] from `Memory` on, and `Fault`.
+fn go_round<R: Wait, G: Gate + Drop, O: MarkObserver>(
+    rt: &R,
+    alloc: Global,
+    cluster: &Cluster<G>,
+    auditor: &mut Auditor,
+    observer: &mut O,
+) -> Result<(), RoundError>
+    requires { IsAudited auditor.old.world auditor.old.nodes }
+    ensures audits { Audits auditor.old (O.told observer.old) auditor.new (O.told observer.new) }
+    ensures ok { OnOk result (NoneIsReady auditor.new.nodes) }
+    ensures may_be_put { OnOk result (All (MayBePut (clocks_taken auditor.old.nodes) auditor.new.nodes) auditor.new.nodes) }
+    ensures not_audited { IsErrOf result RoundError.NotAudited → ⊥ }
+    ensures other_cluster { IsErrOf result RoundError.OtherCluster → ⊥ }
+    ensures found { (fault : audit_fault.AuditFault) → auditor.old.fault ≡ None → IsErrOf result (RoundError.Fault fault)
+        → IsMisfit auditor.new.world auditor.new.nodes fault
+        ⊎ IsUnsent (clocks_taken auditor.old.nodes) auditor.new.nodes fault }
+    ensures fault { (fault : audit_fault.AuditFault) → IsErrOf result (RoundError.Fault fault)
+        → auditor.new.fault ≡ Some fault }
+    ensures not_taken { (node : ℕ) (cause : TakeError) → IsErrOf result (RoundError.NotTaken node cause)
+        → NoneIsReady auditor.new.nodes }
+{
+    // A frame that was taken by now came before this round takes its sender's events.
+    let Ok(clocks) = auditor.clocks(alloc) else {
+        return Err(RoundError::Memory);
+    };
+    let taken = take_all(rt, alloc, cluster, auditor);
+    let advanced = auditor.advance(alloc, observer);
+    match answer_of(taken, advanced) {
+        Ok(()) => match auditor.find_unsent(&clocks) {
+            Some(fault) => Err(RoundError::Fault(fault)),
+            None => Ok(()),
+        },
+        Err(refused) => Err(refused),
+    }
+}
+
+/// Returns what a round answers, by what came of taking events, if not all were taken, and of putting them into the run.
+fn answer_of(
+    taken: Result<(), (NodeId, TakeError)>,
+    advanced: Result<(), AuditError>,
+) -> Result<(), RoundError>
+    ensures ok { OnOk result (IsOk advanced × IsOk taken) }
+    ensures not_audited { IsErrOf result RoundError.NotAudited → ⊥ }
+    ensures other_cluster { IsErrOf result RoundError.OtherCluster → ⊥ }
+    ensures fault { (fault : audit_fault.AuditFault) → IsErrOf result (RoundError.Fault fault)
+        → IsErrOf advanced (AuditError.Fault fault) }
+    ensures not_taken { (node : ℕ) (cause : TakeError) → IsErrOf result (RoundError.NotTaken node cause) → IsOk advanced }
+{
+    match (advanced, taken) {
+        (Err(AuditError::Fault(fault)), _) => Err(RoundError::Fault(fault)),
+        (Err(AuditError::Memory), _) => Err(RoundError::Memory),
+        (Ok(()), Err((node, cause))) => Err(RoundError::NotTaken { node, cause }),
+        (Ok(()), Ok(())) => Ok(()),
+    }
+}
+
 /// Takes what has happened at each node since the round before.
 ///
 /// # Errors
 ///
-/// `NotTaken`.
+/// The first node whose events were not taken, and why. Those of the nodes after it were not taken either.
 fn take_all<R: Wait, G: Gate + Drop>(
     rt: &R,
     alloc: Global,
     cluster: &Cluster<G>,
     auditor: &mut Auditor,
-) -> Result<(), RoundError>
-    ensures more { TakesMore auditor.old auditor.new }
-    ensures not_taken { (fault : audit_fault.AuditFault) → IsErrOf result (RoundError.Fault fault) → ⊥ }
+) -> Result<(), (NodeId, TakeError)>
+    ensures { TakesMore auditor.old auditor.new }
 {
     // Each reader tells what holds of every auditor.
     let _fault = auditor.fault();
@@ -128,16 +244,15 @@ fn take_all<R: Wait, G: Gate + Drop>(
 ///
 /// # Errors
 ///
-/// `NotTaken`.
+/// The node, and why its events were not taken.
 fn take_from<R: Wait, G: Gate + Drop>(
     rt: &R,
     alloc: Global,
     cluster: &Cluster<G>,
     number: u16,
     auditor: &mut Auditor,
-) -> Result<(), RoundError>
-    ensures more { TakesMore auditor.old auditor.new }
-    ensures not_taken { (fault : audit_fault.AuditFault) → IsErrOf result (RoundError.Fault fault) → ⊥ }
+) -> Result<(), (NodeId, TakeError)>
+    ensures { TakesMore auditor.old auditor.new }
 {
     let _fault = auditor.fault();
     let Some(node) = NodeId::new(number) else {
@@ -148,6 +263,6 @@ fn take_from<R: Wait, G: Gate + Drop>(
     };
     match auditor.take_handed(rt, alloc, site) {
         Ok(()) => Ok(()),
-        Err(cause) => Err(RoundError::NotTaken { node, cause }),
+        Err(cause) => Err((node, cause)),
     }
 }

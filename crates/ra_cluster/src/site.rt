@@ -6,7 +6,7 @@ use crate::call::Call;
 use crate::desk::{Desk, Handed, Stepped};
 use crate::stop_causes::stop_of;
 use crate::ticket::Ticket;
-use crate::{Book, BookError, Gate, Grant, Inbox, NewError, Post, Stop};
+use crate::{Book, BookError, Gate, Grant, Inbox, NewError, Post, Stop, TakeError};
 use ra_frame::Frame;
 use ra_stamp::{Entry, Memory, Mode, Name, NodeId};
 use std::alloc::Global;
@@ -275,14 +275,28 @@ impl Site {
         self.desk.lock(rt).book.events().len()
     }
 
-    /// Hands over the events since the round before, as a round of an audit does. It waits for the lock, and has it for a time
-    /// that does not grow with the history.
+    /// Returns the clock of the last event of this node, or 0 before the first. It rises with each event, whether or not an audit
+    /// took those before.
+    pub fn clock<R: Wait>(&self, rt: &R) -> u64 {
+        self.desk.lock(rt).book.clock()
+    }
+
+    /// Hands over the events after one with the clock `after`, as a round of an audit does. It waits for the lock, and has it
+    /// for a time that does not grow with the history.
     ///
     /// # Errors
     ///
-    /// `Memory`: memory ran out. The node still has its events.
-    pub(crate) fn hand_over<R: Wait>(&self, rt: &R, alloc: Global) -> Result<Handed, Memory> {
-        self.desk.lock(rt).hand_over(alloc)
+    /// The first that holds, and the node still has its events:
+    ///
+    /// 1. `OutOfTurn`: `after` is not the clock of the last event that was handed over, or 0 before the first.
+    /// 2. `Memory`: memory ran out.
+    pub(crate) fn hand_over<R: Wait>(
+        &self,
+        rt: &R,
+        alloc: Global,
+        after: u64,
+    ) -> Result<Handed, TakeError> {
+        self.desk.lock(rt).hand_over(alloc, after)
     }
 
     /// Gives up the lock, and returns the book. It does not allocate.
@@ -302,7 +316,7 @@ impl Site {
 
     /// Does the same for a site that is one of this many, from this start. No contract tells what lies under a lock, so the book is
     /// looked at. If it is not whole, or were it another one, as it never is, an empty book of the node is returned, which is
-    /// stopped.
+    /// stopped: for the cause of the book, or `Refused` if it has none.
     pub(crate) fn close_as(self, alloc: Global, nodes: u16, start: u64) -> Book
         requires count { IsNodeNumber nodes }
         requires member { self ≤ nodes }
@@ -317,10 +331,11 @@ impl Site {
         if book.me() == me && book.nodes() == nodes && book.start() == start && book.is_whole() {
             return book;
         }
+        let cause = book.fault().unwrap_or(Stop::Refused);
         let Ok(mut empty) = Book::new(alloc, me, nodes, start) else {
             unreachable!()
         };
-        empty.fail(Stop::Refused);
+        empty.fail(cause);
         empty
     }
 
@@ -448,7 +463,8 @@ impl Site {
     /// Flags a frame that the book sent as lost.
     fn mark_lost<R: Wait>(&self, rt: &R, frame: &Frame) {
         let mut desk = self.desk.lock(rt);
-        // The book sent it, and nobody else flags it. If an audit took it since, there is nothing to flag.
+        // The book sent it, and nobody else flags it. If a round took it since, the book does not have it any more, and its
+        // loss is not noted.
         let _ = desk.book.mark_lost(frame);
     }
 

@@ -1,11 +1,23 @@
 //! Events that were taken and are not in the run.
-ghost use Rattle.std.specs.Prelude.{◌≡◌, ◌∷◌, ◌++◌, [], ℕ, List, map, MatchOption};
+ghost use Rattle.std.specs.Prelude.{◌≡◌, ◌≤◌, ◌∷◌, ◌++◌, [], ℕ, List, length, map, sum_by, MatchOption};
 ghost use Rattle.std.specs.List.{range_with_len};
 ghost use Rattle.ra_cluster.specs.Audit.{ProgressState, NoneIsReady, NoneWaits, IsNeverSent, AreNextAt, taken_of};
 ghost use Rattle.ra_cluster.specs.AuditKeeping.{AreTaken, IsLeastOf, IsLeastWaiting};
 
 use crate::AuditFault;
 use crate::progress::Progress;
+
+/// Returns how many events were taken and are not in the run.
+pub fn waiting_at(nodes: &[Progress]) -> u128
+    requires { length nodes.now ≤ 64 }
+    ensures { result ≡ sum_by (λ p. length p.waiting) nodes.now }
+{
+    let mut waiting = 0;
+    for progress in nodes {
+        waiting += progress.waiting() as u128;
+    }
+    waiting
+}
 
 /// Returns the event with the least clock of those that were taken and are not in the run, or `None` if all are in it. If
 /// no event can be put, it is a frame that was never sent.

@@ -5,10 +5,10 @@ pub loop-place-init : goal.loop-place-init
 loop-place-init g c = took_nothing c.args.auditor.now c.fault-fault.ensures.audited
 
 pub loop-place-preserved : goal.loop-place-preserved
-loop-place-preserved g c = took_further _ _ _ c.loop-place.invariant c.in_ok-take_from.ensures.more
+loop-place-preserved g c = took_further _ _ _ c.loop-place.invariant c.in_ok-take_from.ensures
 
-pub returns-in_err-take_from-clause-more : goal.returns-in_err-take_from-clause-more
-returns-in_err-take_from-clause-more g c = took_further _ _ _ c.loop-place.invariant c.in_err-take_from.ensures.more
+pub returns-in_err-take_from : goal.returns-in_err-take_from
+returns-in_err-take_from g c = took_further _ _ _ c.loop-place.invariant c.in_err-take_from.ensures
 
-pub returns-clause-more : goal.returns-clause-more
-returns-clause-more g c = c.loop-place.invariant
+pub returns : goal.returns
+returns g c = c.loop-place.invariant

@@ -7,7 +7,7 @@ pub returns-in-Some-clause-theorem : goal.returns-in-Some-clause-theorem
 returns-in-Some-clause-theorem g c =
     let w = c.self.inside.world in
     subst (λ (a : AuditState). RunTheorem a.world.count a.world.moves) c.self.view_is
-    (c.runs_meet_the_theorem.ensures w.count w.start w.moves c.self.invariant.count c.self.invariant.run)
+    (c.runs_meet_the_theorem.ensures w.count w.start w.moves c.self.invariant.0.count c.self.invariant.0.run)
 
 pub returns-clause-theorem : goal.returns-clause-theorem
 returns-clause-theorem g c =
