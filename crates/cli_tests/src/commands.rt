@@ -88,6 +88,7 @@ Commands:
   cluster  Run a script in a cluster of threads: who asks, enters and leaves
   check    Check the trace of a run, or the mark log of a lock service
   draw     Draw the trace of a run as an SVG file
+  node     Be one node: read what happens at it, and answer line by line
 
 Options:
   -h, --help     Print help
@@ -116,6 +117,7 @@ const HELPS: &[&str] = &[
     "ra cluster --help",
     "ra check --help",
     "ra draw --help",
+    "ra node --help",
 ];
 
 /// Returns whether no line of a text has more than 80 bytes.
