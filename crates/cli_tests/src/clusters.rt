@@ -1,7 +1,7 @@
 //! The command `cluster`.
 use crate::helpers::{
     Case, Refused, assert_answers, assert_fails_in_prefixes, assert_meets, assert_prints,
-    assert_refuses, assert_written, is_answer, is_read_fault, run,
+    assert_refuses, assert_written, is_answer, is_read_fault, prints, run,
 };
 use crate::scripts::{
     A_DEADLOCK, A_KEEPER, A_QUEUE, A_QUEUE_PRINTED, A_TABLE, A_WRITER, ALONE, ALONE_PRINTED, APART,
@@ -97,6 +97,18 @@ fn runs<T: AllocGlobal + Threads + Wait + Abort + Sync>(rt: &T, row: &Run) -> bo
     }
 }
 
+/// The trace of one client at one of two nodes, derived by hand.
+const ONE_CLIENT_TRACE: &str = "trace 2 2 0
+ask 1 1 r X
+request 1 1 r X 1
+deliver request 1 2 r X 1
+deliver reply 2 1 r 1
+enter 1 1 r X 1
+release 1 1 r
+leave 1 1 r X 1
+end
+";
+
 /// Scripts that have one output.
 const ONE_OUTPUT: &[Case] = &[
     Case {
@@ -119,6 +131,20 @@ const ONE_OUTPUT: &[Case] = &[
         input: SIXTY_FOUR_NODES,
         status: 0,
         output: SIXTY_FOUR_NODES_PRINTED,
+    },
+    Case {
+        shows: "the trace at one node",
+        words: "ra cluster --trace",
+        input: ALONE,
+        status: 0,
+        output: "trace 2 1 0\nask 1 1 r X\nrequest 1 1 r X 1\nenter 1 1 r X 1\nrelease 1 1 r\nleave 1 1 r X 1\nend\n",
+    },
+    Case {
+        shows: "the trace at two nodes",
+        words: "ra cluster --trace",
+        input: ONE_CLIENT,
+        status: 0,
+        output: ONE_CLIENT_TRACE,
     },
 ];
 
@@ -286,6 +312,33 @@ fn clients_of_one_node_take_turns(rt: HostRuntime) {
     }
 }
 
+/// Scripts for which the order of the trace is up to the threads, and the verdict on it.
+const TRACED: &[(&str, &str)] = &[
+    (TWO_CLIENTS, "valid\nrequests 2\nmessages 8\n"),
+    (A_QUEUE, "valid\nrequests 2\nmessages 4\n"),
+    (A_TABLE, "valid\nrequests 5\nmessages 20\n"),
+];
+
+/// Returns whether the trace of threads is printed with status 0, and has this verdict.
+fn has_trace<T: AllocGlobal + Threads + Wait + Abort + Sync>(
+    rt: &T,
+    script: &str,
+    verdict: &str,
+) -> bool {
+    let answered = run(rt, "ra cluster --trace", None, script);
+    match str::from_utf8(answered.output.as_slice()) {
+        Ok(trace) => answered.status == 0 && prints(rt, "ra check", trace, 0, verdict),
+        Err(_) => false,
+    }
+}
+
+#[test]
+fn the_trace_of_threads_is_valid(rt: HostRuntime) {
+    for &(script, verdict) in TRACED {
+        assert!(rt; has_trace(&rt, script, verdict), "{script}");
+    }
+}
+
 /// Scripts that lock names out of order, or keep one.
 const NO_ORDER: &[Refused] = &[
     Refused {
@@ -313,6 +366,16 @@ const NO_ORDER: &[Refused] = &[
         words: "ra cluster",
         input: ONE_EACH,
         word: "OutOfOrder",
+    },
+    Refused {
+        words: "ra cluster --trace",
+        input: A_DEADLOCK,
+        word: "OutOfOrder",
+    },
+    Refused {
+        words: "ra cluster --trace",
+        input: A_KEEPER,
+        word: "Unreleased",
     },
 ];
 
@@ -397,6 +460,7 @@ fn a_fault_of_the_reader_comes_before_what_is_wrong_with_the_script(rt: HostRunt
 #[test]
 fn a_writer_that_fails_has_a_prefix_of_what_the_threads_did(rt: HostRuntime) {
     assert_fails_in_prefixes(&rt, "ra cluster", ONE_CLIENT, ONE_CLIENT_PRINTED);
+    assert_fails_in_prefixes(&rt, "ra cluster --trace", ONE_CLIENT, ONE_CLIENT_TRACE);
     assert_fails_in_prefixes(&rt, "ra cluster", TWO_NAMES, "refused OutOfOrder\n");
     // The writer fails only if something is left to be written.
     assert_written(&rt, "ra cluster", ONE_CLIENT, ONE_CLIENT_PRINTED, 0);
@@ -452,7 +516,17 @@ const NO_CLUSTERS: &[Refused] = &[
         word: "Usage",
     },
     Refused {
-        words: "ra cluster --trace",
+        words: "ra cluster --trace=true",
+        input: ONE_CLIENT,
+        word: "Usage",
+    },
+    Refused {
+        words: "ra cluster --trace --trace",
+        input: ONE_CLIENT,
+        word: "Usage",
+    },
+    Refused {
+        words: "ra cluster --as-choices",
         input: ONE_CLIENT,
         word: "Usage",
     },
@@ -475,10 +549,11 @@ fn words_that_are_no_cluster_are_refused(rt: HostRuntime) {
 
 const HELP: &str = "Run a script in a cluster of threads: who asks, enters and leaves
 
-Usage: ra cluster
+Usage: ra cluster [OPTIONS]
 
 Options:
-  -h, --help  Print help
+      --trace  Print the trace in place of marks and totals
+  -h, --help   Print help
 
 Read a script from standard input, as `ra sim --help` describes it: 1 to 64
 nodes, and 1 to 64 clients that lock names in these modes:
@@ -499,6 +574,10 @@ Each node and each client has a thread of its own. The threads decide what comes
 first, so the order of the marks and their numbers may differ from run to run.
 When all threads have ended, what the nodes recorded is put together into one
 run of the cluster, whose marks and totals are printed.
+
+--trace prints the steps of this run, each with its marks, as `ra check` reads
+them.
+Example: ra cluster --trace < script.toml | ra check
 
 A client that waits in vain would keep the program waiting forever. So two kinds
 of scripts are refused before any thread starts:

@@ -91,7 +91,7 @@ fn growth_of_an_answer(rt: HostRuntime) {
 
 /// Returns whether this is what `ra` prints where memory ran out: of threads, of which that may stop one, a fault too.
 fn is_refused(line: &str, page: &Page) -> bool {
-    page.has("refused Memory\n") || (line == "ra cluster" && page.has("refused Fault\n"))
+    page.has("refused Memory\n") || (line.starts_with("ra cluster") && page.has("refused Fault\n"))
 }
 
 /// Runs `ra` on the words of a line and an input. Where it does not print this text with status 0, returns whether it says that
@@ -246,5 +246,14 @@ fn growth_of_the_command_cluster(rt: HostRuntime) {
     end(
         &rt,
         again(first, try_line(&rt, "ra cluster", SCRIPT, LINES)),
+    );
+}
+
+#[test]
+fn growth_of_the_command_cluster_with_a_trace(rt: HostRuntime) {
+    let first = try_line(&rt, "ra cluster --trace", SCRIPT, TRACE);
+    end(
+        &rt,
+        again(first, try_line(&rt, "ra cluster --trace", SCRIPT, TRACE)),
     );
 }

@@ -1,8 +1,8 @@
--- A text of help is printed where a word asks for it; and whether a word is `--marks`.
-use Rattle.std.proofs.Common.{◌≡◌, ◌↔◌, ℕ, zero, suc, ◌<◌, Option, Some, None, List, [], ◌∷◌, length, map, slice_index_or, String, Global, string_bytes, codes, refl, ap, ◌∙◌, inl, inr, arith}
+-- A text of help is printed where a word asks for it; and whether a word is an option.
+use Rattle.std.proofs.Common.{◌≡◌, ◌↔◌, ℕ, zero, suc, ◌<◌, Option, Some, None, List, [], ◌∷◌, length, map, slice_index_or, String, Global, string_bytes, refl, ap, ◌∙◌, inl, inr, arith}
 use Rattle.std.specs.Prelude.{IfSome, Any}
 use Rattle.ra_cli.specs.Statuses.{IsPrinted}
-use Rattle.ra_cli.specs.Words.{IsHelpWord, HasMarksWord}
+use Rattle.ra_cli.specs.Words.{IsHelpWord}
 
 -- a fact that holds of each input holds of a known one
 pub for_each : (old : Option (List ℕ)) (P : List ℕ → Type 0) → ((input : List ℕ) → P input) → IfSome old P
@@ -32,15 +32,12 @@ word_of [] k bytes less is = absurd (omega arith)
 word_of (x ∷ xs) zero bytes less is = (x, omega arith, refl, is)
 word_of (x ∷ xs) (suc k) bytes less is = let rest = word_of xs k bytes (omega arith) is in (rest.0, omega (arith, rest.1), rest.2, rest.3)
 
-pub as_choices_word : (words : List (String Global)) → Any (λ word. string_bytes word ≡ codes "--as-choices") words
-    → Any (λ word. word ≡ codes "--as-choices") (map string_bytes words)
-as_choices_word words (k, word, less, is, asked) = let at = help_at words k word less is in (k, string_bytes word, at.0, at.1, asked)
-
-pub marks_word : (words : List (String Global)) → Any (λ word. string_bytes word ≡ codes "--marks") words ↔ HasMarksWord (map string_bytes words)
-marks_word words = (there, back)
+-- whether one of the words has these bytes
+pub option_word : (words : List (String Global)) (option : List ℕ) → Any (λ word. string_bytes word ≡ option) words ↔ Any (λ word. word ≡ option) (map string_bytes words)
+option_word words option = (there, back)
   where
-    there : Any (λ word. string_bytes word ≡ codes "--marks") words → HasMarksWord (map string_bytes words)
-    there (k, word, less, is, marks) = let at = help_at words k word less is in (k, string_bytes word, at.0, at.1, marks)
+    there : Any (λ word. string_bytes word ≡ option) words → Any (λ word. word ≡ option) (map string_bytes words)
+    there (k, word, less, is, same) = let at = help_at words k word less is in (k, string_bytes word, at.0, at.1, same)
 
-    back : HasMarksWord (map string_bytes words) → Any (λ word. string_bytes word ≡ codes "--marks") words
-    back (k, bytes, less, is, marks) = let at = word_of words k bytes less is in (k, at.0, at.1, at.2, at.3 ∙ marks)
+    back : Any (λ word. word ≡ option) (map string_bytes words) → Any (λ word. string_bytes word ≡ option) words
+    back (k, bytes, less, is, same) = let at = word_of words k bytes less is in (k, at.0, at.1, at.2, at.3 ∙ same)

@@ -26,6 +26,7 @@ use Rattle.ra_script.specs.ChoicesText.{choices_of}
 use Rattle.ra_script.specs.declared.error.ScriptError.{ScriptError}
 use Rattle.ra_script.specs.Performed.{RefusesAs, IsPerformedAs, IsOrderly, Unwritten}
 use Rattle.ra_script.specs.ScriptText.{script_of}
+use Rattle.ra_cli.specs.declared.cluster_output.ClusterOutput.{ClusterOutput}
 use Rattle.ra_cli.specs.declared.command_line.PolicyName.{PolicyName}
 use Rattle.ra_cli.specs.declared.command_line.PolicyName.TheVariants.{Oldest, Newest, Seeded, Faulty, Listed}
 use Rattle.ra_cli.specs.declared.command_line.Task.{Task}
@@ -129,7 +130,7 @@ never_left laws (task.Survey faults find first last) input new before after orde
 never_left laws task.Check input new before after orderly faithful left = faithful
 never_left laws task.CheckMarks input new before after orderly faithful left = faithful
 never_left laws (task.Draw part) input new before after orderly faithful left = faithful
-never_left laws task.Cluster input new before after orderly faithful left = faithful
+never_left laws (task.Cluster printed) input new before after orderly faithful left = faithful
 never_left laws (task.Help text) input new before after orderly faithful left = faithful
 
 pub always_driven : FinishingLaws → (asked : Task) (input : List ℕ) (cause : DriveError) → RunsFaithfully asked → IsCauseFor asked input (refusal.Perform (Drive cause)) → ⊥
@@ -143,7 +144,7 @@ always_driven laws (task.Survey faults find first last) input cause faithful (fa
 always_driven laws task.Check input cause faithful refuses = faithful
 always_driven laws task.CheckMarks input cause faithful refuses = faithful
 always_driven laws (task.Draw part) input cause faithful refuses = faithful
-always_driven laws task.Cluster input cause faithful refuses = faithful
+always_driven laws (task.Cluster printed) input cause faithful refuses = faithful
 always_driven laws (task.Help text) input cause faithful refuses = faithful
 
 -- it is refused for want of memory only
@@ -185,7 +186,7 @@ refused_for_memory laws (task.Survey faults find first last) input why orderly f
 refused_for_memory laws task.Check input why orderly faithful plain reader writer cause = absurd faithful
 refused_for_memory laws task.CheckMarks input why orderly faithful plain reader writer cause = absurd faithful
 refused_for_memory laws (task.Draw part) input why orderly faithful plain reader writer cause = absurd faithful
-refused_for_memory laws task.Cluster input why orderly faithful plain reader writer cause = absurd faithful
+refused_for_memory laws (task.Cluster printed) input why orderly faithful plain reader writer cause = absurd faithful
 refused_for_memory laws (task.Help text) input why orderly faithful plain reader writer cause = absurd faithful
 
 -- so a status that would say that the task was left is not 3
@@ -210,7 +211,7 @@ only_memory law asked (Some input) before after status refused = λ orderly fait
     subst (λ (word : List ℕ). Appends before after (refused_line word)) (law asked input why orderly faithful plain reader writer cause) out
 
 -- a cluster of threads is no such task
-pub not_by_threads : (asked : Task) (known before after : Option (List ℕ)) (status : ℕ) → asked ≡ task.Cluster
+pub not_by_threads : (asked : Task) (printed : ClusterOutput) (known before after : Option (List ℕ)) (status : ℕ) → asked ≡ task.Cluster printed
     → IfSome known (λ input. IsOrderly input → RunsFaithfully asked → HasNoChoices asked → status ≡ 2 → Appends before after (refused_line (codes "Memory")))
-not_by_threads asked None before after status is = tt
-not_by_threads asked (Some input) before after status is = λ orderly faithful plain two. absurd (subst RunsFaithfully is faithful)
+not_by_threads asked printed None before after status is = tt
+not_by_threads asked printed (Some input) before after status is = λ orderly faithful plain two. absurd (subst RunsFaithfully is faithful)

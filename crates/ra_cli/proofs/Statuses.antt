@@ -20,6 +20,7 @@ use Rattle.ra_trace.specs.Marks.{IsMarksVerdict}
 use Rattle.ra_cli.specs.declared.command_line.CommandFault.{CommandFault}
 use Rattle.ra_cli.specs.declared.error.AnswerError.{AnswerError}
 use Rattle.ra_cli.specs.declared.error.AnswerError.TheVariants as answer
+use Rattle.ra_cli.specs.declared.cluster_output.ClusterOutput.{ClusterOutput}
 use Rattle.ra_cli.specs.declared.error.RunScriptError.{RunScriptError}
 use Rattle.ra_cli.specs.declared.error.RunScriptError.TheVariants as run
 use Rattle.ra_cli.specs.declared.refusal.Refusal.{Refusal}
@@ -30,7 +31,7 @@ use Rattle.ra_cli.specs.ClusterRun.{IsClusterRun}
 use Rattle.ra_cli.specs.Refusals.{IsOfReader, IsOfWriter, refused_line, word_of}
 use Rattle.ra_cli.specs.Statuses.{IsRefused, IsSaid, IsBroken, IsPrinted, BreaksOff}
 use Rattle.ra_cli.specs.Surveyed.{IsTold}
-use Rattle.ra_cli.specs.Words.{GivesNode, HasMarksWord}
+use Rattle.ra_cli.specs.Words.{GivesNode, HasMarksWord, PrintsBy}
 use Rattle.ra_cli.proofs.ClusterRuns.{of_known}
 use Rattle.ra_cli.proofs.Helping.{for_each}
 
@@ -148,13 +149,13 @@ of_performed words policy format old before after =
     × Appends before after prefix) (λ input. BreaksOff words input before after)
     (λ input (prefix, rest, finished, prints, left, some). (prefix, rest, inr (inr (inl (policy, format, finished, prints))), left, some))
 
-pub of_cluster_run : (words : List (List ℕ)) (old before after : Option (List ℕ))
-    → IfSome old (λ input. (prefix rest : List ℕ) × IsClusterRun input (prefix ++ rest) × (rest ≢ []) × Appends before after prefix)
+pub of_cluster_run : (words : List (List ℕ)) (printed : ClusterOutput) (old before after : Option (List ℕ)) → PrintsBy words printed
+    → IfSome old (λ input. (prefix rest : List ℕ) × IsClusterRun printed input (prefix ++ rest) × (rest ≢ []) × Appends before after prefix)
     → IfSome old (λ input. BreaksOff words input before after)
-of_cluster_run words old before after =
-    of_known old (λ input. (prefix rest : List ℕ) × IsClusterRun input (prefix ++ rest) × (rest ≢ []) × Appends before after prefix)
+of_cluster_run words printed old before after by =
+    of_known old (λ input. (prefix rest : List ℕ) × IsClusterRun printed input (prefix ++ rest) × (rest ≢ []) × Appends before after prefix)
     (λ input. BreaksOff words input before after)
-    (λ input (prefix, rest, runs, left, some). (prefix, rest, inr (inr (inr (inr (inl runs)))), left, some))
+    (λ input (prefix, rest, runs, left, some). (prefix, rest, inr (inr (inr (inr (inl (printed, by, runs))))), left, some))
 
 pub of_surveyed : (words : List (List ℕ)) (faults : Option FaultRates) (find : Option Ending) (first last : ℕ) (old before after : Option (List ℕ))
     → IfSome old (λ input. (prefix rest : List ℕ) × (finished : Bool) × IsTold faults find first last input (prefix ++ rest) finished × (rest ≢ [])

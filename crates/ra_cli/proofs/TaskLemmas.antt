@@ -15,7 +15,7 @@ use Rattle.ra_draw.specs.declared.error.DrawError.{DrawError}
 use Rattle.ra_draw.specs.declared.error.DrawError.TheVariants.{TooLong}
 use Rattle.ra_draw.specs.declared.part.Part.{Part}
 use Rattle.ra_draw.specs.Drawing.{IsInput, drawn_lines, line_limit}
-use Rattle.ra_cli.specs.ClusterRun.{RunsCluster}
+use Rattle.ra_cli.specs.ClusterRun.{RunsBy}
 use Rattle.ra_cli.specs.Performs.{IsNamed}
 use Rattle.ra_cli.specs.Refusals.{IsOfReader, IsOfWriter, refused_line, word_of}
 use Rattle.ra_cli.specs.Statuses.{IsDone, IsRefused, IsUnfinished}
@@ -91,7 +91,7 @@ suits words (task.Survey faults find first last) help numbers marks = (tt, tt, t
 suits words task.Check help numbers marks = (tt, marks, tt)
 suits words task.CheckMarks help numbers marks = (tt, marks, tt)
 suits words (task.Draw part) help numbers marks = (tt, tt, tt)
-suits words task.Cluster help numbers marks = (tt, tt, tt)
+suits words (task.Cluster printed) help numbers marks = (tt, marks, tt)
 suits words (task.Help text) help numbers marks = (tt, tt, asks_for_help words help)
 
 -- status 0
@@ -99,7 +99,7 @@ pub done : (words : List (String Global)) (asked : Task) (old new before after :
     → OnHelp asked (Any (λ word. IsHelpWord (string_bytes word)) words) → Suits (map string_bytes words) asked
     → IsDoneBy asked old new before after Untouched
     → (Untouched × Any IsHelpWord (map string_bytes words))
-    ⊎ IsDone (map string_bytes words) old new before after ⊎ RunsCluster old new before after
+    ⊎ IsDone (map string_bytes words) old new before after ⊎ RunsBy (map string_bytes words) old new before after
 done words (task.Answer node nodes) old new before after Untouched help fits h = inr (inl (inl (node, nodes, fits.0, h)))
 done words (task.Sim policy choices format) old new before after Untouched help fits (chosen, named, h) = inr (inl (inr (inl (chosen, format, h))))
 done words (task.Survey faults find first last) old new before after Untouched help fits h =
@@ -108,7 +108,7 @@ done words task.Check old new before after Untouched help fits h = inr (inl (inr
 done words task.CheckMarks old new before after Untouched help fits h = inr (inl (inr (inr (inl (inr (fits.1, h))))))
 done words (task.Draw part) old new before after Untouched help fits (input, requests, messages, read, verdict, draws) =
     inr (inl (inr (inr (inr (inl (of_drawn part old new before after requests messages (input, read, verdict, draws)))))))
-done words task.Cluster old new before after Untouched help fits h = inr (inr h)
+done words (task.Cluster printed) old new before after Untouched help fits h = inr (inr (printed, fits.1, h))
 done words (task.Help text) old new before after Untouched help fits h = inl (h.0, asks_for_help words help)
 
 -- status 3
@@ -120,5 +120,5 @@ left words (task.Survey faults find first last) old new before after fits h = in
 left words task.Check old new before after fits h = inr (inl (inl (fits.1, h)))
 left words task.CheckMarks old new before after fits h = inr (inl (inr (fits.1, h)))
 left words (task.Draw part) old new before after fits h = inr (inr (inl h))
-left words task.Cluster old new before after fits h = absurd h
+left words (task.Cluster printed) old new before after fits h = absurd h
 left words (task.Help text) old new before after fits h = absurd h

@@ -9,6 +9,7 @@ use Rattle.ra_world.specs.Run.{IsRun}
 use Rattle.ra_world.specs.Traffic.{Move}
 use Rattle.ra_world.specs.World.{Reports}
 use Rattle.ra_schedule.specs.Script.{ScriptState}
+use Rattle.ra_trace.specs.TraceText.{IsTrace}
 use Rattle.ra_script.specs.declared.error.ScriptError.{ScriptError}
 use Rattle.ra_script.specs.declared.error.ScriptError.TheVariants as text
 use Rattle.ra_script.specs.ScriptText.{script_of}
@@ -16,16 +17,21 @@ use Rattle.ra_cluster.specs.declared.cluster_run.ClusterError.{ClusterError}
 use Rattle.ra_cluster.specs.declared.cluster_run.ClusterError.TheVariants as cluster
 use Rattle.ra_cluster.specs.LockOrder.{IsOutOfOrder, IsUnreleased}
 use Rattle.ra_cluster.specs.Plan.{MeetsPlan, IsQuietEnd, locks_of}
+use Rattle.ra_cli.specs.Words.{PrintsBy}
+use Rattle.ra_cli.specs.declared.cluster_output.ClusterOutput.{ClusterOutput}
+use Rattle.ra_cli.specs.declared.cluster_output.ClusterOutput.TheVariants.{Lines, Trace}
 use Rattle.ra_cli.specs.declared.error.RunScriptError.{RunScriptError}
 use Rattle.ra_cli.specs.declared.error.RunScriptError.TheVariants as fault
 
--- The input is the text of a script, and the output is the lines of the report of a run of its nodes, with numbers that
--- begin at 0. The marks of each client are those of its operations, in order. Nothing waits or is queued, and no
--- message is lost or under way. Each lock of the script was requested, and exactly two messages were sent for each
--- request and other node.
-pub record IsClusterRun (input output : List ℕ) : Type 0 where
-  pub script : ScriptState
-  pub script_is : script_of input ≡ Ok script
+-- what the output says of a run of nodes with numbers that begin at 0: the lines of its report, or its trace
+abbrev pub SaysRun : ClusterOutput → (nodes : ℕ) → List Move → Report → (output : List ℕ) → Type 0
+SaysRun Lines nodes moves report output = output ≡ report_text report
+SaysRun Trace nodes moves report output = IsTrace nodes 0 moves output
+
+-- The output says what came of a run of the script's nodes, with numbers that begin at 0. The marks of each client are
+-- those of its operations, in order. Nothing waits or is queued, and no message is lost or under way. Each lock of the
+-- script was requested, and exactly two messages were sent for each request and other node.
+pub record SaysScript (printed : ClusterOutput) (script : ScriptState) (output : List ℕ) : Type 0 where
   pub moves : List Move
   pub run : IsRun script.nodes 0 moves
   pub report : Report
@@ -35,14 +41,22 @@ pub record IsClusterRun (input output : List ℕ) : Type 0 where
   pub none_waits : report.waiting ≡ 0
   pub requests : report.requests ≡ locks_of script
   pub count : report.sent ≡ 2 * (script.nodes - 1) * locks_of script
-  pub output_is : output ≡ report_text report
+  pub says : SaysRun printed script.nodes moves report output
+
+-- the input is the text of a script, and the output says what came of such a run of it
+abbrev pub IsClusterRun : ClusterOutput → (input output : List ℕ) → Type 0
+IsClusterRun printed input output = (script : ScriptState) × (script_of input ≡ Ok script) × SaysScript printed script output
 
 -- If the input is known, it is a script that a cluster of threads brought to its end. It was read to its end, and
--- exactly the lines of the report were written. If it is not known, such a script still exists.
-abbrev pub RunsCluster : (old new before after : Option (List ℕ)) → Type 0
-RunsCluster old new before after =
-    IfSome old (λ input. (output : List ℕ) × IsClusterRun input output × Consumes old new input × Appends before after output)
-    × ((input output : List ℕ) × IsClusterRun input output × Appends before after output)
+-- exactly what is printed of the run was written. If it is not known, such a script still exists.
+abbrev pub RunsCluster : ClusterOutput → (old new before after : Option (List ℕ)) → Type 0
+RunsCluster printed old new before after =
+    IfSome old (λ input. (output : List ℕ) × IsClusterRun printed input output × Consumes old new input × Appends before after output)
+    × ((input output : List ℕ) × IsClusterRun printed input output × Appends before after output)
+
+-- the same, and what is printed is what the words ask for
+abbrev pub RunsBy : (words : List (List ℕ)) → (old new before after : Option (List ℕ)) → Type 0
+RunsBy words old new before after = (printed : ClusterOutput) × PrintsBy words printed × RunsCluster printed old new before after
 
 -- ---- Refusals
 
@@ -68,7 +82,7 @@ RefusesRun input fault.Read = Unit {0}
 RefusesRun input (fault.Script why) = (why ≢ text.Memory) × (script_of input ≡ Err why)
 RefusesRun input (fault.Cluster why) = (script : ScriptState) × (script_of input ≡ Ok script) × StopsAt script why
 RefusesRun input fault.Memory = Unit {0}
-RefusesRun input fault.Write = (output : List ℕ) × IsClusterRun input output
+RefusesRun input fault.Write = (printed : ClusterOutput) × (output : List ℕ) × IsClusterRun printed input output
 
 -- ---- How the refusals of the parts become refusals of a run
 

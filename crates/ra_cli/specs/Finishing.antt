@@ -23,7 +23,7 @@ RunsFaithfully (task.Survey faults find first last) = NoneIsLost faults × NoneI
 RunsFaithfully task.Check = ⊥
 RunsFaithfully task.CheckMarks = ⊥
 RunsFaithfully (task.Draw part) = ⊥
-RunsFaithfully task.Cluster = ⊥
+RunsFaithfully (task.Cluster printed) = ⊥
 RunsFaithfully (task.Help text) = ⊥
 
 -- no choices are given to the task, and it prints none
@@ -34,5 +34,5 @@ HasNoChoices (task.Survey faults find first last) = ⊤
 HasNoChoices task.Check = ⊤
 HasNoChoices task.CheckMarks = ⊤
 HasNoChoices (task.Draw part) = ⊤
-HasNoChoices task.Cluster = ⊤
+HasNoChoices (task.Cluster printed) = ⊤
 HasNoChoices (task.Help text) = ⊤

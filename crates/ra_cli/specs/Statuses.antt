@@ -6,12 +6,13 @@ use Rattle.ra_schedule.specs.declared.finding.Ending.{Ending}
 use Rattle.ra_schedule.specs.Faults.{FaultRates}
 use Rattle.ra_script.specs.declared.format.Format.{Format}
 use Rattle.ra_script.specs.Performed.{IsOrderly, IsPerformedAs}
+use Rattle.ra_cli.specs.declared.cluster_output.ClusterOutput.{ClusterOutput}
 use Rattle.ra_cli.specs.declared.refusal.Refusal.{Refusal}
 use Rattle.ra_cli.specs.Answer.{IsAnswered}
-use Rattle.ra_cli.specs.Words.{IsHelpWord, GivesNode, NamesNoChoices, SimsFaithfully}
+use Rattle.ra_cli.specs.Words.{IsHelpWord, GivesNode, NamesNoChoices, PrintsBy, SimsFaithfully}
 use Rattle.ra_cli.specs.Performs.{Performs}
 use Rattle.ra_cli.specs.Checks.{Judges, IsJudged}
-use Rattle.ra_cli.specs.ClusterRun.{IsClusterRun, RunsCluster}
+use Rattle.ra_cli.specs.ClusterRun.{IsClusterRun, RunsBy}
 use Rattle.ra_cli.specs.NodeRun.{AreNodeWords, ServesNode}
 use Rattle.ra_cli.specs.Pictures.{IsDrawn, IsNoTrace, IsDrawing}
 use Rattle.ra_cli.specs.Surveyed.{IsTold, Surveys}
@@ -55,7 +56,7 @@ IsPrinted words input text =
     ⊎ ((node nodes : ℕ) × GivesNode words node nodes × IsAnswered node nodes input text)
     ⊎ ((policy : Policy) × (format : Format) × (finished : Bool) × IsPerformedAs format policy input text finished)
     ⊎ IsJudged words input text
-    ⊎ IsClusterRun input text
+    ⊎ ((printed : ClusterOutput) × PrintsBy words printed × IsClusterRun printed input text)
     ⊎ Any IsHelpWord words
     ⊎ IsDrawing input text
     ⊎ ((faults : Option FaultRates) × (find : Option Ending) × (first last : ℕ) × (finished : Bool) × IsTold faults find first last input text finished)
@@ -77,9 +78,10 @@ IsBroken words old before after =
 pub record Serves (words : List (List ℕ)) (old new before after : Option (List ℕ)) (Untouched : Type 0) (status : ℕ) : Type 0 where
   pub range : status ≤ 3
   -- Status 0 comes only if the input was answered or drawn, was performed to its end, under one seed or each of many, or
-  -- was run by threads to its end; or if it is the trace of a run or, with the word `--marks`, the log of one of the lock
-  -- table; or if a word asks for a text of help or for the version, and nothing was read; or for `ra node`.
-  pub done : status ≡ 0 → (Untouched × Any IsHelpWord words) ⊎ IsDone words old new before after ⊎ RunsCluster old new before after
+  -- was run by threads to its end and, exactly with the word `--trace`, written as a trace; or if it is the trace of a run
+  -- or, with the word `--marks`, the log of one of the lock table; or if a word asks for a text of help or for the
+  -- version, and nothing was read; or for `ra node`.
+  pub done : status ≡ 0 → (Untouched × Any IsHelpWord words) ⊎ IsDone words old new before after ⊎ RunsBy words old new before after
       ⊎ AreNodeWords words
   -- Status 3 comes only if the input was performed and something is left to do, under one seed or some of many, or is the
   -- trace or the log of no run.

@@ -63,7 +63,7 @@ IsDoneBy (task.Survey faults find first last) old new before after Untouched =
 IsDoneBy task.Check old new before after Untouched = Checks old new before after true
 IsDoneBy task.CheckMarks old new before after Untouched = ChecksMarks old new before after true
 IsDoneBy (task.Draw part) old new before after Untouched = DrawsPart part old new before after
-IsDoneBy task.Cluster old new before after Untouched = RunsCluster old new before after
+IsDoneBy (task.Cluster printed) old new before after Untouched = RunsCluster printed old new before after
 IsDoneBy (task.Help text) old new before after Untouched = Untouched × Appends before after (string_bytes text)
 
 -- status 3: a run ended with something left to do, or the input is not the trace or the log that it should be
@@ -76,7 +76,7 @@ IsLeftBy (task.Survey faults find first last) old new before after =
 IsLeftBy task.Check old new before after = Checks old new before after false
 IsLeftBy task.CheckMarks old new before after = ChecksMarks old new before after false
 IsLeftBy (task.Draw part) old new before after = IsNoTrace old new before after
-IsLeftBy task.Cluster old new before after = ⊥
+IsLeftBy (task.Cluster printed) old new before after = ⊥
 IsLeftBy (task.Help text) old new before after = ⊥
 
 -- ---- Refusals
@@ -103,7 +103,7 @@ IsCauseFor (task.Survey faults find first last) input why =
 IsCauseFor task.Check input why = (fault : TraceError) × (why ≡ refusal.Check fault)
 IsCauseFor task.CheckMarks input why = (fault : TraceError) × (why ≡ refusal.Check fault)
 IsCauseFor (task.Draw part) input why = (fault : DrawError) × (why ≡ refusal.Draw fault) × RefusesPart part input fault
-IsCauseFor task.Cluster input why = (fault : RunScriptError) × (why ≡ refusal.Cluster fault) × RefusesRun input fault
+IsCauseFor (task.Cluster printed) input why = (fault : RunScriptError) × (why ≡ refusal.Cluster fault) × RefusesRun input fault
 IsCauseFor (task.Help text) input why = ⊥
 
 -- status 2: the line of a refusal was written and nothing else, for such a cause, and neither the reader nor the writer
@@ -119,6 +119,7 @@ IsRefusedBy asked old before after = IsRefusedFor (λ why. IfSome old (λ input.
 -- ---- Words
 
 -- the task is one that the words of a command line may ask for: of a node and the nodes that they give, for mark logs
--- exactly if a word is `--marks`, and of help only if a word asks for it
+-- exactly if a word is `--marks`, for the trace of threads exactly if a word is `--trace`, and of help only if a word
+-- asks for it
 abbrev pub Suits : (words : List (List ℕ)) → Task → Type 0
 Suits words asked = OnAnswer asked (GivesNode words) × ChecksBy words asked × OnHelp asked (Any IsHelpWord words)

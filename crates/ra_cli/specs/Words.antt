@@ -1,6 +1,8 @@
 -- What the words of a command line ask for.
 use Rattle.std.specs.Prelude.{◌≡◌, ℕ, ◌+◌, ◌≤◌, ◌⊎◌, ⊤, List, ◌∷◌, ◌++◌, Any, Some, slice_get, codes}
 use Rattle.std.specs.Str.Parse.{IsNumeral, digits_value, without_leading_plus}
+use Rattle.ra_cli.specs.declared.cluster_output.ClusterOutput.{ClusterOutput}
+use Rattle.ra_cli.specs.declared.cluster_output.ClusterOutput.TheVariants.{Lines, Trace}
 use Rattle.ra_cli.specs.declared.command_line.Task.{Task}
 use Rattle.ra_cli.specs.declared.command_line.Task.TheVariants.{Answer, Sim, Survey, Check, CheckMarks, Draw, Cluster, Help}
 
@@ -53,7 +55,7 @@ OnAnswer (Survey faults find first last) P = ⊤
 OnAnswer Check P = ⊤
 OnAnswer CheckMarks P = ⊤
 OnAnswer (Draw part) P = ⊤
-OnAnswer Cluster P = ⊤
+OnAnswer (Cluster printed) P = ⊤
 OnAnswer (Help text) P = ⊤
 
 -- a fact, if a text of help or the version is printed; for any other command it says nothing
@@ -64,14 +66,24 @@ OnHelp (Survey faults find first last) P = ⊤
 OnHelp Check P = ⊤
 OnHelp CheckMarks P = ⊤
 OnHelp (Draw part) P = ⊤
-OnHelp Cluster P = ⊤
+OnHelp (Cluster printed) P = ⊤
 OnHelp (Help text) P = P
 
 -- one of the words is `--marks`
 abbrev pub HasMarksWord : (words : List (List ℕ)) → Type 0
 HasMarksWord words = Any (λ word. word ≡ codes "--marks") words
 
--- the command `check` is the one for mark logs exactly if one of the words is `--marks`
+-- one of the words is `--trace`
+abbrev pub HasTraceWord : (words : List (List ℕ)) → Type 0
+HasTraceWord words = Any (λ word. word ≡ codes "--trace") words
+
+-- of a run by threads, the trace is printed exactly if one of the words is `--trace`
+abbrev pub PrintsBy : (words : List (List ℕ)) → ClusterOutput → Type 0
+PrintsBy words Lines = HasTraceWord words → ⊥
+PrintsBy words Trace = HasTraceWord words
+
+-- what words choose: the command `check` is the one for mark logs exactly if one of them is `--marks`, and the command
+-- `cluster` prints what `PrintsBy` says
 abbrev pub ChecksBy : (words : List (List ℕ)) → Task → Type 0
 ChecksBy words (Answer node nodes) = ⊤
 ChecksBy words (Sim policy choices format) = ⊤
@@ -79,5 +91,5 @@ ChecksBy words (Survey faults find first last) = ⊤
 ChecksBy words Check = HasMarksWord words → ⊥
 ChecksBy words CheckMarks = HasMarksWord words
 ChecksBy words (Draw part) = ⊤
-ChecksBy words Cluster = ⊤
+ChecksBy words (Cluster printed) = PrintsBy words printed
 ChecksBy words (Help text) = ⊤

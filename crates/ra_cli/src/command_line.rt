@@ -4,6 +4,7 @@ ghost use Rattle.ra_schedule.specs.Survey.{NoneIsLost, NoneIsRepeated};
 ghost use Rattle.ra_cli.specs.Words.{ChecksBy, Gives, GivesNode, GivesNothingBut, GivesText, IsHelpWord, NamesFaithfully, NamesNoChoices, OnAnswer, OnHelp, SimsFaithfully};
 ghost use Rattle.ra_cli.specs.Finishing.{HasNoChoices, IsFaithful, RunsFaithfully};
 
+use crate::cluster_output::ClusterOutput;
 use crate::command_rows::command;
 use clap::error::ErrorKind;
 use clap::{ArgMatches, Error as ParseError};
@@ -53,8 +54,8 @@ pub enum Task<'a> {
     CheckMarks,
     /// The command `draw`, with the part of the trace.
     Draw(Part),
-    /// The command `cluster`.
-    Cluster,
+    /// The command `cluster`, with what is to be printed of the run.
+    Cluster(ClusterOutput),
     /// A text of help, or the version.
     Help(String),
 }
@@ -327,6 +328,21 @@ fn check_task<'a>(words: &[String]) -> Task<'a>
     }
 }
 
+/// Returns the task of the command `cluster`: it prints the trace where a word says so. The parser has found that it is an option
+/// then, and tells less of it in its contract than the words do.
+fn cluster_task<'a>(words: &[String]) -> Task<'a>
+    ensures help { OnHelp result ⊥ }
+    ensures choices { HasNoChoices result }
+    ensures numbers { OnAnswer result (λ _ _. ⊥) }
+    ensures marks { ChecksBy (map string_bytes words.now) result }
+{
+    if has_word(words, "--trace") {
+        Task::Cluster(ClusterOutput::Trace)
+    } else {
+        Task::Cluster(ClusterOutput::Lines)
+    }
+}
+
 /// Returns the word for the command, the first after the program's name, or `None` if there is none. It does not
 /// allocate.
 fn command_word(words: &[String]) -> Option<&str>
@@ -350,7 +366,7 @@ fn task_of<'a>(words: &'a [String], matches: &ArgMatches<'a>) -> Option<Task<'a>
     match word {
         "answer" => answer_task(words),
         "sim" => sim_task(words, given),
-        "cluster" => Some(Task::Cluster),
+        "cluster" => Some(cluster_task(words)),
         "check" => Some(check_task(words)),
         "draw" => draw_task(given),
         _ => None,

@@ -188,6 +188,10 @@ first, so the order of the marks and their numbers may differ from run to run.
 When all threads have ended, what the nodes recorded is put together into one
 run of the cluster, whose marks and totals are printed.
 
+--trace prints the steps of this run, each with its marks, as `ra check` reads
+them.
+Example: ra cluster --trace < script.toml | ra check
+
 A client that waits in vain would keep the program waiting forever. So two kinds
 of scripts are refused before any thread starts:
   OutOfOrder  a client locks a name that does not sort, byte by byte, after

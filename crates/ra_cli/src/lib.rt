@@ -2,6 +2,7 @@
 #![tactic(auto)]
 
 mod answering;
+mod cluster_output;
 mod command_line;
 mod command_rows;
 mod error;

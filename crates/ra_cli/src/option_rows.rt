@@ -126,6 +126,13 @@ const SIM_OPTIONS: &[OptionRow] = &[
     },
 ];
 
+/// The option of the command `cluster`.
+const CLUSTER_OPTIONS: &[OptionRow] = &[OptionRow {
+    name: "trace",
+    help: "Print the trace in place of marks and totals",
+    ..FLAG
+}];
+
 /// The option of the command `check`.
 const CHECK_OPTIONS: &[OptionRow] = &[OptionRow {
     name: "marks",
@@ -157,7 +164,8 @@ pub fn options_of(kind: CommandKind) -> &'static [OptionRow<'static>] {
         CommandKind::Sim => SIM_OPTIONS,
         CommandKind::Check => CHECK_OPTIONS,
         CommandKind::Draw => DRAW_OPTIONS,
-        CommandKind::Cluster | CommandKind::Node => &[],
+        CommandKind::Cluster => CLUSTER_OPTIONS,
+        CommandKind::Node => &[],
     }
 }
 

@@ -1,16 +1,21 @@
-//! A script that threads run, from its text to the lines of the report.
-ghost use Rattle.std.specs.Prelude.{◌≡◌, ◌≢◌, ◌<◌, ◌≤◌, ◌⊎◌, ◌++◌, List, ℕ, [], Ok, length, IfOk, IfErr, OnOk, IfSome, IsErrOf, string_bytes};
+//! A script that threads run, from its text to what is printed of the run.
+ghost use Rattle.std.specs.Prelude.{◌≡◌, ◌≢◌, ◌<◌, ◌≤◌, ◌++◌, List, ℕ, [], Ok, length, map, IfOk, IfErr, OnOk, IfSome, IsErrOf, string_bytes};
 ghost use Rattle.std.specs.Io.KnownBytes.{Consumes, Appends};
-ghost use Rattle.ra_world.specs.Lines as lines;
+ghost use Rattle.ra_world.specs.Run.{IsRun};
+ghost use Rattle.ra_world.specs.Traffic.{Move};
+ghost use Rattle.ra_trace.specs.TraceText.{IsTrace};
 ghost use Rattle.ra_script.specs.ScriptText.{script_of};
 ghost use Rattle.ra_cluster.specs.declared.cluster_run.ClusterError.{ClusterError};
-ghost use Rattle.ra_cli.specs.ClusterRun.{IsClusterRun, RunsCluster, RefusesRun};
+ghost use Rattle.ra_cli.specs.ClusterRun.{IsClusterRun, RunsCluster, RefusesRun, SaysRun, SaysScript, of_cluster};
 
+use crate::cluster_output::ClusterOutput;
 use crate::error::RunScriptError;
-use ra_cluster::{OpenGate, run_cluster};
+use ra_cluster::{ClusterError, OpenGate, Settled, run_cluster};
 use ra_schedule::Script;
 use ra_script::read_script;
-use ra_world::{Report, read_up_to, report_text, write_out};
+use ra_stamp::Memory;
+use ra_trace::trace_text;
+use ra_world::{read_up_to, report_text, runs_are_determined, write_out};
 use std::alloc::Global;
 use std::io::{Read, Write};
 use std::sync::Wait;
@@ -43,32 +48,66 @@ pub fn script_from<R: Read>(alloc: Global, reader: &mut R) -> Result<Script, Run
     Ok(script)
 }
 
-/// Writes the lines of a report.
+/// Returns the trace of the run into which the books of this many nodes settled. The steps are made once more for it.
 ///
 /// # Errors
 ///
-/// `Memory`: there is none for the lines, and the writer is as before. `Write`: the writer failed or took nothing, and a prefix
-/// of the lines was written.
-fn write_report<W: Write>(
-    alloc: Global,
-    writer: &mut W,
-    report: &Report,
-) -> Result<(), RunScriptError>
-    ensures ok { OnOk result
-        (Appends (W.contents writer.old) (W.contents writer.new) (lines.report_text report.now)) }
-    ensures err { IfErr result (λ fault. ((fault ≡ RunScriptError.Memory) × (writer.new ≡ writer.old))
-        ⊎ ((fault ≡ RunScriptError.Write) × (prefix : List ℕ) × (rest : List ℕ)
-        × (lines.report_text report.now ≡ prefix ++ rest) × (rest ≢ [])
-        × Appends (W.contents writer.old) (W.contents writer.new) prefix)) }
+/// `Memory`: memory ran out.
+fn trace_of(alloc: Global, nodes: u16, settled: &Settled) -> Result<String, Memory>
+    ensures { IfOk result (λ text. (moves : List Move) → map (λ move. move.step) moves ≡ settled.now.steps.items
+        → IsRun nodes 0 moves → IsTrace nodes 0 moves (string_bytes text)) }
 {
-    let text = report_text(alloc, report)?;
-    write_out(writer, text.as_bytes())?;
-    Ok(())
+    runs_are_determined();
+    // The steps are a run, so only `Memory` can come.
+    match trace_text(alloc, nodes, 0, &settled.steps) {
+        Ok(text) => Ok(text),
+        Err(_) => Err(Memory),
+    }
 }
 
-/// Reads the text of a script, runs it by threads, and writes the lines of the report on the one run into which the books of the
-/// nodes settle. It takes at most 65,537 bytes from the reader, and no read or write that failed is tried again. It waits for
+/// Returns what is printed of the run into which the books of this many nodes settled.
+///
+/// # Errors
+///
+/// `Memory`: memory ran out.
+fn settled_text(
+    alloc: Global,
+    printed: ClusterOutput,
+    nodes: u16,
+    settled: &Settled,
+) -> Result<String, Memory>
+    ensures { IfOk result (λ text. (moves : List Move) → map (λ move. move.step) moves ≡ settled.now.steps.items
+        → IsRun nodes 0 moves → SaysRun printed nodes moves settled.now.report (string_bytes text)) }
+{
+    match printed {
+        ClusterOutput::Lines => report_text(alloc, &settled.report),
+        ClusterOutput::Trace => trace_of(alloc, nodes, settled),
+    }
+}
+
+/// Runs a script by threads, and returns what is printed of the one run into which the books of the nodes settle. It waits for
 /// the threads that it starts, and nothing bounds how long.
+///
+/// # Errors
+///
+/// Those of [`run_cluster`].
+fn text_of_run<T: Threads + Wait + Sync>(
+    rt: &T,
+    alloc: Global,
+    printed: ClusterOutput,
+    script: &Script,
+) -> Result<String, ClusterError>
+    ensures ok { IfOk result (λ text. SaysScript printed script.now (string_bytes text)) }
+    ensures err { IfErr result (λ why. (input : List ℕ) → script_of input ≡ Ok script.now → RefusesRun input (of_cluster why)) }
+{
+    let settled = run_cluster(rt, alloc, script, &OpenGate)?;
+    let text = settled_text(alloc, printed, script.nodes(), &settled)?;
+    Ok(text)
+}
+
+/// Reads the text of a script, runs it by threads, and writes what is printed of the one run into which the books of the nodes
+/// settle: the lines of its report, or its trace. It takes at most 65,537 bytes from the reader, and no read or write that failed
+/// is tried again. It waits for the threads that it starts, and nothing bounds how long.
 ///
 /// # Errors
 ///
@@ -78,23 +117,24 @@ fn write_report<W: Write>(
 /// 2. `Script`: the input is no script.
 /// 3. `Cluster`: threads may not run the script, for which no thread was started, or did not bring it to its end.
 /// 4. `Memory`: memory ran out.
-/// 5. `Write`: the writer failed or took nothing, with bytes left to write. A prefix of the lines was written.
+/// 5. `Write`: the writer failed or took nothing, with bytes left to write. A prefix of the text was written.
 ///
 /// After each of the others the writer is as before.
 pub fn run_script<T: Threads + Wait + Sync, R: Read, W: Write>(
     rt: &T,
     alloc: Global,
+    printed: ClusterOutput,
     reader: &mut R,
     writer: &mut W,
 ) -> Result<(), RunScriptError>
     // What is read is a script to its end, and what is written is what came of it and nothing else.
-    ensures ok { OnOk result (RunsCluster (R.remaining reader.old) (R.remaining reader.new)
+    ensures ok { OnOk result (RunsCluster printed (R.remaining reader.old) (R.remaining reader.new)
         (W.contents writer.old) (W.contents writer.new)) }
     ensures refused { IfErr result (λ fault.
         IfSome (R.remaining reader.old) (λ input. RefusesRun input fault)) }
     ensures unwritten { IfErr result (λ fault. fault ≢ RunScriptError.Write → writer.new ≡ writer.old) }
     ensures prefix { IsErrOf result RunScriptError.Write → IfSome (R.remaining reader.old) (λ input.
-        (prefix rest : List ℕ) × IsClusterRun input (prefix ++ rest) × (rest ≢ [])
+        (prefix rest : List ℕ) × IsClusterRun printed input (prefix ++ rest) × (rest ≢ [])
         × Appends (W.contents writer.old) (W.contents writer.new) prefix) }
     // A fault of the reader comes only before it gave all that may be taken.
     ensures failed { IsErrOf result RunScriptError.Read → (taken : List ℕ) × (length taken < 65537)
@@ -103,6 +143,7 @@ pub fn run_script<T: Threads + Wait + Sync, R: Read, W: Write>(
         × Consumes (R.remaining reader.old) (R.remaining reader.new) taken }
 {
     let script = script_from(alloc, reader)?;
-    let settled = run_cluster(rt, alloc, &script, &OpenGate)?;
-    write_report(alloc, writer, &settled.report)
+    let text = text_of_run(rt, alloc, printed, &script)?;
+    write_out(writer, text.as_bytes())?;
+    Ok(())
 }

@@ -1,6 +1,6 @@
-ghost use Rattle.std.specs.Prelude.{true, false, [], ◌++◌, None, ◌≢◌, ◌↔◌, IsErr, IsTrue, IfOk, IfErr, IfNone, Option, ◌≡◌, ◌≤◌, ◌⊎◌, List, ℕ, map, IfSome, codes, string_bytes};
+ghost use Rattle.std.specs.Prelude.{true, false, [], ◌++◌, None, ◌≢◌, ◌↔◌, IsErr, IsTrue, IfOk, IfErr, Option, ◌≡◌, ◌≤◌, ◌⊎◌, List, ℕ, map, IfSome, codes, string_bytes};
 ghost use Rattle.std.specs.Io.KnownBytes.{Appends};
-ghost use Rattle.ra_cli.specs.Words.{GivesNode, HasMarksWord};
+ghost use Rattle.ra_cli.specs.Words.{GivesNode, HasMarksWord, PrintsBy};
 ghost use Rattle.ra_cli.specs.Answer.{Refuses};
 ghost use Rattle.ra_cli.specs.Performs.{IsNamed};
 ghost use Rattle.ra_cli.specs.Checks.{Checks, ChecksMarks, is_run, is_valid};
@@ -8,6 +8,7 @@ ghost use Rattle.ra_cli.specs.Checks.{verdict_text as spec_text};
 ghost use Rattle.ra_trace.specs.declared.error.TraceError.{TraceError};
 ghost use Rattle.ra_trace.specs.declared.verdict.Verdict.{Verdict};
 ghost use Rattle.ra_draw.specs.declared.error.DrawError.{DrawError};
+ghost use Rattle.ra_cli.specs.ClusterRun.{RefusesRun, RunsCluster};
 ghost use Rattle.ra_cli.specs.Pictures.{IsNoTrace};
 ghost use Rattle.ra_cli.specs.Statuses.{IsBroken, IsPrinted, IsSaid, Serves};
 ghost use Rattle.ra_cli.specs.Surveyed.{RefusesSurvey, SurveysBy};
@@ -22,6 +23,7 @@ ghost use Rattle.ra_cli.specs.declared.error.RunScriptError.{RunScriptError};
 ghost use Rattle.ra_cli.specs.declared.refusal.Refusal.{Refusal};
 ghost use Rattle.ra_cli.specs.Refusals.{IsOfReader, IsOfWriter, command_word, refused_line, word_of};
 
+use crate::cluster_output::ClusterOutput;
 use crate::command_line::{PolicyName, Task, parse};
 use crate::error::RunScriptError;
 use crate::laws::orderly_scripts_are_finished;
@@ -379,26 +381,30 @@ fn paint<R: Read, W: Write>(alloc: Global, part: Part, reader: &mut R, writer: &
     }
 }
 
-/// Does a task that needs no threads, and returns what came of it. For the command `cluster` it does nothing and returns
-/// `None`. It waits for nothing but the reader and the writer.
+/// Does a task that needs no threads, and returns what came of it. It waits for nothing but the reader and the writer.
+///
+/// # Errors
+///
+/// What is to be printed of the run, for the command `cluster`, which needs threads. Nothing is done for it.
 fn do_alone<R: BufRead, W: Write, O: Observer>(
     alloc: Global,
     task: Task<'_>,
     reader: &mut R,
     writer: &mut W,
     observer: &mut O,
-) -> Option<Outcome>
-    ensures range { IfSome result (λ outcome. outcome.status ≤ 3) }
-    ensures done { IfSome result (λ outcome. outcome.status ≡ 0
+) -> Result<Outcome, ClusterOutput>
+    ensures range { IfOk result (λ outcome. outcome.status ≤ 3) }
+    ensures done { IfOk result (λ outcome. outcome.status ≡ 0
         → IsDoneBy task.entry (R.remaining reader.old) (R.remaining reader.new)
         (W.contents writer.old) (W.contents writer.new) (reader.new ≡ reader.old)) }
-    ensures unfinished { IfSome result (λ outcome. outcome.status ≡ 3
+    ensures unfinished { IfOk result (λ outcome. outcome.status ≡ 3
         → IsLeftBy task.entry (R.remaining reader.old) (R.remaining reader.new) (W.contents writer.old) (W.contents writer.new)) }
-    ensures refused { IfSome result (λ outcome. outcome.status ≡ 2
+    ensures refused { IfOk result (λ outcome. outcome.status ≡ 2
         → IsRefusedBy task.entry (R.remaining reader.old) (W.contents writer.old) (W.contents writer.new)) }
-    ensures broken { IfSome result (λ outcome. (words : List (List ℕ)) → Suits words task.entry → outcome.status ≡ 1
+    ensures broken { IfOk result (λ outcome. (words : List (List ℕ)) → Suits words task.entry → outcome.status ≡ 1
         → IsBroken words (R.remaining reader.old) (W.contents writer.old) (W.contents writer.new)) }
-    ensures none { IfNone result ((task.entry ≡ Task.Cluster) × (reader.new ≡ reader.old) × (writer.new ≡ writer.old)) }
+    ensures threads { IfErr result (λ printed.
+        (task.entry ≡ Task.Cluster printed) × (reader.new ≡ reader.old) × (writer.new ≡ writer.old)) }
 {
     let outcome = match task {
         Task::Answer { node, nodes } => respond(alloc, node, nodes, reader, writer),
@@ -416,10 +422,33 @@ fn do_alone<R: BufRead, W: Write, O: Observer>(
         Task::Check => judge(alloc, reader, writer),
         Task::CheckMarks => judge_marks(alloc, reader, writer),
         Task::Draw(part) => paint(alloc, part, reader, writer),
-        Task::Cluster => return None,
+        Task::Cluster(printed) => return Err(printed),
         Task::Help(text) => Outcome::new(written(writer, text.as_bytes(), DONE), None),
     };
-    Some(outcome)
+    Ok(outcome)
+}
+
+/// Runs the script of the reader by threads, and writes what is to be printed of the run.
+fn run_by_threads<T: Threads + Wait + Sync, R: Read, W: Write>(
+    rt: &T,
+    alloc: Global,
+    printed: ClusterOutput,
+    reader: &mut R,
+    writer: &mut W,
+) -> Outcome
+    ensures range { result.status ≤ 2 }
+    ensures done { result.status ≡ 0 → RunsCluster printed (R.remaining reader.old) (R.remaining reader.new)
+        (W.contents writer.old) (W.contents writer.new) }
+    ensures refused { result.status ≡ 2 → IsRefusedFor (λ why. IfSome (R.remaining reader.old) (λ input.
+        (fault : RunScriptError) × (why ≡ Refusal.Cluster fault) × RefusesRun input fault))
+        (W.contents writer.old) (W.contents writer.new) }
+    ensures broken { (words : List (List ℕ)) → PrintsBy words printed → result.status ≡ 1
+        → IsBroken words (R.remaining reader.old) (W.contents writer.old) (W.contents writer.new) }
+{
+    match run_script(rt, alloc, printed, reader, writer) {
+        Ok(()) => Outcome::new(DONE, None),
+        Err(fault) => refuse(writer, Refusal::Cluster(fault)),
+    }
 }
 
 /// Does a task, and returns what came of it.
@@ -447,12 +476,9 @@ fn do_task<T: Threads + Wait + Sync, R: BufRead, W: Write, O: Observer>(
         → IsBroken words (R.remaining reader.old) (W.contents writer.old) (W.contents writer.new) }
 {
     orderly_scripts_are_finished();
-    if let Some(outcome) = do_alone(alloc, task, reader, writer, observer) {
-        return outcome;
-    }
-    match run_script(rt, alloc, reader, writer) {
-        Ok(()) => Outcome::new(DONE, None),
-        Err(fault) => refuse(writer, Refusal::Cluster(fault)),
+    match do_alone(alloc, task, reader, writer, observer) {
+        Ok(outcome) => outcome,
+        Err(printed) => run_by_threads(rt, alloc, printed, reader, writer),
     }
 }
 

@@ -1,7 +1,7 @@
 use Rattle.std.proofs.Common.{◌≡◌, ◌⊎◌, List, ℕ, [], map, codes, string_bytes, inl, inr}
 use Rattle.ra_cli.specs.Finishing.{IsFaithful}
 use Rattle.ra_cli.specs.Words.{GivesText, NamesFaithfully, NamesNoChoices}
-use Rattle.ra_cli.proofs.Helping.{as_choices_word}
+use Rattle.ra_cli.proofs.Helping.{option_word}
 use Rattle.ra_cli.proofs.Faithful.{anyway, under}
 use Rattle.ra_cli.proofs.command_line.sim_task.Goals as goal
 
@@ -22,5 +22,5 @@ pub returns-clause-choices : goal.returns-clause-choices
 returns-clause-choices c names =
     let words = c.args.words.now in (
       none (map string_bytes words) c.choices_word-choices.result.now names c.choices_word-choices.ensures,
-      c.in_ok-format.ensures (λ any. names.none_asked (as_choices_word words any)),
+      c.in_ok-format.ensures (λ any. names.none_asked ((option_word words (codes "--as-choices")).0 any)),
     )

@@ -14,9 +14,9 @@ returns-in-sim-clause-faithful c =
     under (SimsFaithfully words) (NamesFaithfully words) (λ sims. sims.names) c.sim_task.result c.sim_task.ensures.faithful
 
 pub returns-in-cluster-clause-faithful : goal.returns-in-cluster-clause-faithful
-returns-in-cluster-clause-faithful c =
+returns-in-cluster-clause-faithful c sims =
     let words = map string_bytes c.args.words.now in
-    no_other words c.in_ok-word.word.now (codes "cluster") c.in_ok-word.ensures c.in-cluster.is (λ same. omega (arith, same))
+    absurd (no_other words c.in_ok-word.word.now (codes "cluster") c.in_ok-word.ensures c.in-cluster.is (λ same. omega (arith, same)) sims)
 
 pub returns-in-check-clause-faithful : goal.returns-in-check-clause-faithful
 returns-in-check-clause-faithful c sims =
