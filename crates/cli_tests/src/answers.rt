@@ -129,7 +129,7 @@ Usage: ra answer --node <node> --nodes <nodes>
 Options:
       --node <node>    Answer as this node, 1 to the value of --nodes
       --nodes <nodes>  Set the number of nodes, 1 to 64
-  -h, --help           Print help
+  -h, --help           Print help, or a summary with -h
 
 Read one frame of version 1 or 2 from standard input, as a line of hexadecimal
 digits, and print the frames with which the node answers, in version 2, one per

@@ -338,7 +338,7 @@ Usage: ra check [OPTIONS]
 
 Options:
       --marks  Check the mark log of any lock service, not a trace
-  -h, --help   Print help
+  -h, --help   Print help, or a summary with -h
 
 Read a trace from standard input: the steps of a run, one per line, each with
 its marks on the lines after it.
@@ -402,6 +402,7 @@ Exit status:
 #[test]
 fn help_on_check_prints_a_trace(rt: HostRuntime) {
     assert_answers(&rt, "ra check --help", "", 0, HELP);
+    assert_answers(&rt, "ra check --help -h", "", 0, HELP);
 }
 
 /// Command lines that are not a valid `check`.

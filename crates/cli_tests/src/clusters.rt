@@ -553,7 +553,7 @@ Usage: ra cluster [OPTIONS]
 
 Options:
       --trace  Print the trace in place of marks and totals
-  -h, --help   Print help
+  -h, --help   Print help, or a summary with -h
 
 Read a script from standard input, as `ra sim --help` describes it: 1 to 64
 nodes, and 1 to 64 clients that lock names in these modes:

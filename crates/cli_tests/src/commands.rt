@@ -109,6 +109,25 @@ fn help_lists_the_commands(rt: HostRuntime) {
     assert_answers(&rt, "ra -h", "", 0, HELP);
 }
 
+/// The summary of the help of one command.
+const SUMMARY: &str = "Check the trace of a run, or the mark log of a lock service
+
+Usage: ra check [OPTIONS]
+
+Options:
+      --marks  Check the mark log of any lock service, not a trace
+  -h, --help   Print help, or a summary with -h
+
+The command reads standard input. See --help for what it reads and prints, an
+example, and the exit statuses.
+";
+
+#[test]
+fn the_first_word_that_asks_for_help_chooses_the_summary(rt: HostRuntime) {
+    assert_answers(&rt, "ra check -h", "", 0, SUMMARY);
+    assert_answers(&rt, "ra check -h --help", "", 0, SUMMARY);
+}
+
 /// The words of each help.
 const HELPS: &[&str] = &[
     "ra --help",
@@ -118,6 +137,7 @@ const HELPS: &[&str] = &[
     "ra check --help",
     "ra draw --help",
     "ra node --help",
+    "ra sim -h",
 ];
 
 /// Returns whether no line of a text has more than 80 bytes.

@@ -341,7 +341,7 @@ Options:
       --find <find>        With --seeds, trace the first finished or stuck run
       --trace              Print the trace in place of marks and totals
       --as-choices         Print the choices in place of marks and totals
-  -h, --help               Print help
+  -h, --help               Print help, or a summary with -h
 
 Read a script from standard input. A script is a TOML document with the number
 of nodes, 1 to 64, and with 1 to 64 clients. Each client has a node and at most

@@ -392,6 +392,19 @@ pub fn asks_for_help(words: &[String]) -> bool
     false
 }
 
+/// Returns whether the words ask for the summary of a command's help: the first of them that asks for help is `-h`. It does not
+/// allocate.
+fn asks_for_summary(words: &[String]) -> bool {
+    for word in words {
+        match word.as_str() {
+            "-h" => return true,
+            "--help" => return false,
+            _ => {}
+        }
+    }
+    false
+}
+
 /// Returns the task of the words, of which the first is the program's name. It is a text of help, or the version, only where one of
 /// them asks for it.
 ///
@@ -406,7 +419,7 @@ pub fn parse<'a>(alloc: Global, words: &'a [String]) -> Result<Task<'a>, Command
     ensures faithful { IfOk result (λ task. SimsFaithfully (map string_bytes words.now) → RunsFaithfully task) }
     ensures choices { IfOk result (λ task. NamesNoChoices (map string_bytes words.now) → HasNoChoices task) }
 {
-    let Ok(command) = command(alloc) else {
+    let Ok(command) = command(alloc, asks_for_summary(words)) else {
         return Err(CommandFault::Memory);
     };
     match command.try_get_matches_from(words) {

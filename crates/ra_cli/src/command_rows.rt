@@ -1,5 +1,5 @@
 //! The commands of `ra`, each a row of a table, so that the same few lines make them all.
-use crate::helps::{help_on, status_help};
+use crate::helps::{help_on, status_help, summary_help};
 use crate::option_rows::{options_of, with_options};
 use clap::Command;
 use std::alloc::{AllocError, Global};
@@ -60,11 +60,20 @@ const COMMANDS: &[CommandRow] = &[
     },
 ];
 
-/// Makes a command.
-fn command_of<'a>(alloc: Global, row: &CommandRow<'a>) -> Result<Command<'a>, AllocError> {
+/// Makes a command. The summary of its help has its options, and names --help.
+fn command_of<'a>(
+    alloc: Global,
+    row: &CommandRow<'a>,
+    is_summary: bool,
+) -> Result<Command<'a>, AllocError> {
+    let after = if is_summary {
+        summary_help()
+    } else {
+        help_on(row.kind)
+    };
     let command = Command::new(alloc, row.name)
         .about(row.about)
-        .after_help(help_on(row.kind));
+        .after_help(after);
     with_options(alloc, command, options_of(row.kind))
 }
 
@@ -83,11 +92,11 @@ fn program<'a>(alloc: Global) -> Command<'a> {
         .subcommand_required(true)
 }
 
-/// Makes the command line that `ra` understands.
-pub fn command<'a>(alloc: Global) -> Result<Command<'a>, AllocError> {
+/// Makes the command line that `ra` understands, with the whole help of each command or with its summary.
+pub fn command<'a>(alloc: Global, is_summary: bool) -> Result<Command<'a>, AllocError> {
     let mut ra = program(alloc);
     for row in COMMANDS {
-        let made = command_of(alloc, row)?;
+        let made = command_of(alloc, row, is_summary)?;
         ra = ra.subcommand(made)?;
     }
     Ok(ra)

@@ -258,6 +258,11 @@ Exit status:
   2  the command line was refused, or the first line, which is answered
      `refused Line`";
 
+/// The summary of the help of each command, below its options.
+const SUMMARY_HELP: &str = "\
+The command reads standard input. See --help for what it reads and prints, an
+example, and the exit statuses.";
+
 /// The help of the program, below its commands.
 const STATUS_HELP: &str = "\
 Example: ra sim < script.toml
@@ -309,6 +314,11 @@ pub fn help_on(kind: CommandKind) -> &'static str {
         CommandKind::Draw => draw_help(),
         CommandKind::Node => node_help(),
     }
+}
+
+/// Returns the summary of the help of each command, below its options.
+pub fn summary_help() -> &'static str {
+    SUMMARY_HELP
 }
 
 /// Returns the help of the program, below its commands.

@@ -157,6 +157,14 @@ const DRAW_OPTIONS: &[OptionRow] = &[
     },
 ];
 
+/// The option that each command has after its own.
+const HELP_OPTION: OptionRow = OptionRow {
+    name: "help",
+    help: "Print help, or a summary with -h",
+    action: ArgAction::Help,
+    ..FLAG
+};
+
 /// Returns the options of a command, in their order.
 pub fn options_of(kind: CommandKind) -> &'static [OptionRow<'static>] {
     match kind {
@@ -188,15 +196,15 @@ fn option_of<'a>(alloc: Global, row: &OptionRow<'a>) -> Arg<'a> {
         .default_values(row.defaults)
 }
 
-/// Gives a command its options, in their order.
+/// Gives a command its options, in their order, and after them the one for help.
 pub fn with_options<'a>(
     alloc: Global,
     command: Command<'a>,
     rows: &[OptionRow<'a>],
 ) -> Result<Command<'a>, AllocError> {
-    let mut command = command;
+    let mut command = command.disable_help_flag(true);
     for row in rows {
         command = command.arg(option_of(alloc, row))?;
     }
-    Ok(command)
+    command.arg(option_of(alloc, &HELP_OPTION).short('h'))
 }

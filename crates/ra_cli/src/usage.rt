@@ -151,7 +151,7 @@ fn push_usage<'a>(alloc: Global, note: &mut Note, words: &'a [String], command: 
 /// notes.
 pub fn usage_note(alloc: Global, words: &[String]) -> Said {
     let mut note = Note::new(alloc);
-    match command(alloc) {
+    match command(alloc, false) {
         Ok(command) => push_usage(alloc, &mut note, words, command),
         Err(_) => note.refuse_if(true),
     }
