@@ -87,7 +87,7 @@ Commands:
   sim      Run a script in a simulated cluster: who asks, enters and leaves
   cluster  Run a script in a cluster of threads: who asks, enters and leaves
   check    Check the trace of a run, or the mark log of a lock service
-  draw     Draw the trace of a run as an SVG file
+  draw     Draw the trace of a run, or a mark log, as an SVG file
   node     Be one node: read what happens at it, and answer line by line
 
 Options:

@@ -41,6 +41,35 @@ fn draw_prints_the_verdict_where_there_is_no_trace(rt: HostRuntime) {
     );
 }
 
+/// The log of a service in which one client has its turn.
+const LOG: &str = "request 1 17 orders X 41\nenter 1 17 orders X 41\nleave 1 17 orders X 41\n";
+
+#[test]
+fn draw_prints_a_picture_of_a_mark_log(rt: HostRuntime) {
+    let whole = run(&rt, "ra draw --marks", None, LOG);
+    assert!(rt; has_drawn(&whole, "<title>1 node, 1 request, 1 grant</title>"));
+    let part = run(&rt, "ra draw --to 2 --marks", None, LOG);
+    assert!(rt;
+        has_drawn(
+            &part,
+            "<title>1 node, 1 request, 1 grant, from line 1, to line 2</title>"
+        )
+    );
+}
+
+#[test]
+fn draw_prints_the_verdict_where_there_is_no_mark_log(rt: HostRuntime) {
+    assert_answers(&rt, "ra draw --marks", ALONE, 3, "invalid 1 Line\n");
+    assert_answers(
+        &rt,
+        "ra draw --marks --to 1",
+        "request 1 17 orders X 41\nleave 1 17 orders X 41\n",
+        3,
+        "invalid 2 NotHeld\n",
+    );
+    assert_answers(&rt, "ra draw", LOG, 3, "invalid 1 Line\n");
+}
+
 #[test]
 fn draw_wants_numbers_of_lines(rt: HostRuntime) {
     assert_answers(&rt, "ra draw --from one", ALONE, 2, "refused Usage\n");
@@ -52,4 +81,6 @@ fn a_part_without_lines_is_refused(rt: HostRuntime) {
     assert_answers(&rt, "ra draw --from 0", ALONE, 2, "refused Usage\n");
     assert_answers(&rt, "ra draw --to 0", ALONE, 2, "refused Usage\n");
     assert_answers(&rt, "ra draw --from 5 --to 4", ALONE, 2, "refused Usage\n");
+    assert_answers(&rt, "ra draw --marks --to 0", LOG, 2, "refused Usage\n");
+    assert_answers(&rt, "ra draw --marks=log", LOG, 2, "refused Usage\n");
 }

@@ -184,6 +184,7 @@ fn what_a_command_waits_for_is_said_on_a_terminal(rt: HostRuntime) {
     assert!(rt; waits_for(alloc, "ra check", trace) && waits_for(alloc, "ra draw", trace));
     assert!(rt; waits_for(alloc, "ra sim --help", "") && waits_for(alloc, "ra", ""));
     assert!(rt; waits_for(alloc, "ra simm", "") && waits_for(alloc, "ra check --marks", log));
+    assert!(rt; waits_for(alloc, "ra draw --marks", log));
 }
 
 /// Returns whether this note and the usual output are written if the arguments could not be read.

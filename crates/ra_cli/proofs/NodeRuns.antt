@@ -1,11 +1,10 @@
 -- What it means for the statuses that `ra node` ended so.
-use Rattle.std.proofs.Common.{◌≡◌, ℕ, List, length, slice_get, Option, Some, Result, Ok, Err, sym, ap, subst, ◌∙◌, refl, inl, inr, codes, arith}
+use Rattle.std.proofs.Common.{◌≡◌, ℕ, List, length, slice_get, Option, Some, Ok, Err, sym, ap, subst, ◌∙◌, inl, inr, codes, arith}
 use Rattle.std.proofs.lemmas.Option.{same_Some}
 use Rattle.std.specs.Io.KnownBytes.{Appends}
-use Rattle.ra_book.specs.declared.error.BookFault.{BookFault}
 use Rattle.ra_book.specs.declared.error.BookFault.TheVariants as book
 use Rattle.ra_cli.specs.NodeRun.{AreNodeWords, ServesNode}
-use Rattle.ra_cli.specs.Refusals.{IsOfReader, IsOfWriter, refused_line}
+use Rattle.ra_cli.specs.Refusals.{IsOfReader, IsOfWriter}
 use Rattle.ra_cli.specs.Statuses.{IsRefused}
 use Rattle.ra_cli.specs.declared.error.AnswerError.TheVariants.{Line}
 use Rattle.ra_cli.specs.declared.refusal.Refusal.TheVariants.{Answer}

@@ -129,7 +129,7 @@ never_left laws (task.Survey faults find first last) input new before after orde
     false≢true (told laws faults first last input orderly faithful.0 faithful.1 faithful.2 find output false is)
 never_left laws task.Check input new before after orderly faithful left = faithful
 never_left laws task.CheckMarks input new before after orderly faithful left = faithful
-never_left laws (task.Draw part) input new before after orderly faithful left = faithful
+never_left laws (task.Draw kind part) input new before after orderly faithful left = faithful
 never_left laws (task.Cluster printed) input new before after orderly faithful left = faithful
 never_left laws (task.Help text) input new before after orderly faithful left = faithful
 
@@ -143,7 +143,7 @@ always_driven laws (task.Sim name choices format) input cause faithful (inr (fau
 always_driven laws (task.Survey faults find first last) input cause faithful (fault, is, refuses) = cc
 always_driven laws task.Check input cause faithful refuses = faithful
 always_driven laws task.CheckMarks input cause faithful refuses = faithful
-always_driven laws (task.Draw part) input cause faithful refuses = faithful
+always_driven laws (task.Draw kind part) input cause faithful refuses = faithful
 always_driven laws (task.Cluster printed) input cause faithful refuses = faithful
 always_driven laws (task.Help text) input cause faithful refuses = faithful
 
@@ -185,7 +185,7 @@ refused_for_memory laws (task.Survey faults find first last) input why orderly f
     of_survey run.Write is h = absurd (writer (inr (inr (inl is))))
 refused_for_memory laws task.Check input why orderly faithful plain reader writer cause = absurd faithful
 refused_for_memory laws task.CheckMarks input why orderly faithful plain reader writer cause = absurd faithful
-refused_for_memory laws (task.Draw part) input why orderly faithful plain reader writer cause = absurd faithful
+refused_for_memory laws (task.Draw kind part) input why orderly faithful plain reader writer cause = absurd faithful
 refused_for_memory laws (task.Cluster printed) input why orderly faithful plain reader writer cause = absurd faithful
 refused_for_memory laws (task.Help text) input why orderly faithful plain reader writer cause = absurd faithful
 

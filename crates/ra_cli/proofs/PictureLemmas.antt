@@ -1,16 +1,17 @@
 -- What `ra draw` prints, as the statuses tell it: what was read to its end is all of the input.
-use Rattle.std.proofs.Common.{◌≡◌, ◌≢◌, ℕ, List, [], ◌++◌, Option, Some, None, refl, sym, ap, subst, ◌∙◌, inl, inr, arith}
-use Rattle.std.specs.Prelude.{IfSome}
+use Rattle.std.proofs.Common.{◌≡◌, ◌≢◌, ℕ, List, [], ◌++◌, Option, Some, None, Result, Ok, Err, String, Global, string_bytes, sym, ap, subst, ◌∙◌, inl, inr, arith}
+use Rattle.std.specs.Prelude.{IfSome, IfOk, IfErr, MatchOption}
 use Rattle.std.specs.Io.KnownBytes.{Appends}
 use Rattle.std.proofs.lemmas.List.{append-nil}
-use Rattle.ra_trace.specs.declared.verdict.Verdict.{Verdict}
-use Rattle.ra_trace.specs.declared.verdict.Verdict.TheVariants.{Valid}
-use Rattle.ra_trace.specs.Verdict.{IsVerdict}
+use Rattle.ra_draw.specs.declared.error.DrawError.{DrawError}
+use Rattle.ra_draw.specs.declared.error.DrawError.TheVariants.{Memory}
 use Rattle.ra_draw.specs.declared.part.Part.{Part}
-use Rattle.ra_draw.specs.Drawing.{IsInput, IsPicture, Draws}
-use Rattle.ra_cli.specs.Checks.{verdict_text}
-use Rattle.ra_cli.specs.Pictures.{IsDrawn}
+use Rattle.ra_draw.specs.Drawing.{IsInput, IsPicture}
+use Rattle.ra_cli.specs.Pictures.{Attempts, IsOfKind, SaysWhyNot}
 use Rattle.ra_cli.specs.Statuses.{IsPrinted, BreaksOff}
+use Rattle.ra_cli.specs.Words.{ReadsBy}
+use Rattle.ra_cli.specs.declared.drawing.Denial.{Denial}
+use Rattle.ra_cli.specs.declared.input_kind.InputKind.{InputKind}
 
 pub same_input : (input taken : List ℕ) (new : Option (List ℕ)) → IsInput (Some input) new taken → input ≡ taken
 same_input input taken None h = absurd h.reads.taken
@@ -18,31 +19,45 @@ same_input input taken (Some rest) h =
     let nothing : rest ≡ [] = h.reads.ended (omega (arith, h.at_most)) in
     h.reads.taken ∙ (ap (λ (xs : List ℕ). taken ++ xs) nothing ∙ append-nil taken)
 
-pub verdict_of_input : (input taken : List ℕ) (new : Option (List ℕ)) (verdict : Verdict) → IsInput (Some input) new taken → IsVerdict taken verdict
-    → IsVerdict input verdict
-verdict_of_input input taken new verdict read is = subst (λ (xs : List ℕ). IsVerdict xs verdict) (sym (same_input input taken new read)) is
+-- what is known of what was read to its end is known of the input
+pub of_input : (P : List ℕ → Type 0) (input taken : List ℕ) (new : Option (List ℕ)) → IsInput (Some input) new taken → P taken → P input
+of_input P input taken new read = subst P (sym (same_input input taken new read))
 
 -- a picture of which the writer took a prefix
-pub of_picture : (words : List (List ℕ)) (old new before after : Option (List ℕ))
-    → ((input : List ℕ) × (requests messages : ℕ) × (prefix suffix : List ℕ) × IsInput old new input × IsVerdict input (Valid requests messages)
-    × IsPicture (prefix ++ suffix) × (suffix ≢ []) × Appends before after prefix)
+pub of_picture : (words : List (List ℕ)) (kind : InputKind) (old new before after : Option (List ℕ)) → ReadsBy words kind
+    → ((input prefix rest : List ℕ) × IsInput old new input × IsOfKind kind input × IsPicture (prefix ++ rest) × (rest ≢ [])
+    × Appends before after prefix)
     → IfSome old (λ input. BreaksOff words input before after)
-of_picture words None new before after h = tt
-of_picture words (Some input) new before after (taken, requests, messages, prefix, suffix, read, is, picture, left, some) =
-    let verdict = verdict_of_input input taken new (Valid requests messages) read is in
-    (prefix, suffix, inr (inr (inr (inr (inr (inr (inl (inl (requests, messages, verdict, picture)))))))), left, some)
+of_picture words kind None new before after by h = tt
+of_picture words kind (Some input) new before after by (taken, prefix, rest, read, is, picture, left, some) =
+    let whole = of_input (IsOfKind kind) input taken new read is in
+    (prefix, rest, inr (inr (inr (inr (inr (inr (inl (kind, by, inl (whole, picture)))))))), left, some)
 
--- the lines of a verdict
-pub of_denied : (words : List (List ℕ)) (old new : Option (List ℕ)) (verdict : Verdict) (taken : List ℕ) → IsInput old new taken
-    → IsVerdict taken verdict → IfSome old (λ input. IsPrinted words input (verdict_text verdict))
-of_denied words None new verdict taken read is = tt
-of_denied words (Some input) new verdict taken read is =
-    inr (inr (inr (inr (inr (inr (inl (inr (verdict, verdict_of_input input taken new verdict read is, refl))))))))
+-- the line that says why there is none
+pub of_denied : (words : List (List ℕ)) (kind : InputKind) (old new : Option (List ℕ)) (text taken : List ℕ) → ReadsBy words kind
+    → IsInput old new taken → SaysWhyNot kind taken text → IfSome old (λ input. IsPrinted words input text)
+of_denied words kind None new text taken by read is = tt
+of_denied words kind (Some input) new text taken by read is =
+    let why = of_input (λ (xs : List ℕ). SaysWhyNot kind xs text) input taken new read is in
+    inr (inr (inr (inr (inr (inr (inl (kind, by, inr why)))))))
 
--- a picture that was written whole
-pub of_drawn : (part : Part) (old new before after : Option (List ℕ)) (requests messages : ℕ)
-    → ((input : List ℕ) × IsInput old new input × IsVerdict input (Valid requests messages)
-    × Draws part input before after (Valid requests messages))
-    → IsDrawn old new before after
-of_drawn part old new before after requests messages (input, read, verdict, draws) =
-    (input, draws.1, requests, messages, read, verdict, draws.2, draws.3)
+-- an attempt that is denied by this line, or was to be
+pub denies : {Fault : Type 0} (kind : InputKind) (part : Part) (old new before after : Option (List ℕ)) (Untouched : Type 0) (text : Result (String Global) Fault)
+    (line input : List ℕ) (result : Result (Option Denial) DrawError) → IfOk text (λ t. string_bytes t ≡ line)
+    → IfOk result (λ denial. MatchOption denial ⊥ (λ d. text ≡ Ok d.line)) → IfErr result (λ fault. fault ≡ Memory)
+    → IsInput old new input → SaysWhyNot kind input line → Untouched → Attempts kind part old new before after Untouched result
+denies kind part old new before after Untouched text line input (Ok None) says made lacking read why same = absurd made
+denies kind part old new before after Untouched text line input (Ok (Some denial)) says made lacking read why same =
+    let is : string_bytes denial.line ≡ line = subst (λ r. IfOk r (λ t. string_bytes t ≡ line)) made says in
+    record {
+      ok = (input, read, (subst (SaysWhyNot kind input) (sym is) why, same));
+      unwritten = tt;
+      too_long = λ e. absurd cc;
+      prefix = λ e. absurd cc;
+    }
+denies kind part old new before after Untouched text line input (Err fault) says made lacking read why same = record {
+  ok = tt;
+  unwritten = λ other. same;
+  too_long = λ e. absurd cc;
+  prefix = λ e. absurd cc;
+}

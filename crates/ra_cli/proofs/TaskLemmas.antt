@@ -1,5 +1,5 @@
 -- What is known of a task that was done, as the statuses tell it of the words.
-use Rattle.std.proofs.Common.{◌≡◌, ℕ, ◌<◌, List, Option, Some, None, map, String, Global, string_bytes, refl, sym, subst, inl, inr}
+use Rattle.std.proofs.Common.{◌≡◌, ℕ, ◌<◌, List, Option, Some, None, map, String, Global, string_bytes, refl, subst, inl, inr}
 use Rattle.std.specs.Prelude.{◌⊎◌, IfSome, Any}
 use Rattle.std.specs.Io.KnownBytes.{Appends}
 use Rattle.ra_script.specs.ChoicesText.{choices_of}
@@ -9,14 +9,13 @@ use Rattle.ra_script.specs.declared.error.PerformError.{PerformError}
 use Rattle.ra_script.specs.declared.format.Format.{Format}
 use Rattle.ra_script.specs.Performed.{RefusesAs}
 use Rattle.ra_schedule.specs.declared.choice.Policy.{Policy}
-use Rattle.ra_trace.specs.declared.verdict.Verdict.TheVariants.{Valid}
-use Rattle.ra_trace.specs.Verdict.{IsVerdict}
 use Rattle.ra_draw.specs.declared.error.DrawError.{DrawError}
 use Rattle.ra_draw.specs.declared.error.DrawError.TheVariants.{TooLong}
 use Rattle.ra_draw.specs.declared.part.Part.{Part}
 use Rattle.ra_draw.specs.Drawing.{IsInput, drawn_lines, line_limit}
 use Rattle.ra_cli.specs.ClusterRun.{RunsBy}
 use Rattle.ra_cli.specs.Performs.{IsNamed}
+use Rattle.ra_cli.specs.Pictures.{IsOfKind}
 use Rattle.ra_cli.specs.Refusals.{IsOfReader, IsOfWriter, refused_line, word_of}
 use Rattle.ra_cli.specs.Statuses.{IsDone, IsRefused, IsUnfinished}
 use Rattle.ra_cli.specs.Tasks.{IsDoneBy, IsLeftBy, IsRefusedFor, RefusesNamed, RefusesPart, Suits}
@@ -24,11 +23,12 @@ use Rattle.ra_cli.specs.Words.{ChecksBy, GivesNode, IsHelpWord, OnAnswer, OnHelp
 use Rattle.ra_cli.specs.declared.command_line.PolicyName.{PolicyName}
 use Rattle.ra_cli.specs.declared.command_line.Task.{Task}
 use Rattle.ra_cli.specs.declared.command_line.Task.TheVariants as task
+use Rattle.ra_cli.specs.declared.input_kind.InputKind.{InputKind}
 use Rattle.ra_cli.specs.declared.refusal.Refusal.{Refusal}
 use Rattle.ra_cli.specs.declared.refusal.Refusal.TheVariants.{Choices, Draw, Perform}
 use Rattle.ra_cli.proofs.ClusterRuns.{of_known}
 use Rattle.ra_cli.proofs.Helping.{asks_for_help, for_each}
-use Rattle.ra_cli.proofs.PictureLemmas.{of_drawn, verdict_of_input, same_input}
+use Rattle.ra_cli.proofs.PictureLemmas.{of_input}
 
 -- ---- Refusals
 
@@ -67,18 +67,16 @@ of_named name choices format old policy fault named =
     (λ input h. inr (fault, refl, policy, named, h))
 
 -- the part is too long, if that is the refusal
-pub of_part : (part : Part) (old new : Option (List ℕ)) (fault : DrawError)
-    → (fault ≡ TooLong → (input : List ℕ) × (requests messages : ℕ) × IsInput old new input × IsVerdict input (Valid requests messages)
-    × (line_limit < drawn_lines part input))
-    → IfSome old (λ input. (other : DrawError) × (Draw fault ≡ Draw other) × RefusesPart part input other)
-of_part part None new fault h = tt
-of_part part (Some input) new fault h = (fault, refl, too_long)
+pub of_part : (kind : InputKind) (part : Part) (old new : Option (List ℕ)) (fault : DrawError)
+    → (fault ≡ TooLong → (input : List ℕ) × IsInput old new input × IsOfKind kind input × (line_limit < drawn_lines part input))
+    → IfSome old (λ input. (other : DrawError) × (Draw fault ≡ Draw other) × RefusesPart kind part input other)
+of_part kind part None new fault h = tt
+of_part kind part (Some input) new fault h = (fault, refl, too_long)
   where
-    too_long : RefusesPart part input fault
+    too_long : RefusesPart kind part input fault
     too_long is =
-        let (taken, requests, messages, read, verdict, long) = h is in
-        let valid = verdict_of_input input taken new (Valid requests messages) read verdict in
-        (requests, messages, valid, subst (λ (xs : List ℕ). line_limit < drawn_lines part xs) (sym (same_input input taken new read)) long)
+        let (taken, read, valid, long) = h is in
+        of_input (λ (xs : List ℕ). IsOfKind kind xs × (line_limit < drawn_lines part xs)) input taken new read (valid, long)
 
 -- ---- Words
 
@@ -90,7 +88,7 @@ suits words (task.Sim policy choices format) help numbers marks = (tt, tt, tt)
 suits words (task.Survey faults find first last) help numbers marks = (tt, tt, tt)
 suits words task.Check help numbers marks = (tt, marks, tt)
 suits words task.CheckMarks help numbers marks = (tt, marks, tt)
-suits words (task.Draw part) help numbers marks = (tt, tt, tt)
+suits words (task.Draw kind part) help numbers marks = (tt, marks, tt)
 suits words (task.Cluster printed) help numbers marks = (tt, marks, tt)
 suits words (task.Help text) help numbers marks = (tt, tt, asks_for_help words help)
 
@@ -106,8 +104,8 @@ done words (task.Survey faults find first last) old new before after Untouched h
     inr (inl (inr (inr (inr (inr (faults, find, first, last, h))))))
 done words task.Check old new before after Untouched help fits h = inr (inl (inr (inr (inl (inl (fits.1, h))))))
 done words task.CheckMarks old new before after Untouched help fits h = inr (inl (inr (inr (inl (inr (fits.1, h))))))
-done words (task.Draw part) old new before after Untouched help fits (input, requests, messages, read, verdict, draws) =
-    inr (inl (inr (inr (inr (inl (of_drawn part old new before after requests messages (input, read, verdict, draws)))))))
+done words (task.Draw kind part) old new before after Untouched help fits (input, read, (valid, few, picture, is, appends)) =
+    inr (inl (inr (inr (inr (inl (kind, input, picture, fits.1, read, valid, is, appends))))))
 done words (task.Cluster printed) old new before after Untouched help fits h = inr (inr (printed, fits.1, h))
 done words (task.Help text) old new before after Untouched help fits h = inl (h.0, asks_for_help words help)
 
@@ -119,6 +117,6 @@ left words (task.Sim policy choices format) old new before after fits (chosen, n
 left words (task.Survey faults find first last) old new before after fits h = inr (inr (inr (faults, find, first, last, h)))
 left words task.Check old new before after fits h = inr (inl (inl (fits.1, h)))
 left words task.CheckMarks old new before after fits h = inr (inl (inr (fits.1, h)))
-left words (task.Draw part) old new before after fits h = inr (inr (inl h))
+left words (task.Draw kind part) old new before after fits h = inr (inr (inl (kind, fits.1, h)))
 left words (task.Cluster printed) old new before after fits h = absurd h
 left words (task.Help text) old new before after fits h = absurd h

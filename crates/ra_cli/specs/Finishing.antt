@@ -22,7 +22,7 @@ RunsFaithfully (task.Sim policy choices format) = IsFaithful policy
 RunsFaithfully (task.Survey faults find first last) = NoneIsLost faults × NoneIsRepeated faults × (first ≤ last)
 RunsFaithfully task.Check = ⊥
 RunsFaithfully task.CheckMarks = ⊥
-RunsFaithfully (task.Draw part) = ⊥
+RunsFaithfully (task.Draw kind part) = ⊥
 RunsFaithfully (task.Cluster printed) = ⊥
 RunsFaithfully (task.Help text) = ⊥
 
@@ -33,6 +33,6 @@ HasNoChoices (task.Sim policy choices format) = (choices.now ≡ []) × (format 
 HasNoChoices (task.Survey faults find first last) = ⊤
 HasNoChoices task.Check = ⊤
 HasNoChoices task.CheckMarks = ⊤
-HasNoChoices (task.Draw part) = ⊤
+HasNoChoices (task.Draw kind part) = ⊤
 HasNoChoices (task.Cluster printed) = ⊤
 HasNoChoices (task.Help text) = ⊤

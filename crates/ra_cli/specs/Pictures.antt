@@ -1,24 +1,74 @@
 -- What `ra draw` does.
-use Rattle.std.specs.Prelude.{◌≡◌, ◌⊎◌, ℕ, List, Option}
+use Rattle.std.specs.Prelude.{◌≡◌, ◌≢◌, ◌⊎◌, ℕ, ◌<◌, ◌≤◌, List, [], ◌++◌, Option, Some, None, Result, IfOk, IfErr, IsErrOf, string_bytes}
 use Rattle.std.specs.Io.KnownBytes.{Appends}
+use Rattle.ra_trace.specs.declared.marks_verdict.MarkCause.{MarkCause}
+use Rattle.ra_trace.specs.declared.marks_verdict.MarksVerdict.TheVariants as log
 use Rattle.ra_trace.specs.declared.verdict.Cause.{Cause}
-use Rattle.ra_trace.specs.declared.verdict.Verdict.{Verdict}
 use Rattle.ra_trace.specs.declared.verdict.Verdict.TheVariants.{Valid, Invalid}
+use Rattle.ra_trace.specs.Marks.{IsMarksVerdict}
 use Rattle.ra_trace.specs.Verdict.{IsVerdict}
-use Rattle.ra_draw.specs.Drawing.{IsInput, IsPicture}
-use Rattle.ra_cli.specs.Checks.{verdict_text}
+use Rattle.ra_draw.specs.declared.error.DrawError.{DrawError}
+use Rattle.ra_draw.specs.declared.error.DrawError.TheVariants.{TooLong, Write}
+use Rattle.ra_draw.specs.declared.part.Part.{Part}
+use Rattle.ra_draw.specs.Drawing.{IsInput, IsPicture, drawn_lines, line_limit}
+use Rattle.ra_cli.specs.Checks.{verdict_text, marks_verdict_text}
+use Rattle.ra_cli.specs.Words.{ReadsBy}
+use Rattle.ra_cli.specs.declared.drawing.Denial.{Denial}
+use Rattle.ra_cli.specs.declared.input_kind.InputKind.{InputKind}
+use Rattle.ra_cli.specs.declared.input_kind.InputKind.TheVariants.{Trace, Marks}
 
--- the input is the trace of a run and was read to its end, and a picture was written and nothing else
-abbrev pub IsDrawn : (old new before after : Option (List ℕ)) → Type 0
-IsDrawn old new before after = (input picture : List ℕ) × (requests messages : ℕ) × IsInput old new input
-    × IsVerdict input (Valid requests messages) × IsPicture picture × Appends before after picture
+-- the input is of this kind: the trace of a run, or the log of a run of the lock table
+abbrev pub IsOfKind : InputKind → (input : List ℕ) → Type 0
+IsOfKind Trace input = (requests messages : ℕ) × IsVerdict input (Valid requests messages)
+IsOfKind Marks input = (requests grants : ℕ) × IsMarksVerdict input (log.Valid requests grants)
 
--- the input is not a trace and was read to its end, and the line of the verdict was written and nothing else
-abbrev pub IsNoTrace : (old new before after : Option (List ℕ)) → Type 0
-IsNoTrace old new before after = (input : List ℕ) × (line : ℕ) × (why : Cause) × IsInput old new input
-    × IsVerdict input (Invalid line why) × Appends before after (verdict_text (Invalid line why))
+-- the text is the line that says why the input is not of this kind
+abbrev pub SaysWhyNot : InputKind → (input text : List ℕ) → Type 0
+SaysWhyNot Trace input text =
+    (line : ℕ) × (why : Cause) × IsVerdict input (Invalid line why) × (text ≡ verdict_text (Invalid line why))
+SaysWhyNot Marks input text =
+    (line : ℕ) × (why : MarkCause) × IsMarksVerdict input (log.Invalid line why) × (text ≡ marks_verdict_text (log.Invalid line why))
 
--- the text is what is printed of the input: a picture if it is a trace, or the lines of its verdict
-abbrev pub IsDrawing : (input text : List ℕ) → Type 0
-IsDrawing input text = ((requests messages : ℕ) × IsVerdict input (Valid requests messages) × IsPicture text)
-    ⊎ ((verdict : Verdict) × IsVerdict input verdict × (text ≡ verdict_text verdict))
+-- ---- What is read and written
+
+-- the input is of the kind that the words say and was read to its end, and a picture was written and nothing else
+abbrev pub IsDrawn : (words : List (List ℕ)) → (old new before after : Option (List ℕ)) → Type 0
+IsDrawn words old new before after = (kind : InputKind) × (input picture : List ℕ) × ReadsBy words kind × IsInput old new input
+    × IsOfKind kind input × IsPicture picture × Appends before after picture
+
+-- the input is not of this kind and was read to its end, and the line that says why was written and nothing else
+abbrev pub IsNotDrawn : InputKind → (old new before after : Option (List ℕ)) → Type 0
+IsNotDrawn kind old new before after = (input text : List ℕ) × IsInput old new input × SaysWhyNot kind input text
+    × Appends before after text
+
+-- the same, and the kind is the one that the words say
+abbrev pub IsDenied : (words : List (List ℕ)) → (old new before after : Option (List ℕ)) → Type 0
+IsDenied words old new before after = (kind : InputKind) × ReadsBy words kind × IsNotDrawn kind old new before after
+
+-- the text is what is printed of the input: a picture if it is of the kind that the words say, and otherwise the line
+-- that says why it is not
+abbrev pub IsDrawing : (words : List (List ℕ)) → (input text : List ℕ) → Type 0
+IsDrawing words input text = (kind : InputKind) × ReadsBy words kind × ((IsOfKind kind input × IsPicture text) ⊎ SaysWhyNot kind input text)
+
+-- ---- One attempt
+
+-- the input is of this kind, at most 4,096 of its lines are in the part, and a picture was written
+abbrev pub Shows : InputKind → Part → (input : List ℕ) → (before after : Option (List ℕ)) → Type 0
+Shows kind part input before after = IsOfKind kind input × (drawn_lines part input ≤ line_limit)
+    × (picture : List ℕ) × IsPicture picture × Appends before after picture
+
+-- what came of an input: a picture, or a denial that says why there is none. `Untouched` says that nothing was written.
+abbrev pub ShowsOrDenies : InputKind → Part → (input : List ℕ) → (before after : Option (List ℕ)) → (Untouched : Type 0) → Option Denial → Type 0
+ShowsOrDenies kind part input before after Untouched None = Shows kind part input before after
+ShowsOrDenies kind part input before after Untouched (Some denial) = SaysWhyNot kind input (string_bytes denial.line) × Untouched
+
+-- What came of an attempt to draw a part. `old` and `new` are what is left in the reader before and after it, and
+-- `before` and `after` what the writer contains, if they tell.
+pub record Attempts (kind : InputKind) (part : Part) (old new before after : Option (List ℕ)) (Untouched : Type 0)
+    (result : Result (Option Denial) DrawError) : Type 0 where
+  pub ok : IfOk result (λ denial. (input : List ℕ) × IsInput old new input × ShowsOrDenies kind part input before after Untouched denial)
+  pub unwritten : IfErr result (λ fault. fault ≢ Write → Untouched)
+  pub too_long : IsErrOf result TooLong → (input : List ℕ) × IsInput old new input × IsOfKind kind input
+      × (line_limit < drawn_lines part input)
+  pub prefix : IsErrOf result Write → (input prefix rest : List ℕ) × IsInput old new input × IsOfKind kind input
+      × IsPicture (prefix ++ rest) × (rest ≢ []) × Appends before after prefix

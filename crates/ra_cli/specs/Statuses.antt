@@ -14,7 +14,7 @@ use Rattle.ra_cli.specs.Performs.{Performs}
 use Rattle.ra_cli.specs.Checks.{Judges, IsJudged}
 use Rattle.ra_cli.specs.ClusterRun.{IsClusterRun, RunsBy}
 use Rattle.ra_cli.specs.NodeRun.{AreNodeWords, ServesNode}
-use Rattle.ra_cli.specs.Pictures.{IsDrawn, IsNoTrace, IsDrawing}
+use Rattle.ra_cli.specs.Pictures.{IsDenied, IsDrawing, IsDrawn}
 use Rattle.ra_cli.specs.Surveyed.{IsTold, Surveys}
 use Rattle.ra_cli.specs.Refusals.{IsOfReader, IsOfWriter, refused_line, word_of}
 
@@ -29,13 +29,13 @@ Answers words old new before after = (node : ℕ) × (nodes : ℕ) × GivesNode 
 abbrev pub IsDone : (words : List (List ℕ)) → (old new before after : Option (List ℕ)) → Type 0
 IsDone words old new before after =
     Answers words old new before after ⊎ Performs old new before after true ⊎ Judges words old new before after true
-    ⊎ IsDrawn old new before after ⊎ Surveys old new before after true
+    ⊎ IsDrawn words old new before after ⊎ Surveys old new before after true
 
 -- Status 3: the input was performed and something is left to do, under one seed or some of many. Or it was checked or
--- was to be drawn, and is not the trace of a run. Or it was checked, and is not the log of a run of the lock table.
+-- was to be drawn, and is not the trace of a run or, with the word `--marks`, not the log of a run of the lock table.
 abbrev pub IsUnfinished : (words : List (List ℕ)) → (old new before after : Option (List ℕ)) → Type 0
 IsUnfinished words old new before after =
-    Performs old new before after false ⊎ Judges words old new before after false ⊎ IsNoTrace old new before after
+    Performs old new before after false ⊎ Judges words old new before after false ⊎ IsDenied words old new before after
     ⊎ Surveys old new before after false
 
 -- status 2: the line of a refusal was written and nothing else, and neither the reader nor the writer failed
@@ -58,7 +58,7 @@ IsPrinted words input text =
     ⊎ IsJudged words input text
     ⊎ ((printed : ClusterOutput) × PrintsBy words printed × IsClusterRun printed input text)
     ⊎ Any IsHelpWord words
-    ⊎ IsDrawing input text
+    ⊎ IsDrawing words input text
     ⊎ ((faults : Option FaultRates) × (find : Option Ending) × (first last : ℕ) × (finished : Bool) × IsTold faults find first last input text finished)
 
 -- a prefix of what is to be printed was written, but not all of it

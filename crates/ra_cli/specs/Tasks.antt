@@ -10,17 +10,15 @@ use Rattle.ra_script.specs.declared.error.PerformError.{PerformError}
 use Rattle.ra_script.specs.declared.format.Format.{Format}
 use Rattle.ra_script.specs.Performed.{RefusesAs}
 use Rattle.ra_trace.specs.declared.error.TraceError.{TraceError}
-use Rattle.ra_trace.specs.declared.verdict.Verdict.TheVariants.{Valid}
-use Rattle.ra_trace.specs.Verdict.{IsVerdict}
 use Rattle.ra_draw.specs.declared.error.DrawError.{DrawError}
 use Rattle.ra_draw.specs.declared.error.DrawError.TheVariants.{TooLong}
 use Rattle.ra_draw.specs.declared.part.Part.{Part}
-use Rattle.ra_draw.specs.Drawing.{IsInput, Draws, drawn_lines, line_limit}
+use Rattle.ra_draw.specs.Drawing.{IsInput, drawn_lines, line_limit}
 use Rattle.ra_cli.specs.Answer.{IsAnswered, Refuses}
 use Rattle.ra_cli.specs.Checks.{Checks, ChecksMarks}
 use Rattle.ra_cli.specs.ClusterRun.{RunsCluster, RefusesRun}
 use Rattle.ra_cli.specs.Performs.{IsNamed, PerformsBy}
-use Rattle.ra_cli.specs.Pictures.{IsNoTrace}
+use Rattle.ra_cli.specs.Pictures.{IsNotDrawn, IsOfKind, Shows}
 use Rattle.ra_cli.specs.Refusals.{IsOfReader, IsOfWriter, refused_line, word_of}
 use Rattle.ra_cli.specs.Surveyed.{SurveysBy, RefusesSurvey}
 use Rattle.ra_cli.specs.Words.{OnAnswer, OnHelp, ChecksBy, GivesNode, IsHelpWord}
@@ -29,6 +27,7 @@ use Rattle.ra_cli.specs.declared.command_line.Task.{Task}
 use Rattle.ra_cli.specs.declared.command_line.Task.TheVariants as task
 use Rattle.ra_cli.specs.declared.error.AnswerError.{AnswerError}
 use Rattle.ra_cli.specs.declared.error.RunScriptError.{RunScriptError}
+use Rattle.ra_cli.specs.declared.input_kind.InputKind.{InputKind}
 use Rattle.ra_cli.specs.declared.refusal.Refusal.{Refusal}
 use Rattle.ra_cli.specs.declared.refusal.Refusal.TheVariants as refusal
 
@@ -46,10 +45,9 @@ abbrev pub PerformsNamed : PolicyName → (choices : List ℕ) → Format → (o
 PerformsNamed name choices format old new before after finished =
     (policy : Policy) × IsNamed name choices policy × PerformsBy policy format old new before after finished
 
--- the input is a trace and was read to its end, this part of it has at most 4,096 lines, and a picture was written
-abbrev pub DrawsPart : Part → (old new before after : Option (List ℕ)) → Type 0
-DrawsPart part old new before after = (input : List ℕ) × (requests messages : ℕ) × IsInput old new input
-    × IsVerdict input (Valid requests messages) × Draws part input before after (Valid requests messages)
+-- the input is of this kind and was read to its end, this part of it has at most 4,096 lines, and a picture was written
+abbrev pub DrawsPart : InputKind → Part → (old new before after : Option (List ℕ)) → Type 0
+DrawsPart kind part old new before after = (input : List ℕ) × IsInput old new input × Shows kind part input before after
 
 -- ---- What each status means
 
@@ -62,7 +60,7 @@ IsDoneBy (task.Survey faults find first last) old new before after Untouched =
     SurveysBy faults find first last old new before after true
 IsDoneBy task.Check old new before after Untouched = Checks old new before after true
 IsDoneBy task.CheckMarks old new before after Untouched = ChecksMarks old new before after true
-IsDoneBy (task.Draw part) old new before after Untouched = DrawsPart part old new before after
+IsDoneBy (task.Draw kind part) old new before after Untouched = DrawsPart kind part old new before after
 IsDoneBy (task.Cluster printed) old new before after Untouched = RunsCluster printed old new before after
 IsDoneBy (task.Help text) old new before after Untouched = Untouched × Appends before after (string_bytes text)
 
@@ -75,7 +73,7 @@ IsLeftBy (task.Survey faults find first last) old new before after =
     SurveysBy faults find first last old new before after false
 IsLeftBy task.Check old new before after = Checks old new before after false
 IsLeftBy task.CheckMarks old new before after = ChecksMarks old new before after false
-IsLeftBy (task.Draw part) old new before after = IsNoTrace old new before after
+IsLeftBy (task.Draw kind part) old new before after = IsNotDrawn kind old new before after
 IsLeftBy (task.Cluster printed) old new before after = ⊥
 IsLeftBy (task.Help text) old new before after = ⊥
 
@@ -88,10 +86,9 @@ RefusesNamed name choices format input why =
     ⊎ ((fault : PerformError) × (why ≡ refusal.Perform fault) × (policy : Policy) × IsNamed name choices policy
     × RefusesAs format policy input fault)
 
--- why a part is not drawn: if it is too long, the input is a trace, and more than 4,096 of its lines are in the part
-abbrev pub RefusesPart : Part → (input : List ℕ) → DrawError → Type 0
-RefusesPart part input fault = fault ≡ TooLong
-    → (requests messages : ℕ) × IsVerdict input (Valid requests messages) × (line_limit < drawn_lines part input)
+-- why a part is not drawn: if it is too long, the input is of this kind, and more than 4,096 of its lines are in the part
+abbrev pub RefusesPart : InputKind → Part → (input : List ℕ) → DrawError → Type 0
+RefusesPart kind part input fault = fault ≡ TooLong → IsOfKind kind input × (line_limit < drawn_lines part input)
 
 -- why a task is refused, of an input that is known
 abbrev pub IsCauseFor : Task → (input : List ℕ) → Refusal → Type 0
@@ -102,7 +99,8 @@ IsCauseFor (task.Survey faults find first last) input why =
     (fault : RunScriptError) × (why ≡ refusal.Cluster fault) × RefusesSurvey faults find first last input fault
 IsCauseFor task.Check input why = (fault : TraceError) × (why ≡ refusal.Check fault)
 IsCauseFor task.CheckMarks input why = (fault : TraceError) × (why ≡ refusal.Check fault)
-IsCauseFor (task.Draw part) input why = (fault : DrawError) × (why ≡ refusal.Draw fault) × RefusesPart part input fault
+IsCauseFor (task.Draw kind part) input why =
+    (fault : DrawError) × (why ≡ refusal.Draw fault) × RefusesPart kind part input fault
 IsCauseFor (task.Cluster printed) input why = (fault : RunScriptError) × (why ≡ refusal.Cluster fault) × RefusesRun input fault
 IsCauseFor (task.Help text) input why = ⊥
 

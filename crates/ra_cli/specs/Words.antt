@@ -3,6 +3,8 @@ use Rattle.std.specs.Prelude.{◌≡◌, ℕ, ◌+◌, ◌≤◌, ◌⊎◌, ⊤
 use Rattle.std.specs.Str.Parse.{IsNumeral, digits_value, without_leading_plus}
 use Rattle.ra_cli.specs.declared.cluster_output.ClusterOutput.{ClusterOutput}
 use Rattle.ra_cli.specs.declared.cluster_output.ClusterOutput.TheVariants.{Lines, Trace}
+use Rattle.ra_cli.specs.declared.input_kind.InputKind.{InputKind}
+use Rattle.ra_cli.specs.declared.input_kind.InputKind.TheVariants as kinds
 use Rattle.ra_cli.specs.declared.command_line.Task.{Task}
 use Rattle.ra_cli.specs.declared.command_line.Task.TheVariants.{Answer, Sim, Survey, Check, CheckMarks, Draw, Cluster, Help}
 
@@ -54,7 +56,7 @@ OnAnswer (Sim policy choices format) P = ⊤
 OnAnswer (Survey faults find first last) P = ⊤
 OnAnswer Check P = ⊤
 OnAnswer CheckMarks P = ⊤
-OnAnswer (Draw part) P = ⊤
+OnAnswer (Draw kind part) P = ⊤
 OnAnswer (Cluster printed) P = ⊤
 OnAnswer (Help text) P = ⊤
 
@@ -65,13 +67,18 @@ OnHelp (Sim policy choices format) P = ⊤
 OnHelp (Survey faults find first last) P = ⊤
 OnHelp Check P = ⊤
 OnHelp CheckMarks P = ⊤
-OnHelp (Draw part) P = ⊤
+OnHelp (Draw kind part) P = ⊤
 OnHelp (Cluster printed) P = ⊤
 OnHelp (Help text) P = P
 
 -- one of the words is `--marks`
 abbrev pub HasMarksWord : (words : List (List ℕ)) → Type 0
 HasMarksWord words = Any (λ word. word ≡ codes "--marks") words
+
+-- what is read is a mark log exactly if one of the words is `--marks`
+abbrev pub ReadsBy : (words : List (List ℕ)) → InputKind → Type 0
+ReadsBy words kinds.Trace = HasMarksWord words → ⊥
+ReadsBy words kinds.Marks = HasMarksWord words
 
 -- one of the words is `--trace`
 abbrev pub HasTraceWord : (words : List (List ℕ)) → Type 0
@@ -82,14 +89,13 @@ abbrev pub PrintsBy : (words : List (List ℕ)) → ClusterOutput → Type 0
 PrintsBy words Lines = HasTraceWord words → ⊥
 PrintsBy words Trace = HasTraceWord words
 
--- what words choose: the command `check` is the one for mark logs exactly if one of them is `--marks`, and the command
--- `cluster` prints what `PrintsBy` says
+-- what words choose: `check` and `draw` read what `ReadsBy` says, and `cluster` prints what `PrintsBy` says
 abbrev pub ChecksBy : (words : List (List ℕ)) → Task → Type 0
 ChecksBy words (Answer node nodes) = ⊤
 ChecksBy words (Sim policy choices format) = ⊤
 ChecksBy words (Survey faults find first last) = ⊤
-ChecksBy words Check = HasMarksWord words → ⊥
-ChecksBy words CheckMarks = HasMarksWord words
-ChecksBy words (Draw part) = ⊤
+ChecksBy words Check = ReadsBy words kinds.Trace
+ChecksBy words CheckMarks = ReadsBy words kinds.Marks
+ChecksBy words (Draw kind part) = ReadsBy words kind
 ChecksBy words (Cluster printed) = PrintsBy words printed
 ChecksBy words (Help text) = ⊤

@@ -1,11 +1,12 @@
 //! What the words of a command line ask for.
 ghost use Rattle.std.specs.Prelude.{◌≡◌, ◌≢◌, ◌⊎◌, [], ◌≤◌, ◌↔◌, ◌∷◌, ◌++◌, ℕ, List, Any, Some, map, codes, slice_get, IsTrue, IfOk, IfSome, string_bytes};
 ghost use Rattle.ra_schedule.specs.Survey.{NoneIsLost, NoneIsRepeated};
-ghost use Rattle.ra_cli.specs.Words.{ChecksBy, Gives, GivesNode, GivesNothingBut, GivesText, IsHelpWord, NamesFaithfully, NamesNoChoices, OnAnswer, OnHelp, SimsFaithfully};
+ghost use Rattle.ra_cli.specs.Words.{ChecksBy, ReadsBy, Gives, GivesNode, GivesNothingBut, GivesText, IsHelpWord, NamesFaithfully, NamesNoChoices, OnAnswer, OnHelp, SimsFaithfully};
 ghost use Rattle.ra_cli.specs.Finishing.{HasNoChoices, IsFaithful, RunsFaithfully};
 
 use crate::cluster_output::ClusterOutput;
 use crate::command_rows::command;
+use crate::input_kind::InputKind;
 use clap::error::ErrorKind;
 use clap::{ArgMatches, Error as ParseError};
 use ra_draw::Part;
@@ -52,8 +53,11 @@ pub enum Task<'a> {
     Check,
     /// The command `check --marks`.
     CheckMarks,
-    /// The command `draw`, with the part of the trace.
-    Draw(Part),
+    /// The command `draw`, with what it reads, and the part that is drawn.
+    Draw {
+        kind: InputKind,
+        part: Part,
+    },
     /// The command `cluster`, with what is to be printed of the run.
     Cluster(ClusterOutput),
     /// A text of help, or the version.
@@ -298,33 +302,47 @@ fn sim_task<'a>(words: &'a [String], sim: &ArgMatches<'a>) -> Option<Task<'a>>
     })
 }
 
-/// Returns the task of the command `draw`, or `None` if no line is in its part, whatever the trace.
-fn draw_task<'a>(given: &ArgMatches<'a>) -> Option<Task<'a>>
+/// Returns what the commands `check` and `draw` read: a mark log if a word says so. The parser has found that it is an option then, and
+/// tells less of it in its contract than the words do. It does not allocate.
+fn kind_of(words: &[String]) -> InputKind
+    ensures { ReadsBy (map string_bytes words.now) result }
+{
+    if has_word(words, "--marks") {
+        InputKind::Marks
+    } else {
+        InputKind::Trace
+    }
+}
+
+/// Returns the task of the command `draw`, or `None` if no line is in its part, whatever the input.
+fn draw_task<'a>(words: &[String], given: &ArgMatches<'a>) -> Option<Task<'a>>
     ensures help { IfSome result (λ task. OnHelp task ⊥) }
     ensures choices { IfSome result HasNoChoices }
     ensures numbers { IfSome result (λ task. OnAnswer task (λ _ _. ⊥)) }
-    ensures marks { IfSome result (λ task. (any : List (List ℕ)) → ChecksBy any task) }
+    ensures marks { IfSome result (ChecksBy (map string_bytes words.now)) }
 {
     let from: u64 = given.get_one("from")?;
     let to: u64 = given.get_one("to")?;
     if from == 0 || from > to {
         return None;
     }
-    Some(Task::Draw(Part { from, to }))
+    let kind = kind_of(words);
+    Some(Task::Draw {
+        kind,
+        part: Part { from, to },
+    })
 }
 
-/// Returns the task of the command `check`: that of mark logs where a word says so. The parser has found that it is an option then, and
-/// tells less of it in its contract than the words do.
+/// Returns the task of the command `check`.
 fn check_task<'a>(words: &[String]) -> Task<'a>
     ensures help { OnHelp result ⊥ }
     ensures choices { HasNoChoices result }
     ensures numbers { OnAnswer result (λ _ _. ⊥) }
     ensures marks { ChecksBy (map string_bytes words.now) result }
 {
-    if has_word(words, "--marks") {
-        Task::CheckMarks
-    } else {
-        Task::Check
+    match kind_of(words) {
+        InputKind::Trace => Task::Check,
+        InputKind::Marks => Task::CheckMarks,
     }
 }
 
@@ -368,7 +386,7 @@ fn task_of<'a>(words: &'a [String], matches: &ArgMatches<'a>) -> Option<Task<'a>
         "sim" => sim_task(words, given),
         "cluster" => Some(cluster_task(words)),
         "check" => Some(check_task(words)),
-        "draw" => draw_task(given),
+        "draw" => draw_task(words, given),
         _ => None,
     }
 }

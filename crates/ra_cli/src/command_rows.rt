@@ -51,7 +51,7 @@ const COMMANDS: &[CommandRow] = &[
     CommandRow {
         kind: CommandKind::Draw,
         name: "draw",
-        about: "Draw the trace of a run as an SVG file",
+        about: "Draw the trace of a run, or a mark log, as an SVG file",
     },
     CommandRow {
         kind: CommandKind::Node,

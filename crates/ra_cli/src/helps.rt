@@ -155,16 +155,21 @@ wait and clients that hold. Rest the pointer on a shape to read what it means.
 
 Example: ra sim --trace < script.toml | ra draw > run.svg
 
-At most 4096 lines are drawn: of a longer trace, choose a part with --from and
+With --marks, read a mark log, as `ra check --help` describes it. Its picture
+has a row for each mark, and the bars alone.
+
+Example: ra draw --marks < service.log > service.svg
+
+At most 4096 lines are drawn: of a longer input, choose a part with --from and
 --to. The lines before it are followed and those after it are checked, but they
 are not drawn.
 
 Exit status:
-  0  the trace was drawn
+  0  the input was drawn
   1  standard input or standard output failed
   2  the command line was refused, the part to draw is TooLong, or the input has
      more than 16777216 bytes
-  3  not a trace: its first wrong line is printed, as by `ra check`";
+  3  not valid: the first wrong line is printed, as by `ra check`";
 
 /// The help of the command `cluster`, below its options.
 const CLUSTER_HELP: &str = "\

@@ -109,7 +109,7 @@ pub fn write_hints<N: Write>(
     }
 }
 
-/// Returns what a command reads, or `None` if there is no such command. The command `check` may read marks.
+/// Returns what a command reads, or `None` if there is no such command. The commands `check` and `draw` may read marks.
 fn input_text(command: &str, reads_marks: bool) -> Option<&'static str> {
     match command {
         "answer" => Some(
@@ -118,7 +118,7 @@ fn input_text(command: &str, reads_marks: bool) -> Option<&'static str> {
         "sim" | "cluster" => Some(
             "reading a script from standard input: type it and then Ctrl-D, or redirect a file with < FILE",
         ),
-        "check" if reads_marks => Some(
+        "check" | "draw" if reads_marks => Some(
             "reading a mark log from standard input: type it and then Ctrl-D, or redirect a file with < FILE",
         ),
         "check" | "draw" => Some(

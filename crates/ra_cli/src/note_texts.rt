@@ -25,9 +25,9 @@ pub const NO_WORD: &str =
 /// What is said if a trace or a mark log is too long.
 pub const TOO_MANY_BYTES: &str = "standard input has more than 16777216 bytes";
 
-/// What is said if too many lines of a trace are to be drawn.
+/// What is said if too many lines are to be drawn.
 pub const TOO_LONG: &str =
-    "the trace has more than 4096 lines to draw: choose a part with --from and --to";
+    "standard input has more than 4096 lines to draw: choose a part with --from and --to";
 
 /// What is said of the first line of a book if it is none.
 pub const NO_BOOK: &str =

@@ -209,7 +209,7 @@ fn of_check(why: TraceError) -> Said {
     })
 }
 
-/// Returns what there is to say about a trace that is not drawn.
+/// Returns what there is to say about an input that is not drawn.
 fn of_drawing(why: DrawError) -> Said {
     match why {
         DrawError::Read => Said::Text(NO_INPUT),

@@ -140,8 +140,13 @@ const CHECK_OPTIONS: &[OptionRow] = &[OptionRow {
     ..FLAG
 }];
 
-/// The options of the command `draw`: the first and the last line of the part of the trace.
+/// The options of the command `draw`: what it reads, and the first and the last line of the part that is drawn.
 const DRAW_OPTIONS: &[OptionRow] = &[
+    OptionRow {
+        name: "marks",
+        help: "Draw the mark log of any lock service, not a trace",
+        ..FLAG
+    },
     OptionRow {
         name: "from",
         help: "Draw from this line on, counted from 1",

@@ -168,7 +168,7 @@ fn trace_line(fault: TraceError) -> &'static str
     }
 }
 
-/// Returns the line that says why a trace is not drawn. It does not allocate.
+/// Returns the line that says why an input is not drawn. It does not allocate.
 fn draw_line(fault: DrawError) -> &'static str
     ensures { result.now ≡ spec.refused_line (spec.draw_word fault) }
 {

@@ -1,15 +1,14 @@
 ghost use Rattle.std.specs.Prelude.{true, false, [], ◌++◌, None, ◌≢◌, ◌↔◌, IsErr, IsTrue, IfOk, IfErr, Option, ◌≡◌, ◌≤◌, ◌⊎◌, List, ℕ, map, IfSome, codes, string_bytes};
 ghost use Rattle.std.specs.Io.KnownBytes.{Appends};
-ghost use Rattle.ra_cli.specs.Words.{GivesNode, HasMarksWord, PrintsBy};
+ghost use Rattle.ra_cli.specs.Words.{ReadsBy, GivesNode, HasMarksWord, PrintsBy};
 ghost use Rattle.ra_cli.specs.Answer.{Refuses};
 ghost use Rattle.ra_cli.specs.Performs.{IsNamed};
 ghost use Rattle.ra_cli.specs.Checks.{Checks, ChecksMarks, is_run, is_valid};
-ghost use Rattle.ra_cli.specs.Checks.{verdict_text as spec_text};
 ghost use Rattle.ra_trace.specs.declared.error.TraceError.{TraceError};
 ghost use Rattle.ra_trace.specs.declared.verdict.Verdict.{Verdict};
 ghost use Rattle.ra_draw.specs.declared.error.DrawError.{DrawError};
 ghost use Rattle.ra_cli.specs.ClusterRun.{RefusesRun, RunsCluster};
-ghost use Rattle.ra_cli.specs.Pictures.{IsNoTrace};
+ghost use Rattle.ra_cli.specs.Pictures.{IsNotDrawn};
 ghost use Rattle.ra_cli.specs.Statuses.{IsBroken, IsPrinted, IsSaid, Serves};
 ghost use Rattle.ra_cli.specs.Surveyed.{RefusesSurvey, SurveysBy};
 ghost use Rattle.ra_cli.specs.Tasks.{AnswersAs, DrawsPart, IsDoneBy, IsLeftBy, IsRefusedBy, IsRefusedFor, PerformsNamed, RefusesNamed, RefusesPart, Suits};
@@ -25,7 +24,9 @@ ghost use Rattle.ra_cli.specs.Refusals.{IsOfReader, IsOfWriter, command_word, re
 
 use crate::cluster_output::ClusterOutput;
 use crate::command_line::{PolicyName, Task, parse};
+use crate::drawing::{Denial, draw_input};
 use crate::error::RunScriptError;
+use crate::input_kind::InputKind;
 use crate::laws::orderly_scripts_are_finished;
 use crate::marks_verdict::marks_verdict_text;
 use crate::node_task::{are_node_words, be_a_node};
@@ -39,10 +40,10 @@ use crate::seen_writer::SeenWriter;
 use crate::surveying::survey_script;
 use crate::verdict::verdict_text;
 use crate::{AnswerError, CommandFault, answer};
-use ra_draw::{DrawError, Part, draw};
+use ra_draw::{DrawError, Part};
 use ra_schedule::{Ending, Faults, Observer, Policy};
 use ra_script::{ChoicesError, Format, PerformError, perform_as, read_choices};
-use ra_trace::{Cause, MarksVerdict, TraceError, Verdict, check_buffered, check_marks_buffered};
+use ra_trace::{MarksVerdict, TraceError, Verdict, check_buffered, check_marks_buffered};
 use ra_world::write_out;
 use std::alloc::Global;
 use std::io::{BufRead, Read, Write};
@@ -338,45 +339,43 @@ fn judge_marks<R: BufRead, W: Write>(alloc: Global, reader: &mut R, writer: &mut
     }
 }
 
-/// Prints the line for a text that is not drawn because it is not a trace: its first wrong line, and why.
-fn deny<W: Write>(alloc: Global, line: u64, cause: Cause, writer: &mut W) -> Outcome
-    ensures range { result.status ≤ 3 }
-    ensures not_done { 1 ≤ result.status }
+/// Prints why an input is not drawn.
+fn deny<W: Write>(denial: Denial, writer: &mut W) -> Outcome
+    ensures status { (result.status ≡ 1) ⊎ (result.status ≡ 3) }
     ensures denied { result.status ≡ 3
-        → Appends (W.contents writer.old) (W.contents writer.new) (spec_text (Verdict.Invalid line cause)) }
-    ensures refused { result.status ≡ 2 → IsRefusedFor (λ why. why ≡ Refusal.Draw DrawError.Memory)
-        (W.contents writer.old) (W.contents writer.new) }
+        → Appends (W.contents writer.old) (W.contents writer.new) (string_bytes denial.line) }
     ensures broken { (words : List (List ℕ)) (old : Option (List ℕ))
-        → IfSome old (λ input. IsPrinted words input (spec_text (Verdict.Invalid line cause))) → result.status ≡ 1
+        → IfSome old (λ input. IsPrinted words input (string_bytes denial.line)) → result.status ≡ 1
         → IsBroken words old (W.contents writer.old) (W.contents writer.new) }
 {
-    let verdict = Verdict::Invalid { line, cause };
-    match verdict_text(alloc, &verdict) {
-        Ok(text) => {
-            let status = written(writer, text.as_bytes(), UNFINISHED);
-            Outcome::judged(status, remark_of(&verdict))
-        }
-        Err(_) => refuse(writer, Refusal::Draw(DrawError::Memory)),
-    }
+    let Denial { line, remark } = denial;
+    let status = written(writer, line.as_bytes(), UNFINISHED);
+    Outcome::judged(status, Some(remark))
 }
 
-/// Draws a part of the reader's trace, or writes the line of the verdict if the input is not a trace.
-fn paint<R: Read, W: Write>(alloc: Global, part: Part, reader: &mut R, writer: &mut W) -> Outcome
+/// Draws a part of the reader's input, or writes the line that says why it is not of this kind.
+fn paint<R: Read, W: Write>(
+    alloc: Global,
+    kind: InputKind,
+    part: Part,
+    reader: &mut R,
+    writer: &mut W,
+) -> Outcome
     ensures range { result.status ≤ 3 }
-    ensures drawn { result.status ≡ 0 → DrawsPart part (R.remaining reader.old) (R.remaining reader.new)
+    ensures drawn { result.status ≡ 0 → DrawsPart kind part (R.remaining reader.old) (R.remaining reader.new)
         (W.contents writer.old) (W.contents writer.new) }
-    ensures no_trace { result.status ≡ 3 → IsNoTrace (R.remaining reader.old) (R.remaining reader.new)
+    ensures not_drawn { result.status ≡ 3 → IsNotDrawn kind (R.remaining reader.old) (R.remaining reader.new)
         (W.contents writer.old) (W.contents writer.new) }
     // Only a part that is too long is refused as such.
     ensures refused { result.status ≡ 2 → IsRefusedFor (λ why. IfSome (R.remaining reader.old) (λ input.
-        (fault : DrawError) × (why ≡ Refusal.Draw fault) × RefusesPart part input fault))
+        (fault : DrawError) × (why ≡ Refusal.Draw fault) × RefusesPart kind part input fault))
         (W.contents writer.old) (W.contents writer.new) }
-    ensures broken { (words : List (List ℕ)) → result.status ≡ 1
+    ensures broken { (words : List (List ℕ)) → ReadsBy words kind → result.status ≡ 1
         → IsBroken words (R.remaining reader.old) (W.contents writer.old) (W.contents writer.new) }
 {
-    match draw(alloc, reader, writer, part) {
-        Ok(Verdict::Valid { .. }) => Outcome::new(DONE, None),
-        Ok(Verdict::Invalid { line, cause }) => deny(alloc, line, cause, writer),
+    match draw_input(alloc, kind, part, reader, writer) {
+        Ok(None) => Outcome::new(DONE, None),
+        Ok(Some(denial)) => deny(denial, writer),
         Err(fault) => refuse(writer, Refusal::Draw(fault)),
     }
 }
@@ -421,7 +420,7 @@ fn do_alone<R: BufRead, W: Write, O: Observer>(
         } => survey_seeds(alloc, faults, find, first, last, reader, writer, observer),
         Task::Check => judge(alloc, reader, writer),
         Task::CheckMarks => judge_marks(alloc, reader, writer),
-        Task::Draw(part) => paint(alloc, part, reader, writer),
+        Task::Draw { kind, part } => paint(alloc, kind, part, reader, writer),
         Task::Cluster(printed) => return Err(printed),
         Task::Help(text) => Outcome::new(written(writer, text.as_bytes(), DONE), None),
     };

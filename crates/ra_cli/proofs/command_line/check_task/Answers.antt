@@ -1,11 +1,7 @@
-use Rattle.std.proofs.Common.{codes, sym, ◌∙◌}
-use Rattle.std.proofs.lemmas.Bool.{false≢true}
-use Rattle.ra_cli.proofs.Helping.{option_word}
 use Rattle.ra_cli.proofs.command_line.check_task.Goals as goal
 
-pub returns-then-has_word-clause-marks : goal.returns-then-has_word-clause-marks
-returns-then-has_word-clause-marks c = (option_word c.args.words.now (codes "--marks")).0 (c.has_word.ensures.0 c.if-has_word.true)
+pub returns-in-Trace-clause-marks : goal.returns-in-Trace-clause-marks
+returns-in-Trace-clause-marks c = rw c.in-Trace.is at c.kind_of.ensures
 
-pub returns-else-has_word-clause-marks : goal.returns-else-has_word-clause-marks
-returns-else-has_word-clause-marks c marks =
-    false≢true (sym c.if-has_word.false ∙ c.has_word.ensures.1 ((option_word c.args.words.now (codes "--marks")).1 marks))
+pub returns-in-Marks-clause-marks : goal.returns-in-Marks-clause-marks
+returns-in-Marks-clause-marks c = rw c.in-Marks.is at c.kind_of.ensures

@@ -32,6 +32,19 @@ returns-in-Survey-clause-unfinished g c is = rw c.in-Survey.is (c.survey_seeds-o
 pub returns-in-Survey-clause-refused : goal.returns-in-Survey-clause-refused
 returns-in-Survey-clause-refused g c is = rw c.in-Survey.is (c.survey_seeds-outcome.ensures.refused is)
 
+pub returns-in-Draw-clause-done : goal.returns-in-Draw-clause-done
+returns-in-Draw-clause-done g c is = rw c.in-Draw.is (c.paint-outcome.ensures.drawn is)
+
+pub returns-in-Draw-clause-unfinished : goal.returns-in-Draw-clause-unfinished
+returns-in-Draw-clause-unfinished g c is = rw c.in-Draw.is (c.paint-outcome.ensures.not_drawn is)
+
+pub returns-in-Draw-clause-refused : goal.returns-in-Draw-clause-refused
+returns-in-Draw-clause-refused g c is = rw c.in-Draw.is (c.paint-outcome.ensures.refused is)
+
+pub returns-in-Draw-clause-broken : goal.returns-in-Draw-clause-broken
+returns-in-Draw-clause-broken g c words fits is =
+    let suits = rw c.in-Draw.is at fits in c.paint-outcome.ensures.broken words suits.1 is
+
 pub returns-in-Help-clause-broken : goal.returns-in-Help-clause-broken
 returns-in-Help-clause-broken g c words fits one =
     let suits = rw c.in-Help.is at fits in

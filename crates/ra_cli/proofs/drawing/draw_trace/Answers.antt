@@ -1,0 +1,41 @@
+use Rattle.std.proofs.Common.{◌≡◌, Ok, Err, ap, refl}
+use Rattle.ra_draw.specs.declared.error.DrawError.TheVariants.{TooLong, Write}
+use Rattle.ra_trace.specs.declared.verdict.Verdict.TheVariants.{Invalid}
+use Rattle.ra_cli.specs.Checks.{verdict_text as line_of}
+use Rattle.ra_cli.specs.declared.input_kind.InputKind.TheVariants.{Trace}
+use Rattle.ra_cli.proofs.PictureLemmas.{denies}
+use Rattle.ra_cli.proofs.drawing.draw_trace.Goals as goal
+
+pub returns-in-Ok-Valid : goal.returns-in-Ok-Valid
+returns-in-Ok-Valid g c =
+    let (input, read, verdict, draws) = rw c.in-Ok-Valid.field-0-is at c.in-Ok-Valid.ensures.ok in
+    record {
+      ok = (input, read, ((_, _, verdict), draws.0, draws.1, draws.2, draws.3));
+      unwritten = tt;
+      too_long = λ e. absurd cc;
+      prefix = λ e. absurd cc;
+    }
+
+pub returns-in-Ok-Invalid : goal.returns-in-Ok-Invalid
+returns-in-Ok-Invalid g c =
+    let line = c.in-Ok-Invalid.line in
+    let cause = c.in-Ok-Invalid.cause in
+    let (input, read, verdict, nothing) = rw c.in-Ok-Invalid.field-0-is at c.in-Ok-Invalid.ensures.ok in
+    denies Trace c.args.part (g.R.Read.remaining c.args.reader.now) (g.R.Read.remaining c.draw.new.reader) (g.W.Write.contents c.args.writer.now)
+    (g.W.Write.contents c.draw.new.writer) _ c.verdict_text.result (line_of (Invalid line cause)) input c.denied.result c.verdict_text.ensures c.denied.ensures.ok
+    c.denied.ensures.err read (line, cause, verdict, refl) (c.in-Ok-Invalid.ensures.invalid line cause (ap Ok c.in-Ok-Invalid.field-0-is))
+
+pub returns-in-Err : goal.returns-in-Err
+returns-in-Err g c =
+    record {
+      ok = tt;
+      unwritten = c.in-Err.ensures.unwritten;
+      too_long = λ is.
+          let same : c.in-Err.fault ≡ TooLong = cc in
+          let (input, a, b, read, verdict, long) = c.in-Err.ensures.too_long (ap Err same) in
+          (input, read, (a, b, verdict), long);
+      prefix = λ is.
+          let same : c.in-Err.fault ≡ Write = cc in
+          let (input, a, b, prefix, rest, read, verdict, picture, left, appends) = c.in-Err.ensures.prefix (ap Err same) in
+          (input, prefix, rest, read, (a, b, verdict), picture, left, appends);
+    }
