@@ -12,8 +12,11 @@ use std::alloc::Global;
 /// What the first line of a book says.
 #[derive(Clone, Copy)]
 pub struct First {
+    /// The node whose book it is, 1 to `nodes`.
     pub node: NodeId,
+    /// How many nodes there are.
     pub nodes: NodeId,
+    /// The number with which each resource begins.
     pub start: u64,
 }
 
@@ -42,15 +45,18 @@ fn first_in(rest: &[u8]) -> Option<First>
     }
 }
 
-/// Returns what a line of at most 256 bytes says as the first one of a book, or `None` if it is none. It does not allocate.
-fn first_line(line: &[u8]) -> Option<First>
-    requires { length line.now ≤ 256 }
-    ensures { MatchOption result ((node nodes start : ℕ) → IsFirst line.now node nodes start → ⊥)
-        (λ first. IsFirst line.now first.node first.nodes first.start) }
-{
-    match behind(b"book 1 ", line) {
-        Some(rest) => first_in(rest),
-        None => None,
+impl First {
+    /// Returns what a line of at most 256 bytes says as the first one of a book, without its line feed, or `None` if it is
+    /// none. It does not allocate, and the cost is linear in the line.
+    pub fn parse(line: &[u8]) -> Option<First>
+        requires { length line.now ≤ 256 }
+        ensures { MatchOption result ((node nodes start : ℕ) → IsFirst line.now node nodes start → ⊥)
+            (λ first. IsFirst line.now first.node first.nodes first.start) }
+    {
+        match behind(b"book 1 ", line) {
+            Some(rest) => first_in(rest),
+            None => None,
+        }
     }
 }
 
@@ -60,6 +66,6 @@ pub fn opened(alloc: Global, line: &[u8]) -> Option<TimedNode>
     ensures { MatchOption result ((node nodes start : ℕ) → IsFirst line.now node nodes start → ⊥)
         (λ made. (node nodes start : ℕ) × IsFirst line.now node nodes start × (made ≡ opening node nodes start)) }
 {
-    let first = first_line(line)?;
+    let first = First::parse(line)?;
     TimedNode::new(alloc, first.node, first.nodes, first.start)
 }

@@ -18,7 +18,8 @@ mod texts;
 mod timed_node;
 
 pub use error::BookFault;
-pub use event_line::event_of;
+pub use event_line::{MAX_LINE, event_of};
+pub use first_line::First;
 pub use refusal::Refusal;
 pub use serving::answer_book;
 pub use timed_node::TimedNode;
