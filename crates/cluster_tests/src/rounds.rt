@@ -4,10 +4,8 @@ use crate::books::Wire;
 use crate::helpers::{in_a_thread, r, request};
 use crate::steps;
 use crate::steps::{Ended, have_ended, make_cluster, sends};
-use Act::{
-    Asks, Audits, AuditsAnew, Comes, Ends, Enters, HasAt, Leaves, Shows, Stops, Waits,
-};
-use Answer::{Fine, Finds, NeverSent, NotAudited, OtherCluster, OutOfTurn};
+use Act::{Asks, Audits, AuditsAnew, Comes, Ends, Enters, HasAt, Leaves, Shows, Stops, Waits};
+use Answer::{Finds, Fine, NeverSent, NotAudited, OtherCluster, OutOfTurn};
 use ra_cluster::{
     Auditor, CallError, Cluster, FinishError, Inbox, OpenGate, Post, RoundError, Site, SiteError,
     Stop, TakeError, Told,
@@ -114,7 +112,9 @@ fn end_answer(name: Name, answer: Answer) -> Option<Result<(), FinishError>> {
 /// Returns whether client 1 of node 1 locks the name.
 fn enters<R: Wait>(rt: &R, alloc: Global, cluster: &Cluster<OpenGate>, name: Name) -> bool {
     match NodeId::new(1) {
-        Some(one) => cluster.lock(rt, alloc, one, 1, name, Mode::Exclusive).is_ok(),
+        Some(one) => cluster
+            .lock(rt, alloc, one, 1, name, Mode::Exclusive)
+            .is_ok(),
         None => false,
     }
 }
@@ -317,7 +317,11 @@ fn assert_does<R: Threads + Wait + Abort + Sync + AllocGlobal>(rt: &R, row: &Row
     );
     match found {
         Some((done, have_ended)) => {
-            assert!(rt; done == row.acts.len(), "{}: act {done}, counted from 0", row.words);
+            assert!(rt;
+                done == row.acts.len(),
+                "{}: act {done}, counted from 0",
+                row.words
+            );
             assert!(rt; have_ended, "{}: the books", row.words);
         }
         None => panic!(rt; "{}: the cluster and the auditor are made", row.words),

@@ -177,7 +177,10 @@ fn locks_a_round(plan: Plan) -> u64 {
 
 /// Counts a lock that was given. Returns whether a round is due after it.
 fn ends_a_round(service: &Service<'_>) -> bool {
-    let given = service.given.fetch_add(1, Ordering::SeqCst).saturating_add(1);
+    let given = service
+        .given
+        .fetch_add(1, Ordering::SeqCst)
+        .saturating_add(1);
     given.checked_rem(locks_a_round(service.plan)) == Some(0)
 }
 

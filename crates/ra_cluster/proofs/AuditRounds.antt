@@ -1,16 +1,15 @@
 -- Rounds of an audit: the events that were taken of each node go on.
-use Rattle.std.proofs.Common.{◌≡◌, ℕ, zero, suc, ◌-◌, List, [], ◌∷◌, ◌++◌, map, drop, get_or, set, Option, Some, Result, Ok, Err, refl, sym, ap, ◌∙◌, subst, append_assoc}
-use Rattle.std.specs.Prelude.{slice_get, All, IsOk, IsErrOf, OnOk}
+use Rattle.std.proofs.Common.{◌≡◌, ℕ, zero, suc, ◌-◌, List, [], ◌∷◌, ◌++◌, map, drop, get_or, set, Some, Result, Ok, Err, refl, sym, ap, ◌∙◌, subst, append_assoc}
+use Rattle.std.specs.Prelude.{slice_get, All, IsOk, OnOk}
 use Rattle.std.specs.List.{range_with_len}
 use Rattle.std.proofs.lemmas.List.{append-nil}
 use Rattle.std.proofs.lemmas.Option.{same_Some, none-some}
 use Rattle.ra_stamp.specs.declared.entry.Mark.{Mark}
 use Rattle.ra_cluster.specs.declared.audit_error.AuditError.{AuditError}
 use Rattle.ra_cluster.specs.declared.audit_error.AuditFault.{AuditFault}
-use Rattle.ra_cluster.specs.declared.audit_error.RoundError.TheVariants as round
 use Rattle.ra_cluster.specs.declared.audit_error.TakeError.{TakeError}
 use Rattle.ra_cluster.specs.declared.event.BookEvent.{BookEvent}
-use Rattle.ra_cluster.specs.Audit.{ProgressState, AuditState, NoneIsReady, MayBePut, IsUnsent, IsAudited, Advances, Audits, TakenGoOn, TakesMore, Takes, taken_of, with_more}
+use Rattle.ra_cluster.specs.Audit.{ProgressState, AuditState, NoneIsReady, MayBePut, IsAudited, Advances, Audits, TakenGoOn, TakesMore, Takes, taken_of, with_more}
 
 pub go_nowhere : (nodes : List ProgressState) → TakenGoOn nodes nodes
 go_nowhere [] = tt
@@ -111,10 +110,6 @@ pub if_done : (A : Type 0) (r : Result (Unit {0}) AuditError) → IsOk r → OnO
 if_done A (Ok x) done h = h
 if_done A (Err e) done h = absurd cc
 
--- a round tells the fault that the auditor told
-pub same_fault : (a b : AuditFault) → IsErrOf {T = Unit {0}} (Err (round.Fault a)) (round.Fault b) → a ≡ b
-same_fault a b h = cc
-
 -- ---- With a fault that is noted at its end
 
 pub audits_noted : (old new noted : AuditState) (told told' : List Mark) (fault : AuditFault) → noted ≡ record new { fault = Some fault } → Audits old told new told'
@@ -128,16 +123,6 @@ audits_noted old new noted told told' fault same a = subst (λ (x : AuditState).
   told_are = a.told_are;
   taken = a.taken;
 })
-
-pub fault_noted : (new noted : AuditState) (fault other : AuditFault) → noted ≡ record new { fault = Some fault } → fault ≡ other → noted.fault ≡ Some other
-fault_noted new noted fault other same is = ap (λ (a : AuditState). a.fault) same ∙ ap (λ (f : AuditFault). Some f) is
-
-pub unsent_noted : (clocks known : List ℕ) (new noted : AuditState) (fault other : AuditFault) → clocks ≡ known → noted ≡ record new { fault = Some fault } → fault ≡ other
-    → IsUnsent clocks new.nodes fault → IsUnsent known noted.nodes other
-unsent_noted clocks known new noted fault other clocks_are same is unsent =
-    subst (λ (cs : List ℕ). IsUnsent cs noted.nodes other) clocks_are
-    (subst (λ (ns : List ProgressState). IsUnsent clocks ns other) (sym (ap (λ (a : AuditState). a.nodes) same))
-    (subst (IsUnsent clocks new.nodes) is unsent))
 
 -- ---- With none
 

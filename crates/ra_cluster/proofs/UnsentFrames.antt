@@ -1,5 +1,5 @@
 -- Frames that were never sent: of which senders they can't be, and which may still be put into the run.
-use Rattle.std.proofs.Common.{◌≡◌, ◌≢◌, ◌⊎◌, ℕ, ◌+◌, ◌-◌, ◌<◌, ◌≤◌, Bool, true, false, ltb, leb, IsTrue, List, [], ◌∷◌, ◌++◌, map, length, get_or, Some, None, refl, sym, ap, ◌∙◌, subst, inl, inr, arith}
+use Rattle.std.proofs.Common.{◌≡◌, ◌≢◌, ◌⊎◌, ℕ, ◌+◌, ◌-◌, ◌<◌, ◌≤◌, true, false, ltb, List, [], ◌∷◌, ◌++◌, map, length, get_or, Some, None, refl, sym, ap, ◌∙◌, subst, inl, inr, arith}
 use Rattle.std.specs.Prelude.{All, slice_get}
 use Rattle.std.specs.List.{range_with_len}
 use Rattle.std.proofs.lemmas.Bool.{cases_lt, ltb-true, ltb-false}
@@ -67,16 +67,16 @@ of_no_number P nodes n place from numbers number high k d low is = absurd (omega
 
 -- ---- A frame whose sender is found
 
-module _ (nodes : List ProgressState) (event : BookEvent) (frame : Frame) (n place : ℕ) (numbers : map (λ p. p.node) nodes ≡ range_with_len 1 n)
-    (number : place + 1 ≡ from_of frame.message) (is : event.kind ≡ Got frame) where
+module _ (nodes : List ProgressState) (kind : BookKind) (frame : Frame) (n place : ℕ) (numbers : map (λ p. p.node) nodes ≡ range_with_len 1 n)
+    (number : place + 1 ≡ from_of frame.message) (is : kind ≡ Got frame) where
   pub may_come_of : (p : ProgressState) (IsNew : Type 0) → true ≡ ltb place (length nodes) → p ≡ get_or nodes place p
-      → MayComeFrom frame.clock IsNew p → MayCome nodes IsNew event.kind
+      → MayComeFrom frame.clock IsNew p → MayCome nodes IsNew kind
   may_come_of p IsNew low at may =
       subst (MayCome nodes IsNew) (sym is)
       (of_number (MayComeFrom frame.clock IsNew) nodes n place (from_of frame.message) p numbers number (ltb-true place (length nodes) (sym low)) at may)
 
   pub is_of_none : (p : ProgressState) (NoneComes : Type 0) → true ≡ ltb place (length nodes) → p ≡ get_or nodes place p
-      → (clock_of p.settled < frame.clock → HasNone frame.clock NoneComes p) → (IsDue nodes event.kind → ⊥) → IsOfNone nodes NoneComes event
+      → (clock_of p.settled < frame.clock → HasNone frame.clock NoneComes p) → (IsDue nodes kind → ⊥) → IsOfNone nodes NoneComes kind
   is_of_none p NoneComes low at none not_due =
       let within : place < length nodes = ltb-true place (length nodes) (sym low) in
       let behind : clock_of p.settled < frame.clock =
@@ -88,7 +88,7 @@ module _ (nodes : List ProgressState) (event : BookEvent) (frame : Frame) (n pla
       (frame, is, of_number (HasNone frame.clock NoneComes) nodes n place (from_of frame.message) p numbers number within at (none behind))
 
   -- or is not found
-  pub may_come_of_nobody : (IsNew : Type 0) → false ≡ ltb place (length nodes) → MayCome nodes IsNew event.kind
+  pub may_come_of_nobody : (IsNew : Type 0) → false ≡ ltb place (length nodes) → MayCome nodes IsNew kind
   may_come_of_nobody IsNew beyond =
       subst (MayCome nodes IsNew) (sym is)
       (of_no_number (MayComeFrom frame.clock IsNew) nodes n place (from_of frame.message) numbers number (ltb-false place (length nodes) (sym beyond)))
@@ -109,14 +109,14 @@ module _ (clocks : List ℕ) (nodes : List ProgressState) (n place known : ℕ) 
   pub may_be_put : ((event : BookEvent) → slice_get p.waiting 0 ≡ Some event → MayCome nodes (known < event.clock) event.kind) → MayBePut clocks nodes p
   may_be_put may event is = subst (λ (clock : ℕ). MayCome nodes (clock < event.clock) event.kind) (known_at p.node refl) (may event is)
 
-  pub is_unsent : (fault : AuditFault) → fault.node ≡ p.node → slice_get p.waiting 0 ≡ Some fault.event → IsOfNone nodes (fault.event.clock ≤ known) fault.event → IsUnsent clocks nodes fault
+  pub is_unsent : (fault : AuditFault) → fault.node ≡ p.node → slice_get p.waiting 0 ≡ Some fault.event → IsOfNone nodes (fault.event.clock ≤ known) fault.event.kind → IsUnsent clocks nodes fault
   is_unsent fault node is none = record {
     never_sent = record {
-          at_node = (place, p, within, sym at, (sym node, is));
-          frame = none.0;
-          came = none.1;
-          no_event = λ k d low same. (none.2 k d low same).0;
-        };
+      at_node = (place, p, within, sym at, (sym node, is));
+      frame = none.0;
+      came = none.1;
+      no_event = λ k d low same. (none.2 k d low same).0;
+    };
     sure = λ k d low same.
         subst (λ (clock : ℕ). (none.0.clock < clock_of (taken_of (get_or nodes k d))) ⊎ (fault.event.clock ≤ clock)) (known_at fault.node node) (none.2 k d low same).1;
   }

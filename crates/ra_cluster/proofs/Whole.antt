@@ -1,11 +1,11 @@
 -- Books from which nothing was taken: their events and frames are the whole history.
-use Rattle.std.proofs.Common.{◌≡◌, ℕ, ◌≤◌, List, ◌++◌, get_or, sym, ap, subst}
+use Rattle.std.proofs.Common.{◌≡◌, ◌≤◌, List, ◌++◌, get_or, sym, ap, subst}
 use Rattle.std.specs.Prelude.{All}
 use Rattle.ra_stamp.specs.NodeId.{IsNodeNumber}
 use Rattle.ra_stamp.specs.declared.entry.Mark.{Mark}
 use Rattle.ra_node.specs.Node.{NodeState}
 use Rattle.ra_cluster.specs.History.{IsHistory}
-use Rattle.ra_cluster.specs.Book.{BookState, TakenState, nothing_taken, whole_events, LeadsTo, IsWhole, HasHistory}
+use Rattle.ra_cluster.specs.Book.{BookState, TakenState, whole_events, LeadsTo, IsWhole, HasHistory}
 use Rattle.ra_cluster.specs.Settled.{IsCluster, HasMark, marks_in}
 use Rattle.std.specs.Prelude.{Contains}
 

@@ -5,6 +5,7 @@ use Rattle.ra_cluster.specs.declared.progress.Progress.TheInside.{Inside}
 use Rattle.ra_stamp.specs.Message.{from_of}
 use Rattle.ra_frame.specs.declared.frame.Frame.{Frame}
 use Rattle.ra_cluster.specs.declared.audit_error.AuditFault.{AuditFault}
+use Rattle.ra_cluster.specs.declared.event.BookKind.{BookKind}
 use Rattle.ra_cluster.specs.declared.event.BookKind.TheVariants.{Got}
 use Rattle.ra_cluster.specs.declared.event.BookEvent.{BookEvent}
 use Rattle.ra_cluster.specs.History.{clock_of}
@@ -39,6 +40,6 @@ abbrev pub HasNone : ℕ → Type 0 → ProgressState → Type 0
 HasNone clock NoneComes s = All (λ e. e.clock ≢ clock) (taken_of s) × ((clock < clock_of (taken_of s)) ⊎ NoneComes)
 
 -- the event is a frame that came, and of its sender that holds
-abbrev pub IsOfNone : List ProgressState → Type 0 → BookEvent → Type 0
-IsOfNone nodes NoneComes event = (frame : Frame) × (event.kind ≡ Got frame)
+abbrev pub IsOfNone : List ProgressState → Type 0 → BookKind → Type 0
+IsOfNone nodes NoneComes kind = (frame : Frame) × (kind ≡ Got frame)
     × All (λ s. s.node ≡ from_of frame.message → HasNone frame.clock NoneComes s) nodes

@@ -11,8 +11,8 @@ ghost use Rattle.ra_cluster.specs.Audit.{Takes, NoneWaits, IsNeverSent, MayBePut
 use crate::audit_laws::runs_meet_the_theorem;
 use crate::auditing::put_all;
 use crate::desk::Handed;
+use crate::never_sent::{clocks_of, first_unsent};
 use crate::progress::Progress;
-use crate::unsent::{clocks_of, first_unsent};
 use crate::unsettled::{first_unsettled, waiting_at};
 use crate::{AuditError, AuditFault, BookEvent, MarkObserver, Site, TakeError};
 use ra_stamp::{Memory, NodeId};
@@ -206,13 +206,9 @@ impl Auditor {
         ensures found { IfSome result (λ fault. (self.new ≡ record self.old { fault = Some fault })
             × IsUnsent clocks.now self.old.nodes fault) }
     {
-        match first_unsent(&self.nodes, clocks) {
-            Some(fault) => {
-                self.fault = Some(fault);
-                Some(fault)
-            }
-            None => None,
-        }
+        let unsent = first_unsent(&self.nodes, clocks);
+        note_unsent(&unsent, &mut self.fault);
+        unsent
     }
 
     /// Puts each event that can be put into the run, and tells the observer its marks: an ask or a leave at once after
@@ -318,6 +314,16 @@ fn note_fault(answer: &Result<(), AuditError>, fault: &mut Option<AuditFault>)
     ensures { (found : audit_fault.AuditFault) → IsErrOf answer.now (AuditError.Fault found) ↔ (fault.new ≡ Some found) }
 {
     if let Err(AuditError::Fault(found)) = answer {
+        *fault = Some(*found);
+    }
+}
+
+/// Notes a frame that was never sent, if this is one.
+fn note_unsent(unsent: &Option<AuditFault>, fault: &mut Option<AuditFault>)
+    ensures none { IsNone unsent.now → fault.new ≡ fault.old }
+    ensures found { IfSome unsent.now (λ found. fault.new ≡ Some found) }
+{
+    if let Some(found) = unsent {
         *fault = Some(*found);
     }
 }

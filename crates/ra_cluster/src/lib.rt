@@ -44,6 +44,7 @@ mod laws;
 mod lock_order;
 mod losses;
 mod mark_observer;
+mod never_sent;
 mod outcome;
 mod plan;
 mod post;
@@ -61,7 +62,6 @@ mod stop_causes;
 mod taken;
 mod threads;
 mod ticket;
-mod unsent;
 mod unsettled;
 
 pub use audit_error::{AuditError, AuditFault, FinishError, RoundError, TakeError};

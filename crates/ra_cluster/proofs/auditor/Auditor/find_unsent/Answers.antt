@@ -1,10 +1,10 @@
-use Rattle.std.proofs.Common.{◌≡◌, List, map, refl, sym, ap, ◌∙◌, subst}
+use Rattle.std.proofs.Common.{◌≡◌, List, map, sym, ap, ◌∙◌, subst}
 use Rattle.std.specs.List.{range_with_len}
-use Rattle.ra_cluster.specs.Audit.{ProgressState, AuditState, NoneIsReady, MayBePut, IsUnsent}
+use Rattle.ra_cluster.specs.Audit.{ProgressState, AuditState, NoneIsReady}
 use Rattle.ra_cluster.proofs.auditor.Auditor.find_unsent.Goals as goal
 
-pub first_unsent-requires : goal.first_unsent-requires
-first_unsent-requires c =
+pub first_unsent-unsent-requires : goal.first_unsent-unsent-requires
+first_unsent-unsent-requires c =
     let n = c.self.inside.world.count in
     let same : c.deref.result.now ≡ c.args.self.now.nodes = c.deref.ensures.value ∙ ap (λ (a : AuditState). a.nodes) c.self.view_is in
     record {

@@ -1,5 +1,4 @@
-use Rattle.std.proofs.Common.{List, sym, ap, ◌∙◌}
-use Rattle.ra_cluster.specs.declared.event.BookEvent.{BookEvent}
+use Rattle.std.proofs.Common.{sym, ap, ◌∙◌}
 use Rattle.ra_cluster.specs.History.{clock_from, clock_of}
 use Rattle.ra_cluster.specs.Book.{BookState, whole_events}
 use Rattle.ra_cluster.proofs.NextEvents.{clock_append}

@@ -1,6 +1,3 @@
-use Rattle.std.proofs.Common.{ap, ◌∙◌}
-use Rattle.ra_cluster.specs.History.{clock_of}
-use Rattle.ra_cluster.specs.Book.{BookState}
 use Rattle.ra_cluster.proofs.Kept.{history_of}
 use Rattle.ra_cluster.proofs.book.Book.taken_clock.Goals as goal
 

@@ -1,0 +1,7 @@
+mod Last
+mod Lines
+mod Texts
+mod Order
+mod Sent
+mod Taken
+mod Outcome

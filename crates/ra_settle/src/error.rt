@@ -1,0 +1,28 @@
+use thiserror::Error;
+
+/// Why a text of books does not settle, in the order in which the causes are looked for.
+#[derive(Clone, Copy, Debug, PartialEq, Eq)]
+pub enum TextCause {
+    /// The line has none of the forms of lines, or more than 256 bytes; or the text does not begin with the first line of a
+    /// book.
+    Line,
+    /// The line is the first one of a book of a node that has a book already, or of another number of nodes or another start
+    /// than those before it. At the end of the text: the book of a node is missing.
+    Books,
+    /// The digits are no frame, or the node does not take the event.
+    Refused,
+    /// A frame comes that is not among those that its sender's book sent with its clock.
+    NotSent,
+    /// A message comes that came by an earlier line.
+    Twice,
+}
+
+/// Why a text of books was not settled.
+#[derive(Clone, Copy, Debug, PartialEq, Eq, Error)]
+#[error("{:?}", self)]
+pub enum SettleTextError {
+    /// It does not settle: the line that is wrong, counted from 1, and the cause.
+    Invalid { line: u64, cause: TextCause },
+    /// Memory ran out.
+    Memory,
+}

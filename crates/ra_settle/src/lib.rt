@@ -1,0 +1,15 @@
+//! Books of all nodes in one text, one after the other. [`settle_text`] reads them, and settles them into the one run of the
+//! cluster that they record; or it says at which line they are wrong, and why.
+#![tactic(auto)]
+
+mod arranging;
+mod came;
+mod error;
+mod gathering;
+mod happening;
+mod reading;
+mod searching;
+mod settling;
+
+pub use error::{SettleTextError, TextCause};
+pub use settling::{SettledText, settle_text};

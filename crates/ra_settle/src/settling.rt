@@ -1,0 +1,148 @@
+ghost use Rattle.std.specs.Prelude.{ℕ, List, All, IfErr, IfOk, MatchResult};
+ghost use Rattle.ra_cluster.specs.Book.{BookState};
+ghost use Rattle.ra_cluster.specs.Settled.{HasUnsent, IsCluster};
+ghost use Rattle.ra_settle.specs.Texts.{IsRead};
+ghost use Rattle.ra_settle.specs.Gathering.{HasGathered, IsGathered, IsUnfit};
+ghost use Rattle.ra_settle.specs.Verdicts.{IsSettledBy, IsSettledText, IsUnsettled};
+
+use crate::arranging::all_arranged;
+use crate::came::Came;
+use crate::gathering::Gathered;
+use crate::reading::read_books;
+use crate::searching::{first_again, first_unsent};
+use crate::{SettleTextError, TextCause};
+use ra_cluster::{Book, SettleError, Settled, settle};
+use std::alloc::Global;
+
+/// The one run into which the books of a text settle.
+#[derive(Drop)]
+pub struct SettledText {
+    /// How many nodes there are.
+    pub nodes: u16,
+    /// The number with which each resource begins.
+    pub start: u64,
+    /// The steps of the run, and what came of them.
+    pub settled: Settled,
+}
+
+/// Returns why books do not settle to which a frame came that was not sent: the first line of the text by which one came.
+fn unsent(books: &mut [Book], came: &[Came]) -> SettleTextError
+    requires cluster { IsCluster books.old }
+    requires each { All IsRead books.old }
+    ensures { IsUnfit books.old came.now result }
+{
+    match first_unsent(books, came) {
+        Some(line) => SettleTextError::Invalid {
+            line,
+            cause: TextCause::NotSent,
+        },
+        // It never comes to this, as all that came is in `came`.
+        None => SettleTextError::Memory,
+    }
+}
+
+/// Returns why books do not settle to which a message came twice, but no frame that was not sent: the first line of the text by
+/// which one came again.
+fn again(alloc: Global, came: &[Came]) -> SettleTextError
+    ensures { (books : List BookState) → (HasUnsent books → ⊥) → IsUnfit books came.now result }
+{
+    match first_again(alloc, came) {
+        Ok(Some(line)) => SettleTextError::Invalid {
+            line,
+            cause: TextCause::Twice,
+        },
+        // It never comes to `Ok(None)`, as all that came is in `came`.
+        Ok(None) | Err(_) => SettleTextError::Memory,
+    }
+}
+
+/// Settles the books of a cluster, with what came to them in the order of the text.
+///
+/// # Errors
+///
+/// `Invalid` with `NotSent` or `Twice`, at the first such line. `Memory`.
+fn settle_ordered(
+    alloc: Global,
+    mut books: Vec<Book>,
+    came: &[Came],
+) -> Result<SettledText, SettleTextError>
+    requires cluster { IsCluster books.items }
+    requires each { All IsRead books.items }
+    ensures { MatchResult result (IsSettledBy books.items) (IsUnfit books.items came.now) }
+{
+    match settle(alloc, &books, &[]) {
+        Ok(settled) => {
+            let first = &books[0];
+            Ok(SettledText {
+                nodes: first.nodes(),
+                start: first.start(),
+                settled,
+            })
+        }
+        Err(SettleError::NotSent) => Err(unsent(books.as_mut_slice(), came)),
+        Err(SettleError::Twice) => Err(again(alloc, came)),
+        Err(_) => Err(SettleTextError::Memory),
+    }
+}
+
+/// Settles the books that were gathered from a text, in which the line after the last one would have this number.
+///
+/// # Errors
+///
+/// `Invalid` with `Books` at this line: the book of a node is missing. Then those of `settle_ordered`.
+fn settle_gathered(
+    alloc: Global,
+    gathered: Gathered,
+    next: u64,
+) -> Result<SettledText, SettleTextError>
+    requires { (lines : List (List ℕ)) × IsGathered lines gathered }
+    ensures { (text : List ℕ) → HasGathered text gathered next
+        → MatchResult result (IsSettledText text) (IsUnsettled text) }
+{
+    let Gathered {
+        earlier,
+        last,
+        came,
+    } = gathered;
+    let nodes = usize::from(last.nodes());
+    let mut books = earlier;
+    if books.push(last).is_err() {
+        return Err(SettleTextError::Memory);
+    }
+    match all_arranged(alloc, books, nodes) {
+        Ok(Some(ordered)) => settle_ordered(alloc, ordered, came.as_slice()),
+        Ok(None) => Err(SettleTextError::Invalid {
+            line: next,
+            cause: TextCause::Books,
+        }),
+        Err(_) => Err(SettleTextError::Memory),
+    }
+}
+
+/// Reads the books of all nodes, one after the other in one text, and settles them into one run. Each begins with its first line,
+/// and they may be in any order of the nodes. A last line without a line feed is passed over.
+///
+/// It keeps the books, and the frames that came with the numbers of their lines, so that memory is linear in the text. With n
+/// lines the cost is that of the events at their nodes, and of [`settle`], which is n log n at most.
+///
+/// # Errors
+///
+/// The first that holds:
+///
+/// 1. `Invalid` with `Line`, `Books` or `Refused`, at the first wrong line. Without a line it is `Line` at line 1.
+/// 2. `Invalid` with `Books`, at the number of lines plus 1: the book of a node is missing.
+/// 3. `Invalid` with `NotSent`, at the first line by which a frame comes that is not among those that its sender's book sent with
+///    its clock.
+/// 4. `Invalid` with `Twice`, at the first line by which a message comes that came by an earlier line.
+/// 5. `Memory`, which may come before any of them.
+pub fn settle_text(alloc: Global, text: &[u8]) -> Result<SettledText, SettleTextError>
+    // The books are those of a cluster and fit together, and this is their one run, with the main theorem.
+    ensures settled { IfOk result (IsSettledText text.now) }
+    // A refusal comes only for its cause, at its line.
+    ensures refused { IfErr result (IsUnsettled text.now) }
+{
+    match read_books(alloc, text) {
+        Ok((gathered, next)) => settle_gathered(alloc, gathered, next),
+        Err(fault) => Err(fault),
+    }
+}
