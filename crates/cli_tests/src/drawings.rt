@@ -52,7 +52,7 @@ fn draw_prints_a_picture_of_a_mark_log(rt: HostRuntime) {
     assert!(rt;
         has_drawn(
             &part,
-            "<title>1 node, 1 request, 1 grant, from line 1, to line 2</title>"
+            "<title>1 node, 1 request, 1 grant, to line 2</title>"
         )
     );
 }

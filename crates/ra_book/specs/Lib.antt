@@ -7,4 +7,3 @@ pub mod Input
 pub mod NextLine
 pub mod Book
 pub mod Serving
-pub mod Laws

@@ -346,7 +346,7 @@ fn check_task<'a>(words: &[String]) -> Task<'a>
     }
 }
 
-/// Returns the task of the command `cluster`: it prints the trace where a word says so. The parser has found that it is an option
+/// Returns the task of the command `cluster`: it prints the trace if a word says so. The parser has found that it is an option
 /// then, and tells less of it in its contract than the words do.
 fn cluster_task<'a>(words: &[String]) -> Task<'a>
     ensures help { OnHelp result ⊥ }

@@ -19,9 +19,9 @@ pub enum Remark {
     SomeUnfinished,
     /// The text is no trace: its first wrong line, and why.
     NoTrace { line: u64, cause: Cause },
-    /// The text is no book, since its first line is none.
+    /// The text is not a book: its first line is not that of a book.
     NoBook,
-    /// The reader failed after lines of a book were answered.
+    /// The reader of a book failed.
     Unread,
     /// The log is no run of the lock table: its first wrong line, and why.
     NoLog { line: u64, cause: MarkCause },

@@ -504,9 +504,9 @@ fn outcome_of<T: Threads + Wait + Sync, R: BufRead, W: Write, O: Observer>(
 
 /// Does what the words ask for, of which the first is the program's name, and returns the exit status: 0 done, 1 a fault of
 /// the input or the output, 2 refused, 3 a run that ended with something left to do, or a trace or a log that is not one. A refusal is
-/// printed as one line, `refused` and its word. No read or write that failed is tried again, and after a fault of the output
-/// nothing more is written. It waits for nobody but the reader and the writer, and with the command `cluster` for the threads
-/// that it starts. The reader has a buffer for the command `check`, which takes of it what it reads.
+/// printed as one line, `refused` and its word; `ra node` answers refused lines and goes on. No read or write that failed is tried again,
+/// and after a fault of the output nothing more is written. It waits for nobody but the reader and the writer, and with the command
+/// `cluster` for the threads that it starts. The reader has a buffer for the commands `check` and `node`, which take of it what they read.
 pub fn serve<T: Threads + Wait + Sync, R: BufRead, W: Write>(
     rt: &T,
     alloc: Global,

@@ -79,7 +79,7 @@ impl Gathered {
             return Err(LineFault::Wrong(TextCause::Books));
         }
         let Ok(book) = Book::new(alloc, first.node, first.nodes.get(), first.start) else {
-            // It is one of the nodes, so that only memory could be wanting.
+            // It is one of the nodes, so that only memory can be lacking.
             return Err(LineFault::Memory);
         };
         let earlier = replace(&mut self.last, book);

@@ -46,7 +46,7 @@ fn begin(alloc: Global, line: &[u8]) -> Result<Gathered, SettleTextError>
             last,
             came: CameList::new(alloc),
         }),
-        // It is one of the nodes, so that only memory could be wanting.
+        // It is one of the nodes, so that only memory can be lacking.
         Err(_) => Err(SettleTextError::Memory),
     }
 }

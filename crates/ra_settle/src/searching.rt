@@ -66,7 +66,7 @@ fn put(alloc: Global, bag: &mut Bag, message: Message) -> Result<(), Memory>
 }
 
 /// Returns the number of the first line by which a message comes again, or `None`. The cost of each frame is constant on average.
-/// Where there is no memory to know where each message is in the bag, all before it are looked through.
+/// If there is no memory to know where each message is in the bag, all before it are looked through.
 ///
 /// # Errors
 ///

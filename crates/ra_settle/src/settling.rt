@@ -123,7 +123,8 @@ fn settle_gathered(
 /// and they may be in any order of the nodes. A last line without a line feed is passed over.
 ///
 /// It keeps the books, and the frames that came with the numbers of their lines, so that memory is linear in the text. With n
-/// lines the cost is that of the events at their nodes, and of [`settle`], which is n log n at most.
+/// lines the cost is that of the events at their nodes, and of [`settle`], which is n log n at most. If memory for an index is
+/// lacking, to look for `Twice` takes quadratic time.
 ///
 /// # Errors
 ///
