@@ -252,6 +252,16 @@ pub one_is_taken : (taken : Option Message) (old new : List Message) (m : Messag
 one_is_taken None old new m there some none = absurd (none refl there)
 one_is_taken (Some t) old new m there some none = first_is_one old m new some.1
 
+pub first_is_taken : (taken : Option Message) (old new : List Message) (m : Message) → Contains old m → IfSome taken (λ t. (t ≡ m) × TakesFirst old m new)
+    → (IsNone taken → Contains old m → ⊥) → TakesFirst old m new
+first_is_taken None old new m there some none = absurd (none refl there)
+first_is_taken (Some t) old new m there some none = some.1
+
+-- a message that is in the slot of a place is at that place
+pub is_at_place : (slots : List (Option Message)) (slot : ℕ) (m : Message) (place : ℕ) → slot < length slots → get_or slots slot (Some m) ≡ Some m
+    → get_or slots slot None ≡ slice_get (messages_in slots) place → slice_get (messages_in slots) place ≡ Some m
+is_at_place slots slot m place lt is at = sym at ∙ get_or_default slots slot None (Some m) lt ∙ is
+
 pub length_without : (slots : List (Option Message)) (i : ℕ) → i < length slots → length (remove slots i) + 1 ≡ length slots
 length_without slots i lt =
     omega (arith, lt, length-append (take i slots) (drop (suc i) slots), length-take-le i slots (omega (arith, lt)), length-drop (suc i) slots)

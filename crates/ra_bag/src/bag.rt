@@ -224,20 +224,23 @@ impl Bag {
         Some(*message)
     }
 
-    /// Takes a message that is equal to this one: the one that was found, if it is still there, and otherwise the first
-    /// one. It does not allocate.
+    /// Takes a message that is equal to this one. If it was found at a place, that is the message at this place, if it
+    /// is equal, and otherwise the first equal one. If it was found in a slot, it may be any equal one. It does not
+    /// allocate.
     ///
-    /// In the first case the cost is that of `at`, if the message was found at a place, and that of removing it.
+    /// If the message is where it was found, the cost is that of `at` for a place, and that of removing it.
     /// Removing takes amortized constant time if the message is at an end, or if the bag keeps a bit for each slot. It
     /// learns these bits after a message was taken from between more than 1,024, or looked for among more than 64.
     /// Otherwise removing takes time linear in the distance from the nearer end. If the message is not the first of equal
-    /// ones, the bag has to learn anew in which slot each message is. In the second case the cost is that of `take`.
+    /// ones, the bag has to learn anew in which slot each message is. If it is not there, the cost is that of `take`.
     #[inline(always)]
     pub fn take_from(&mut self, found: Found, message: &Message)
         requires { Contains self.old.items message.now }
         ensures taken { TakesOne self.old.items message.now self.new.items }
         ensures at { (place : ℕ) → found ≡ Found.At place → slice_get self.old.items place ≡ Some message.now
             → TakesAt self.old.items place self.new.items }
+        ensures otherwise { (place : ℕ) → found ≡ Found.At place → slice_get self.old.items place ≢ Some message.now
+            → TakesFirst self.old.items message.now self.new.items }
         ensures spare { self.old.spare ≤ self.new.spare }
     {
         let slot = slot_found(&self.slots, self.empty, &self.filled, found);

@@ -1,7 +1,7 @@
 //! The trace of the first run of a script that comes to an end that is looked for.
-ghost use Rattle.std.specs.Prelude.{◌≡◌, ℕ, List, Option, Ok, IfOk, OnOk, MatchOption, string_bytes};
+ghost use Rattle.std.specs.Prelude.{◌≡◌, ◌⊎◌, ℕ, List, Option, Some, Ok, IfOk, OnOk, OnErr, MatchOption, string_bytes};
 ghost use Rattle.ra_schedule.specs.Finding.{IsFirstSeed};
-ghost use Rattle.ra_schedule.specs.Telling.{TellsSeeds, tried};
+ghost use Rattle.ra_schedule.specs.Telling.{TellsSeeds, TellsSomeSeeds, tried};
 ghost use Rattle.ra_script.specs.Finding.{IsFirstTrace, NoneEndsSo};
 ghost use Rattle.ra_script.specs.Performed.{turn_limit};
 ghost use Rattle.ra_script.specs.ScriptText.{script_of};
@@ -17,7 +17,8 @@ use std::alloc::Global;
 ///
 /// # Errors
 ///
-/// `Memory`: memory ran out, at some seed or for the trace. The observer was told of the seeds that were tried.
+/// `Memory`: memory ran out at some seed, and the observer was told of those before it; or for the trace, and the observer was told of
+/// each seed up to that one.
 pub fn find_trace<O: Observer>(
     alloc: Global,
     script: &Script,
@@ -32,6 +33,10 @@ pub fn find_trace<O: Observer>(
     ensures told { OnOk result ((found : Option ℕ) × IsFirstSeed script.now faults turn_limit ending seeds.first seeds.last found
         × TellsSeeds script.now faults turn_limit seeds.first (tried seeds.first seeds.last found)
         (O.told observer.old) (O.told observer.new)) }
+    ensures err { OnErr result (TellsSomeSeeds script.now faults turn_limit seeds.first seeds.last (O.told observer.old) (O.told observer.new)
+        ⊎ ((seed : ℕ) × IsFirstSeed script.now faults turn_limit ending seeds.first seeds.last (Some seed)
+        × TellsSeeds script.now faults turn_limit seeds.first (tried seeds.first seeds.last (Some seed))
+        (O.told observer.old) (O.told observer.new))) }
 {
     let again = copy_of(&faults);
     let found = first_seed(alloc, script, faults, ending, seeds, MAX_TURNS, observer)?;
