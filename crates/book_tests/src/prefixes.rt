@@ -72,14 +72,14 @@ fn each_prefix_has_its_answers(rt: HostRuntime) -> Result<(), AllocError> {
     Ok(())
 }
 
-/// Ends the test if a reader that fails after these bytes of the book is asked again, or if the answers to them are not
+/// Ends the test if a reader that fails so after these bytes of the book is asked again, or if the answers to them are not
 /// written.
-fn assert_unread<R: Abort + AllocGlobal>(rt: &R, bytes: &[u8], answers: &str) {
+fn assert_unread<R: Abort + AllocGlobal>(rt: &R, bytes: &[u8], answers: &str, fault: ErrorKind) {
     let mut reader = FailingReader {
         bytes: BOOK.as_bytes(),
         size: 1,
         before_fault: Some(bytes.len()),
-        fault: ErrorKind::BrokenPipe,
+        fault,
     };
     let mut written = Vec::new(rt.alloc());
     let result = answer_book(rt.alloc(), &mut reader, &mut written);
@@ -97,7 +97,13 @@ fn a_reader_fails_after_each_byte(rt: HostRuntime) -> Result<(), AllocError> {
         if bytes.len() >= FIRST {
             push_answers(&mut answers, bytes)?;
         }
-        assert_unread(&rt, bytes, &answers);
+        for fault in [
+            ErrorKind::BrokenPipe,
+            ErrorKind::Interrupted,
+            ErrorKind::WouldBlock,
+        ] {
+            assert_unread(&rt, bytes, &answers, fault);
+        }
         if let [before @ .., _] = bytes {
             bytes = before;
         }

@@ -16,6 +16,7 @@ fn a_writer_fails_after_each_byte(rt: HostRuntime) {
     for fault in [
         Some(ErrorKind::BrokenPipe),
         Some(ErrorKind::Interrupted),
+        Some(ErrorKind::WouldBlock),
         None,
     ] {
         for count in 0..ANSWERS.len() {

@@ -14,8 +14,8 @@ use Rattle.ra_trace.specs.Forms.{fields, behind, node_of, client_of, start_of, n
 use Rattle.ra_trace.specs.TraceText.{IsClientNumber}
 use Rattle.ra_trace.proofs.Cuts.{mapped, behind-append}
 use Rattle.ra_trace.proofs.Spelled.{Reads, reads_fields, reads_node, reads_client, reads_start, reads_name, reads_mode}
-use Rattle.ra_cluster.specs.declared.event.BookKind.{BookKind}
-use Rattle.ra_cluster.specs.declared.event.BookKind.TheVariants.{Asked, Gave}
+use Rattle.ra_history.specs.declared.event.BookKind.{BookKind}
+use Rattle.ra_history.specs.declared.event.BookKind.TheVariants.{Asked, Gave}
 use Rattle.ra_book.specs.declared.first_line.First.{First}
 use Rattle.ra_book.specs.BookText.{Form, HasForm, form_text, first_text, IsFirst, IsEvent}
 use Rattle.ra_book.specs.BookText.Form.{Ask, Release, Receive}
@@ -165,3 +165,44 @@ pub within_read : (line rest : List ℕ) (f : ℕ × (ℕ × ℕ)) (made : Optio
     → MatchOption made ((node nodes start : ℕ) → IsFirst line node nodes start → ⊥) (λ m. IsFirst line m.node m.nodes m.start)
 within_read line rest f None is short e above = first_above line rest is f e above
 within_read line rest f (Some m) is short e h = rw (h.0, h.1, h.2) (first_read line rest is short f e h.3)
+
+-- ---- One line is one event
+
+pub ask_once : (line : List ℕ) (client other : ℕ) (name name' : List ℕ) (mode mode' : Mode) → HasForm line (Ask client name mode)
+    → HasForm line (Ask other name' mode') → Asked client name mode ≡ Asked other name' mode'
+ask_once line client other name name' mode mode' g h =
+    let one : ℕ × (List ℕ × Mode) = (client, (name, mode)) in
+    let two : ℕ × (List ℕ × Mode) = (other, (name', mode')) in
+    let tails : ask_tail one ≡ ask_tail two =
+    after (codes "ask ") (ask_tail one) (ask_tail two) line (ask_text client name mode ∙ sym g.2) (ask_text other name' mode' ∙ sym h.2) in
+    let same : one ≡ two = same_Some _ _ (sym (reads_ask.each one (g.1.0, (g.1.1, tt)))
+    ∙ (ap (fields client_of (fields name_of mode_of)) tails ∙ reads_ask.each two (h.1.0, (h.1.1, tt)))) in
+    ap (λ (f : ℕ × (List ℕ × Mode)). Asked f.0 f.1.0 f.1.1) same
+
+pub release_once : (line : List ℕ) (client other : ℕ) (name name' : List ℕ) → HasForm line (Release client name) → HasForm line (Release other name')
+    → Gave client name ≡ Gave other name'
+release_once line client other name name' g h =
+    let one : ℕ × List ℕ = (client, name) in
+    let two : ℕ × List ℕ = (other, name') in
+    let tails : release_tail one ≡ release_tail two =
+    after (codes "release ") (release_tail one) (release_tail two) line (release_text client name ∙ sym g.2) (release_text other name' ∙ sym h.2) in
+    let same : one ≡ two = same_Some _ _ (sym (reads_release.each one (g.1.0, g.1.1))
+    ∙ (ap (fields client_of name_of) tails ∙ reads_release.each two (h.1.0, h.1.1))) in
+    ap (λ (f : ℕ × List ℕ). Gave f.0 f.1) same
+
+pub receive_once : (line digits others : List ℕ) → HasForm line (Receive digits) → HasForm line (Receive others) → digits ≡ others
+receive_once line digits others g h = after (codes "receive ") digits others line (sym g.2) (sym h.2)
+
+pub ask_no_release : (line : List ℕ) (client other : ℕ) (name name' : List ℕ) (mode : Mode) → HasForm line (Ask client name mode)
+    → HasForm line (Release other name') → ⊥
+ask_no_release line client other name name' mode g h =
+    clash (codes "ask ") (ask_tail (client, (name, mode))) (form_text (Release other name')) (ask_text client name mode ∙ (sym g.2 ∙ h.2)) refl
+
+pub ask_no_receive : (line : List ℕ) (client : ℕ) (name digits : List ℕ) (mode : Mode) → HasForm line (Ask client name mode)
+    → HasForm line (Receive digits) → ⊥
+ask_no_receive line client name digits mode g h =
+    clash (codes "ask ") (ask_tail (client, (name, mode))) (form_text (Receive digits)) (ask_text client name mode ∙ (sym g.2 ∙ h.2)) refl
+
+pub release_no_receive : (line : List ℕ) (client : ℕ) (name digits : List ℕ) → HasForm line (Release client name) → HasForm line (Receive digits) → ⊥
+release_no_receive line client name digits g h =
+    clash (codes "release ") (release_tail (client, name)) (form_text (Receive digits)) (release_text client name ∙ (sym g.2 ∙ h.2)) refl

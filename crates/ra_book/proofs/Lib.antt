@@ -4,3 +4,4 @@ pub mod Sends
 pub mod Taking
 pub mod Pieces
 pub mod Served
+pub mod Told

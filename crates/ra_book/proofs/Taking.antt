@@ -8,9 +8,9 @@ use Rattle.ra_node.specs.Carried.{IsSend}
 use Rattle.ra_node.specs.Node.{NodeState, IsConsistentNode}
 use Rattle.ra_node.specs.Events.{Event, NodeEvent, IsForThisNode, name_of_event}
 use Rattle.ra_node.specs.Events.Event.{Receive}
-use Rattle.ra_cluster.specs.History.{node_event, clock_after}
-use Rattle.ra_cluster.specs.declared.event.BookKind.{BookKind}
-use Rattle.ra_cluster.specs.declared.event.BookKind.TheVariants.{Asked, Gave, Got}
+use Rattle.ra_history.specs.History.{node_event, clock_after}
+use Rattle.ra_history.specs.declared.event.BookKind.{BookKind}
+use Rattle.ra_history.specs.declared.event.BookKind.TheVariants.{Asked, Gave, Got}
 use Rattle.ra_book.specs.declared.refusal.Refusal.{Refusal}
 use Rattle.ra_book.specs.declared.refusal.Refusal.TheVariants as refusal
 use Rattle.ra_node.specs.declared.outcome.Outcome.{Outcome}

@@ -10,8 +10,8 @@ use Rattle.ra_frame.specs.FrameText.{IsFrameText}
 use Rattle.ra_frame.specs.Faults.{first_fault}
 use Rattle.ra_world.specs.Lines.{field, mode_word}
 use Rattle.ra_trace.specs.TraceText.{IsClientNumber}
-use Rattle.ra_cluster.specs.declared.event.BookKind.{BookKind}
-use Rattle.ra_cluster.specs.declared.event.BookKind.TheVariants.{Asked, Gave, Got}
+use Rattle.ra_history.specs.declared.event.BookKind.{BookKind}
+use Rattle.ra_history.specs.declared.event.BookKind.TheVariants.{Asked, Gave, Got}
 use Rattle.ra_book.specs.declared.refusal.Refusal.{Refusal}
 use Rattle.ra_book.specs.declared.refusal.Refusal.TheVariants.{Line, Hex, Frame as Faulty, Busy, Exhausted, NotHeld, WrongNode, Stranger, ClockFull, Memory}
 

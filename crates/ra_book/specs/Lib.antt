@@ -2,6 +2,7 @@ pub mod BookText
 pub mod Fields
 pub mod Timed
 pub mod Answers
+pub mod Laws
 pub mod Output
 pub mod Input
 pub mod NextLine

@@ -12,7 +12,7 @@ use crate::output::{Output, put};
 use crate::refusal::refused_line;
 use crate::texts::put_outcome;
 use crate::{Refusal, TimedNode};
-use ra_cluster::BookKind;
+use ra_history::BookKind;
 use ra_node::Outcome;
 use std::alloc::Global;
 use std::io::Write;

@@ -10,8 +10,8 @@ ghost use Rattle.ra_book.specs.declared.refusal.Refusal.{Refusal};
 
 use crate::Refusal;
 use crate::fields::{ask_of, release_of};
-use ra_cluster::BookKind;
 use ra_frame::{Frame, decode};
+use ra_history::BookKind;
 use ra_trace::behind;
 
 /// The most bytes that a line has, without its line feed.

@@ -2,7 +2,7 @@
 ghost use Rattle.std.specs.Prelude.{◌≡◌};
 ghost use Rattle.ra_book.specs.Fields as spec;
 
-use ra_cluster::BookKind;
+use ra_history::BookKind;
 use ra_stamp::{Mode, Name, NodeId};
 use ra_trace::{client_of, cut, mode_of, name_of, node_of, start_of};
 

@@ -1,13 +1,13 @@
 //! An event of a book at a node.
 ghost use Rattle.std.specs.Prelude.{◌≡◌, ◌⊎◌, MatchResult, MatchOption};
 ghost use Rattle.ra_node.specs.Events.{NodeEvent, IsForThisNode};
-ghost use Rattle.ra_cluster.specs.declared.event.BookKind.{BookKind};
-ghost use Rattle.ra_cluster.specs.History.{node_event};
+ghost use Rattle.ra_history.specs.declared.event.BookKind.{BookKind};
+ghost use Rattle.ra_history.specs.History.{node_event};
 ghost use Rattle.ra_book.specs.Timed.{MayTake, NodeRefuses, NodeTakes, NodeStays};
 
 use crate::Refusal;
-use ra_cluster::BookKind;
 use ra_frame::Frame;
+use ra_history::BookKind;
 use ra_node::{AskError, LeaveError, Node, Outcome, ReceiveError};
 use ra_stamp::{Mode, Name, NodeId};
 use std::alloc::Global;

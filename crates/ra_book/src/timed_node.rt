@@ -3,7 +3,7 @@ ghost use Rattle.ra_book.specs.Timed.{Takes, Refuses};
 
 use crate::Refusal;
 use crate::node_event::{happen, refusal_of};
-use ra_cluster::{BookKind, clock_after};
+use ra_history::{BookKind, clock_after};
 use ra_node::{Node, Outcome, events_keep_a_node_consistent, events_leave_other_names};
 use ra_stamp::NodeId;
 use std::alloc::Global;

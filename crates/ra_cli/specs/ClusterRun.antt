@@ -16,7 +16,7 @@ use Rattle.ra_script.specs.ScriptText.{script_of}
 use Rattle.ra_cluster.specs.declared.cluster_run.ClusterError.{ClusterError}
 use Rattle.ra_cluster.specs.declared.cluster_run.ClusterError.TheVariants as cluster
 use Rattle.ra_cluster.specs.LockOrder.{IsOutOfOrder, IsUnreleased}
-use Rattle.ra_cluster.specs.Plan.{MeetsPlan, IsQuietEnd, locks_of}
+use Rattle.ra_history.specs.Plan.{MeetsPlan, IsQuietEnd, locks_of}
 use Rattle.ra_cli.specs.Words.{PrintsBy}
 use Rattle.ra_cli.specs.declared.cluster_output.ClusterOutput.{ClusterOutput}
 use Rattle.ra_cli.specs.declared.cluster_output.ClusterOutput.TheVariants.{Lines, Trace}

@@ -8,7 +8,7 @@ use Rattle.ra_stamp.specs.declared.entry.Mark.{Mark}
 use Rattle.ra_cluster.specs.declared.audit_error.AuditError.{AuditError}
 use Rattle.ra_cluster.specs.declared.audit_error.AuditFault.{AuditFault}
 use Rattle.ra_cluster.specs.declared.audit_error.TakeError.{TakeError}
-use Rattle.ra_cluster.specs.declared.event.BookEvent.{BookEvent}
+use Rattle.ra_history.specs.declared.event.BookEvent.{BookEvent}
 use Rattle.ra_cluster.specs.Audit.{ProgressState, AuditState, NoneIsReady, MayBePut, IsAudited, Advances, Audits, TakenGoOn, TakesMore, Takes, taken_of, with_more}
 
 pub go_nowhere : (nodes : List ProgressState) → TakenGoOn nodes nodes

@@ -21,19 +21,19 @@ use Rattle.ra_world.specs.declared.step.Step.{Step}
 use Rattle.ra_world.specs.Traffic.{Move, lost_in, lost_by, repeated_in, repeated_by}
 use Rattle.ra_world.specs.Run.{IsRun, GoesOn, events_at, happened_at, marks_of}
 use Rattle.ra_world.specs.World.{WorldState, with_move}
-use Rattle.ra_cluster.specs.declared.event.BookEvent.{BookEvent}
+use Rattle.ra_history.specs.declared.event.BookEvent.{BookEvent}
 use Rattle.ra_cluster.specs.declared.audit_error.AuditError.{AuditError}
 use Rattle.ra_cluster.specs.declared.audit_error.AuditError.TheVariants as audit
 use Rattle.ra_cluster.specs.declared.audit_error.AuditError.TheVariants.{Fault}
 use Rattle.ra_cluster.specs.declared.audit_error.AuditFault.{AuditFault}
 use Rattle.ra_cluster.specs.declared.audit_error.TakeError.{TakeError}
 use Rattle.ra_cluster.specs.declared.audit_error.TakeError.TheVariants.{NoNode, OutOfTurn, NotNext}
-use Rattle.ra_cluster.specs.declared.event.BookKind.{BookKind}
-use Rattle.ra_cluster.specs.declared.event.BookKind.TheVariants.{Got}
-use Rattle.ra_cluster.specs.History.{node_event, clock_of}
-use Rattle.ra_cluster.specs.Settled.{step_at}
+use Rattle.ra_history.specs.declared.event.BookKind.{BookKind}
+use Rattle.ra_history.specs.declared.event.BookKind.TheVariants.{Got}
+use Rattle.ra_history.specs.History.{node_event, clock_of}
+use Rattle.ra_history.specs.Settled.{step_at}
 use Rattle.ra_cluster.specs.Audit.{ProgressState, IsAudited, HasSettled, IsForNumber, IsDue, IsReady, IsMisfit, Advances, AreNextAt, AtNumber, Takes, fresh_progress, taken_of, with_more}
-use Rattle.ra_cluster.proofs.Projections.{events_by, lost_in_event, repeated_in_event, one_event}
+use Rattle.ra_history.proofs.Projections.{events_by, lost_in_event, repeated_in_event, one_event}
 use Rattle.ra_cluster.proofs.SiteNumbers.{numbers_more}
 
 -- the node at a place has the number after it

@@ -9,18 +9,18 @@ use Rattle.ra_world.specs.World.{Reports}
 use Rattle.ra_world.specs.MainTheorem.{MainTheorem}
 use Rattle.ra_cluster.specs.declared.cluster_run.ClusterError.{ClusterError}
 use Rattle.ra_cluster.specs.declared.cluster_run.ClusterError.TheVariants.{OutOfOrder, Unreleased, Fault, Settle, PlanUnmet, Lost, UnderWay, Memory}
-use Rattle.ra_cluster.specs.declared.error.SettleError.{SettleError}
-use Rattle.ra_cluster.specs.declared.error.SettleError.TheVariants as settling
-use Rattle.ra_cluster.specs.declared.grant.Grant.{Grant}
-use Rattle.ra_cluster.specs.declared.settled.Settled.{Settled}
-use Rattle.ra_cluster.specs.declared.stop.Stop.{Stop}
-use Rattle.ra_cluster.specs.Book.{BookState}
-use Rattle.ra_cluster.specs.Plan.{MeetsPlan, IsQuietEnd, locks_of}
-use Rattle.ra_cluster.specs.Settled.{IsSettledOrder, IsSettledRun, Placed, IsGranted, BooksFit, HasUnsent, HasTwice, Repeats, settled_steps, start_of}
+use Rattle.ra_history.specs.declared.error.SettleError.{SettleError}
+use Rattle.ra_history.specs.declared.error.SettleError.TheVariants as settling
+use Rattle.ra_history.specs.declared.grant.Grant.{Grant}
+use Rattle.ra_history.specs.declared.settled.Settled.{Settled}
+use Rattle.ra_history.specs.declared.stop.Stop.{Stop}
+use Rattle.ra_history.specs.Book.{BookState}
+use Rattle.ra_history.specs.Plan.{MeetsPlan, IsQuietEnd, locks_of}
+use Rattle.ra_history.specs.Settled.{IsSettledOrder, IsSettledRun, Placed, IsGranted, BooksFit, HasUnsent, HasTwice, Repeats, settled_steps, start_of}
 use Rattle.ra_cluster.specs.Outcome.{first_fault, AreOf, AreSound, IsOutcome, IsDone, IsOfThreads, RefusesReport, RefusesSound}
-use Rattle.ra_cluster.proofs.Causes.{not_all, not_apart}
-use Rattle.ra_cluster.proofs.SettledReport.{from_zero}
-use Rattle.ra_cluster.proofs.LockCounts.{waits_for_none, requests_are_locks, messages_are}
+use Rattle.ra_history.proofs.Causes.{not_all, not_apart}
+use Rattle.ra_history.proofs.SettledReport.{from_zero}
+use Rattle.ra_history.proofs.LockCounts.{waits_for_none, requests_are_locks, messages_are}
 
 -- ---- Refusals
 

@@ -4,17 +4,14 @@ use Rattle.std.proofs.lemmas.List.{append_assoc}
 use Rattle.std.specs.Prelude.{All, slice_get}
 use Rattle.std.proofs.lemmas.List.Elements.{All-nil, All-cons, All-append, All-weaker}
 use Rattle.ra_frame.specs.declared.frame.Frame.{Frame}
-use Rattle.ra_cluster.specs.declared.event.BookKind.{BookKind}
-use Rattle.ra_cluster.specs.declared.event.BookKind.TheVariants.{Asked, Gave, Got}
-use Rattle.ra_cluster.specs.declared.event.BookEvent.{BookEvent}
+use Rattle.ra_history.specs.declared.event.BookKind.{BookKind}
+use Rattle.ra_history.specs.declared.event.BookKind.TheVariants.{Asked, Gave, Got}
+use Rattle.ra_history.specs.declared.event.BookEvent.{BookEvent}
 use Rattle.ra_cluster.specs.declared.progress.Progress.TheInside.{Inside}
-use Rattle.ra_cluster.specs.History.{clock_from, clock_of, clock_after}
+use Rattle.ra_history.specs.History.{clock_from, clock_of, clock_after}
+use Rattle.ra_history.proofs.Clocks.{clock_append}
 use Rattle.ra_cluster.specs.Audit.{ProgressState, AreNextAt, IsNextAt, IsForNumber, taken_of}
 use Rattle.ra_cluster.specs.AuditKeeping.{progress_of, IsKeptProgress}
-
-pub clock_append : (clock : ℕ) (xs ys : List BookEvent) → clock_from clock (xs ++ ys) ≡ clock_from (clock_from clock xs) ys
-clock_append clock [] ys = refl
-clock_append clock (x ∷ xs) ys = clock_append x.clock xs ys
 
 pub next_append : (node clock : ℕ) (xs ys : List BookEvent) → AreNextAt node clock xs → AreNextAt node (clock_from clock xs) ys → AreNextAt node clock (xs ++ ys)
 next_append node clock [] ys first rest = rest

@@ -8,8 +8,8 @@ use Rattle.std.proofs.lemmas.Bool.{cases_lt}
 use Rattle.std.proofs.lemmas.List.Elements.{All-append, All-nil, All-cons}
 use Rattle.std.proofs.lemmas.List.FromFn.{length-range_with_len, get_or-range_with_len}
 use borrow.Author.Tests.{ltb-true}
-use Rattle.ra_cluster.specs.Book.{BookState, IsWhole, HasHistory}
-use Rattle.ra_cluster.specs.Settled.{IsCluster, start_of}
+use Rattle.ra_history.specs.Book.{BookState, IsWhole, HasHistory}
+use Rattle.ra_history.specs.Settled.{IsCluster, start_of}
 
 -- there are as many sites as numbers
 pub count_of : (n : ℕ) (sites : List ℕ) → sites ≡ range_with_len 1 n → length sites ≡ n

@@ -9,14 +9,15 @@ use Rattle.std.proofs.lemmas.Option.{none-some, same_Some}
 use Rattle.ra_stamp.specs.Message.{from_of}
 use Rattle.ra_frame.specs.declared.frame.Frame.{Frame}
 use Rattle.ra_cluster.specs.declared.audit_error.AuditFault.{AuditFault}
-use Rattle.ra_cluster.specs.declared.event.BookKind.{BookKind}
-use Rattle.ra_cluster.specs.declared.event.BookKind.TheVariants.{Got}
-use Rattle.ra_cluster.specs.declared.event.BookEvent.{BookEvent}
-use Rattle.ra_cluster.specs.History.{clock_of, clock_from}
+use Rattle.ra_history.specs.declared.event.BookKind.{BookKind}
+use Rattle.ra_history.specs.declared.event.BookKind.TheVariants.{Got}
+use Rattle.ra_history.specs.declared.event.BookEvent.{BookEvent}
+use Rattle.ra_history.specs.History.{clock_of, clock_from}
 use Rattle.ra_cluster.specs.Audit.{ProgressState, AreNextAt, IsDue, MayCome, MayComeFrom, MayBePut, IsUnsent, taken_of, clock_at}
 use Rattle.ra_cluster.specs.AuditKeeping.{HasNone, IsOfNone}
 use Rattle.ra_cluster.proofs.AuditSteps.{due_at, number_of}
-use Rattle.ra_cluster.proofs.NextEvents.{clock_append, next_right, none_between, up_to_last}
+use Rattle.ra_history.proofs.Clocks.{clock_append}
+use Rattle.ra_cluster.proofs.NextEvents.{next_right, none_between, up_to_last}
 
 -- ---- Of the sender
 

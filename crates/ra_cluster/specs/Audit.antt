@@ -15,11 +15,11 @@ use Rattle.ra_frame.specs.declared.frame.Frame.{Frame}
 use Rattle.ra_cluster.specs.declared.audit_error.AuditFault.{AuditFault}
 use Rattle.ra_cluster.specs.declared.audit_error.TakeError.{TakeError}
 use Rattle.ra_cluster.specs.declared.audit_error.TakeError.TheVariants.{NoNode, OutOfTurn, NotNext}
-use Rattle.ra_cluster.specs.declared.event.BookKind.{BookKind}
-use Rattle.ra_cluster.specs.declared.event.BookKind.TheVariants.{Asked, Gave, Got}
-use Rattle.ra_cluster.specs.declared.event.BookEvent.{BookEvent}
-use Rattle.ra_cluster.specs.History.{clock_after, clock_of, node_event}
-use Rattle.ra_cluster.specs.Settled.{step_at}
+use Rattle.ra_history.specs.declared.event.BookKind.{BookKind}
+use Rattle.ra_history.specs.declared.event.BookKind.TheVariants.{Asked, Gave, Got}
+use Rattle.ra_history.specs.declared.event.BookEvent.{BookEvent}
+use Rattle.ra_history.specs.History.{clock_after, clock_of, node_event}
+use Rattle.ra_history.specs.Settled.{step_at}
 use Rattle.ra_cluster.specs.Cluster.{ClusterState}
 
 -- ---- What an auditor knows

@@ -5,10 +5,10 @@ use Rattle.ra_cluster.specs.declared.progress.Progress.TheInside.{Inside}
 use Rattle.ra_stamp.specs.Message.{from_of}
 use Rattle.ra_frame.specs.declared.frame.Frame.{Frame}
 use Rattle.ra_cluster.specs.declared.audit_error.AuditFault.{AuditFault}
-use Rattle.ra_cluster.specs.declared.event.BookKind.{BookKind}
-use Rattle.ra_cluster.specs.declared.event.BookKind.TheVariants.{Got}
-use Rattle.ra_cluster.specs.declared.event.BookEvent.{BookEvent}
-use Rattle.ra_cluster.specs.History.{clock_of}
+use Rattle.ra_history.specs.declared.event.BookKind.{BookKind}
+use Rattle.ra_history.specs.declared.event.BookKind.TheVariants.{Got}
+use Rattle.ra_history.specs.declared.event.BookEvent.{BookEvent}
+use Rattle.ra_history.specs.History.{clock_of}
 use Rattle.ra_cluster.specs.Audit.{ProgressState, AreNextAt, NoneWaits, taken_of}
 
 -- what the fields represent

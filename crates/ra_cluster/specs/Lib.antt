@@ -1,20 +1,8 @@
-pub mod History
-pub mod Book
-pub mod Departures
-pub mod Keeping
-pub mod Refused
-pub mod Settled
-pub mod SettlingParts
-pub mod EventMerge
-pub mod Progress
 pub mod Audit
 pub mod AuditKeeping
-mod TakenKeeping
-pub mod Keys
 pub mod StopCauses
 pub mod Sites
 pub mod ClientGrant
 pub mod LockOrder
-pub mod Plan
 pub mod Outcome
 pub mod Cluster

@@ -3,9 +3,9 @@ ghost use Rattle.std.specs.Prelude.{◌≡◌, ◌≢◌, ◌↔◌, ◌++◌, �
 ghost use Rattle.std.specs.List.{AllWithin, range_with_len};
 ghost use Rattle.ra_cluster.specs.Audit.{ProgressState, IsAudited, IsDue, IsReady, NoneIsReady, IsMisfit, Advances};
 
-use crate::event_merge::step_of;
 use crate::progress::Progress;
 use crate::{AuditError, AuditFault, BookEvent, BookKind, MarkObserver};
+use ra_history::step_of;
 use ra_stamp::Mark;
 use ra_world::{MarklessWorld, StepError};
 use std::alloc::Global;

@@ -1,9 +1,9 @@
 //! A whole cluster in one value.
 ghost use Rattle.std.specs.Prelude.{◌≡◌, ◌↔◌, ◌<◌, ◌≤◌, true, false, IfOk, IfSome, IsNone, IsErrOf, IsOkUnless, All, vec_len};
 ghost use Rattle.ra_stamp.specs.NodeId.{IsNodeNumber};
-ghost use Rattle.ra_cluster.specs.Book.{HasHistory};
+ghost use Rattle.ra_history.specs.Book.{HasHistory};
 ghost use Rattle.ra_cluster.specs.ClientGrant.{IsGrantOf};
-ghost use Rattle.ra_cluster.specs.Settled.{IsCluster, start_of};
+ghost use Rattle.ra_history.specs.Settled.{IsCluster, start_of};
 ghost use Rattle.ra_cluster.specs.Sites.{AreSitesWith};
 
 use crate::book_room::BookRoom;

@@ -4,7 +4,7 @@ ghost use Rattle.ra_world.specs.Run.{IsRun};
 ghost use Rattle.ra_world.specs.World.{Reports};
 ghost use Rattle.ra_world.specs.MainTheorem.{MainTheorem};
 ghost use Rattle.ra_cluster.specs.LockOrder.{IsOutOfOrder, IsUnreleased};
-ghost use Rattle.ra_cluster.specs.Plan.{MeetsPlan, IsQuietEnd, locks_of};
+ghost use Rattle.ra_history.specs.Plan.{MeetsPlan, IsQuietEnd, locks_of};
 ghost use Rattle.ra_cluster.specs.Outcome.{IsDone, IsOfThreads};
 
 use crate::lock_order::check_script;

@@ -1,7 +1,7 @@
 //! What lies under the lock of a site: the book, and the clients that wait.
 ghost use Rattle.std.specs.Prelude.{◌≡◌, ◌≢◌, ◌↔◌, ◌<◌, true, All, IfOk, IfSome, IsErrOf, OnErr, vec_len};
 ghost use Rattle.ra_frame.specs.Fits.{Fits};
-ghost use Rattle.ra_cluster.specs.History.{clock_of};
+ghost use Rattle.ra_history.specs.History.{clock_of};
 
 use crate::ticket::SharedTicket;
 use crate::{Book, BookError, Events, Frames, Grant, Posted, Sent, Stop, TakeError};

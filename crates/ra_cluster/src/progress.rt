@@ -1,11 +1,10 @@
 //! How far the events of a node are in the run of an auditor.
 ghost use Rattle.std.specs.Prelude.{◌≡◌, ◌≢◌, ◌↔◌, ◌<◌, ◌∷◌, ◌++◌, [], Some, length, slice_get, IsTrue, IsErrOf, IfSome, IfErr, OnOk, OnErr, MatchOption};
-ghost use Rattle.ra_cluster.specs.History.{clock_of, clock_from};
-ghost use Rattle.ra_cluster.specs.declared.event.BookEvent.{BookEvent};
+ghost use Rattle.ra_history.specs.History.{clock_of, clock_from};
+ghost use Rattle.ra_history.specs.declared.event.BookEvent.{BookEvent};
 ghost use Rattle.ra_cluster.specs.Audit.{AreNextAt, IsNextAt, IsForNumber, fresh_progress, taken_of};
 
-use crate::keeping::clock_after;
-use crate::{BookEvent, BookKind, TakeError};
+use crate::{BookEvent, BookKind, TakeError, clock_after};
 use ra_stamp::{GhostList, NodeId};
 use std::alloc::Global;
 use std::collections::VecDeque;

@@ -67,7 +67,7 @@ impl Model for Site {
 }
 
 impl Site {
-    ghost use Rattle.ra_cluster.specs.Book.{HasHistory, IsWhole};
+    ghost use Rattle.ra_history.specs.Book.{HasHistory, IsWhole};
     ghost use Rattle.ra_cluster.specs.ClientGrant.{IsGrantOf};
     ghost use Rattle.ra_cluster.specs.Sites.{AreSitesWith};
 

@@ -6,9 +6,9 @@ use Rattle.std.proofs.lemmas.List.{append-nil, flat_map_more, map_push}
 use Rattle.std.proofs.lemmas.List.Elements.{All-nil, All-append, All-map, All-push}
 use Rattle.std.proofs.lemmas.List.Quantifiers.{all_pairs_push}
 use Rattle.ra_frame.specs.declared.frame.Frame.{Frame}
-use Rattle.ra_cluster.specs.declared.event.BookEvent.{BookEvent}
-use Rattle.ra_cluster.specs.declared.event.BookKind.{BookKind}
-use Rattle.ra_cluster.specs.Book.{BookState, HasHistory, as_sent, opening_book, with_event}
+use Rattle.ra_history.specs.declared.event.BookEvent.{BookEvent}
+use Rattle.ra_history.specs.declared.event.BookKind.{BookKind}
+use Rattle.ra_history.specs.Book.{BookState, HasHistory, as_sent, opening_book, with_event}
 use Rattle.ra_book.specs.BookText.{IsEvent, IsFirst}
 use Rattle.ra_settle.specs.declared.came.Came.{Came}
 use Rattle.ra_settle.specs.declared.gathering.Gathered.{Gathered}

@@ -8,8 +8,8 @@ use Rattle.std.proofs.lemmas.List.Elements.{All-append, All-push, All-weaker}
 use Rattle.std.proofs.lemmas.List.FromFn.{length-range_with_len, get_or-range_with_len}
 use Rattle.std.proofs.lemmas.List.Quantifiers.{Any-push}
 use Rattle.std.proofs.lemmas.List.Sorted.{All-permutation, IsPermutation-more, IsPermutation-refl, IsPermutation-sym, length_permutation}
-use Rattle.ra_cluster.specs.Book.{BookState, IsWhole}
-use Rattle.ra_cluster.specs.Settled.{start_of}
+use Rattle.ra_history.specs.Book.{BookState, IsWhole}
+use Rattle.ra_history.specs.Settled.{start_of}
 use Rattle.ra_settle.specs.Texts.{AreBeside, AreRight, AreWhole, IsBeside, IsRead}
 use Rattle.ra_settle.specs.Gathering.{IsAllArranged, IsArranged, LacksNode, LacksSome}
 use Rattle.ra_settle.specs.Verdicts.{IsMissing}

@@ -1,7 +1,7 @@
 -- What comes of the books that were gathered from a text.
 use Rattle.std.proofs.Common.{◌≡◌, ℕ, List, [], ◌∷◌, length, length-append, Result, Ok, Err, inr, ap, subst, ◌∙◌, arith}
 use Rattle.std.specs.Prelude.{All, MatchResult}
-use Rattle.ra_cluster.specs.Book.{BookState}
+use Rattle.ra_history.specs.Book.{BookState}
 use Rattle.ra_settle.specs.declared.came.Came.{Came}
 use Rattle.ra_settle.specs.declared.error.SettleTextError.{SettleTextError}
 use Rattle.ra_settle.specs.declared.error.SettleTextError.TheVariants as fault

@@ -10,9 +10,9 @@ use Rattle.ra_stamp.proofs.Places.{split_at}
 use Rattle.ra_stamp.specs.Message.{from_of}
 use Rattle.ra_stamp.specs.declared.message.Message.{Message}
 use Rattle.ra_frame.specs.declared.frame.Frame.{Frame}
-use Rattle.ra_cluster.specs.declared.sent.Sent.{Sent}
-use Rattle.ra_cluster.specs.Book.{BookState, IsFirst, Loses}
-use Rattle.ra_cluster.specs.Settled.{IsCluster, WasSent, start_of}
+use Rattle.ra_history.specs.declared.sent.Sent.{Sent}
+use Rattle.ra_history.specs.Book.{BookState, IsFirst, Loses}
+use Rattle.ra_history.specs.Settled.{IsCluster, WasSent, start_of}
 use Rattle.ra_settle.specs.declared.came.Came.{Came}
 use Rattle.ra_settle.specs.Texts.{IsRead}
 use Rattle.ra_settle.specs.Gathering.{AreNumbered, IsSentBy, IsUnsentAmong, Sender, sender_of, senders_of}

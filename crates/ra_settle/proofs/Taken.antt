@@ -3,10 +3,10 @@ use Rattle.std.proofs.Common.{◌≡◌, List, ℕ, Result, Ok, Err, refl, subst
 use Rattle.std.specs.Prelude.{IfOk}
 use Rattle.ra_frame.specs.declared.frame.Frame.{Frame}
 use Rattle.ra_frame.specs.FrameText.{IsFrameText}
-use Rattle.ra_cluster.specs.declared.error.BookError.{BookError}
-use Rattle.ra_cluster.specs.declared.event.BookKind.TheVariants.{Got}
-use Rattle.ra_cluster.specs.declared.event_effect.Posted.{Posted}
-use Rattle.ra_cluster.specs.Book.{BookState, Adds, HasHistory}
+use Rattle.ra_history.specs.declared.error.BookError.{BookError}
+use Rattle.ra_history.specs.declared.event.BookKind.TheVariants.{Got}
+use Rattle.ra_history.specs.declared.event_effect.Posted.{Posted}
+use Rattle.ra_history.specs.Book.{BookState, Adds, HasHistory}
 use Rattle.ra_settle.specs.Gathering.{HasTaken}
 
 -- the frame that a book reads is the one that was written

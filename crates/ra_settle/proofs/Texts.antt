@@ -2,7 +2,7 @@
 use Rattle.std.proofs.Common.{◌≡◌, ℕ, ◌+◌, ◌<◌, List, [], ◌∷◌, ◌++◌, length, Result, Ok, Err, inl, inr, refl, sym, ap, subst, ◌∙◌, append_assoc, arith}
 use Rattle.std.proofs.lemmas.List.{flat_map_more, length_push}
 use Rattle.std.proofs.lemmas.List.Elements.{All-nil, All-push}
-use Rattle.ra_cluster.specs.Book.{BookState}
+use Rattle.ra_history.specs.Book.{BookState}
 use Rattle.ra_book.specs.Book.{lines_text}
 use Rattle.ra_book.specs.Input.{HasNoFeed}
 use Rattle.ra_settle.specs.declared.error.SettleTextError.{SettleTextError}

@@ -4,11 +4,11 @@ use Rattle.std.specs.List.{Any, range_with_len}
 use Rattle.std.specs.List.Sorted.{IsPermutation}
 use Rattle.ra_stamp.specs.Message.{from_of}
 use Rattle.ra_frame.specs.declared.frame.Frame.{Frame}
-use Rattle.ra_cluster.specs.declared.error.BookError.{BookError}
-use Rattle.ra_cluster.specs.declared.error.BookError.TheVariants as refused
-use Rattle.ra_cluster.specs.declared.event.BookKind.{BookKind}
-use Rattle.ra_cluster.specs.Book.{BookState, HasHistory, opening_book, with_event}
-use Rattle.ra_cluster.specs.Settled.{HasUnsent}
+use Rattle.ra_history.specs.declared.error.BookError.{BookError}
+use Rattle.ra_history.specs.declared.error.BookError.TheVariants as refused
+use Rattle.ra_history.specs.declared.event.BookKind.{BookKind}
+use Rattle.ra_history.specs.Book.{BookState, HasHistory, opening_book, with_event}
+use Rattle.ra_history.specs.Settled.{HasUnsent}
 use Rattle.ra_book.specs.BookText.{IsEvent, IsFirst}
 use Rattle.ra_settle.specs.declared.came.Came.{Came}
 use Rattle.ra_settle.specs.declared.error.SettleTextError.{SettleTextError}

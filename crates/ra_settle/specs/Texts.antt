@@ -7,10 +7,10 @@ use Rattle.ra_automaton.specs.State.{IsForNode}
 use Rattle.ra_node.specs.Node.{resource_at}
 use Rattle.ra_node.specs.Resource.{Holds}
 use Rattle.ra_node.specs.Turns.{MayAsk}
-use Rattle.ra_cluster.specs.declared.event.BookKind.{BookKind}
-use Rattle.ra_cluster.specs.declared.event.BookKind.TheVariants.{Asked, Gave, Got}
-use Rattle.ra_cluster.specs.Book.{BookState, HasClock, HasHistory, IsWhole, Runs}
-use Rattle.ra_cluster.specs.Settled.{IsCluster, frames_in}
+use Rattle.ra_history.specs.declared.event.BookKind.{BookKind}
+use Rattle.ra_history.specs.declared.event.BookKind.TheVariants.{Asked, Gave, Got}
+use Rattle.ra_history.specs.Book.{BookState, HasClock, HasHistory, IsWhole, Runs}
+use Rattle.ra_history.specs.Settled.{IsCluster, frames_in}
 use Rattle.ra_book.specs.Book.{lines_text}
 use Rattle.ra_book.specs.BookText.{IsEvent, IsFirst}
 use Rattle.ra_book.specs.Input.{HasNoFeed}

@@ -5,9 +5,9 @@ use Rattle.ra_stamp.specs.declared.message.Message.{Message}
 use Rattle.ra_world.specs.MainTheorem.{MainTheorem}
 use Rattle.ra_world.specs.Traffic.{Move}
 use Rattle.ra_world.specs.World.{Reports}
-use Rattle.ra_cluster.specs.declared.event.BookKind.{BookKind}
-use Rattle.ra_cluster.specs.Book.{BookState}
-use Rattle.ra_cluster.specs.Settled.{BooksFit, HasUnsent, IsSettledOrder, IsSettledRun, Placed, WasSent, settled_steps, start_of}
+use Rattle.ra_history.specs.declared.event.BookKind.{BookKind}
+use Rattle.ra_history.specs.Book.{BookState}
+use Rattle.ra_history.specs.Settled.{BooksFit, HasUnsent, IsSettledOrder, IsSettledRun, Placed, WasSent, settled_steps, start_of}
 use Rattle.ra_book.specs.BookText.{Form, HasForm, IsEvent, IsFirst, IsUnread}
 use Rattle.ra_book.specs.Input.{HasNoFeed}
 use Rattle.ra_book.specs.declared.refusal.Refusal.{Refusal}

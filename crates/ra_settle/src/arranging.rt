@@ -1,9 +1,9 @@
 //! Books in the order of their nodes.
 ghost use Rattle.std.specs.Prelude.{◌≡◌, ◌≢◌, ◌<◌, All, length, slice_index_or, IfOk, MatchOption};
-ghost use Rattle.ra_cluster.specs.Book.{BookState};
+ghost use Rattle.ra_history.specs.Book.{BookState};
 ghost use Rattle.ra_settle.specs.Gathering.{IsAllArranged, IsArranged, LacksNode, LacksSome};
 
-use ra_cluster::Book;
+use ra_history::Book;
 use ra_stamp::Memory;
 use std::alloc::Global;
 

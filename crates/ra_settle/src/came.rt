@@ -2,8 +2,8 @@
 ghost use Rattle.std.specs.Prelude.{◌≡◌, ◌++◌, OnOk};
 ghost use Rattle.ra_settle.specs.Texts.{came_by};
 
-use ra_cluster::BookKind;
 use ra_frame::Frame;
+use ra_history::BookKind;
 use ra_stamp::{Memory, Sequence};
 
 /// A frame that comes, and the number of its line in the text, counted from 1.

@@ -9,7 +9,7 @@ use crate::TextCause;
 use crate::came::{CameList, note};
 use crate::happening::happen;
 use ra_book::{First, MAX_LINE, Refusal, event_of};
-use ra_cluster::{Book, BookError};
+use ra_history::{Book, BookError};
 use std::alloc::Global;
 use std::mem::replace;
 

@@ -1,11 +1,11 @@
 //! An event of a text at the book of its node.
-ghost use Rattle.ra_cluster.specs.declared.event.BookKind.{BookKind};
+ghost use Rattle.ra_history.specs.declared.event.BookKind.{BookKind};
 ghost use Rattle.ra_frame.specs.Fits.{Fits};
 ghost use Rattle.ra_book.specs.Timed.{CanCome};
 ghost use Rattle.ra_settle.specs.Gathering.{Comes};
 
-use ra_cluster::{Book, BookError, BookKind};
 use ra_frame::{Frame, encoded, round_trip};
+use ra_history::{Book, BookError, BookKind};
 use ra_stamp::{Mode, Name};
 use std::alloc::Global;
 

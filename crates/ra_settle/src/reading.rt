@@ -11,7 +11,7 @@ use crate::came::CameList;
 use crate::gathering::{Gathered, LineFault};
 use crate::{SettleTextError, TextCause};
 use ra_book::{First, MAX_LINE};
-use ra_cluster::Book;
+use ra_history::Book;
 use ra_text::cut;
 use std::alloc::Global;
 

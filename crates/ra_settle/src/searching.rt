@@ -5,8 +5,8 @@ ghost use Rattle.ra_settle.specs.Verdicts.{IsFirstAgain, messages_of};
 
 use crate::came::Came;
 use ra_bag::Bag;
-use ra_cluster::{Book, MarkLostError};
 use ra_frame::Frame;
+use ra_history::{Book, MarkLostError};
 use ra_stamp::{Memory, Message, Messages};
 use std::alloc::Global;
 

@@ -1,6 +1,6 @@
 ghost use Rattle.std.specs.Prelude.{ℕ, List, All, IfErr, IfOk, MatchResult};
-ghost use Rattle.ra_cluster.specs.Book.{BookState};
-ghost use Rattle.ra_cluster.specs.Settled.{HasUnsent, IsCluster};
+ghost use Rattle.ra_history.specs.Book.{BookState};
+ghost use Rattle.ra_history.specs.Settled.{HasUnsent, IsCluster};
 ghost use Rattle.ra_settle.specs.Texts.{IsRead};
 ghost use Rattle.ra_settle.specs.Gathering.{HasGathered, IsGathered, IsUnfit};
 ghost use Rattle.ra_settle.specs.Verdicts.{IsSettledBy, IsSettledText, IsUnsettled};
@@ -11,7 +11,7 @@ use crate::gathering::Gathered;
 use crate::reading::read_books;
 use crate::searching::{first_again, first_unsent};
 use crate::{SettleTextError, TextCause};
-use ra_cluster::{Book, SettleError, Settled, settle};
+use ra_history::{Book, SettleError, Settled, settle};
 use std::alloc::Global;
 
 /// The one run into which the books of a text settle.

@@ -1,6 +1,6 @@
 use Rattle.std.proofs.Common.{arith}
 use Rattle.ra_cluster.proofs.LockOrderLemmas.{kept_to_the_end}
-use Rattle.ra_cluster.proofs.Truth.{yes}
+use Rattle.ra_history.proofs.Truth.{yes}
 use Rattle.ra_cluster.proofs.lock_order.is_kept.Goals as goal
 
 pub returns : goal.returns

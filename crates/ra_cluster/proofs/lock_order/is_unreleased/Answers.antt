@@ -2,7 +2,7 @@ use Rattle.std.proofs.Common.{◌+◌, arith, below_more}
 use Rattle.std.proofs.lemmas.Bool.{iff_false}
 use Rattle.ra_cluster.specs.LockOrder.{IsOf, EndsHolding}
 use Rattle.ra_cluster.proofs.LockOrderLemmas.{no_client}
-use Rattle.ra_cluster.proofs.Truth.{no}
+use Rattle.ra_history.proofs.Truth.{no}
 use Rattle.ra_cluster.proofs.lock_order.is_unreleased.Goals as goal
 
 pub loop-place-preserved : goal.loop-place-preserved

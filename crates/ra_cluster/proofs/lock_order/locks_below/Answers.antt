@@ -3,7 +3,7 @@ use Rattle.std.specs.Prelude.{unwrap_or}
 use Rattle.ra_schedule.specs.declared.script.Op.{Op}
 use Rattle.ra_schedule.specs.declared.script.Op.TheVariants.{Unlock}
 use Rattle.ra_cluster.proofs.LockOrderLemmas.{unlocked_first, below_found, none_below}
-use Rattle.ra_cluster.proofs.Truth.{yes, no}
+use Rattle.ra_history.proofs.Truth.{yes, no}
 use Rattle.ra_cluster.proofs.lock_order.locks_below.Goals as goal
 
 pub returns-then-eq : goal.returns-then-eq

@@ -3,7 +3,7 @@ use Rattle.std.specs.Prelude.{unwrap_or}
 use Rattle.std.proofs.lemmas.Bool.{iff_false}
 use Rattle.ra_cluster.specs.LockOrder.{LocksBelow}
 use Rattle.ra_cluster.proofs.LockOrderLemmas.{none_more, none_here, in_order, out_of_order_found}
-use Rattle.ra_cluster.proofs.Truth.{yes, no}
+use Rattle.ra_history.proofs.Truth.{yes, no}
 use Rattle.ra_cluster.proofs.lock_order.locks_out_of_order.Goals as goal
 
 pub loop-place-preserved-in_default : goal.loop-place-preserved-in_default

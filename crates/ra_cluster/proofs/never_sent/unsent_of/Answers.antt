@@ -1,6 +1,6 @@
 use Rattle.std.proofs.Common.{◌<◌, subst, sym, ◌∙◌}
 use Rattle.std.proofs.lemmas.Option.{same_Some}
-use Rattle.ra_cluster.specs.declared.event.BookEvent.{BookEvent}
+use Rattle.ra_history.specs.declared.event.BookEvent.{BookEvent}
 use Rattle.ra_cluster.specs.Audit.{MayCome}
 use Rattle.ra_cluster.proofs.never_sent.unsent_of.Goals as goal
 

@@ -1,5 +1,5 @@
 use Rattle.std.proofs.Common.{◌≡◌, drop}
-use Rattle.ra_cluster.specs.History.{clock_from}
+use Rattle.ra_history.specs.History.{clock_from}
 use Rattle.ra_cluster.specs.Audit.{AreNextAt}
 use Rattle.ra_cluster.proofs.progress.latest_of.Given as goal
 

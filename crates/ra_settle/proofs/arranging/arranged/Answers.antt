@@ -1,5 +1,5 @@
 use Rattle.std.proofs.Common.{ap, sym, ◌∙◌, arith}
-use Rattle.ra_cluster.specs.Book.{BookState}
+use Rattle.ra_history.specs.Book.{BookState}
 use Rattle.ra_settle.proofs.Last.{pushed}
 use Rattle.ra_settle.proofs.Order.{arranged_of, lacks_next, none_arranged, one_arranged}
 use Rattle.ra_settle.proofs.arranging.arranged.Goals as goal

@@ -1,5 +1,5 @@
 use Rattle.std.proofs.Common.{[], ◌∷◌, ◌++◌, refl, sym, ap, subst, ◌∙◌}
-use Rattle.ra_cluster.specs.Book.{BookState, HasHistory, opening_book}
+use Rattle.ra_history.specs.Book.{BookState, HasHistory, opening_book}
 use Rattle.ra_settle.proofs.Last.{pushed}
 use Rattle.ra_settle.proofs.gathering.Gathered.open.Goals as goal
 

@@ -1,6 +1,0 @@
-use Rattle.ra_cluster.specs.EventMerge.{IsHeadOfEarliest}
-use Rattle.ra_cluster.proofs.event_merge.first_head.Given as goal
-
--- the head of the earliest of the books so far
-abbrev pub invariant-loop-place : goal.invariant-loop-place
-invariant-loop-place l = IsHeadOfEarliest l.books l.taken l.place l.first

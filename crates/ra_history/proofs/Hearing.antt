@@ -1,0 +1,189 @@
+-- What a book answers to bytes.
+use Rattle.std.proofs.Common.{◌≡◌, ◌≢◌, ◌↔◌, ◌⊎◌, ℕ, ◌<◌, ◌≤◌, ◌^◌, Some, None, List, Result, Ok, Err, refl, sym, ap, ◌∙◌, subst, inl, inr, arith}
+use Rattle.std.specs.Prelude.{IfOk, IfErr, IsErrAnd, IsErrOf, IsOkUnless, IsSome}
+use Rattle.ra_stamp.specs.Message.{from_of}
+use Rattle.ra_frame.specs.declared.error.FrameError.{FrameError}
+use Rattle.ra_frame.specs.declared.frame.Frame.{Frame as OneFrame}
+use Rattle.ra_frame.specs.Faults.{first_fault}
+use Rattle.ra_frame.specs.FrameText.{IsFrameText}
+use Rattle.ra_automaton.specs.State.{IsForNode}
+use Rattle.ra_history.specs.declared.error.BookError.{BookError}
+use Rattle.ra_history.specs.declared.error.BookError.TheVariants.{Failed, Frame, Busy, Exhausted, NotHeld, WrongNode, Stranger, ClockFull, Memory}
+use Rattle.ra_history.specs.declared.event.BookKind.TheVariants.{Got}
+use Rattle.ra_history.specs.History.{clock_after, clock_of}
+use Rattle.ra_history.specs.Book.{BookState, whole_events, HasHistory, HasClock, Hears}
+use Rattle.ra_history.specs.Keeping.{ComesNext, IsChecked, AnswersReceive, IsFrameFor, IsHeard, NotHeard}
+use Rattle.ra_history.proofs.Running.{ComesAt, has_fault, has_next, comes_next, passed, passed_allowed, other}
+
+-- ---- Bytes that are decoded
+
+module _ (me nodes clock : ℕ) (bytes : List ℕ) where
+  -- what is known of the bytes once they are decoded
+  module _ (r : Result OneFrame FrameError) (only : (f : OneFrame) → IsFrameText bytes f → r ≡ Ok f)
+      (fault : (e : FrameError) → IsErrOf r e ↔ (first_fault bytes ≡ Some e))
+    where
+      one_text : (a b : OneFrame) → IsFrameText bytes a → IsFrameText bytes b → a ≡ b
+      one_text a b is is' = let left = only a is in let right = only b is' in cc
+
+      no_fault : (f : OneFrame) (e : FrameError) → IsFrameText bytes f → first_fault bytes ≡ Some e → ⊥
+      no_fault f e is has = let left = only f is in let right = (fault e).1 has in absurd (cc)
+
+      pub not_heard : (e : BookError) → NotHeard me nodes clock bytes e → IsHeard me nodes clock bytes (Err e)
+      not_heard e why = record { heard = tt; refused = why; one_text = one_text; no_fault = no_fault }
+
+      -- a frame for the node is heard where a clock is left
+      module _ (f : OneFrame) (is : IsFrameFor me nodes bytes f) where
+        pub heard : (next : ℕ) → ComesAt clock (Got f) (Ok next) → IsHeard me nodes clock bytes (Ok (f, next))
+        heard next comes = record { heard = (is, comes.0, comes.1); refused = tt; one_text = one_text; no_fault = no_fault }
+
+        pub clock_full : (e : BookError) → ComesAt clock (Got f) (Err e) → (r : Result (OneFrame × ℕ) BookError) → IsErrAnd r (λ x. x ≡ e)
+            → IsHeard me nodes clock bytes r
+        clock_full e comes (Ok v) h = absurd h
+        clock_full e comes (Err x) h = not_heard x (subst (NotHeard me nodes clock bytes) (sym (h ∙ comes.0)) (f, is, comes.1))
+
+-- ---- An answer
+
+-- who hears is the node of the book
+pub heard_by : {book now : BookState} {clock : ℕ} {bytes : List ℕ} {r : Result (OneFrame × ℕ) BookError} → book ≡ now
+    → IsHeard book.me book.nodes clock bytes r → IsHeard now.me now.nodes clock bytes r
+heard_by {clock = clock} {bytes = bytes} {r = r} is heard = subst (λ (b : BookState). IsHeard b.me b.nodes clock bytes r) is heard
+
+no_stranger : (me nodes : ℕ) (f : OneFrame) → IsForNode me nodes f.message → (from_of f.message ≡ me) ⊎ (nodes < from_of f.message) → ⊥
+no_stranger me nodes f for_it why =
+    elim why [
+      | inl same ↦ for_it.from.other same
+      | inr above ↦ omega (arith, above, for_it.from.last)
+    ]
+
+module _ (book : BookState) (bytes : List ℕ) where
+  pub receive_failed : {T : Type 0} → IsSome book.fault → AnswersReceive {T = T} book bytes (Err Failed)
+  receive_failed some = record {
+    failed = (λ _. some, λ _. refl);
+    frame = λ fault. (λ is. absurd (cc), λ h. absurd (has_fault book.fault some h.0));
+    wrong_node = (λ is. absurd (cc), λ h. absurd (has_fault book.fault some h.no_fault));
+    stranger = (λ is. absurd (cc), λ h. absurd (has_fault book.fault some h.no_fault));
+    clock_full = (λ is. absurd (cc), λ h. absurd (has_fault book.fault some h.no_fault));
+    allowed = (λ is. absurd (cc), λ h. absurd (has_fault book.fault some h.no_fault));
+  }
+
+  module _ (none : book.fault ≡ None) (clock : ℕ) (clock_is : clock ≡ clock_of (whole_events book)) (r : Result (OneFrame × ℕ) BookError)
+      (hears : IsHeard book.me book.nodes clock bytes r)
+    where
+      -- the frame that is heard is the one of which it is said
+      module _ {P : OneFrame → Type 0} (f : OneFrame) (text : IsFrameText bytes f) where
+        hears_it : P f → Hears book bytes P
+        hears_it p = record { no_fault = none; frame = f; text = text; holds = p }
+
+        heard_it : Hears book bytes P → P f
+        heard_it h = subst P (hears.one_text h.frame f h.text text) h.holds
+
+      no_failure : {T : Type 0} {answer : Result T BookError} → (IsErrOf answer Failed → ⊥) → IsErrOf answer Failed ↔ IsSome book.fault
+      no_failure other = (λ is. absurd (other is), λ some. absurd (has_fault book.fault some none))
+
+      by_answer : (answer : Result (OneFrame × ℕ) BookError) → IfOk answer (λ h. IsFrameFor book.me book.nodes bytes h.0 × (h.1 ≡ clock_after clock (Got h.0)) × (h.1 ≤ 2 ^ 62))
+          → IfErr answer (NotHeard book.me book.nodes clock bytes) → AnswersReceive book bytes answer
+      by_answer (Ok h) heard refused =
+          let f = h.0 in
+          let is = heard.0 in
+          let has : HasClock book (Got f) = has_next book clock (Got f) clock_is (Ok h.1) (heard.1, heard.2) in
+          record {
+            failed = no_failure (λ e. absurd (cc));
+            frame = λ fault. (λ e. absurd (cc), λ found. absurd (hears.no_fault f fault is.text found.1));
+            wrong_node = (λ e. absurd (cc), λ said. absurd ((heard_it f is.text said) is.for_it.to));
+            stranger = (λ e. absurd (cc), λ said. absurd (no_stranger book.me book.nodes f is.for_it (heard_it f is.text said).1));
+            clock_full = (λ e. absurd (cc), λ said. absurd ((heard_it f is.text said).1 has));
+            allowed = (λ _. hears_it f is.text (is.for_it, has), λ _. tt);
+          }
+      by_answer (Err Failed) heard refused = absurd refused
+      by_answer (Err (Frame fault)) heard refused = record {
+        failed = no_failure (λ e. absurd (cc));
+        frame = λ fault'. (
+          λ e. (none, let same : fault ≡ fault' = cc in refused ∙ ap Some same),
+          λ has. let found : Some fault ≡ Some fault' = sym refused ∙ has.1 in let same : fault ≡ fault' = cc in ap (λ (f : FrameError). Err (Frame f)) same,
+        );
+        wrong_node = (λ e. absurd (cc), λ said. absurd (hears.no_fault said.frame fault said.text refused));
+        stranger = (λ e. absurd (cc), λ said. absurd (hears.no_fault said.frame fault said.text refused));
+        clock_full = (λ e. absurd (cc), λ said. absurd (hears.no_fault said.frame fault said.text refused));
+        allowed = (λ e. absurd (cc), λ said. absurd (hears.no_fault said.frame fault said.text refused));
+      }
+      by_answer (Err Busy) heard refused = absurd refused
+      by_answer (Err Exhausted) heard refused = absurd refused
+      by_answer (Err NotHeld) heard refused = absurd refused
+      by_answer (Err WrongNode) heard refused =
+          let f = refused.0 in
+          let text = refused.1 in
+          record {
+            failed = no_failure (λ e. absurd (cc));
+            frame = λ fault. (λ e. absurd (cc), λ found. absurd (hears.no_fault f fault text found.1));
+            wrong_node = (λ _. hears_it f text refused.2, λ _. refl);
+            stranger = (λ e. absurd (cc), λ said. absurd (refused.2 (heard_it f text said).0));
+            clock_full = (λ e. absurd (cc), λ said. absurd (refused.2 (heard_it f text said).0.to));
+            allowed = (λ e. absurd (cc), λ said. absurd (refused.2 (heard_it f text said).0.to));
+          }
+      by_answer (Err Stranger) heard refused =
+          let f = refused.0 in
+          let text = refused.1 in
+          record {
+            failed = no_failure (λ e. absurd (cc));
+            frame = λ fault. (λ e. absurd (cc), λ found. absurd (hears.no_fault f fault text found.1));
+            wrong_node = (λ e. absurd (cc), λ said. absurd ((heard_it f text said) refused.2));
+            stranger = (λ _. hears_it f text (refused.2, refused.3), λ _. refl);
+            clock_full = (λ e. absurd (cc), λ said. absurd (no_stranger book.me book.nodes f (heard_it f text said).0 refused.3));
+            allowed = (λ e. absurd (cc), λ said. absurd (no_stranger book.me book.nodes f (heard_it f text said).0 refused.3));
+          }
+      by_answer (Err ClockFull) heard refused =
+          let f = refused.0 in
+          let is = refused.1 in
+          let full = (has_next book clock (Got f) clock_is (Err ClockFull) (refl, refused.2)).1 in
+          record {
+            failed = no_failure (λ e. absurd (cc));
+            frame = λ fault. (λ e. absurd (cc), λ found. absurd (hears.no_fault f fault is.text found.1));
+            wrong_node = (λ e. absurd (cc), λ said. absurd ((heard_it f is.text said) is.for_it.to));
+            stranger = (λ e. absurd (cc), λ said. absurd (no_stranger book.me book.nodes f is.for_it (heard_it f is.text said).1));
+            clock_full = (λ _. hears_it f is.text (is.for_it, full), λ _. refl);
+            allowed = (λ e. absurd (cc), λ said. absurd (full (heard_it f is.text said).1));
+          }
+      by_answer (Err Memory) heard refused = absurd refused
+
+      pub receive_answers : AnswersReceive book bytes r
+      receive_answers = by_answer r hears.heard hears.refused
+
+      -- what is heard comes next
+      pub receive_checked : HasHistory book → IsChecked book (λ h. IsFrameText bytes h.0 × ComesNext book h.1 (Got h.0)) r
+      receive_checked history = record {
+        history = history;
+        next = next_is r hears.heard;
+        memory = no_memory r hears.refused;
+      }
+        where
+          next_is : (answer : Result (OneFrame × ℕ) BookError) → IfOk answer (λ h. IsFrameFor book.me book.nodes bytes h.0 × (h.1 ≡ clock_after clock (Got h.0)) × (h.1 ≤ 2 ^ 62))
+              → IfOk answer (λ h. IsFrameText bytes h.0 × ComesNext book h.1 (Got h.0))
+          next_is (Ok h) heard = (heard.0.text, comes_next book clock (Got h.0) (heard.0.for_it, heard.0.fits) clock_is h.1 (heard.1, heard.2))
+          next_is (Err e) heard = tt
+
+          no_memory : (answer : Result (OneFrame × ℕ) BookError) → IfErr answer (NotHeard book.me book.nodes clock bytes) → IfErr answer (λ e. e ≢ Memory)
+          no_memory (Ok h) refused = tt
+          no_memory (Err e) refused = λ is. subst (NotHeard book.me book.nodes clock bytes) is refused
+
+  pub receive_passed : {T S : Type 0} (e : BookError) → AnswersReceive {T = T} book bytes (Err e)
+      → (r : Result S BookError) → IsErrAnd r (λ x. x ≡ e) → AnswersReceive book bytes r
+  receive_passed {T} {S} e answers (Ok v) h = absurd h
+  receive_passed {T} {S} e answers (Err x) h = record {
+    failed = passed x e Failed h answers.failed;
+    frame = λ fault. passed x e (Frame fault) h (answers.frame fault);
+    wrong_node = passed x e WrongNode h answers.wrong_node;
+    stranger = passed x e Stranger h answers.stranger;
+    clock_full = passed x e ClockFull h answers.clock_full;
+    allowed = passed_allowed T S x e h answers.allowed;
+  }
+
+  pub receive_added : {T S : Type 0} (v : T) → AnswersReceive book bytes (Ok v)
+      → (r : Result S BookError) → IsOkUnless r Memory → AnswersReceive book bytes r
+  receive_added v answers r h = record {
+    failed = other v r Failed h (λ is. absurd (cc)) answers.failed;
+    frame = λ fault. other v r (Frame fault) h (λ is. absurd (cc)) (answers.frame fault);
+    wrong_node = other v r WrongNode h (λ is. absurd (cc)) answers.wrong_node;
+    stranger = other v r Stranger h (λ is. absurd (cc)) answers.stranger;
+    clock_full = other v r ClockFull h (λ is. absurd (cc)) answers.clock_full;
+    allowed = (λ _. answers.allowed.0 tt, λ _. h);
+  }

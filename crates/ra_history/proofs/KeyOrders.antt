@@ -1,0 +1,116 @@
+-- Keys are in a total order, in which different keys differ. Different requests and messages have different keys.
+use Rattle.std.proofs.Common.{◌≡◌, ℕ, zero, suc, List, Ordering, refl, sym, ap, ◌∙◌}
+use Rattle.std.specs.Ordering.{nat_cmp, ordering_then}
+use Rattle.std.specs.Cmp.{IsTotalOrder, nat_cmp_total, on_total, then_total}
+use Rattle.std.specs.Cmp.Lexicographic.{slice_cmp, nat_list_cmp_total}
+use Rattle.std.proofs.lemmas.Map.Lookups.{CmpEqualImpliesEq, exact_unsigned, exact_bytes, exact_pairs}
+use Rattle.ra_stamp.specs.declared.mode.Mode.{Mode}
+use Rattle.ra_stamp.specs.declared.mode.Mode.TheVariants.{Shared, Exclusive, IntentShared, IntentExclusive, SharedIntentExclusive}
+use Rattle.ra_stamp.specs.declared.entry.Entry.{Entry}
+use Rattle.ra_stamp.specs.declared.message.Message.{Message}
+use Rattle.ra_stamp.specs.declared.message.Message.TheVariants.{Request, Reply}
+use Rattle.ra_history.specs.declared.keys.EntryKey.{EntryKey}
+use Rattle.ra_history.specs.declared.keys.MessageKey.{MessageKey}
+use Rattle.ra_history.specs.Keys.{mode_number, entry_key, message_key}
+
+-- a pair of orders, one after the other
+abbrev then : {A B : Type 0} → (A → A → Ordering) → (B → B → Ordering) → A × B → A × B → Ordering
+then P Q x y = ordering_then (P x.0 y.0) (Q x.1 y.1)
+
+abbrev Five : Type 0
+Five = ℕ × (ℕ × (ℕ × (ℕ × List ℕ)))
+
+exact_five : CmpEqualImpliesEq (then nat_cmp (then nat_cmp (then nat_cmp (then nat_cmp (slice_cmp nat_cmp)))))
+exact_five =
+    exact_pairs nat_cmp (then nat_cmp (then nat_cmp (then nat_cmp (slice_cmp nat_cmp)))) exact_unsigned
+    (exact_pairs nat_cmp (then nat_cmp (then nat_cmp (slice_cmp nat_cmp))) exact_unsigned
+    (exact_pairs nat_cmp (then nat_cmp (slice_cmp nat_cmp)) exact_unsigned
+    (exact_pairs nat_cmp (slice_cmp nat_cmp) exact_unsigned exact_bytes)))
+
+-- ---- Requests
+
+abbrev pub entry_cmp : EntryKey → EntryKey → Ordering
+entry_cmp a b =
+    ordering_then (nat_cmp a.seq b.seq)
+    (ordering_then (nat_cmp a.node b.node)
+    (ordering_then (nat_cmp a.client b.client)
+    (ordering_then (nat_cmp a.mode b.mode) (slice_cmp nat_cmp a.name b.name))))
+
+pub entry_total : IsTotalOrder entry_cmp
+entry_total =
+    then_total (on_total (λ k. k.seq) nat_cmp_total)
+    (then_total (on_total (λ k. k.node) nat_cmp_total)
+    (then_total (on_total (λ k. k.client) nat_cmp_total)
+    (then_total (on_total (λ k. k.mode) nat_cmp_total) (on_total (λ k. k.name) nat_list_cmp_total))))
+
+pub entry_exact : CmpEqualImpliesEq entry_cmp
+entry_exact a b h =
+    ap (λ (p : Five). record { seq = p.0; node = p.1.0; client = p.1.1.0; mode = p.1.1.1.0; name = p.1.1.1.1 })
+    (exact_five (a.seq, (a.node, (a.client, (a.mode, a.name)))) (b.seq, (b.node, (b.client, (b.mode, b.name)))) h)
+
+-- the mode of a number
+abbrev mode_at : ℕ → Mode
+mode_at zero = Shared
+mode_at (suc zero) = Shared
+mode_at (suc (suc zero)) = Exclusive
+mode_at (suc (suc (suc zero))) = IntentShared
+mode_at (suc (suc (suc (suc zero)))) = IntentExclusive
+mode_at (suc (suc (suc (suc (suc number))))) = SharedIntentExclusive
+
+mode_back : (mode : Mode) → mode_at (mode_number mode) ≡ mode
+mode_back Shared = refl
+mode_back Exclusive = refl
+mode_back IntentShared = refl
+mode_back IntentExclusive = refl
+mode_back SharedIntentExclusive = refl
+
+one_mode : (a b : Mode) → mode_number a ≡ mode_number b → a ≡ b
+one_mode a b e = sym (mode_back a) ∙ (ap mode_at e ∙ mode_back b)
+
+pub one_entry : (a b : Entry) → entry_key a ≡ entry_key b → a ≡ b
+one_entry a b e =
+    let mode = one_mode a.mode b.mode (ap (λ (k : EntryKey). k.mode) e) in
+    λ i. record {
+      name = (e i).name;
+      stamp = record { seq = (e i).seq; node = (e i).node };
+      client = (e i).client;
+      mode = mode i;
+    }
+
+-- ---- Messages
+
+abbrev pub message_cmp : MessageKey → MessageKey → Ordering
+message_cmp a b =
+    ordering_then (nat_cmp a.seq b.seq)
+    (ordering_then (nat_cmp a.from b.from)
+    (ordering_then (nat_cmp a.to b.to)
+    (ordering_then (nat_cmp a.mode b.mode) (slice_cmp nat_cmp a.name b.name))))
+
+pub message_total : IsTotalOrder message_cmp
+message_total =
+    then_total (on_total (λ k. k.seq) nat_cmp_total)
+    (then_total (on_total (λ k. k.from) nat_cmp_total)
+    (then_total (on_total (λ k. k.to) nat_cmp_total)
+    (then_total (on_total (λ k. k.mode) nat_cmp_total) (on_total (λ k. k.name) nat_list_cmp_total))))
+
+pub message_exact : CmpEqualImpliesEq message_cmp
+message_exact a b h =
+    ap (λ (p : Five). record { seq = p.0; from = p.1.0; to = p.1.1.0; mode = p.1.1.1.0; name = p.1.1.1.1 })
+    (exact_five (a.seq, (a.from, (a.to, (a.mode, a.name)))) (b.seq, (b.from, (b.to, (b.mode, b.name)))) h)
+
+no_reply : (mode : Mode) → mode_number mode ≡ 0 → ⊥
+no_reply Shared e = cc
+no_reply Exclusive e = cc
+no_reply IntentShared e = cc
+no_reply IntentExclusive e = cc
+no_reply SharedIntentExclusive e = cc
+
+pub one_message : (a b : Message) → message_key a ≡ message_key b → a ≡ b
+one_message (Request from to name mode seq) (Request from' to' name' mode' seq') e =
+    let same = one_mode mode mode' (ap (λ (k : MessageKey). k.mode) e) in
+    λ i. Request (e i).from (e i).to (e i).name (same i) (e i).seq
+one_message (Request from to name mode seq) (Reply from' to' name' seq') e =
+    absurd (no_reply mode (ap (λ (k : MessageKey). k.mode) e))
+one_message (Reply from to name seq) (Request from' to' name' mode' seq') e =
+    absurd (no_reply mode' (sym (ap (λ (k : MessageKey). k.mode) e)))
+one_message (Reply from to name seq) (Reply from' to' name' seq') e = λ i. Reply (e i).from (e i).to (e i).name (e i).seq

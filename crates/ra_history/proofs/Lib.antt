@@ -1,0 +1,40 @@
+pub mod Clocks
+mod Histories
+mod Kept
+mod Running
+mod Adding
+mod Hearing
+mod Losing
+mod Ascending
+mod FrameSearch
+mod KeyOrders
+mod Parts
+mod KeySets
+mod GrantMarks
+mod Received
+mod WasSent
+mod LostSteps
+mod Taking
+pub mod Merging
+mod Whole
+pub mod Projections
+mod NodeMarks
+mod NodeSends
+mod SettledNodes
+mod SettledGrants
+mod GoingOn
+mod Clusters
+pub mod SettledReport
+pub mod Causes
+mod Planned
+pub mod LockCounts
+pub mod Truth
+mod Distinct
+mod Unsent
+mod Happened
+mod Deliveries
+mod LossesApart
+mod SentApart
+mod BooksFit
+mod Departing
+mod TakenEvents

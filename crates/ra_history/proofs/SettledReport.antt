@@ -1,0 +1,120 @@
+-- A run of the settled steps is the settled run of the books, and what it grants was granted.
+use Rattle.std.proofs.Common.{◌≡◌, ◌≢◌, ℕ, ◌≤◌, List, [], ◌∷◌, length, map, get_or, sym, ap, ◌∙◌, subst, arith}
+use Rattle.std.specs.Prelude.{All, AllPairs, Contains}
+use Rattle.std.specs.List.{Any}
+use Rattle.std.proofs.lemmas.List.Elements.{All-weaker}
+use Rattle.ra_stamp.specs.declared.entry.Mark.{Mark}
+use Rattle.ra_stamp.specs.declared.entry.Mark.TheVariants.{Entered}
+use Rattle.ra_stamp.specs.NodeId.{IsNodeNumber}
+use Rattle.ra_world.specs.declared.step.Step.{Step}
+use Rattle.ra_world.specs.declared.report.Report.{Report}
+use Rattle.ra_world.specs.Traffic.{Move}
+use Rattle.ra_world.specs.Run.{IsRun, WorldRun, marks_of}
+use Rattle.ra_world.specs.World.{Reports}
+use Rattle.ra_world.specs.MainTheorem.{MainTheorem}
+use Rattle.ra_history.specs.declared.error.SettleError.{SettleError}
+use Rattle.ra_history.specs.declared.error.SettleError.TheVariants.{NotSent, Twice, GrantMissing, GrantTwice, Memory}
+use Rattle.ra_history.specs.declared.grant.Grant.{Grant}
+use Rattle.ra_history.specs.declared.settled.Settled.{Settled}
+use Rattle.ra_history.specs.Book.{BookState, HasHistory}
+use Rattle.ra_history.specs.Settled.{IsCluster, IsSettledOrder, IsSettledRun, IsGranted, BooksFit, Placed, settled_steps, start_of}
+use Rattle.ra_history.specs.SettlingParts.{StepsMakeSettledRuns, GrantsAreInTheBooks, RefusesGrants, SettlesBooks, Settles, Refuses}
+use Rattle.ra_history.proofs.BooksFit.{node_count}
+
+-- a run of these steps
+abbrev pub HasRun : ℕ → ℕ → List Step → Report → Type 0
+HasRun n start steps report = (moves : List Move) × (map (λ move. move.step) moves ≡ steps) × IsRun n start moves × Reports n start moves report
+
+-- the first book has the number of the books and their start
+same_count : (books : List BookState) (b : BookState) (n : ℕ) → IsCluster books → b ≡ get_or books 0 b → n ≡ b.nodes → n ≡ length books
+same_count books b n cluster is nodes =
+    let some : 1 ≤ length books = cluster.some in
+    nodes ∙ ap (λ (x : BookState). x.nodes) is ∙ cluster.one_count 0 b (omega arith)
+
+same_start : (books : List BookState) (b : BookState) (start : ℕ) → IsCluster books → b ≡ get_or books 0 b → start ≡ b.start → start ≡ start_of books
+same_start books b start cluster is starts =
+    let some : 1 ≤ length books = cluster.some in
+    starts ∙ ap (λ (x : BookState). x.start) is ∙ cluster.one_start 0 b (omega arith)
+
+-- the same, with the number of the books and their start
+pub run_of_all : (books : List BookState) (b : BookState) (n start : ℕ) (steps : List Step) (report : Report) → IsCluster books → b ≡ get_or books 0 b → n ≡ b.nodes → start ≡ b.start
+    → HasRun n start steps report → HasRun (length books) (start_of books) steps report
+run_of_all books b n start steps report cluster is nodes starts has =
+    subst (λ (n : ℕ). HasRun n (start_of books) steps report) (same_count books b n cluster is nodes)
+    (subst (λ (s : ℕ). HasRun n s steps report) (same_start books b start cluster is starts) has)
+
+-- the steps of books that fit together are not refused, with the number of nodes and the start of the first one
+pub never_refused : (books : List BookState) (b : BookState) (n start : ℕ) (placed : List Placed) (steps : List Step) → IsCluster books → All HasHistory books → b ≡ get_or books 0 b → n ≡ b.nodes → start ≡ b.start
+    → steps ≡ settled_steps books placed → WorldRun (length books) (start_of books) (settled_steps books placed) → IsNodeNumber n × WorldRun n start steps
+never_refused books b n start placed steps cluster histories is nodes starts are runs = (
+  subst IsNodeNumber (sym (same_count books b n cluster is nodes)) (node_count books cluster histories),
+  subst (λ (m : ℕ). WorldRun m start steps) (sym (same_count books b n cluster is nodes))
+      (subst (λ (s : ℕ). WorldRun (length books) s steps) (sym (same_start books b start cluster is starts))
+      (subst (λ (ss : List Step). WorldRun (length books) (start_of books) ss) (sym are) runs)),
+)
+
+-- where all books start at 0, so does the cluster
+pub from_zero : (books : List BookState) → 1 ≤ length books → All (λ b. b.start ≡ 0) books → start_of books ≡ 0
+from_zero [] some all = absurd (omega (arith, some))
+from_zero (b ∷ books) some all = all 0 b (omega arith)
+
+-- a settled run of this many books from 0 is a run of this many nodes from 0
+pub run_from_zero : (books : List BookState) (nodes : ℕ) (steps : List Step) (report : Report) → IsCluster books → length books ≡ nodes → All (λ b. b.start ≡ 0) books
+    → (moves : List Move) × (map (λ move. move.step) moves ≡ steps) × IsSettledRun books moves × Reports (length books) (start_of books) moves report → HasRun nodes 0 steps report
+run_from_zero books nodes steps report cluster count zero (moves, steps_are, settled, reports) =
+    subst (λ (n : ℕ). HasRun n 0 steps report) count
+    (subst (λ (s : ℕ). HasRun (length books) s steps report) (from_zero books cluster.some zero) (moves, steps_are, settled.run, reports))
+
+-- the main theorem of so many nodes is that of the books
+pub main_of_all : (books : List BookState) (b : BookState) (n : ℕ) (report : Report) → IsCluster books → b ≡ get_or books 0 b → n ≡ b.nodes
+    → MainTheorem n report → MainTheorem (length books) report
+main_of_all books b n report cluster is nodes main = subst (λ (k : ℕ). MainTheorem k report) (same_count books b n cluster is nodes) main
+
+pub settles : StepsMakeSettledRuns → (books : List BookState) → IsCluster books → All HasHistory books → (placed : List Placed) (settled : Settled) → IsSettledOrder books placed
+    → settled.steps.items ≡ settled_steps books placed → HasRun (length books) (start_of books) settled.steps.items settled.report
+    → MainTheorem (length books) settled.report → SettlesBooks books settled
+settles make books cluster histories placed settled order are has main =
+    record {
+      histories = histories;
+      placed = placed;
+      order = order;
+      steps_are = are;
+      moves = has.0;
+      moves_are = has.1;
+      run = make books placed has.0 cluster histories order has.2 (has.1 ∙ are);
+      reports = has.3;
+      main = main;
+    }
+
+module _ (grant : GrantsAreInTheBooks) (books : List BookState) (cluster : IsCluster books) (grants : List Grant) (settled : Settled) (of : SettlesBooks books settled)
+    (marks : List Mark) (marks_are : marks ≡ settled.report.marks.items)
+  where
+    -- the marks are those of the run
+    marks_of_run : marks ≡ marks_of of.moves
+    marks_of_run = marks_are ∙ of.reports.marks
+
+    all_granted : All (λ g. Contains marks (Entered g.entry)) grants → All (λ g. IsGranted books g.entry) grants
+    all_granted marked =
+        All-weaker (λ g. Contains marks (Entered g.entry)) (λ g. IsGranted books g.entry)
+        (λ g is. (grant books of.moves g.entry cluster of.histories of.run).0 (subst (λ (ms : List Mark). Contains ms (Entered g.entry)) marks_of_run is))
+        grants marked
+
+    -- an entry with no Entered mark was not granted
+    some_missing : Any (λ g. Contains marks (Entered g.entry) → ⊥) grants → Any (λ g. IsGranted books g.entry → ⊥) grants
+    some_missing (k, g, low, at, none) = (
+      k,
+      g,
+      low,
+      at,
+      λ is. none (subst (λ (ms : List Mark). Contains ms (Entered g.entry)) (sym marks_of_run) ((grant books of.moves g.entry cluster of.histories of.run).1 is)),
+    )
+
+    pub grants_stand : BooksFit books → All (λ g. Contains marks (Entered g.entry)) grants × AllPairs (λ a b. a ≢ b) grants → Settles books grants settled
+    grants_stand fit stand = record { books_are = of; fit = fit; granted = all_granted stand.0; once = stand.1 }
+
+    pub grants_refused : BooksFit books → (e : SettleError) → RefusesGrants grants marks e → Refuses books grants e
+    grants_refused fit NotSent why = absurd why
+    grants_refused fit Twice why = absurd why
+    grants_refused fit GrantMissing why = (fit, some_missing why)
+    grants_refused fit GrantTwice why = (fit, why.0, all_granted why.1)
+    grants_refused fit Memory why = fit.0

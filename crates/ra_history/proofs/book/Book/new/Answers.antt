@@ -1,0 +1,32 @@
+use Rattle.std.proofs.Common.{◌≤◌, sym, ap, ◌∙◌, subst}
+use Rattle.ra_stamp.specs.NodeId.{IsNodeNumber}
+use Rattle.ra_node.specs.Node.{NodeState, clients_count}
+use Rattle.ra_history.specs.Book.{TakenState, HasHistory, opening_book}
+use Rattle.ra_history.specs.Keeping.{Keeps}
+use Rattle.ra_history.proofs.Adding.{same_kept, same_history}
+use Rattle.ra_history.proofs.Departing.{reserved_first}
+use Rattle.ra_history.proofs.book.Book.new.Goals as goal
+
+pub invariant_of-result : goal.invariant_of-result
+invariant_of-result c =
+    let made = c.in_ok-node.ensures.consistent in
+    let count : IsNodeNumber c.args.nodes = subst (λ (s : NodeState). IsNodeNumber s.nodes) c.in_ok-node.ensures.ok made.count in
+    let member : (1 ≤ c.args.me) × (c.args.me ≤ c.args.nodes) = subst (λ (s : NodeState). (1 ≤ s.me) × (s.me ≤ s.nodes)) c.in_ok-node.ensures.ok made.member in
+    let opened = opening_book c.args.me c.args.nodes c.args.start in
+    record {
+      keeps = subst (λ (t : TakenState). Keeps (record opened { taken = t; events = c.new-2.result.items; sent = c.new-3.result.items }) c.in_ok-node.node) (sym c.nothing.ensures)
+          (same_kept opened _ _ c.new-2.result.items c.new-3.result.items
+          (c.kept_histories_go_on.ensures.opened c.args.me c.args.nodes c.args.start count member) c.new-2.ensures c.new-3.ensures.items c.in_ok-node.ensures.ok);
+      reserved = reserved_first c.args.nodes c.in_ok-node.node _ _ _ c.new-4.result.items
+          (ap clients_count c.in_ok-node.ensures.ok ∙ c.events_count_clients.ensures.opening c.args.me c.args.nodes c.args.start) c.new-4.ensures.items c.new-3.ensures.len;
+    }
+
+pub returns-clause-history : goal.returns-clause-history
+returns-clause-history c =
+    let made = c.in_ok-node.ensures.consistent in
+    let count : IsNodeNumber c.args.nodes = subst (λ (s : NodeState). IsNodeNumber s.nodes) c.in_ok-node.ensures.ok made.count in
+    let member : (1 ≤ c.args.me) × (c.args.me ≤ c.args.nodes) = subst (λ (s : NodeState). (1 ≤ s.me) × (s.me ≤ s.nodes)) c.in_ok-node.ensures.ok made.member in
+    let opened = opening_book c.args.me c.args.nodes c.args.start in
+    subst (λ (t : TakenState). HasHistory (record opened { taken = t; events = c.new-2.result.items; sent = c.new-3.result.items })) (sym c.nothing.ensures)
+    (same_history opened _ c.new-2.result.items c.new-3.result.items
+    (c.kept_histories_go_on.ensures.opened c.args.me c.args.nodes c.args.start count member) c.new-2.ensures c.new-3.ensures.items)

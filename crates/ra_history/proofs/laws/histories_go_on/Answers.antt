@@ -1,0 +1,5 @@
+use Rattle.ra_history.proofs.Histories.{goes_on}
+use Rattle.ra_history.proofs.laws.histories_go_on.Goals as goal
+
+pub returns-clause-event : goal.returns-clause-event
+returns-clause-event c = goes_on c.events_go_on.ensures.step

@@ -1,0 +1,38 @@
+-- How the events of books are put in order, when this many of each book are taken. No public contract speaks of it.
+use Rattle.std.specs.Prelude.{◌≡◌, ◌⊎◌, ℕ, ◌<◌, ◌≤◌, List, Option, Some, None, if◌then◌else◌, nat_le, option_map, slice_get, slice_index}
+use Rattle.ra_history.specs.declared.event.BookEvent.{BookEvent}
+use Rattle.ra_history.specs.declared.event_merge.Head.{Head}
+use Rattle.ra_history.specs.declared.event_merge.Turn.{Turn}
+use Rattle.ra_history.specs.Book.{BookState}
+
+-- this event of the book at this place comes next
+abbrev pub IsNext : List BookState → List ℕ → ℕ → BookEvent → Type 0
+IsNext books taken place event =
+    (book : BookState) × (slice_get books place ≡ Some book)
+    × (slice_get book.events (slice_index taken place) ≡ Some event)
+
+-- the clock of the turn is less than that of the event, or they are equal and the turn's place is not after this one
+abbrev pub IsNotAfter : Turn → ℕ → BookEvent → Type 0
+IsNotAfter turn place event =
+    (turn.event.clock < event.clock) ⊎ ((turn.event.clock ≡ event.clock) × (turn.place ≤ place))
+
+-- the earliest of the next events of the first `count` books
+abbrev pub IsEarliest : List BookState → List ℕ → ℕ → Option Turn → Type 0
+IsEarliest books taken count None = (place : ℕ) (event : BookEvent) → place < count → IsNext books taken place event → ⊥
+IsEarliest books taken count (Some turn) =
+    (turn.place < count) × IsNext books taken turn.place turn.event
+    × ((place : ℕ) (event : BookEvent) → place < count → IsNext books taken place event → IsNotAfter turn place event)
+
+-- the place of an event's book, and its clock
+abbrev pub head_of : Turn → Head
+head_of turn = record { place = turn.place; clock = turn.event.clock }
+
+-- the head of the earliest of the next events, if there is one
+abbrev pub IsHeadOfEarliest : List BookState → List ℕ → ℕ → Option Head → Type 0
+IsHeadOfEarliest books taken count head =
+    (turn : Option Turn) × IsEarliest books taken count turn × (head ≡ option_map head_of turn)
+
+-- the first head, unless it does not exist or the other one has a lesser clock
+abbrev pub lesser_of : Option Head → Head → Head
+lesser_of None other = other
+lesser_of (Some head) other = if nat_le head.clock other.clock then head else other

@@ -1,0 +1,57 @@
+-- Requests and messages as keys with which they are looked up: their fields, the mode as a number. No public contract
+-- speaks of them.
+use Rattle.std.specs.Prelude.{◌↔◌, ◌≢◌, ℕ, List, [], ◌∷◌, map, AllPairs, Contains}
+use Rattle.std.specs.BTreeSet.{BTreeSet}
+use Rattle.ra_stamp.specs.declared.mode.Mode.{Mode}
+use Rattle.ra_stamp.specs.declared.mode.Mode.TheVariants.{Shared, Exclusive, IntentShared, IntentExclusive, SharedIntentExclusive}
+use Rattle.ra_stamp.specs.declared.entry.Entry.{Entry}
+use Rattle.ra_stamp.specs.declared.entry.Mark.{Mark}
+use Rattle.ra_stamp.specs.declared.entry.Mark.TheVariants.{Requested, Entered, Left}
+use Rattle.ra_stamp.specs.declared.message.Message.{Message}
+use Rattle.ra_stamp.specs.declared.message.Message.TheVariants.{Request, Reply}
+use Rattle.ra_history.specs.declared.keys.EntryKey.{EntryKey}
+use Rattle.ra_history.specs.declared.keys.MessageKey.{MessageKey}
+use Rattle.ra_history.specs.declared.event.BookEvent.{BookEvent}
+use Rattle.ra_history.specs.Settled.{received_among}
+
+-- the number of a mode in a key, 1 to 5
+abbrev pub mode_number : Mode → ℕ
+mode_number Shared = 1
+mode_number Exclusive = 2
+mode_number IntentShared = 3
+mode_number IntentExclusive = 4
+mode_number SharedIntentExclusive = 5
+
+-- the key of a request
+abbrev pub entry_key : Entry → EntryKey
+entry_key entry = record {
+  seq = entry.stamp.seq;
+  node = entry.stamp.node;
+  client = entry.client;
+  mode = mode_number entry.mode;
+  name = entry.name;
+}
+
+-- the key of a message, in which the mode of a REPLY is 0
+abbrev pub message_key : Message → MessageKey
+message_key (Request from to name mode seq) = record { seq = seq; from = from; to = to; mode = mode_number mode; name = name }
+message_key (Reply from to name seq) = record { seq = seq; from = from; to = to; mode = 0; name = name }
+
+-- the set has the keys of the list, and no others
+abbrev pub HasKeys : {K : Type 0} → BTreeSet K → List K → Type 0
+HasKeys {K} set list = (key : K) → Contains set.keys key ↔ Contains list key
+
+-- the requests that are granted by these marks
+abbrev pub entered_in : List Mark → List Entry
+entered_in [] = []
+entered_in (Requested entry ∷ marks) = entered_in marks
+entered_in (Entered entry ∷ marks) = entry ∷ entered_in marks
+entered_in (Left entry ∷ marks) = entered_in marks
+
+-- the messages that came in these events, in order
+abbrev pub messages_among : List BookEvent → List Message
+messages_among events = map (λ f. f.message) (received_among events)
+
+-- the set has the keys of these messages and no others, and no two of the messages are equal
+abbrev pub HasEach : BTreeSet MessageKey → List Message → Type 0
+HasEach set messages = HasKeys set (map (λ m. message_key m) messages) × AllPairs (λ a b. a ≢ b) messages

@@ -1,0 +1,112 @@
+ghost use Rattle.std.specs.Prelude.{◌≡◌};
+
+use ra_frame::FrameError;
+use ra_node::AskError;
+use ra_stamp::Memory;
+use std::alloc::{AllocError, AllocFailed};
+use thiserror::Error;
+
+/// Why an event was refused, in the order in which the causes are looked for.
+#[derive(Clone, Copy, Debug, PartialEq, Eq, Error)]
+#[error("{:?}", self)]
+pub enum BookError {
+    /// The book has a fault.
+    Failed,
+    /// The bytes are no frame.
+    #[error(transparent)]
+    Frame(FrameError),
+    /// The client that asks waits, is queued or holds on that name here.
+    Busy,
+    /// No number is left for the name.
+    Exhausted,
+    /// The client that leaves does not hold the name here.
+    NotHeld,
+    /// The frame is for another node.
+    WrongNode,
+    /// The frame's sender is this node or above the number of nodes.
+    Stranger,
+    /// The event's clock would pass 2^62.
+    ClockFull,
+    /// Memory ran out.
+    Memory,
+}
+
+impl From<Memory> for BookError {
+    ghost use Rattle.ra_history.specs.declared.error.BookError.TheVariants.{Memory};
+
+    ghost from_gives = { λ _ fault. fault ≡ Memory };
+
+    fn from(_refused: Memory) -> BookError {
+        BookError::Memory
+    }
+}
+
+impl From<AskError> for BookError {
+    ghost use Rattle.ra_history.specs.Refused.{refusal_of_ask};
+
+    ghost from_gives = { λ refused fault. fault ≡ refusal_of_ask refused };
+
+    fn from(refused: AskError) -> BookError {
+        match refused {
+            AskError::Busy => BookError::Busy,
+            AskError::Exhausted => BookError::Exhausted,
+            AskError::Memory => BookError::Memory,
+        }
+    }
+}
+
+/// Why a frame was not flagged as lost.
+#[derive(Clone, Copy, Debug, PartialEq, Eq, Error)]
+#[error("{:?}", self)]
+pub enum MarkLostError {
+    /// It is not among the sent frames.
+    NotSent,
+    /// It was flagged before.
+    AlreadyLost,
+}
+
+/// Why books did not settle, in the order in which the causes are looked for.
+#[derive(Clone, Copy, Debug, PartialEq, Eq, Error)]
+#[error("{:?}", self)]
+pub enum SettleError {
+    /// A frame came that is not among the frames that its sender sent and that were not lost.
+    NotSent,
+    /// A message came twice.
+    Twice,
+    /// A grant's entry was never granted at its node.
+    GrantMissing,
+    /// Two grants are equal.
+    GrantTwice,
+    /// Memory ran out.
+    Memory,
+}
+
+impl From<Memory> for SettleError {
+    ghost use Rattle.ra_history.specs.declared.error.SettleError.TheVariants.{Memory};
+
+    ghost from_gives = { λ _ fault. fault ≡ Memory };
+
+    fn from(_refused: Memory) -> SettleError {
+        SettleError::Memory
+    }
+}
+
+impl From<AllocError> for SettleError {
+    ghost use Rattle.ra_history.specs.declared.error.SettleError.TheVariants.{Memory};
+
+    ghost from_gives = { λ _ fault. fault ≡ Memory };
+
+    fn from(_refused: AllocError) -> SettleError {
+        SettleError::Memory
+    }
+}
+
+impl<T: Drop> From<AllocFailed<T>> for SettleError {
+    ghost use Rattle.ra_history.specs.declared.error.SettleError.TheVariants.{Memory};
+
+    ghost from_gives = { λ _ fault. fault ≡ Memory };
+
+    fn from(_refused: AllocFailed<T>) -> SettleError {
+        SettleError::Memory
+    }
+}
