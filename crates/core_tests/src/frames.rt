@@ -1,10 +1,11 @@
 //! Frames as they are read and written: both versions are read, and version 2 is written.
-use crate::helpers::{assert_rows, node, printed, r};
+use crate::helpers::{assert_rows, r};
+use Kind::{Asks, Replies};
 use Mode::{Exclusive, IntentExclusive, IntentShared, Shared, SharedIntentExclusive};
 use ra_frame::{Frame, FrameError, decode, encode};
 use ra_stamp::{Message, Mode, Name, NodeId};
 use std::alloc::Global;
-use std::process::Abort;
+use test_support::printed;
 
 /// A REQUEST with number 1 from node 1 to node 2 for `r`, exclusively, at clock 1, in version 1.
 pub const ASKS_1: [u8; 23] = [
@@ -14,16 +15,6 @@ pub const ASKS_1: [u8; 23] = [
 /// The same in version 2.
 pub const ASKS_2: [u8; 25] = [
     2, 1, 0, 1, 0, 2, 1, 0, 0, 0, 0, 0, 0, 0, 1, 0, 0, 0, 0, 0, 0, 0, 1, 1, b'r',
-];
-
-/// The REPLY to it, at clock 2, in version 1.
-const REPLIES_1: [u8; 23] = [
-    1, 2, 2, 1, 0, 0, 0, 0, 0, 0, 0, 0, 1, 0, 0, 0, 0, 0, 0, 0, 2, 1, b'r',
-];
-
-/// The same in version 2.
-const REPLIES_2: [u8; 25] = [
-    2, 2, 0, 2, 0, 1, 0, 0, 0, 0, 0, 0, 0, 0, 1, 0, 0, 0, 0, 0, 0, 0, 2, 1, b'r',
 ];
 
 /// A REQUEST from node 16 to node 1, shared, for a name of 32 bytes: the longest frame of version 1.
@@ -48,39 +39,53 @@ const LAST: u64 = 1 << 62;
 /// A place in a frame's bytes, and a byte that is put there.
 pub type Change = (usize, u8);
 
-/// Returns a REQUEST from node 1 to node 2, exclusively.
-fn request(name: Name, clock: u64, seq: u64) -> Frame {
-    Frame {
-        clock,
-        message: Message::Request {
-            from: node(1),
-            to: node(2),
+/// What a frame carries.
+#[derive(Clone, Copy)]
+enum Kind {
+    /// A REQUEST in this mode.
+    Asks(Mode),
+    Replies,
+}
+
+/// A frame: its kind, the numbers of its sender and its receiver, its number and its clock.
+struct Parts(Kind, u16, u16, u64, u64);
+
+/// Returns the message of a frame for the name.
+fn message(kind: Kind, from: NodeId, to: NodeId, name: Name, seq: u64) -> Message {
+    match kind {
+        Asks(mode) => Message::Request {
+            from,
+            to,
             name,
-            mode: Exclusive,
+            mode,
+            seq,
+        },
+        Replies => Message::Reply {
+            from,
+            to,
+            name,
             seq,
         },
     }
 }
 
-/// Returns a REPLY from node 2 to node 1.
-fn reply(name: Name, clock: u64, seq: u64) -> Frame {
-    Frame {
-        clock,
-        message: Message::Reply {
-            from: node(2),
-            to: node(1),
-            name,
-            seq,
-        },
+/// Returns the frame for the name, or `None` where a number is that of no node.
+fn frame(parts: &Parts, name: Name) -> Option<Frame> {
+    match (NodeId::new(parts.1), NodeId::new(parts.2)) {
+        (Some(from), Some(to)) => Some(Frame {
+            clock: parts.4,
+            message: message(parts.0, from, to, name, parts.3),
+        }),
+        _ => None,
     }
 }
 
-/// Returns these bytes with the changes.
+/// Returns the bytes with these changes.
 pub fn with<const N: usize>(bytes: &[u8; N], changes: &[Change]) -> [u8; N] {
     let mut changed = *bytes;
-    for &(place, byte) in changes {
-        if place < changed.len() {
-            changed[place] = byte;
+    for change in changes {
+        if change.0 < changed.len() {
+            changed[change.0] = change.1;
         }
     }
     changed
@@ -113,258 +118,174 @@ fn is_written(alloc: Global, frame: &Frame, bytes: &[u8]) -> bool {
     }
 }
 
-/// Returns whether the bytes of version 2 are read as the frame, and the frame is written as these bytes.
-fn comes_back(alloc: Global, bytes: &[u8], frame: &Frame) -> bool {
-    is_read(bytes, frame) && is_written(alloc, frame, bytes)
-}
-
-/// Asserts that the bytes of both versions are read as the frame, and that it is written as those of version 2.
-fn assert_comes_anew(
-    rt: &(impl Abort + AllocGlobal),
-    label: &str,
-    old: &[u8],
-    new: &[u8],
-    frame: &Frame,
-) {
-    assert!(rt; is_read(old, frame), "{label} is read in version 1");
-    assert!(rt; is_read(new, frame), "{label} is read in version 2");
-    assert!(rt; is_written(rt.alloc(), frame, new), "{label} is written");
-}
-
-#[test]
-fn requests_are_read_in_both_versions_and_written_in_the_second(rt: HostRuntime) {
-    let name = r().expect(&rt, "r is a name");
-    let (numbered_1, numbered_2) = (
-        with(&ASKS_1, &[(5, 1), (12, 2)]),
-        with(&ASKS_2, &[(7, 1), (14, 2)]),
-    );
-    let (latest_1, latest_2) = (
-        with(&ASKS_1, &[(13, 0x40), (20, 0)]),
-        with(&ASKS_2, &[(15, 0x40), (22, 0)]),
-    );
-    let (first, latest) = (request(name, 1, 1), request(name, LAST, 1));
-    let numbered = request(name, 1, (1 << 56) + 2);
-    assert_comes_anew(&rt, "the first REQUEST", &ASKS_1, &ASKS_2, &first);
-    assert_comes_anew(&rt, "a long number", &numbered_1, &numbered_2, &numbered);
-    assert_comes_anew(&rt, "the last clock", &latest_1, &latest_2, &latest);
-}
-
-/// The changes that give a REPLY of version 1 the greatest number and the greatest clock.
-const GREATEST_1: [Change; 10] = [
-    (5, 0xff),
-    (6, 0xff),
-    (7, 0xff),
-    (8, 0xff),
-    (9, 0xff),
-    (10, 0xff),
-    (11, 0xff),
-    (12, 0xff),
-    (13, 0x40),
-    (20, 0),
-];
-
-/// Those of version 2.
-const GREATEST_2: [Change; 10] = [
-    (7, 0xff),
-    (8, 0xff),
-    (9, 0xff),
-    (10, 0xff),
-    (11, 0xff),
-    (12, 0xff),
-    (13, 0xff),
-    (14, 0xff),
-    (15, 0x40),
-    (22, 0),
-];
-
-/// Returns a REPLY from node 1 to node 2.
-fn reply_to_second(name: Name) -> Frame {
-    Frame {
-        clock: 1,
-        message: Message::Reply {
-            from: node(1),
-            to: node(2),
-            name,
-            seq: 1,
-        },
-    }
-}
-
-#[test]
-fn replies_are_read_in_both_versions_and_written_in_the_second(rt: HostRuntime) {
-    let name = r().expect(&rt, "r is a name");
-    let (turned_1, turned_2) = (
-        with(&REPLIES_1, &[(2, 1), (3, 2), (20, 1)]),
-        with(&REPLIES_2, &[(3, 1), (5, 2), (22, 1)]),
-    );
-    let (greatest_1, greatest_2) = (with(&REPLIES_1, &GREATEST_1), with(&REPLIES_2, &GREATEST_2));
-    let (first, turned) = (reply(name, 2, 1), reply_to_second(name));
-    let greatest = reply(name, LAST, u64::MAX);
-    assert_comes_anew(&rt, "the first REPLY", &REPLIES_1, &REPLIES_2, &first);
-    assert_comes_anew(&rt, "a REPLY to node 2", &turned_1, &turned_2, &turned);
-    assert_comes_anew(&rt, "the greatest", &greatest_1, &greatest_2, &greatest);
-}
-
-/// Returns a REQUEST with the values of the longest frame.
-fn longest_request(name: Name) -> Frame {
-    Frame {
-        clock: 0x1112_1314_1516_1718,
-        message: Message::Request {
-            from: node(16),
-            to: node(1),
-            name,
-            mode: Shared,
-            seq: 0x0102_0304_0506_0708,
-        },
-    }
-}
-
-/// Returns a REPLY with the same values.
-fn longest_reply(name: Name) -> Frame {
-    Frame {
-        clock: 0x1112_1314_1516_1718,
-        message: Message::Reply {
-            from: node(16),
-            to: node(1),
-            name,
-            seq: 0x0102_0304_0506_0708,
-        },
-    }
-}
-
-#[test]
-fn the_longest_frames_are_read_in_both_versions_and_written_in_the_second(rt: HostRuntime) {
-    let (reply_1, reply_2) = (with(&LONGEST_1, &[(1, 2)]), with(&LONGEST_2, &[(1, 2)]));
-    let named = Name::new(b"AZaz09_-.bcdefghijklmnopqrstuvwx");
-    let name = named.expect(&rt, "a name has 32 bytes at most");
-    let (request, reply) = (longest_request(name), longest_reply(name));
-    assert_comes_anew(&rt, "the longest REQUEST", &LONGEST_1, &LONGEST_2, &request);
-    assert_comes_anew(&rt, "the longest REPLY", &reply_1, &reply_2, &reply);
-}
-
-/// Two nodes and a mode, and the changes that put them into the REQUEST of version 2.
-struct Sent(u16, u16, Mode, &'static [Change]);
-
-const SENT: &[Sent] = &[
-    Sent(1, 2, Shared, &[(6, 0)]),
-    Sent(1, 2, Exclusive, &[(6, 1)]),
-    Sent(1, 2, IntentShared, &[(6, 2)]),
-    Sent(1, 2, IntentExclusive, &[(6, 3)]),
-    Sent(1, 2, SharedIntentExclusive, &[(6, 4)]),
-    Sent(40, 2, IntentExclusive, &[(3, 40), (6, 3)]),
-    Sent(17, 18, Exclusive, &[(3, 17), (5, 18)]),
-    Sent(64, 63, Exclusive, &[(3, 64), (5, 63)]),
-    Sent(63, 64, SharedIntentExclusive, &[(3, 63), (5, 64), (6, 4)]),
-];
-
-/// Returns the REQUEST from the first node to the second in the mode, or `None` if there are no such nodes.
-fn sent_by(sent: &Sent, name: Name) -> Option<Frame> {
-    match (NodeId::new(sent.0), NodeId::new(sent.1)) {
-        (Some(from), Some(to)) => Some(Frame {
-            clock: 1,
-            message: Message::Request {
-                from,
-                to,
-                name,
-                mode: sent.2,
-                seq: 1,
-            },
-        }),
-        _ => None,
-    }
-}
-
-/// Returns whether this REQUEST is read from the bytes with the changes, and written as these bytes.
-fn is_sent(alloc: Global, sent: &Sent, name: Name) -> bool {
-    match sent_by(sent, name) {
-        Some(frame) => comes_back(alloc, &with(&ASKS_2, sent.3), &frame),
+/// Returns whether the bytes of version 2 are read as a frame for the name, and the frame is written as these bytes.
+fn comes_back(alloc: Global, bytes: &[u8], parts: &Parts, name: Name) -> bool {
+    match frame(parts, name) {
+        Some(frame) => is_read(bytes, &frame) && is_written(alloc, &frame, bytes),
         None => false,
     }
 }
 
-/// Returns how many rows of `SENT` pass this, up to the first that does not.
-fn sent_rows(alloc: Global, name: Name) -> usize {
-    for row in 0..SENT.len() {
-        if !is_sent(alloc, &SENT[row], name) {
-            return row;
+/// Returns whether the bytes of version 1 are read as a frame for the name.
+fn is_old(bytes: &[u8], parts: &Parts, name: Name) -> bool {
+    match frame(parts, name) {
+        Some(frame) => is_read(bytes, &frame),
+        None => false,
+    }
+}
+
+/// The changes of the REQUEST in each version, and the frame that it is then.
+struct Row(&'static [Change], &'static [Change], Parts);
+
+/// REQUESTs and REPLYs with the least and the greatest numbers and clocks.
+const ROWS: &[Row] = &[
+    Row(&[], &[], Parts(Asks(Exclusive), 1, 2, 1, 1)),
+    Row(
+        &[(5, 1), (12, 2)],
+        &[(7, 1), (14, 2)],
+        Parts(Asks(Exclusive), 1, 2, (1 << 56) + 2, 1),
+    ),
+    Row(
+        &[(13, 0x40), (20, 0)],
+        &[(15, 0x40), (22, 0)],
+        Parts(Asks(Exclusive), 1, 2, 1, LAST),
+    ),
+    Row(
+        &[(1, 2), (2, 2), (3, 1), (4, 0), (20, 2)],
+        &[(1, 2), (3, 2), (5, 1), (6, 0), (22, 2)],
+        Parts(Replies, 2, 1, 1, 2),
+    ),
+    Row(
+        &[(1, 2), (4, 0)],
+        &[(1, 2), (6, 0)],
+        Parts(Replies, 1, 2, 1, 1),
+    ),
+    Row(
+        &[
+            (1, 2),
+            (4, 0),
+            (5, 0xff),
+            (6, 0xff),
+            (7, 0xff),
+            (8, 0xff),
+            (9, 0xff),
+            (10, 0xff),
+            (11, 0xff),
+            (12, 0xff),
+            (13, 0x40),
+            (20, 0),
+        ],
+        &[
+            (1, 2),
+            (6, 0),
+            (7, 0xff),
+            (8, 0xff),
+            (9, 0xff),
+            (10, 0xff),
+            (11, 0xff),
+            (12, 0xff),
+            (13, 0xff),
+            (14, 0xff),
+            (15, 0x40),
+            (22, 0),
+        ],
+        Parts(Replies, 1, 2, u64::MAX, LAST),
+    ),
+];
+
+/// Returns whether a row's bytes of both versions are read as its frame, and the frame is written as those of version 2.
+fn is_so(alloc: Global, row: &Row) -> bool {
+    is_old(&with(&ASKS_1, row.0), &row.2, r())
+        && comes_back(alloc, &with(&ASKS_2, row.1), &row.2, r())
+}
+
+/// Returns how many rows are so, up to the first that is not.
+fn are_so(alloc: Global, rows: &[Row]) -> usize {
+    for place in 0..rows.len() {
+        if !is_so(alloc, &rows[place]) {
+            return place;
         }
     }
-    SENT.len()
+    rows.len()
+}
+
+#[test]
+fn frames_are_read_in_both_versions_and_written_in_the_second(rt: HostRuntime) {
+    assert_rows(&rt, are_so(rt.alloc(), ROWS), ROWS.len());
+}
+
+/// Changes of the REQUEST in version 2, and the frame that it is then, which version 1 does not have.
+struct Newer(&'static [Change], Parts);
+
+/// Each mode, and the last nodes.
+const NEWER: &[Newer] = &[
+    Newer(&[(6, 0)], Parts(Asks(Shared), 1, 2, 1, 1)),
+    Newer(&[(6, 2)], Parts(Asks(IntentShared), 1, 2, 1, 1)),
+    Newer(&[(6, 3)], Parts(Asks(IntentExclusive), 1, 2, 1, 1)),
+    Newer(&[(6, 4)], Parts(Asks(SharedIntentExclusive), 1, 2, 1, 1)),
+    Newer(
+        &[(3, 40), (6, 3)],
+        Parts(Asks(IntentExclusive), 40, 2, 1, 1),
+    ),
+    Newer(&[(3, 64), (5, 63)], Parts(Asks(Exclusive), 64, 63, 1, 1)),
+    Newer(&[(3, 63), (5, 64)], Parts(Asks(Exclusive), 63, 64, 1, 1)),
+];
+
+/// Returns how many rows are read and written so, up to the first that is not.
+fn newer_so(alloc: Global, rows: &[Newer]) -> usize {
+    for place in 0..rows.len() {
+        if !comes_back(alloc, &with(&ASKS_2, rows[place].0), &rows[place].1, r()) {
+            return place;
+        }
+    }
+    rows.len()
 }
 
 #[test]
 fn version_2_has_five_modes_and_64_nodes(rt: HostRuntime) {
-    let name = r();
-    assert!(rt; name.is_some());
-    assert_rows(&rt, sent_rows(rt.alloc(), name.unwrap()), SENT.len());
+    assert_rows(&rt, newer_so(rt.alloc(), NEWER), NEWER.len());
 }
 
-#[test]
-fn a_reply_has_no_mode(rt: HostRuntime) {
-    for mode in [1u8, 2, 255] {
-        let (first, second) = (
-            with(&REPLIES_1, &[(4, mode)]),
-            with(&REPLIES_2, &[(6, mode)]),
-        );
-        assert!(rt; is_refused(&first, FrameError::Mode), "{mode} in version 1");
-        assert!(rt;
-            is_refused(&second, FrameError::Mode),
-            "{mode} in version 2"
-        );
+/// The longest REQUEST and the longest REPLY.
+const LONGEST: &[Row] = &[
+    Row(
+        &[],
+        &[],
+        Parts(
+            Asks(Shared),
+            16,
+            1,
+            0x0102_0304_0506_0708,
+            0x1112_1314_1516_1718,
+        ),
+    ),
+    Row(
+        &[(1, 2)],
+        &[(1, 2)],
+        Parts(Replies, 16, 1, 0x0102_0304_0506_0708, 0x1112_1314_1516_1718),
+    ),
+];
+
+/// Returns how many of the longest frames are read and written so, up to the first that is not.
+fn longest_so(alloc: Global, rows: &[Row], name: Name) -> usize {
+    for place in 0..rows.len() {
+        let row = &rows[place];
+        if !is_old(&with(&LONGEST_1, row.0), &row.2, name)
+            || !comes_back(alloc, &with(&LONGEST_2, row.1), &row.2, name)
+        {
+            return place;
+        }
     }
+    rows.len()
 }
 
 #[test]
-fn frames_are_written(rt: HostRuntime) {
-    let (alloc, name) = (rt.alloc(), r().expect(&rt, "r is a name"));
-    let latest = with(&REPLIES_2, &[(15, 0x40), (22, 0)]);
-    let numbered = with(&REPLIES_2, &[(7, 1)]);
-    assert!(rt;
-        is_written(alloc, &request(name, 1, 1), &ASKS_2),
-        "a REQUEST"
-    );
-    assert!(rt;
-        is_written(alloc, &reply(name, 2, 1), &REPLIES_2),
-        "a REPLY"
-    );
-    assert!(rt;
-        is_written(alloc, &reply(name, LAST, 1), &latest),
-        "the last clock"
-    );
-    assert!(rt;
-        is_written(alloc, &reply(name, 2, (1 << 56) + 1), &numbered),
-        "a long number"
-    );
-}
-
-/// Returns a REPLY from node 2 to itself.
-fn reply_to_itself(name: Name) -> Frame {
-    Frame {
-        clock: 1,
-        message: Message::Reply {
-            from: node(2),
-            to: node(2),
-            name,
-            seq: 1,
-        },
-    }
-}
-
-#[test]
-fn a_frame_fits_by_its_ranges(rt: HostRuntime) {
-    let name = r().expect(&rt, "r is a name");
-    assert!(rt; request(name, 1, 1).fits(), "the least clock and number");
-    assert!(rt;
-        reply(name, LAST, u64::MAX).fits(),
-        "the greatest clock and number"
-    );
-    assert!(rt; !reply(name, 0, 1).fits(), "clock 0");
-    assert!(rt;
-        !reply(name, LAST + 1, 1).fits(),
-        "a clock above the last one"
-    );
-    assert!(rt; !request(name, 1, 0).fits(), "number 0");
-    assert!(rt; !reply_to_itself(name).fits(), "a REPLY to the node itself");
+fn the_longest_frames_are_read_in_both_versions_and_written_in_the_second(rt: HostRuntime) {
+    let so = match Name::new(b"AZaz09_-.bcdefghijklmnopqrstuvwx") {
+        Ok(name) => longest_so(rt.alloc(), LONGEST, name),
+        Err(_) => 0,
+    };
+    assert_rows(&rt, so, LONGEST.len());
 }
 
 const FAULTS: &[(FrameError, &str)] = &[

@@ -1,25 +1,13 @@
 //! If a growth is refused, the call returns `Memory` and changes nothing, and it succeeds when it is made again.
-use crate::helpers::{node, r};
+use crate::helpers::{assert_grown, id, r};
+use crate::steps::{Wire, awaited_by, deferred_by, message, shows};
 use Call::{Ask, Leave, LeaveAndAsk, Reply, Request};
 use Tried::{Again, AtOnce, Wrong};
-use ra_automaton::{Automaton, LeaveError, NewError, Phase, ReceiveError, RequestError};
+use ra_automaton::{Automaton, LeaveError, NewError, ReceiveError, RequestError};
 use ra_frame::{Frame, encode};
-use ra_stamp::{Message, Mode, Name};
+use ra_stamp::{Message, Mode};
 use std::alloc::Global;
-use std::process::Abort;
 use test_support::{Tried, again, both};
-
-/// Ends a test.
-fn end(rt: &(impl Abort), tried: Tried) {
-    assert!(rt;
-        tried != Wrong,
-        "a refused growth had another answer, or changed something"
-    );
-    assert!(rt;
-        tried != Again,
-        "a growth was refused, and the call made again"
-    );
-}
 
 /// A call to the automaton of node 1 of 2.
 #[derive(Clone, Copy)]
@@ -45,50 +33,14 @@ const CALLS: [Call; 8] = [
     Leave,
 ];
 
-/// What is seen of an automaton: its phase, the highest number, whether it awaits node 2, and the number with which it
-/// defers node 2.
-type Look = (Phase, u64, bool, Option<u64>);
-
-fn look(automaton: &Automaton) -> Look {
-    (
-        automaton.phase(),
-        automaton.highest(),
-        automaton.waits_for(node(2)),
-        automaton.deferred(node(2)),
-    )
-}
-
-fn looks_so(automaton: &Automaton, look: Look) -> bool {
-    let (phase, highest, awaited, deferred) = look;
-    automaton.phase() == phase
-        && automaton.highest() == highest
-        && automaton.waits_for(node(2)) == awaited
-        && automaton.deferred(node(2)) == deferred
-}
-
 /// Has the automaton take a message about its resource. If it does not, returns whether memory ran out.
-fn take(alloc: Global, automaton: &mut Automaton, is_reply: bool, seq: u64) -> Result<(), bool> {
-    let (from, to, name) = (node(2), node(1), automaton.name());
-    let message = if is_reply {
-        Message::Reply {
-            from,
-            to,
-            name,
-            seq,
-        }
-    } else {
-        let mode = Mode::Exclusive;
-        Message::Request {
-            from,
-            to,
-            name,
-            mode,
-            seq,
-        }
-    };
-    match automaton.receive(alloc, &message) {
-        Ok(_) => Ok(()),
-        Err(fault) => Err(fault == ReceiveError::Memory),
+fn take(alloc: Global, automaton: &mut Automaton, wire: Wire) -> Result<(), bool> {
+    match message(automaton.name(), wire) {
+        Some(message) => match automaton.receive(alloc, &message).err() {
+            None => Ok(()),
+            Some(fault) => Err(fault == ReceiveError::Memory),
+        },
+        None => Err(false),
     }
 }
 
@@ -100,8 +52,8 @@ fn make(alloc: Global, automaton: &mut Automaton, call: Call) -> Result<(), bool
             Ok(_) => Ok(()),
             Err(fault) => Err(fault == RequestError::Memory),
         },
-        Reply(seq) => take(alloc, automaton, true, seq),
-        Request(seq) => take(alloc, automaton, false, seq),
+        Reply(seq) => take(alloc, automaton, Wire::Replies(2, 1, seq)),
+        Request(seq) => take(alloc, automaton, Wire::Requests(2, 1, Mode::Exclusive, seq)),
         LeaveAndAsk if automaton.highest() == u64::MAX => Err(false),
         LeaveAndAsk => match automaton.leave_and_request(alloc, Mode::Shared) {
             Ok(reaction) if reaction.sends.len() == 2 => Ok(()),
@@ -116,15 +68,28 @@ fn make(alloc: Global, automaton: &mut Automaton, call: Call) -> Result<(), bool
     }
 }
 
+/// Makes a call again that ran out of memory, if all is as it was.
+fn make_again(alloc: Global, automaton: &mut Automaton, call: Call, is_as_before: bool) -> Tried {
+    if is_as_before && make(alloc, automaton, call).is_ok() {
+        Again
+    } else {
+        Wrong
+    }
+}
+
 /// Makes a call, and makes it again if memory ran out.
 fn try_call(alloc: Global, automaton: &mut Automaton, call: Call) -> Tried {
-    let before = look(automaton);
+    let (phase, highest) = (automaton.phase(), automaton.highest());
+    let (awaited, deferred) = (awaited_by(automaton), deferred_by(automaton));
     match make(alloc, automaton, call) {
         Ok(()) => AtOnce,
-        Err(memory)
-            if memory && looks_so(automaton, before) && make(alloc, automaton, call).is_ok() =>
-            Again,
-        Err(_) => Wrong,
+        Err(memory) => {
+            let is_as_before = memory
+                && shows(automaton, phase, highest)
+                && awaited_by(automaton) == awaited
+                && deferred_by(automaton) == deferred;
+            make_again(alloc, automaton, call, is_as_before)
+        }
     }
 }
 
@@ -138,21 +103,21 @@ fn try_calls(alloc: Global, automaton: &mut Automaton) -> Tried {
 }
 
 /// Makes an automaton and all calls to it. If there is no automaton, returns whether memory ran out.
-fn try_automaton(alloc: Global, name: Name) -> Result<Tried, bool> {
-    match Automaton::new(alloc, node(1), 2, name, 0) {
+fn try_automaton(alloc: Global) -> Result<Tried, bool> {
+    match Automaton::new(alloc, id(1), 2, r(), 0) {
         Ok(mut automaton) => Ok(try_calls(alloc, &mut automaton)),
         Err(fault) => Err(fault == NewError::Memory),
     }
 }
 
 /// Encodes a frame. If there are no bytes, returns whether memory ran out.
-fn try_frame(alloc: Global, name: Name) -> Result<Tried, bool> {
+fn try_frame(alloc: Global) -> Result<Tried, bool> {
     let frame = Frame {
         clock: 1,
         message: Message::Reply {
-            from: node(2),
-            to: node(1),
-            name,
+            from: id(2),
+            to: id(1),
+            name: r(),
             seq: 1,
         },
     };
@@ -167,15 +132,11 @@ fn try_frame(alloc: Global, name: Name) -> Result<Tried, bool> {
 
 #[test]
 fn growth_of_an_automaton(rt: HostRuntime) {
-    let (alloc, name) = (rt.alloc(), r().expect(&rt, "r is a name"));
-    end(
-        &rt,
-        again(try_automaton(alloc, name), try_automaton(alloc, name)),
-    );
+    let alloc = rt.alloc();
+    assert_grown(&rt, again(try_automaton(alloc), try_automaton(alloc)));
 }
 
 #[test]
 fn growth_of_a_frame(rt: HostRuntime) {
-    let (alloc, name) = (rt.alloc(), r().expect(&rt, "r is a name"));
-    end(&rt, again(try_frame(alloc, name), try_frame(alloc, name)));
+    assert_grown(&rt, again(try_frame(rt.alloc()), try_frame(rt.alloc())));
 }

@@ -2,39 +2,72 @@
 ghost use Rattle.ra_stamp.specs.NodeId.{IsNodeNumber};
 
 use Mode::{Exclusive, IntentExclusive, IntentShared, Shared, SharedIntentExclusive};
-use ra_stamp::{Mode, Name, NodeId};
-use std::alloc::Global;
-use std::fmt::Display;
+use ra_stamp::{Entry, Message, Mode, Name, NodeId, Stamp};
 use std::process::Abort;
+use test_support::Tried;
 
 /// Returns the node with this number.
-pub fn node(number: u16) -> NodeId
+pub fn id(number: u16) -> NodeId
     requires { IsNodeNumber number }
 {
     NodeId::new(number).unwrap()
 }
 
 /// Returns the name `r`.
-pub fn r() -> Option<Name> {
-    Name::new(b"r").ok()
+pub fn r() -> Name {
+    Name::new(b"r").unwrap()
 }
 
-/// Returns whether a value prints as this text.
-pub fn prints<T: Display>(alloc: Global, value: &T, text: &str) -> bool {
-    match value.to_string(alloc) {
-        Ok(printed) => printed.as_str() == text,
-        Err(_) => false,
+/// Returns the name `q`.
+pub fn q() -> Name {
+    Name::new(b"q").unwrap()
+}
+
+/// Returns a REQUEST on the name `r`, in the mode Exclusive.
+pub fn request(from: u16, to: u16, seq: u64) -> Message
+    requires from { IsNodeNumber from }
+    requires to { IsNodeNumber to }
+{
+    Message::Request {
+        from: id(from),
+        to: id(to),
+        name: r(),
+        mode: Exclusive,
+        seq,
     }
 }
 
-/// Returns how many values print as the text beside them, up to the first that does not.
-pub fn printed<T: Display>(alloc: Global, rows: &[(T, &str)]) -> usize {
-    for place in 0..rows.len() {
-        if !prints(alloc, &rows[place].0, rows[place].1) {
-            return place;
-        }
+/// Returns a REPLY on the name `r`.
+pub fn reply(from: u16, to: u16, seq: u64) -> Message
+    requires from { IsNodeNumber from }
+    requires to { IsNodeNumber to }
+{
+    Message::Reply {
+        from: id(from),
+        to: id(to),
+        name: r(),
+        seq,
     }
-    rows.len()
+}
+
+/// Returns the request of a client at a node.
+pub fn entry(node: u16, client: u32, name: Name, mode: Mode, seq: u64) -> Entry
+    requires { IsNodeNumber node }
+{
+    let node = id(node);
+    Entry {
+        name,
+        stamp: Stamp { seq, node },
+        client,
+        mode,
+    }
+}
+
+/// Returns a writer's request on the name `r`.
+pub fn writer(node: u16, client: u32, seq: u64) -> Entry
+    requires { IsNodeNumber node }
+{
+    entry(node, client, r(), Exclusive, seq)
 }
 
 /// Asserts that each of so many rows is so, where so many are so up to the first that is not.
@@ -42,10 +75,22 @@ pub fn assert_rows(rt: &impl Abort, so: usize, rows: usize) {
     assert!(rt; so == rows, "row {so}, counted from 0");
 }
 
-/// Asserts that no case is wrong, where this is the label of the first that is.
-pub fn assert_none_wrong(rt: &impl Abort, wrong: Option<&str>) {
-    if let Some(label) = wrong {
-        panic!(rt; "{label}");
+/// Asserts that each of so many steps is so, where so many are so up to the first that is not. The label says what they show.
+pub fn assert_done(rt: &impl Abort, label: &str, done: usize, steps: usize) {
+    assert!(rt; done == steps, "{label}: step {done}, counted from 0");
+}
+
+/// Asserts that something is so.
+pub fn assert_so(rt: &impl Abort, so: bool) {
+    assert!(rt; so);
+}
+
+/// Asserts that calls of which a growth was refused had the right answer, and changed nothing.
+pub fn assert_grown(rt: &impl Abort, tried: Tried) {
+    match tried {
+        Tried::AtOnce => {}
+        Tried::Again => panic!(rt; "a growth was refused, and the call made again"),
+        Tried::Wrong => panic!(rt; "a refused growth had another answer, or changed something"),
     }
 }
 

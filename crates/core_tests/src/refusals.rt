@@ -1,21 +1,22 @@
 //! What is refused: nodes that cannot be, and messages for others or from strangers; and how faults are printed.
-use crate::helpers::{assert_rows, node, printed, r};
-use crate::steps::{Step, Wire, follow};
+use crate::helpers::{assert_rows, r};
+use crate::steps::{Scene, Step, Wire, follow};
 use Mode::Shared;
 use Step::RefusesToTake;
 use Wire::{Replies, Requests};
 use ra_automaton::{Automaton, LeaveError, NewError, ReceiveError, RequestError};
 use ra_stamp::{Mode, NodeId};
 use std::alloc::Global;
+use test_support::printed;
 
 /// The number of a node, a number of nodes, and why there is no such node, or `None` where there is one.
 struct Made(u16, u16, Option<NewError>);
 
 /// Returns whether there is such a node, or there is none for this reason.
 fn is_so(alloc: Global, row: &Made) -> bool {
-    match (NodeId::new(row.0), r()) {
-        (Some(me), Some(name)) => Automaton::new(alloc, me, row.1, name, 0).err() == row.2,
-        _ => false,
+    match NodeId::new(row.0) {
+        Some(me) => Automaton::new(alloc, me, row.1, r(), 0).err() == row.2,
+        None => false,
     }
 }
 
@@ -54,12 +55,14 @@ fn messages_come_from_another_node_to_this_one(rt: HostRuntime) {
         RefusesToTake(Replies(2, 2, 1), ReceiveError::Stranger),
         RefusesToTake(Requests(4, 2, Shared, 1), ReceiveError::Stranger),
         RefusesToTake(Replies(4, 2, 1), ReceiveError::Stranger),
-        RefusesToTake(Requests(2, 3, Shared, 1), ReceiveError::WrongNode),
-        RefusesToTake(Replies(2, 3, 1), ReceiveError::WrongNode),
+        // The receiver comes first where the sender is wrong, too.
         RefusesToTake(Requests(4, 3, Shared, 1), ReceiveError::WrongNode),
         RefusesToTake(Replies(4, 3, 1), ReceiveError::WrongNode),
     ];
-    follow(&rt, node(2), 3, 0, STEPS);
+    follow(
+        &rt,
+        &[Scene("messages for others and from strangers", 2, 3, 0, STEPS)],
+    );
 }
 
 const NEW_FAULTS: &[(NewError, &str)] = &[

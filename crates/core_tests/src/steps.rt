@@ -2,7 +2,7 @@
 ghost use Rattle.std.specs.Prelude.{◌≡◌, IfSome};
 ghost use Rattle.ra_stamp.specs.Message.{name_of};
 
-use crate::helpers::{assert_rows, node, r};
+use crate::helpers::{assert_done, id, r};
 use Answer::{Defer, Reply};
 use Mode::Shared;
 use Phase::{Idle, Inside, Waiting};
@@ -72,29 +72,42 @@ pub enum Step {
     DefersOf(u16, Option<u64>),
 }
 
+/// Returns the message between these nodes.
+fn between(name: Name, wire: Wire, from: NodeId, to: NodeId) -> Message
+    ensures { name_of result ≡ name }
+{
+    match wire {
+        Requests(_, _, mode, seq) => Message::Request {
+            from,
+            to,
+            name,
+            mode,
+            seq,
+        },
+        Replies(_, _, seq) => Message::Reply {
+            from,
+            to,
+            name,
+            seq,
+        },
+    }
+}
+
+/// Returns the numbers of the sender and the receiver.
+fn ends_of(wire: Wire) -> [u16; 2] {
+    match wire {
+        Requests(from, to, _, _) => [from, to],
+        Replies(from, to, _) => [from, to],
+    }
+}
+
 /// Returns the message, or `None` where a number is that of no node.
-fn message(name: Name, wire: Wire) -> Option<Message>
+pub fn message(name: Name, wire: Wire) -> Option<Message>
     ensures { IfSome result (λ message. name_of message ≡ name) }
 {
-    let (from, to) = match wire {
-        Requests(from, to, _, _) | Replies(from, to, _) => (from, to),
-    };
+    let [from, to] = ends_of(wire);
     match (NodeId::new(from), NodeId::new(to)) {
-        (Some(from), Some(to)) => Some(match wire {
-            Requests(_, _, mode, seq) => Message::Request {
-                from,
-                to,
-                name,
-                mode,
-                seq,
-            },
-            Replies(_, _, seq) => Message::Reply {
-                from,
-                to,
-                name,
-                seq,
-            },
-        }),
+        (Some(from), Some(to)) => Some(between(name, wire, from, to)),
         _ => None,
     }
 }
@@ -246,11 +259,11 @@ fn refuses_to_take(
 
 /// Returns whether a node has this number, and is about `r`.
 fn is(automaton: &Automaton, me: u16) -> bool {
-    automaton.me().get() == me && automaton.name().bytes() == b"r".as_slice()
+    automaton.me().get() == me && automaton.name() == r()
 }
 
 /// Returns whether a node is doing this, and this is the highest number that it has met.
-fn shows(automaton: &Automaton, phase: Phase, highest: u64) -> bool {
+pub fn shows(automaton: &Automaton, phase: Phase, highest: u64) -> bool {
     automaton.phase() == phase && automaton.highest() == highest
 }
 
@@ -263,20 +276,20 @@ fn defers_of(automaton: &Automaton, other: u16, deferred: Option<u64>) -> bool {
 }
 
 /// Returns which of the nodes 1 to 3 a node awaits.
-fn awaited_by(automaton: &Automaton) -> [bool; 3] {
+pub fn awaited_by(automaton: &Automaton) -> [bool; 3] {
     [
-        automaton.waits_for(node(1)),
-        automaton.waits_for(node(2)),
-        automaton.waits_for(node(3)),
+        automaton.waits_for(id(1)),
+        automaton.waits_for(id(2)),
+        automaton.waits_for(id(3)),
     ]
 }
 
 /// Returns with which numbers a node defers the nodes 1 to 3.
-fn deferred_by(automaton: &Automaton) -> [Option<u64>; 3] {
+pub fn deferred_by(automaton: &Automaton) -> [Option<u64>; 3] {
     [
-        automaton.deferred(node(1)),
-        automaton.deferred(node(2)),
-        automaton.deferred(node(3)),
+        automaton.deferred(id(1)),
+        automaton.deferred(id(2)),
+        automaton.deferred(id(3)),
     ]
 }
 
@@ -345,21 +358,34 @@ fn done(alloc: Global, automaton: &mut Automaton, steps: &[Step]) -> usize {
 
 /// Makes node `me` of `nodes`, which has met the number `start`, and returns how many of its steps are so, up to the
 /// first that is not.
-pub fn done_by(alloc: Global, me: NodeId, nodes: u16, start: u64, steps: &[Step]) -> Option<usize> {
-    match r() {
-        Some(name) => match Automaton::new(alloc, me, nodes, name, start) {
-            Ok(mut automaton) => Some(done(alloc, &mut automaton, steps)),
-            Err(_) => None,
-        },
-        None => None,
+pub fn done_by(alloc: Global, me: NodeId, nodes: u16, start: u64, steps: &[Step]) -> usize {
+    match Automaton::new(alloc, me, nodes, r(), start) {
+        Ok(mut automaton) => done(alloc, &mut automaton, steps),
+        Err(_) => 0,
     }
 }
 
-/// Makes node `me` of `nodes`, which has met the number `start`, and tests its steps.
-pub fn follow(rt: &(impl Abort + AllocGlobal), me: NodeId, nodes: u16, start: u64, steps: &[Step]) {
-    match done_by(rt.alloc(), me, nodes, start, steps) {
-        Some(done) => assert_rows(rt, done, steps.len()),
-        None => panic!(rt; "there is no such node"),
+/// What it shows, a node, how many nodes there are, the number that the node has met, and its steps.
+pub struct Scene(
+    pub &'static str,
+    pub u16,
+    pub u16,
+    pub u64,
+    pub &'static [Step],
+);
+
+/// Returns how many steps of a scene are so, up to the first that is not.
+fn done_in(alloc: Global, scene: &Scene) -> usize {
+    match NodeId::new(scene.1) {
+        Some(me) => done_by(alloc, me, scene.2, scene.3, scene.4),
+        None => 0,
+    }
+}
+
+/// Tests the steps of each scene.
+pub fn follow(rt: &(impl Abort + AllocGlobal), scenes: &[Scene]) {
+    for scene in scenes {
+        assert_done(rt, scene.0, done_in(rt.alloc(), scene), scene.4.len());
     }
 }
 

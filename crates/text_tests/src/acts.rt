@@ -3,7 +3,7 @@ use crate::helpers::{all_kinds, assert_rows, failing, r};
 use Act::{Ask, AskForAllKinds, AskIn, Deliver, Leave, Lose, Repeat};
 use Wire::{Replies, RepliesNext, Requests, RequestsNext};
 use ra_stamp::{Message, Mode, Name, NodeId};
-use ra_trace::{WriteTraceError, write_trace};
+use ra_trace::{WriteTraceError, trace_text, write_trace};
 use ra_world::{Step, Steps};
 use std::alloc::Global;
 use std::process::Abort;
@@ -34,35 +34,57 @@ pub enum Act {
     Repeat(Wire),
 }
 
+/// Returns a writer's REQUEST on `r`.
+pub fn request(from: NodeId, to: NodeId, seq: u64) -> Message {
+    Message::Request {
+        from,
+        to,
+        name: r(),
+        mode: Mode::Exclusive,
+        seq,
+    }
+}
+
+/// Returns a REPLY on `r`.
+pub fn reply(from: NodeId, to: NodeId, seq: u64) -> Message {
+    Message::Reply {
+        from,
+        to,
+        name: r(),
+        seq,
+    }
+}
+
+/// Returns the numbers of the sender and the receiver.
+fn ends_of(wire: Wire) -> [u16; 2] {
+    match wire {
+        Requests(from, to) | Replies(from, to) | RequestsNext(from, to) | RepliesNext(from, to) => [
+            from, to,
+        ],
+    }
+}
+
+/// Returns the message between these nodes.
+fn between(wire: Wire, from: NodeId, to: NodeId) -> Message {
+    match wire {
+        Requests(_, _) => request(from, to, 1),
+        RequestsNext(_, _) => request(from, to, 2),
+        Replies(_, _) => reply(from, to, 1),
+        RepliesNext(_, _) => reply(from, to, 2),
+    }
+}
+
 /// Returns the message, or `None` if a number is not that of a node.
 fn message(wire: Wire) -> Option<Message> {
-    let (from, to, seq) = match wire {
-        Requests(from, to) | Replies(from, to) => (from, to, 1),
-        RequestsNext(from, to) | RepliesNext(from, to) => (from, to, 2),
-    };
-    let name = r();
+    let [from, to] = ends_of(wire);
     match (NodeId::new(from), NodeId::new(to)) {
-        (Some(from), Some(to)) => Some(match wire {
-            Requests(_, _) | RequestsNext(_, _) => Message::Request {
-                from,
-                to,
-                name,
-                mode: Mode::Exclusive,
-                seq,
-            },
-            Replies(_, _) | RepliesNext(_, _) => Message::Reply {
-                from,
-                to,
-                name,
-                seq,
-            },
-        }),
+        (Some(from), Some(to)) => Some(between(wire, from, to)),
         _ => None,
     }
 }
 
 /// Returns the step in which a client asks, or `None` if there is no such node.
-fn ask(node: u16, client: u32, name: Name, mode: Mode) -> Option<Step> {
+pub fn ask(node: u16, client: u32, name: Name, mode: Mode) -> Option<Step> {
     match NodeId::new(node) {
         Some(node) => Some(Step::Ask {
             node,
@@ -75,7 +97,7 @@ fn ask(node: u16, client: u32, name: Name, mode: Mode) -> Option<Step> {
 }
 
 /// Returns the step in which a client leaves `r`, or `None` if there is no such node.
-fn leave(node: u16, client: u32) -> Option<Step> {
+pub fn leave(node: u16, client: u32) -> Option<Step> {
     match NodeId::new(node) {
         Some(node) => Some(Step::Leave {
             node,
@@ -86,27 +108,13 @@ fn leave(node: u16, client: u32) -> Option<Step> {
     }
 }
 
-/// Returns the step in which a message is delivered, or `None` if there is no such message.
-fn deliver(wire: Wire) -> Option<Step> {
-    match message(wire) {
-        Some(message) => Some(Step::Deliver(message)),
-        None => None,
-    }
-}
-
-/// Returns the step in which a message is lost, or `None` if there is no such message.
-fn lose(wire: Wire) -> Option<Step> {
-    match message(wire) {
-        Some(message) => Some(Step::Lose(message)),
-        None => None,
-    }
-}
-
-/// Returns the step in which a message is repeated, or `None` if there is no such message.
-fn repeat(wire: Wire) -> Option<Step> {
-    match message(wire) {
-        Some(message) => Some(Step::Repeat(message)),
-        None => None,
+/// Returns the step about a message, where it is one.
+fn about(act: Act, message: Message) -> Option<Step> {
+    match act {
+        Deliver(_) => Some(Step::Deliver(message)),
+        Lose(_) => Some(Step::Lose(message)),
+        Repeat(_) => Some(Step::Repeat(message)),
+        _ => None,
     }
 }
 
@@ -117,9 +125,7 @@ fn step(act: Act) -> Option<Step> {
         AskIn(mode) => ask(1, 1, r(), mode),
         Leave(node, client) => leave(node, client),
         AskForAllKinds => ask(64, 0, all_kinds(), Mode::Shared),
-        Deliver(wire) => deliver(wire),
-        Lose(wire) => lose(wire),
-        Repeat(wire) => repeat(wire),
+        Deliver(wire) | Lose(wire) | Repeat(wire) => about(act, message(wire)?),
     }
 }
 
@@ -177,6 +183,27 @@ pub fn one_lock(alloc: Global) -> Option<Steps> {
     }
 }
 
+/// Writes the trace of steps, and returns the fault, or `None` if there is no fault.
+pub fn fault_of_steps(
+    alloc: Global,
+    nodes: u16,
+    start: u64,
+    steps: &Steps,
+    writer: &mut FailingWriter<'_>,
+) -> Option<WriteTraceError> {
+    write_trace(alloc, nodes, start, steps, writer).err()
+}
+
+/// Returns the text of the trace of steps.
+pub fn text_of_steps(
+    alloc: Global,
+    nodes: u16,
+    start: u64,
+    steps: &Steps,
+) -> Result<String, WriteTraceError> {
+    trace_text(alloc, nodes, start, steps)
+}
+
 /// Writes the trace of what happens, and returns the fault, or `None` if there is no fault.
 pub fn fault_of(
     alloc: Global,
@@ -186,7 +213,7 @@ pub fn fault_of(
 ) -> Option<WriteTraceError> {
     let mut steps = Steps::new(alloc);
     if adds_all(&mut steps, acts) {
-        write_trace(alloc, nodes, 0, &steps, writer).err()
+        fault_of_steps(alloc, nodes, 0, &steps, writer)
     } else {
         Some(WriteTraceError::Memory)
     }

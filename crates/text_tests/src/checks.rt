@@ -1,12 +1,13 @@
 //! What `check` finds wrong in a text.
 use crate::helpers::{
-    Judged, ONE_LOCK, REPEATED_REQUEST, TWO_LOCKS, assert_judged, assert_rows, in_version_1,
-    is_judged, printed,
+    Judged, ONE_LOCK, REPEATED_REQUEST, TWO_LOCKS, assert_judged, assert_rows, assert_so,
+    in_version_1, is_judged,
 };
 use Judged::{Invalid, Valid};
 use ra_trace::{Cause, TraceError, Verdict};
 use std::alloc::Global;
 use std::process::Abort;
+use test_support::printed;
 
 /// A change of a text.
 enum Edit {
@@ -18,8 +19,25 @@ enum Edit {
 
 use Edit::{PutIn, Replace};
 
-/// A text, a change of it, and which line is the first wrong one then.
-struct Case(&'static str, Edit, u64);
+/// The trace that is changed.
+#[derive(Clone, Copy)]
+enum Base {
+    One,
+    Two,
+}
+
+use Base::{One, Two};
+
+/// Returns the trace.
+fn text_of(base: Base) -> &'static str {
+    match base {
+        One => ONE_LOCK,
+        Two => TWO_LOCKS,
+    }
+}
+
+/// A trace, a change of it, and which line is the first wrong one then.
+struct Case(Base, Edit, u64);
 
 /// Adds a text. Returns whether there was room.
 fn adds(new: &mut String, text: &str) -> bool {
@@ -51,9 +69,10 @@ fn adds_edited(new: &mut String, text: &str, number: usize, lines: &str, stays: 
 
 /// Adds the changed text of a case. Returns whether there was room.
 fn adds_case(new: &mut String, case: &Case) -> bool {
+    let text = text_of(case.0);
     match case.1 {
-        PutIn(number, lines) => adds_edited(new, case.0, number, lines, true),
-        Replace(number, lines) => adds_edited(new, case.0, number, lines, false),
+        PutIn(number, lines) => adds_edited(new, text, number, lines, true),
+        Replace(number, lines) => adds_edited(new, text, number, lines, false),
     }
 }
 
@@ -117,8 +136,9 @@ fn traces_of_version_1_stay_valid(rt: HostRuntime) {
         requests: 2,
         messages: 8,
     };
-    assert!(rt; is_judged_in_both(alloc, ONE_LOCK, &one_lock));
-    assert!(rt; is_judged_in_both(alloc, TWO_LOCKS, &two_locks));
+    let so = is_judged_in_both(alloc, ONE_LOCK, &one_lock)
+        && is_judged_in_both(alloc, TWO_LOCKS, &two_locks);
+    assert_so(&rt, so);
 }
 
 /// What a client asks for at the first of two nodes, so that its second line is right in version 2.
@@ -199,7 +219,7 @@ const REPEATS_IN_1: &[Judged] = &[
 #[test]
 fn version_1_has_no_repeats(rt: HostRuntime) {
     assert_judged(&rt, REPEATS_IN_1);
-    assert!(rt; is_newer(rt.alloc(), REPEATED_REQUEST, 4));
+    assert_so(&rt, is_newer(rt.alloc(), REPEATED_REQUEST, 4));
 }
 
 /// Texts of version 2 that are wrong at a repeat, or after one.
@@ -273,107 +293,71 @@ fn messages_that_are_repeated_are_under_way(rt: HostRuntime) {
 }
 
 const ENDS: &[Case] = &[
-    Case(ONE_LOCK, Replace(1, ""), 1),
-    Case(ONE_LOCK, PutIn(2, "trace 1 2 0\n"), 2),
-    Case(ONE_LOCK, PutIn(2, "trace 2 2 0\n"), 2),
+    Case(One, Replace(1, ""), 1),
+    Case(One, PutIn(2, "trace 1 2 0\n"), 2),
+    Case(One, PutIn(2, "trace 2 2 0\n"), 2),
     // A mark is due here.
-    Case(ONE_LOCK, PutIn(3, "trace 1 2 0\n"), 3),
-    Case(ONE_LOCK, PutIn(3, "trace 2 2 0\n"), 3),
-    Case(TWO_LOCKS, Replace(20, ""), 20),
-    Case(ONE_LOCK, Replace(9, "end\nx"), 10),
-    Case(ONE_LOCK, Replace(9, "end\nend\n"), 10),
-    Case(ONE_LOCK, PutIn(4, "\n"), 4),
+    Case(One, PutIn(3, "trace 1 2 0\n"), 3),
+    Case(One, PutIn(3, "trace 2 2 0\n"), 3),
+    Case(Two, Replace(20, ""), 20),
+    Case(One, Replace(9, "end\nx"), 10),
+    Case(One, Replace(9, "end\nend\n"), 10),
+    Case(One, PutIn(4, "\n"), 4),
 ];
-
-#[test]
-fn a_text_begins_with_the_first_line_and_ends_with_the_last(rt: HostRuntime) {
-    const ROWS: &[Judged] = &[
-        Invalid("", 1, Cause::Line),
-        Invalid("end\n", 1, Cause::Line),
-    ];
-    assert_judged(&rt, ROWS);
-    assert_wrong(&rt, ENDS, Cause::Line);
-}
 
 const WRONG_MARKS: &[Case] = &[
     // Lines 5 and 6 are exchanged.
     Case(
-        ONE_LOCK,
+        One,
         Replace(5, "enter 1 1 r X 1\ndeliver reply 2 1 r 1\n"),
         5,
     ),
     // No mark is due.
-    Case(ONE_LOCK, PutIn(5, "request 2 1 q X 1\n"), 5),
+    Case(One, PutIn(5, "request 2 1 q X 1\n"), 5),
     // Another mark is due.
-    Case(ONE_LOCK, Replace(3, "request 1 1 r X 2\n"), 3),
-    Case(ONE_LOCK, Replace(3, "request 1 1 r S 1\n"), 3),
+    Case(One, Replace(3, "request 1 1 r X 2\n"), 3),
+    Case(One, Replace(3, "request 1 1 r S 1\n"), 3),
     // A mark is missing, in front of a step that the world takes and of ones that it refuses, and in front of the last line.
-    Case(ONE_LOCK, Replace(3, ""), 3),
-    Case(ONE_LOCK, Replace(3, "ask 3 1 r X\n"), 3),
-    Case(ONE_LOCK, Replace(3, "deliver reply 1 2 r 1\n"), 3),
-    Case(ONE_LOCK, Replace(8, ""), 8),
-    Case(TWO_LOCKS, Replace(12, ""), 12),
+    Case(One, Replace(3, ""), 3),
+    Case(One, Replace(3, "ask 3 1 r X\n"), 3),
+    Case(One, Replace(3, "deliver reply 1 2 r 1\n"), 3),
+    Case(One, Replace(8, ""), 8),
+    Case(Two, Replace(12, ""), 12),
 ];
-
-#[test]
-fn marks_are_those_of_the_last_step(rt: HostRuntime) {
-    assert_wrong(&rt, WRONG_MARKS, Cause::Marks);
-}
 
 const REFUSED_BY_THE_TABLE: &[Case] = &[
-    Case(TWO_LOCKS, PutIn(13, "enter 2 2 r X 1\n"), 13),
+    Case(Two, PutIn(13, "enter 2 2 r X 1\n"), 13),
     // Another mark is due.
-    Case(ONE_LOCK, Replace(3, "leave 1 1 r X 1\n"), 3),
+    Case(One, Replace(3, "leave 1 1 r X 1\n"), 3),
     // A mark that came is repeated.
-    Case(ONE_LOCK, PutIn(4, "request 1 1 r X 1\n"), 4),
+    Case(One, PutIn(4, "request 1 1 r X 1\n"), 4),
 ];
-
-#[test]
-fn the_lock_table_comes_first(rt: HostRuntime) {
-    assert_wrong(&rt, REFUSED_BY_THE_TABLE, Cause::Table);
-}
 
 const REFUSED_BY_THE_WORLD: &[Case] = &[
-    Case(TWO_LOCKS, Replace(2, "ask 4 1 r X\n"), 2),
-    Case(ONE_LOCK, PutIn(4, "ask 1 1 r X\n"), 4),
-    Case(ONE_LOCK, PutIn(4, "release 1 1 r\n"), 4),
-    Case(ONE_LOCK, PutIn(4, "release 3 1 r\n"), 4),
+    Case(Two, Replace(2, "ask 4 1 r X\n"), 2),
+    Case(One, PutIn(4, "ask 1 1 r X\n"), 4),
+    Case(One, PutIn(4, "release 1 1 r\n"), 4),
+    Case(One, PutIn(4, "release 3 1 r\n"), 4),
 ];
-
-#[test]
-fn the_world_refuses_asks_and_releases(rt: HostRuntime) {
-    const NO_NUMBER_LEFT: &[Judged] = &[Invalid(
-        "trace 1 2 18446744073709551615\nask 1 1 r X\nrequest 1 1 r X 1\nend\n",
-        2,
-        Cause::Refused,
-    )];
-    assert_wrong(&rt, REFUSED_BY_THE_WORLD, Cause::Refused);
-    assert_judged(&rt, NO_NUMBER_LEFT);
-}
 
 const NOT_UNDER_WAY: &[Case] = &[
     // A message was delivered already.
-    Case(TWO_LOCKS, PutIn(8, "deliver request 1 3 r X 1\n"), 8),
+    Case(Two, PutIn(8, "deliver request 1 3 r X 1\n"), 8),
     // It was lost.
     Case(
-        ONE_LOCK,
+        One,
         Replace(4, "lose request 1 2 r X 1\ndeliver request 1 2 r X 1\n"),
         5,
     ),
     // It was never sent, some of them to or from nodes that there are not.
-    Case(ONE_LOCK, PutIn(5, "deliver reply 2 1 r 2\n"), 5),
-    Case(ONE_LOCK, PutIn(5, "deliver reply 3 1 r 1\n"), 5),
-    Case(ONE_LOCK, PutIn(5, "deliver reply 1 16 r 1\n"), 5),
-    Case(ONE_LOCK, PutIn(5, "deliver request 2 1 r X 1\n"), 5),
-    Case(ONE_LOCK, PutIn(5, "deliver request 1 2 r X 1\n"), 5),
-    Case(ONE_LOCK, PutIn(5, "lose reply 1 2 r 1\n"), 5),
-    Case(ONE_LOCK, PutIn(5, "lose request 1 3 r X 1\n"), 5),
+    Case(One, PutIn(5, "deliver reply 2 1 r 2\n"), 5),
+    Case(One, PutIn(5, "deliver reply 3 1 r 1\n"), 5),
+    Case(One, PutIn(5, "deliver reply 1 16 r 1\n"), 5),
+    Case(One, PutIn(5, "deliver request 2 1 r X 1\n"), 5),
+    Case(One, PutIn(5, "deliver request 1 2 r X 1\n"), 5),
+    Case(One, PutIn(5, "lose reply 1 2 r 1\n"), 5),
+    Case(One, PutIn(5, "lose request 1 3 r X 1\n"), 5),
 ];
-
-#[test]
-fn messages_that_are_taken_are_under_way(rt: HostRuntime) {
-    assert_wrong(&rt, NOT_UNDER_WAY, Cause::NotUnderWay);
-}
 
 /// Returns how many lengths have prefixes of a trace that are wrong at the line that is not whole, from 0 up to the first that is not so,
 /// or to that of the trace.
@@ -399,25 +383,45 @@ fn no_prefix_of_a_trace_is_valid(rt: HostRuntime) {
 }
 
 const NO_LINES: &[Case] = &[
-    Case(ONE_LOCK, Replace(4, "\n"), 4),
-    Case(ONE_LOCK, Replace(4, "deliver request 1 2 r X 1\r\n"), 4),
-    Case(ONE_LOCK, Replace(4, "deliver\trequest 1 2 r X 1\n"), 4),
-    Case(ONE_LOCK, Replace(4, "deliver  request 1 2 r X 1\n"), 4),
-    Case(ONE_LOCK, Replace(4, "deliver request 1 2 r X 1 \n"), 4),
-    Case(ONE_LOCK, Replace(4, "deliver request 1 2 r\0 X 1\n"), 4),
-    Case(ONE_LOCK, Replace(4, "deliver request 1 2 \u{e9} X 1\n"), 4),
-    Case(ONE_LOCK, Replace(4, "deliver request 1 2 r X 01\n"), 4),
-    Case(ONE_LOCK, Replace(4, "deliver request 1 65 r X 1\n"), 4),
+    Case(One, Replace(4, "\n"), 4),
+    Case(One, Replace(4, "deliver request 1 2 r X 1\r\n"), 4),
+    Case(One, Replace(4, "deliver\trequest 1 2 r X 1\n"), 4),
+    Case(One, Replace(4, "deliver  request 1 2 r X 1\n"), 4),
+    Case(One, Replace(4, "deliver request 1 2 r X 1 \n"), 4),
+    Case(One, Replace(4, "deliver request 1 2 r\0 X 1\n"), 4),
+    Case(One, Replace(4, "deliver request 1 2 \u{e9} X 1\n"), 4),
+    Case(One, Replace(4, "deliver request 1 2 r X 01\n"), 4),
+    Case(One, Replace(4, "deliver request 1 65 r X 1\n"), 4),
     Case(
-        ONE_LOCK,
+        One,
         Replace(4, "deliver request 1 2 r X 18446744073709551616\n"),
         4,
     ),
 ];
 
 #[test]
-fn a_line_that_is_none_is_wrong_where_it_stands(rt: HostRuntime) {
+fn changed_traces_are_wrong_at_the_first_wrong_line(rt: HostRuntime) {
+    assert_wrong(&rt, ENDS, Cause::Line);
     assert_wrong(&rt, NO_LINES, Cause::Line);
+    assert_wrong(&rt, WRONG_MARKS, Cause::Marks);
+    assert_wrong(&rt, REFUSED_BY_THE_TABLE, Cause::Table);
+    assert_wrong(&rt, REFUSED_BY_THE_WORLD, Cause::Refused);
+    assert_wrong(&rt, NOT_UNDER_WAY, Cause::NotUnderWay);
+}
+
+#[test]
+fn a_text_has_its_lines_and_its_numbers(rt: HostRuntime) {
+    const ROWS: &[Judged] = &[
+        Invalid("", 1, Cause::Line),
+        Invalid("end\n", 1, Cause::Line),
+        // No number is left.
+        Invalid(
+            "trace 1 2 18446744073709551615\nask 1 1 r X\nrequest 1 1 r X 1\nend\n",
+            2,
+            Cause::Refused,
+        ),
+    ];
+    assert_judged(&rt, ROWS);
 }
 
 const CAUSES: &[(Cause, &str)] = &[

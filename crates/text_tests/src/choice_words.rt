@@ -1,12 +1,17 @@
 //! How lists of choices are read, and which words are no choices.
 use crate::helpers::assert_rows;
-use ra_schedule::Choice;
+use ra_schedule::{Choice, Choices};
 use ra_script::{ChoicesError, read_choices};
 use std::alloc::Global;
 
+/// Returns what `read_choices` answers.
+pub fn choices_of(alloc: Global, text: &str) -> Result<Choices, ChoicesError> {
+    read_choices(alloc, text)
+}
+
 /// Returns whether a text is read as these choices.
 fn is_read(alloc: Global, text: &str, wanted: &[Choice]) -> bool {
-    match read_choices(alloc, text) {
+    match choices_of(alloc, text) {
         Ok(choices) => choices.as_slice() == wanted,
         Err(_) => false,
     }
@@ -15,8 +20,7 @@ fn is_read(alloc: Global, text: &str, wanted: &[Choice]) -> bool {
 /// Returns how many texts are read as the choices beside them, up to the first that is not.
 fn are_read(alloc: Global, rows: &[(&str, &[Choice])]) -> usize {
     for place in 0..rows.len() {
-        let (text, wanted) = rows[place];
-        if !is_read(alloc, text, wanted) {
+        if !is_read(alloc, rows[place].0, rows[place].1) {
             return place;
         }
     }
@@ -67,7 +71,7 @@ const NO_CHOICES: &[&str] = &[
 
 /// Returns whether a text is refused as no list of choices.
 fn is_no_choice(alloc: Global, text: &str) -> bool {
-    matches!(read_choices(alloc, text), Err(ChoicesError::Choice))
+    choices_of(alloc, text).err() == Some(ChoicesError::Choice)
 }
 
 /// Returns how many of these texts are no lists of choices, up to the first that is one.

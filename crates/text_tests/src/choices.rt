@@ -1,9 +1,11 @@
 //! How lists of choices are written, and which ones have no text.
-use crate::helpers::{ONE_LOCK_SCRIPT, assert_rows};
+use crate::helpers::{ONE_LOCK_SCRIPT, assert_rows, assert_so, failing};
+use crate::performing::{performed, reader_of};
 use Choice::{Client, Lost, Message, Repeated};
 use ra_schedule::{Choice, Choices, Faults, Policy};
-use ra_script::{ChoicesError, Format, PerformError, choices_text, perform_as};
+use ra_script::{ChoicesError, Format, PerformError, choices_text};
 use std::alloc::Global;
+use test_support::FailingWriter;
 
 /// Makes a list of choices, or `None` where there is no memory for it.
 fn listed(alloc: Global, choices: &[Choice]) -> Option<Choices> {
@@ -81,19 +83,19 @@ fn repeats_and_ten_digits_have_no_text(rt: HostRuntime) {
 
 /// Performs a script by chance that repeats 400 of 1,000 messages, by a seed, and returns why its choices are not written, or `None` where
 /// they are.
-fn fault_by(alloc: Global, seed: u64, output: &mut Vec<u8>) -> Option<PerformError> {
+fn fault_by(alloc: Global, seed: u64, writer: &mut FailingWriter<'_>) -> Option<PerformError> {
     let faults = Faults::new(0, 400)?;
     let policy = Policy::Faulty { seed, faults };
-    let mut reader = ONE_LOCK_SCRIPT.as_bytes();
-    perform_as(alloc, &mut reader, output, Format::Choices, &policy).err()
+    let mut reader = reader_of(ONE_LOCK_SCRIPT.as_bytes());
+    performed(alloc, &mut reader, writer, Format::Choices, &policy).err()
 }
 
 /// Returns whether by some seed below 100 a message is repeated, for which there is no word, so that nothing is written.
 fn is_refused_by_some_seed(alloc: Global) -> bool {
     for seed in 0..100 {
-        let mut output = Vec::new(alloc);
-        if fault_by(alloc, seed, &mut output) == Some(PerformError::Choice) {
-            return output.is_empty();
+        let mut writer = failing("", 1_000, None);
+        if fault_by(alloc, seed, &mut writer) == Some(PerformError::Choice) {
+            return !writer.differs;
         }
     }
     false
@@ -101,5 +103,5 @@ fn is_refused_by_some_seed(alloc: Global) -> bool {
 
 #[test]
 fn a_run_with_a_repeat_has_no_words(rt: HostRuntime) {
-    assert!(rt; is_refused_by_some_seed(rt.alloc()));
+    assert_so(&rt, is_refused_by_some_seed(rt.alloc()));
 }

@@ -1,12 +1,11 @@
 //! What several files of tests use.
+use crate::readers::{Way, checked_text};
 use ra_stamp::Name;
-use ra_trace::{Cause, Verdict, check};
+use ra_trace::{Cause, Verdict};
 use std::alloc::Global;
-use std::fmt::Display;
 use std::io;
-use std::io::Read;
 use std::process::Abort;
-use test_support::{FailingWriter, failing_writer};
+use test_support::{FailingWriter, Tried, failing_writer};
 
 /// The trace of one client that locks and unlocks, at the first of two nodes.
 pub const ONE_LOCK: &str = "trace 2 2 0
@@ -138,18 +137,12 @@ pub fn text_of(alloc: Global, parts: &[Part<'_>]) -> Option<Vec<u8>> {
     }
 }
 
-/// Returns whether what a reader gives has this verdict.
-fn gives<R: Read>(alloc: Global, reader: &mut R, wanted: Verdict) -> bool {
-    match check(alloc, reader) {
+/// Returns whether a text has this verdict.
+pub fn is_judged(alloc: Global, text: &[u8], wanted: Verdict) -> bool {
+    match checked_text(alloc, text, Way::InPieces(64)) {
         Ok(verdict) => verdict == wanted,
         Err(_) => false,
     }
-}
-
-/// Returns whether a text has this verdict.
-pub fn is_judged(alloc: Global, text: &[u8], wanted: Verdict) -> bool {
-    let mut reader = text;
-    gives(alloc, &mut reader, wanted)
 }
 
 /// Returns whether a text is a trace, with so many requests and messages.
@@ -195,25 +188,21 @@ pub fn assert_judged(rt: &(impl Abort + AllocGlobal), rows: &[Judged<'_>]) {
     assert_rows(rt, judged_so(rt.alloc(), rows), rows.len());
 }
 
-/// Returns whether a value prints as this word.
-fn prints<T: Display>(alloc: Global, value: &T, word: &str) -> bool {
-    match format!(in alloc; "{value}") {
-        Ok(text) => text.as_str() == word,
-        Err(_) => false,
-    }
-}
-
-/// Returns how many values print as the word beside them, up to the first that does not.
-pub fn printed<T: Display>(alloc: Global, rows: &[(T, &str)]) -> usize {
-    for place in 0..rows.len() {
-        if !prints(alloc, &rows[place].0, rows[place].1) {
-            return place;
-        }
-    }
-    rows.len()
-}
-
 /// Asserts that each of so many rows is so, where so many are so up to the first that is not.
 pub fn assert_rows(rt: &impl Abort, so: usize, rows: usize) {
     assert!(rt; so == rows, "row {so}, counted from 0");
+}
+
+/// Asserts that something is so.
+pub fn assert_so(rt: &impl Abort, so: bool) {
+    assert!(rt; so);
+}
+
+/// Asserts that calls of which a growth was refused had the right answer, and changed nothing.
+pub fn assert_grown(rt: &impl Abort, tried: Tried) {
+    match tried {
+        Tried::AtOnce => {}
+        Tried::Again => panic!(rt; "a growth was refused, and the call made again"),
+        Tried::Wrong => panic!(rt; "a refused growth had another answer, or changed something"),
+    }
 }

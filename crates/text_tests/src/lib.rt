@@ -28,6 +28,8 @@ mod log_readers;
 #[cfg(test)]
 mod mark_logs;
 #[cfg(test)]
+mod notes;
+#[cfg(test)]
 mod performing;
 #[cfg(test)]
 mod pictures;

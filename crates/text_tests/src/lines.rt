@@ -187,27 +187,15 @@ fn assert_no_lines(rt: &(impl Abort + AllocGlobal), texts: &[&[u8]]) {
 }
 
 #[test]
-fn texts_without_their_line_feed_are_not_read(rt: HostRuntime) {
+fn words_are_apart_by_one_space_and_end_with_a_line_feed(rt: HostRuntime) {
     assert_no_lines(&rt, TORN);
-}
-
-#[test]
-fn lines_begin_with_their_words(rt: HostRuntime) {
     assert_no_lines(&rt, WORDS);
-}
-
-#[test]
-fn fields_are_one_space_apart(rt: HostRuntime) {
     assert_no_lines(&rt, FIELDS);
 }
 
 #[test]
-fn numbers_are_in_their_ranges_and_have_one_spelling(rt: HostRuntime) {
+fn numbers_names_and_modes_are_as_they_are_written(rt: HostRuntime) {
     assert_no_lines(&rt, NUMBERS);
-}
-
-#[test]
-fn names_and_modes_are_as_they_are_written(rt: HostRuntime) {
     assert_no_lines(&rt, NAMES);
 }
 

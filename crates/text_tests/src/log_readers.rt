@@ -13,11 +13,11 @@ use std::process::Abort;
 use test_support::FailingReader;
 
 /// The result of checking a log.
-type Checked = Result<MarksVerdict, TraceError>;
+pub type Checked = Result<MarksVerdict, TraceError>;
 
 /// How a log is read.
 #[derive(Clone, Copy)]
-enum Way {
+pub enum Way {
     /// In pieces of this many bytes.
     InPieces(usize),
     /// Byte by byte, from a reader that fails with this error after this many bytes.
@@ -50,6 +50,11 @@ fn checked(alloc: Global, reader: &mut FailingReader<'_>, way: Way) -> Checked {
         Within(limit) => check_marks_within(alloc, reader, u64::from(limit)),
         InPieces(_) | Failing(_, _) => check_marks(alloc, reader),
     }
+}
+
+/// Returns the result of checking a text that is read so.
+pub fn checked_text(alloc: Global, text: &[u8], way: Way) -> Checked {
+    checked(alloc, &mut reader(text, way), way)
 }
 
 /// Returns the result of checking what a reader shows in its buffer.

@@ -1,9 +1,11 @@
 //! What `check_marks` says of the log of a lock service.
-use crate::helpers::{assert_rows, printed};
+use crate::helpers::assert_rows;
+use crate::log_readers::{Way, checked_text};
 use Judged::{Invalid, Valid};
-use ra_trace::{MarkCause, MarksVerdict, check_marks};
+use ra_trace::{MarkCause, MarksVerdict};
 use std::alloc::Global;
 use std::process::Abort;
+use test_support::printed;
 
 /// A log and its verdict.
 #[derive(Clone, Copy)]
@@ -16,8 +18,7 @@ enum Judged {
 
 /// Returns whether a log has this verdict.
 fn is_judged(alloc: Global, log: &str, wanted: MarksVerdict) -> bool {
-    let mut reader = log.as_bytes();
-    match check_marks(alloc, &mut reader) {
+    match checked_text(alloc, log.as_bytes(), Way::InPieces(64)) {
         Ok(verdict) => verdict == wanted,
         Err(_) => false,
     }
@@ -107,97 +108,95 @@ fn runs_of_the_lock_table_are_valid(rt: HostRuntime) {
     assert_judged(&rt, ROWS);
 }
 
-#[test]
-fn requests_are_of_free_nodes_and_above_what_was_granted(rt: HostRuntime) {
-    const ROWS: &[Judged] = &[
-        Invalid(
-            "request 1 1 r X 1\nrequest 1 2 r S 2\n",
-            2,
-            MarkCause::NodeBusy,
-        ),
-        // The node holds, and its number is not above its own.
-        Invalid(
-            "request 1 1 r X 1\nenter 1 1 r X 1\nrequest 1 1 r X 1\n",
-            3,
-            MarkCause::NodeBusy,
-        ),
-        Invalid(
-            "request 1 1 r X 3\nenter 1 1 r X 3\nrequest 2 2 r S 3\n",
-            3,
-            MarkCause::NotAbove,
-        ),
-        // It left, and its number stays granted.
-        Invalid(
-            "request 1 1 r X 3\nenter 1 1 r X 3\nleave 1 1 r X 3\nrequest 1 1 r X 2\n",
-            4,
-            MarkCause::NotAbove,
-        ),
-    ];
-    assert_judged(&rt, ROWS);
-}
+/// Requests are of free nodes and above what was granted.
+const REQUESTS: &[Judged] = &[
+    Invalid(
+        "request 1 1 r X 1\nrequest 1 2 r S 2\n",
+        2,
+        MarkCause::NodeBusy,
+    ),
+    // The node holds, and its number is not above its own.
+    Invalid(
+        "request 1 1 r X 1\nenter 1 1 r X 1\nrequest 1 1 r X 1\n",
+        3,
+        MarkCause::NodeBusy,
+    ),
+    Invalid(
+        "request 1 1 r X 3\nenter 1 1 r X 3\nrequest 2 2 r S 3\n",
+        3,
+        MarkCause::NotAbove,
+    ),
+    // It left, and its number stays granted.
+    Invalid(
+        "request 1 1 r X 3\nenter 1 1 r X 3\nleave 1 1 r X 3\nrequest 1 1 r X 2\n",
+        4,
+        MarkCause::NotAbove,
+    ),
+];
+
+/// Grants are of the earliest that nothing excludes.
+const GRANTS: &[Judged] = &[
+    Invalid("enter 1 1 r X 1\n", 1, MarkCause::NotWaiting),
+    Invalid(
+        "request 1 1 r X 1\nenter 1 1 r S 1\n",
+        2,
+        MarkCause::NotWaiting,
+    ),
+    Invalid(
+        "request 1 1 r X 1\nenter 1 1 r X 1\nenter 1 1 r X 1\n",
+        3,
+        MarkCause::NotWaiting,
+    ),
+    Invalid(BOTH_INSIDE, 4, MarkCause::Held),
+    // An earlier one waits too.
+    Invalid(
+        "request 1 1 r X 1\nrequest 2 2 r X 2\nrequest 3 3 r X 3\nenter 1 1 r X 1\nenter 3 3 r X 3\n",
+        5,
+        MarkCause::Held,
+    ),
+    Invalid(
+        "request 1 1 r IX 1\nrequest 2 2 r SIX 2\nenter 1 1 r IX 1\nenter 2 2 r SIX 2\n",
+        4,
+        MarkCause::Held,
+    ),
+    Invalid(
+        "request 1 1 r S 1\nrequest 2 2 r X 2\nenter 2 2 r X 2\n",
+        3,
+        MarkCause::Earlier,
+    ),
+    // Of equal numbers that of the lower node is the earlier one.
+    Invalid(
+        "request 2 2 r X 1\nrequest 1 1 r X 1\nenter 2 2 r X 1\n",
+        3,
+        MarkCause::Earlier,
+    ),
+];
+
+/// Who leaves holds.
+const LEAVES: &[Judged] = &[
+    Invalid("leave 1 1 r X 1\n", 1, MarkCause::NotHeld),
+    Invalid(
+        "request 1 1 r X 1\nleave 1 1 r X 1\n",
+        2,
+        MarkCause::NotHeld,
+    ),
+    Invalid(
+        "request 1 1 r X 1\nenter 1 1 r X 1\nleave 1 2 r X 1\n",
+        3,
+        MarkCause::NotHeld,
+    ),
+    Invalid(
+        "request 1 1 r X 1\nenter 1 1 r X 1\nleave 1 1 r X 1\nleave 1 1 r X 1\n",
+        4,
+        MarkCause::NotHeld,
+    ),
+];
 
 #[test]
-fn grants_are_of_the_earliest_that_nothing_excludes(rt: HostRuntime) {
-    const ROWS: &[Judged] = &[
-        Invalid("enter 1 1 r X 1\n", 1, MarkCause::NotWaiting),
-        Invalid(
-            "request 1 1 r X 1\nenter 1 1 r S 1\n",
-            2,
-            MarkCause::NotWaiting,
-        ),
-        Invalid(
-            "request 1 1 r X 1\nenter 1 1 r X 1\nenter 1 1 r X 1\n",
-            3,
-            MarkCause::NotWaiting,
-        ),
-        Invalid(BOTH_INSIDE, 4, MarkCause::Held),
-        // An earlier one waits too.
-        Invalid(
-            "request 1 1 r X 1\nrequest 2 2 r X 2\nrequest 3 3 r X 3\nenter 1 1 r X 1\nenter 3 3 r X 3\n",
-            5,
-            MarkCause::Held,
-        ),
-        Invalid(
-            "request 1 1 r IX 1\nrequest 2 2 r SIX 2\nenter 1 1 r IX 1\nenter 2 2 r SIX 2\n",
-            4,
-            MarkCause::Held,
-        ),
-        Invalid(
-            "request 1 1 r S 1\nrequest 2 2 r X 2\nenter 2 2 r X 2\n",
-            3,
-            MarkCause::Earlier,
-        ),
-        // Of equal numbers that of the lower node is the earlier one.
-        Invalid(
-            "request 2 2 r X 1\nrequest 1 1 r X 1\nenter 2 2 r X 1\n",
-            3,
-            MarkCause::Earlier,
-        ),
-    ];
-    assert_judged(&rt, ROWS);
-}
-
-#[test]
-fn who_leaves_holds(rt: HostRuntime) {
-    const ROWS: &[Judged] = &[
-        Invalid("leave 1 1 r X 1\n", 1, MarkCause::NotHeld),
-        Invalid(
-            "request 1 1 r X 1\nleave 1 1 r X 1\n",
-            2,
-            MarkCause::NotHeld,
-        ),
-        Invalid(
-            "request 1 1 r X 1\nenter 1 1 r X 1\nleave 1 2 r X 1\n",
-            3,
-            MarkCause::NotHeld,
-        ),
-        Invalid(
-            "request 1 1 r X 1\nenter 1 1 r X 1\nleave 1 1 r X 1\nleave 1 1 r X 1\n",
-            4,
-            MarkCause::NotHeld,
-        ),
-    ];
-    assert_judged(&rt, ROWS);
+fn marks_that_the_lock_table_refuses_are_wrong(rt: HostRuntime) {
+    assert_judged(&rt, REQUESTS);
+    assert_judged(&rt, GRANTS);
+    assert_judged(&rt, LEAVES);
 }
 
 #[test]

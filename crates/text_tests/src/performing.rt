@@ -1,5 +1,5 @@
 //! How a script is performed: as its trace, by readers that fail while it is read, and by writers that fail while its text is written.
-use crate::helpers::{ONE_LOCK, ONE_LOCK_LENGTH, ONE_LOCK_SCRIPT, assert_rows, failing};
+use crate::helpers::{ONE_LOCK, ONE_LOCK_LENGTH, ONE_LOCK_SCRIPT, assert_rows, assert_so, failing};
 use Format::{Choices, Lines, Trace};
 use ra_schedule::Policy;
 use ra_script::{Format, PerformError, perform, perform_as, perform_trace};
@@ -23,17 +23,27 @@ queued 0
 const ONE_LOCK_LINES_LENGTH: usize = 110;
 
 /// The line of its choices.
-const ONE_LOCK_CHOICES: &str = "c1 m0 m0 c1\n";
+pub const ONE_LOCK_CHOICES: &str = "c1 m0 m0 c1\n";
 
 /// How many bytes it has.
 const ONE_LOCK_CHOICES_LENGTH: usize = 12;
 
 /// Returns what is written of the script.
-fn text_of(format: Format) -> &'static str {
+pub fn text_of(format: Format) -> &'static str {
     match format {
         Lines => ONE_LOCK_LINES,
         Trace => ONE_LOCK,
         Choices => ONE_LOCK_CHOICES,
+    }
+}
+
+/// Returns a reader of a script that does not fail.
+pub fn reader_of(script: &[u8]) -> FailingReader<'_> {
+    FailingReader {
+        bytes: script,
+        size: 64,
+        before_fault: None,
+        fault: io::ErrorKind::Interrupted,
     }
 }
 
@@ -47,6 +57,21 @@ fn script_reader(before_fault: Option<usize>) -> FailingReader<'static> {
     }
 }
 
+/// Performs a script by a policy, and returns whether it finished.
+pub fn performed(
+    alloc: Global,
+    reader: &mut FailingReader<'_>,
+    writer: &mut FailingWriter<'_>,
+    format: Format,
+    policy: &Policy,
+) -> Result<bool, PerformError> {
+    match format {
+        Lines => perform(alloc, reader, writer, policy),
+        Trace => perform_trace(alloc, reader, writer, policy),
+        Choices => perform_as(alloc, reader, writer, Choices, policy),
+    }
+}
+
 /// Performs a script from the oldest message on, and returns the fault, or `None` where there is none.
 fn fault_of(
     alloc: Global,
@@ -54,12 +79,7 @@ fn fault_of(
     writer: &mut FailingWriter<'_>,
     format: Format,
 ) -> Option<PerformError> {
-    let performed = match format {
-        Lines => perform(alloc, reader, writer, &Policy::Oldest),
-        Trace => perform_trace(alloc, reader, writer, &Policy::Oldest),
-        Choices => perform_as(alloc, reader, writer, Choices, &Policy::Oldest),
-    };
-    performed.err()
+    performed(alloc, reader, writer, format, &Policy::Oldest).err()
 }
 
 /// Returns whether the fault of a reader after this many bytes is named, and no byte is read after it and none written.
@@ -158,17 +178,19 @@ fn is_written_byte_by_byte(alloc: Global, format: Format, length: usize) -> bool
 
 #[test]
 fn a_writer_that_takes_one_byte_at_a_time_gets_all(rt: HostRuntime) {
-    assert!(rt; is_written_byte_by_byte(rt.alloc(), Lines, ONE_LOCK_LINES_LENGTH));
-    assert!(rt; is_written_byte_by_byte(rt.alloc(), Trace, ONE_LOCK_LENGTH));
-    assert!(rt; is_written_byte_by_byte(rt.alloc(), Choices, ONE_LOCK_CHOICES_LENGTH));
+    let alloc = rt.alloc();
+    let so = is_written_byte_by_byte(alloc, Lines, ONE_LOCK_LINES_LENGTH)
+        && is_written_byte_by_byte(alloc, Trace, ONE_LOCK_LENGTH)
+        && is_written_byte_by_byte(alloc, Choices, ONE_LOCK_CHOICES_LENGTH);
+    assert_so(&rt, so);
 }
 
 /// Returns whether a script is driven to its end, from the oldest message on, and this is its trace.
 fn is_traced(alloc: Global, script: &str, trace: &str) -> bool {
-    let mut reader = script.as_bytes();
-    let mut output = Vec::new(alloc);
-    match perform_trace(alloc, &mut reader, &mut output, &Policy::Oldest) {
-        Ok(finished) => finished && output.as_slice() == trace.as_bytes(),
+    let mut reader = reader_of(script.as_bytes());
+    let mut writer = failing(trace, 1_000, None);
+    match performed(alloc, &mut reader, &mut writer, Trace, &Policy::Oldest) {
+        Ok(finished) => finished && writer.left.is_empty() && !writer.differs,
         Err(_) => false,
     }
 }
@@ -176,6 +198,6 @@ fn is_traced(alloc: Global, script: &str, trace: &str) -> bool {
 #[test]
 fn a_run_is_written_as_its_trace(rt: HostRuntime) {
     let script = "nodes = 2\nclient = [{ node = 1, ops = [\"X r\", \"U r\"] }]\n";
-    assert!(rt; is_traced(rt.alloc(), script, ONE_LOCK));
-    assert!(rt; ONE_LOCK.len() == ONE_LOCK_LENGTH);
+    let so = is_traced(rt.alloc(), script, ONE_LOCK) && ONE_LOCK.len() == ONE_LOCK_LENGTH;
+    assert_so(&rt, so);
 }

@@ -1,12 +1,12 @@
 //! Pictures of traces: what stands in them, in words, and when there is none.
 use crate::helpers::Part::{Text, Times};
-use crate::helpers::{ONE_LOCK, TWO_LOCKS, assert_rows, failing, printed, text_of};
+use crate::helpers::{ONE_LOCK, TWO_LOCKS, assert_rows, assert_so, failing, text_of};
 use ra_draw::{DrawError, Part, draw, draw_marks};
 use ra_trace::{Cause, MarksVerdict, Verdict};
 use std::alloc::Global;
 use std::io;
-use std::process::Abort;
-use test_support::FailingReader;
+use std::io::{Read, Write};
+use test_support::{FailingReader, printed};
 
 /// The trace of a request that is repeated, of which one is lost and the other is under way at the end.
 const LOST_AND_REPEATED: &str = "trace 2 2 0
@@ -42,11 +42,31 @@ fn count_in(text: &str, words: &str) -> u64 {
     count
 }
 
+/// Draws a part of the trace that a reader gives.
+pub fn drawn_to<R: Read, W: Write>(
+    alloc: Global,
+    reader: &mut R,
+    writer: &mut W,
+    part: Part,
+) -> Result<Verdict, DrawError> {
+    draw(alloc, reader, writer, part)
+}
+
+/// Draws a part of the mark log that a reader gives.
+pub fn drawn_marks_to<R: Read, W: Write>(
+    alloc: Global,
+    reader: &mut R,
+    writer: &mut W,
+    part: Part,
+) -> Result<MarksVerdict, DrawError> {
+    draw_marks(alloc, reader, writer, part)
+}
+
 /// Returns the picture of a part of a trace.
 fn picture_of(alloc: Global, trace: &[u8], part: Part) -> Option<String> {
     let mut reader = trace;
     let mut picture = Vec::new(alloc);
-    match draw(alloc, &mut reader, &mut picture, part) {
+    match drawn_to(alloc, &mut reader, &mut picture, part) {
         Ok(Verdict::Valid { .. }) => String::from_utf8(picture).ok(),
         _ => None,
     }
@@ -54,8 +74,8 @@ fn picture_of(alloc: Global, trace: &[u8], part: Part) -> Option<String> {
 
 /// Returns whether these words stand in a picture so often.
 fn have(picture: &str, words: &[(&str, u64)]) -> bool {
-    for (word, count) in words {
-        if count_in(picture, word) != *count {
+    for row in words {
+        if count_in(picture, row.0) != row.1 {
             return false;
         }
     }
@@ -66,7 +86,7 @@ fn have(picture: &str, words: &[(&str, u64)]) -> bool {
 fn log_picture_of(alloc: Global, log: &[u8], part: Part) -> Option<String> {
     let mut reader = log;
     let mut picture = Vec::new(alloc);
-    match draw_marks(alloc, &mut reader, &mut picture, part) {
+    match drawn_marks_to(alloc, &mut reader, &mut picture, part) {
         Ok(MarksVerdict::Valid { .. }) => String::from_utf8(picture).ok(),
         _ => None,
     }
@@ -306,6 +326,17 @@ const LOG_WORDS: &[(&str, u64)] = &[
     ("<title>reply ", 0),
 ];
 
+/// Returns how many rows of mark logs are so, up to the first that is not.
+fn logs_so(alloc: Global, rows: &[Row]) -> usize {
+    for place in 0..rows.len() {
+        let row = &rows[place];
+        if !has_row(log_picture_of(alloc, row.0.as_bytes(), row.1), row) {
+            return place;
+        }
+    }
+    rows.len()
+}
+
 #[test]
 fn a_mark_log_has_bars_alone(rt: HostRuntime) {
     let alloc = rt.alloc();
@@ -330,14 +361,7 @@ fn a_mark_log_has_bars_alone(rt: HostRuntime) {
             ],
         ),
     ];
-    let mut same = 0;
-    for row in &rows {
-        if !has_row(log_picture_of(alloc, row.0.as_bytes(), row.1), row) {
-            break;
-        }
-        same = usize::saturating_add(same, 1);
-    }
-    assert_rows(&rt, same, rows.len());
+    assert_rows(&rt, logs_so(alloc, &rows), rows.len());
 }
 
 #[test]
@@ -409,7 +433,7 @@ fn a_part_has_what_reaches_into_it(rt: HostRuntime) {
 fn drawn(alloc: Global, text: &[u8], part: Part) -> (Result<Verdict, DrawError>, bool) {
     let mut reader = text;
     let mut picture = Vec::new(alloc);
-    let result = draw(alloc, &mut reader, &mut picture, part);
+    let result = drawn_to(alloc, &mut reader, &mut picture, part);
     (result, !picture.is_empty())
 }
 
@@ -438,9 +462,10 @@ fn a_text_that_is_no_trace_is_refused_with_its_line(rt: HostRuntime) {
         line: 4,
         cause: Cause::Marks,
     };
-    assert!(rt; drawn(alloc, wrong, Part::WHOLE) == (Ok(verdict), false));
     // A line that is not drawn counts as well.
-    assert!(rt; drawn(alloc, wrong, lines(1, 2)) == (Ok(verdict), false));
+    let so = drawn(alloc, wrong, Part::WHOLE) == (Ok(verdict), false)
+        && drawn(alloc, wrong, lines(1, 2)) == (Ok(verdict), false);
+    assert_so(&rt, so);
 }
 
 #[test]
@@ -454,35 +479,39 @@ fn no_more_than_4096_lines_are_drawn(rt: HostRuntime) {
         Some((Ok(verdict), true)),
         Some((Err(DrawError::TooLong), false)),
     );
-    assert!(rt; drawn_repeats(alloc, 4092, Part::WHOLE) == most);
-    assert!(rt; drawn_repeats(alloc, 4093, Part::WHOLE) == more);
-    assert!(rt; drawn_repeats(alloc, 4093, lines(2, 4097)) == most);
-    assert!(rt; drawn_repeats(alloc, 4094, lines(2, 4098)) == more);
+    let so = drawn_repeats(alloc, 4092, Part::WHOLE) == most
+        && drawn_repeats(alloc, 4093, Part::WHOLE) == more
+        && drawn_repeats(alloc, 4093, lines(2, 4097)) == most
+        && drawn_repeats(alloc, 4094, lines(2, 4098)) == more;
+    assert_so(&rt, so);
 }
 
-#[test]
-fn a_reader_that_fails_is_a_fault(rt: HostRuntime) {
+/// Returns whether a reader that fails is a fault, and nothing is drawn.
+fn fails_to_read(alloc: Global) -> bool {
     let mut reader = FailingReader {
         bytes: ONE_LOCK.as_bytes(),
         size: 1,
         before_fault: Some(139),
         fault: io::ErrorKind::Interrupted,
     };
-    let mut picture = Vec::new(rt.alloc());
-    let result = draw(rt.alloc(), &mut reader, &mut picture, Part::WHOLE);
-    assert!(rt; result == Err(DrawError::Read));
-    assert!(rt; reader.bytes.len() == 1);
-    assert!(rt; picture.is_empty());
+    let mut picture = Vec::new(alloc);
+    drawn_to(alloc, &mut reader, &mut picture, Part::WHOLE) == Err(DrawError::Read)
+        && reader.bytes.len() == 1
+        && picture.is_empty()
+}
+
+/// Returns whether a writer that fails is a fault, and has what came before.
+fn fails_to_write(alloc: Global) -> bool {
+    let mut reader = ONE_LOCK.as_bytes();
+    let mut writer = failing("<svg xmlns=", 7, Some(io::ErrorKind::Interrupted));
+    drawn_to(alloc, &mut reader, &mut writer, Part::WHOLE) == Err(DrawError::Write)
+        && writer.left == b"lns=".as_slice()
+        && !writer.differs
 }
 
 #[test]
-fn a_writer_that_fails_is_a_fault(rt: HostRuntime) {
-    let mut reader = ONE_LOCK.as_bytes();
-    let mut writer = failing("<svg xmlns=", 7, Some(io::ErrorKind::Interrupted));
-    let result = draw(rt.alloc(), &mut reader, &mut writer, Part::WHOLE);
-    assert!(rt; result == Err(DrawError::Write));
-    assert!(rt; writer.left == b"lns=".as_slice());
-    assert!(rt; !writer.differs);
+fn readers_and_writers_that_fail_are_faults(rt: HostRuntime) {
+    assert_so(&rt, fails_to_read(rt.alloc()) && fails_to_write(rt.alloc()));
 }
 
 /// Why no picture is drawn, and the word of it.

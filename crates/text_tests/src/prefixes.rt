@@ -1,7 +1,9 @@
 //! Prefixes of a script: each has its answer.
-use crate::helpers::{ONE_LOCK_SCRIPT, assert_rows};
+use crate::helpers::{ONE_LOCK_SCRIPT, assert_rows, failing};
+use crate::performing::{ONE_LOCK_LINES, performed, reader_of};
+use crate::script_cases;
 use ra_schedule::Policy;
-use ra_script::{PerformError, ScriptError, perform, read_script};
+use ra_script::{Format, PerformError, ScriptError};
 use std::alloc::Global;
 
 /// The least and the greatest length of some prefixes of the script, and why they are refused.
@@ -33,19 +35,24 @@ fn fault_of(length: usize) -> Option<ScriptError> {
 
 /// Returns whether a text is refused so, or is a script where there is no fault.
 fn is_read(alloc: Global, text: &[u8], fault: Option<ScriptError>) -> bool {
-    match read_script(alloc, text) {
-        Ok(_) => fault.is_none(),
-        Err(found) => fault == Some(found),
-    }
+    script_cases::fault_of(alloc, text) == fault
 }
 
 /// Returns whether a text is refused so and nothing is written, or is performed to its end where there is no fault.
 fn is_performed(alloc: Global, text: &[u8], fault: Option<ScriptError>) -> bool {
-    let mut reader = text;
-    let mut output = Vec::new(alloc);
-    match perform(alloc, &mut reader, &mut output, &Policy::Oldest) {
-        Ok(finished) => fault.is_none() && finished,
-        Err(PerformError::Script(found)) => fault == Some(found) && output.is_empty(),
+    let mut reader = reader_of(text);
+    let mut writer = failing(ONE_LOCK_LINES, 1_000, None);
+    match performed(
+        alloc,
+        &mut reader,
+        &mut writer,
+        Format::Lines,
+        &Policy::Oldest,
+    ) {
+        Ok(finished) => fault.is_none() && finished && !writer.differs,
+        Err(PerformError::Script(found)) => {
+            fault == Some(found) && !writer.differs && writer.left.len() == ONE_LOCK_LINES.len()
+        }
         Err(_) => false,
     }
 }

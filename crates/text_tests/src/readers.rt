@@ -10,11 +10,11 @@ use std::process::Abort;
 use test_support::FailingReader;
 
 /// The result of checking a text.
-type Checked = Result<Verdict, TraceError>;
+pub type Checked = Result<Verdict, TraceError>;
 
 /// How a text is read.
 #[derive(Clone, Copy)]
-enum Way {
+pub enum Way {
     /// In pieces of this many bytes.
     InPieces(usize),
     /// Byte by byte, from a reader that fails with this error after this many bytes.
@@ -47,6 +47,11 @@ fn checked(alloc: Global, reader: &mut FailingReader<'_>, way: Way) -> Checked {
         Within(limit) => check_within(alloc, reader, u64::from(limit)),
         InPieces(_) | Failing(_, _) => check(alloc, reader),
     }
+}
+
+/// Returns the result of checking a text that is read so.
+pub fn checked_text(alloc: Global, text: &[u8], way: Way) -> Checked {
+    checked(alloc, &mut reader(text, way), way)
 }
 
 /// Returns the result of checking what a reader shows in its buffer.

@@ -1,7 +1,8 @@
 //! How the refusals of scripts, of lists of choices and of performing a script are printed.
-use crate::helpers::{assert_rows, printed};
+use crate::helpers::assert_rows;
 use ra_schedule::DriveError;
 use ra_script::{ChoicesError, PerformError, ScriptError};
+use test_support::printed;
 
 const SCRIPT_FAULTS: &[(ScriptError, &str)] = &[
     (ScriptError::AlreadyHeld, "AlreadyHeld"),

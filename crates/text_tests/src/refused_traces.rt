@@ -1,67 +1,42 @@
 //! Lists of steps that have no trace because one step is refused: the first, or one after many others.
-use crate::acts::adds;
-use crate::helpers::{assert_rows, failing, r};
+use crate::acts::{adds, ask, fault_of_steps, leave, reply, request, text_of_steps};
+use crate::helpers::{assert_rows, assert_so, failing, r};
 use ra_stamp::{Message, Mode, NodeId};
-use ra_trace::{WriteTraceError, trace_text, write_trace};
+use ra_trace::WriteTraceError;
 use ra_world::{NodeRefusal, RunError, Step, StepError, Steps};
 use std::alloc::Global;
 
 /// Returns the step in which a client asks for `r` exclusively, or `None` if there is no such node.
-fn ask(node: u16, client: u32) -> Option<Step> {
-    Some(Step::Ask {
-        node: NodeId::new(node)?,
-        client,
-        name: r(),
-        mode: Mode::Exclusive,
-    })
+fn asks(node: u16, client: u32) -> Option<Step> {
+    ask(node, client, r(), Mode::Exclusive)
 }
 
-/// Returns the step in which client 1 leaves `r` at node 1.
-fn leave() -> Option<Step> {
-    Some(Step::Leave {
-        node: NodeId::new(1)?,
-        client: 1,
-        name: r(),
-    })
-}
-
-/// Returns the REQUEST of node 1 to node 2 with this number.
-fn request(seq: u64) -> Option<Message> {
-    Some(Message::Request {
-        from: NodeId::new(1)?,
-        to: NodeId::new(2)?,
-        name: r(),
-        mode: Mode::Exclusive,
-        seq,
-    })
-}
-
-/// Returns the REPLY to it.
-fn reply(seq: u64) -> Option<Message> {
-    Some(Message::Reply {
-        from: NodeId::new(2)?,
-        to: NodeId::new(1)?,
-        name: r(),
-        seq,
-    })
+/// Returns the REQUEST of node 1 to node 2 with this number, and the REPLY to it.
+fn messages(seq: u64) -> Option<(Message, Message)> {
+    match (NodeId::new(1), NodeId::new(2)) {
+        (Some(one), Some(two)) => Some((request(one, two, seq), reply(two, one, seq))),
+        _ => None,
+    }
 }
 
 /// Adds the steps of a request with this number: client 1 of node 1 asks, and the REQUEST and the REPLY are delivered.
 /// Returns whether there was room.
 fn adds_entry(steps: &mut Steps, seq: u64) -> bool {
-    let (Some(request), Some(reply)) = (request(seq), reply(seq)) else {
-        return false;
-    };
-    adds(steps, ask(1, 1))
-        && adds(steps, Some(Step::Deliver(request)))
-        && adds(steps, Some(Step::Deliver(reply)))
+    match messages(seq) {
+        Some((request, reply)) => {
+            adds(steps, asks(1, 1))
+                && adds(steps, Some(Step::Deliver(request)))
+                && adds(steps, Some(Step::Deliver(reply)))
+        }
+        None => false,
+    }
 }
 
 /// Adds 39 steps, with numbers that begin at `start`: client 1 locks `r` nine times and enters a tenth time. Returns
 /// whether there was room.
 fn adds_39_steps(steps: &mut Steps, start: u64) -> bool {
     for lock in 1..=9u64 {
-        if !adds_entry(steps, start.saturating_add(lock)) || !adds(steps, leave()) {
+        if !adds_entry(steps, start.saturating_add(lock)) || !adds(steps, leave(1, 1)) {
             return false;
         }
     }
@@ -85,17 +60,14 @@ enum Last {
 
 /// Returns the step, or `None` if there is no such node.
 fn step(last: Last) -> Option<Step> {
+    let (request, _) = messages(1)?;
     match last {
-        Last::Asks(node, client) => ask(node, client),
-        Last::Leaves => leave(),
-        Last::LeavesAsOther => Some(Step::Leave {
-            node: NodeId::new(1)?,
-            client: 2,
-            name: r(),
-        }),
-        Last::Delivers => Some(Step::Deliver(request(1)?)),
-        Last::Loses => Some(Step::Lose(request(1)?)),
-        Last::Repeats => Some(Step::Repeat(request(1)?)),
+        Last::Asks(node, client) => asks(node, client),
+        Last::Leaves => leave(1, 1),
+        Last::LeavesAsOther => leave(1, 2),
+        Last::Delivers => Some(Step::Deliver(request)),
+        Last::Loses => Some(Step::Lose(request)),
+        Last::Repeats => Some(Step::Repeat(request)),
     }
 }
 
@@ -116,10 +88,10 @@ const NOT_HELD: StepError = StepError::Node(NodeRefusal::NotHeld);
 fn has_no_trace(alloc: Global, start: u64, steps: &Steps, place: u64, cause: StepError) -> bool {
     let refused = WriteTraceError::Run(RunError::Refused { place, cause });
     let mut writer = failing("", 0, None);
-    write_trace(alloc, 2, start, steps, &mut writer).err() == Some(refused)
+    fault_of_steps(alloc, 2, start, steps, &mut writer) == Some(refused)
         && !writer.differs
         && writer.before_fault == Some(0)
-        && trace_text(alloc, 2, start, steps).err() == Some(refused)
+        && text_of_steps(alloc, 2, start, steps).err() == Some(refused)
 }
 
 /// Returns whether the step of a case is refused, as the first step or after 39 others. One more step follows it.
@@ -127,7 +99,7 @@ fn is_refused(alloc: Global, case: &Case, place: u64) -> bool {
     let (mut steps, start) = (Steps::new(alloc), case.1);
     (place < 40 || adds_39_steps(&mut steps, start))
         && adds(&mut steps, step(case.0))
-        && adds(&mut steps, ask(2, 3))
+        && adds(&mut steps, asks(2, 3))
         && has_no_trace(alloc, start, &steps, place, case.2)
 }
 
@@ -173,10 +145,10 @@ fn the_fortieth_step_of_a_trace_is_refused_for_each_cause(rt: HostRuntime) {
 /// Returns whether the 39 steps, with client 1's leave as the fortieth, have a trace of this many lines.
 fn has_lines(alloc: Global, start: u64, lines: usize) -> bool {
     let mut steps = Steps::new(alloc);
-    if !adds_39_steps(&mut steps, start) || !adds(&mut steps, leave()) {
+    if !adds_39_steps(&mut steps, start) || !adds(&mut steps, leave(1, 1)) {
         return false;
     }
-    match trace_text(alloc, 2, start, &steps) {
+    match text_of_steps(alloc, 2, start, &steps) {
         Ok(text) => text.as_str().lines().count() == lines,
         Err(_) => false,
     }
@@ -185,6 +157,6 @@ fn has_lines(alloc: Global, start: u64, lines: usize) -> bool {
 /// A line for each of 40 steps and 30 marks, and the first and the last line.
 #[test]
 fn the_steps_before_have_their_lines(rt: HostRuntime) {
-    assert!(rt; has_lines(rt.alloc(), 0, 72));
-    assert!(rt; has_lines(rt.alloc(), TEN_LEFT, 72));
+    let so = has_lines(rt.alloc(), 0, 72) && has_lines(rt.alloc(), TEN_LEFT, 72);
+    assert_so(&rt, so);
 }

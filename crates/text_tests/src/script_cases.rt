@@ -2,6 +2,7 @@
 use crate::helpers::{Part, assert_rows, text_of};
 use Answer::{Accepted, NoToml, Refused};
 use Part::Text;
+use ra_schedule::Script;
 use ra_script::{ScriptError, read_script};
 use std::alloc::Global;
 use std::process::Abort;
@@ -20,9 +21,14 @@ pub enum Answer {
 /// The parts of a text, and the result of reading it.
 pub struct Case(pub &'static [Part<'static>], pub Answer);
 
+/// Returns what `read_script` answers.
+pub fn script_of(alloc: Global, text: &[u8]) -> Result<Script, ScriptError> {
+    read_script(alloc, text)
+}
+
 /// Returns why a text is refused, or `None` if it is a script.
-fn fault_of(alloc: Global, text: &[u8]) -> Option<ScriptError> {
-    read_script(alloc, text).err()
+pub fn fault_of(alloc: Global, text: &[u8]) -> Option<ScriptError> {
+    script_of(alloc, text).err()
 }
 
 /// Returns whether reading a text has this result.

@@ -1,10 +1,12 @@
 //! The nodes, the clients and the operations of a script: what is read of them, and when they are refused.
 use crate::helpers::Part::{Text, Times};
-use crate::helpers::{Part, all_kinds, assert_rows, r};
+use crate::helpers::{Part, all_kinds, assert_rows, assert_so, r};
 use crate::script_cases::Answer::{Accepted, Refused};
-use crate::script_cases::{Around, Case, assert_cases, assert_refused, assert_refused_in};
+use crate::script_cases::{
+    Around, Case, assert_cases, assert_refused, assert_refused_in, script_of,
+};
 use ra_schedule::{Op, Script};
-use ra_script::{ScriptError, read_script};
+use ra_script::ScriptError;
 use ra_stamp::Mode;
 use std::alloc::Global;
 use std::process::Abort;
@@ -42,10 +44,7 @@ fn has_client(script: &Script, client: u32, node: u16, ops: u64) -> bool {
 
 /// Returns whether a client has this operation at this place.
 fn has_op(script: &Script, client: u32, place: u64, wanted: Op) -> bool {
-    match script.op(client, place) {
-        Some(op) => op == wanted,
-        None => false,
-    }
+    script.op(client, place) == Some(wanted)
 }
 
 /// Returns whether the operations of the example's clients are these.
@@ -69,7 +68,7 @@ fn is_example(script: &Script) -> bool {
 
 /// Returns whether the example is read.
 fn example_is_read(alloc: Global) -> bool {
-    match read_script(alloc, EXAMPLE.as_bytes()) {
+    match script_of(alloc, EXAMPLE.as_bytes()) {
         Ok(script) => is_example(&script),
         Err(_) => false,
     }
@@ -77,7 +76,7 @@ fn example_is_read(alloc: Global) -> bool {
 
 #[test]
 fn an_example_gives_its_nodes_clients_and_operations(rt: HostRuntime) {
-    assert!(rt; example_is_read(rt.alloc()));
+    assert_so(&rt, example_is_read(rt.alloc()));
 }
 
 const WRONG_NODES: &[&str] = &[
@@ -88,17 +87,36 @@ const WRONG_NODES: &[&str] = &[
     "nodes = 65537\nclient = []\n",
 ];
 
-#[test]
-fn there_are_1_to_64_nodes(rt: HostRuntime) {
-    const FIRST: &str = "nodes = 1\nclient = [{node = 1, ops = []}]\n";
-    const LAST: &str = "nodes = 64\nclient = [{node = 64, ops = []}]\n";
-    const CASES: &[Case] = &[
-        Case(&[Text(FIRST)], Accepted),
-        Case(&[Text(LAST)], Accepted),
-    ];
-    assert_refused(&rt, WRONG_NODES, ScriptError::Nodes);
-    assert_cases(&rt, CASES);
-}
+/// 64 nodes and 64 clients are accepted, and one more is refused before its operation is looked at. 1,024 operations of a client are
+/// accepted, and one more is refused before any is looked at, and before the next client is.
+const LIMITS: &[Case] = &[
+    Case(
+        &[Text("nodes = 1\nclient = [{node = 1, ops = []}]\n")],
+        Accepted,
+    ),
+    Case(
+        &[Text("nodes = 64\nclient = [{node = 64, ops = []}]\n")],
+        Accepted,
+    ),
+    Case(&[NODES, CLIENTS], Accepted),
+    Case(
+        &[NODES, CLIENTS, Text("[[client]]\nnode = 2\nops = ['?']\n")],
+        Refused(ScriptError::Clients),
+    ),
+    Case(&[PREFIX, OPS, Text("]}]\n")], Accepted),
+    Case(
+        &[PREFIX, OPS, Text("'?']}, {node = 1, ops = ['?']}]\n")],
+        Refused(ScriptError::Limit),
+    ),
+];
+
+const NODES: Part = Text("nodes = 2\n");
+
+const CLIENTS: Part = Times(b"[[client]]\nnode = 2\nops = []\n", 64);
+
+const PREFIX: Part = Text("nodes = 1\nclient = [{node = 1, ops = [\n");
+
+const OPS: Part = Times(b"'X r', 'U r',\n", 512);
 
 const WRONG_CLIENTS: &[&str] = &[
     "nodes = 2\nclient = []\n",
@@ -108,31 +126,11 @@ const WRONG_CLIENTS: &[&str] = &[
     "nodes = 2\nclient = [{node = 1, ops = ['?']}, {node = 3, ops = []}]\n",
 ];
 
-/// 64 clients are accepted, and one more is refused before its operation is looked at.
 #[test]
-fn there_are_1_to_64_clients_each_at_a_node(rt: HostRuntime) {
-    const NODES: Part = Text("nodes = 2\n");
-    const CLIENTS: Part = Times(b"[[client]]\nnode = 2\nops = []\n", 64);
-    const PAST: Part = Text("[[client]]\nnode = 2\nops = ['?']\n");
-    const CASES: &[Case] = &[
-        Case(&[NODES, CLIENTS], Accepted),
-        Case(&[NODES, CLIENTS, PAST], Refused(ScriptError::Clients)),
-    ];
+fn there_are_so_many_nodes_clients_and_operations(rt: HostRuntime) {
+    assert_refused(&rt, WRONG_NODES, ScriptError::Nodes);
     assert_refused(&rt, WRONG_CLIENTS, ScriptError::Clients);
-    assert_cases(&rt, CASES);
-}
-
-/// 1,024 operations of a client are accepted, and one more is refused before any is looked at, and before the next client is.
-#[test]
-fn a_client_has_at_most_1024_operations(rt: HostRuntime) {
-    const PREFIX: Part = Text("nodes = 1\nclient = [{node = 1, ops = [\n");
-    const OPS: Part = Times(b"'X r', 'U r',\n", 512);
-    const PAST: Part = Text("'?']}, {node = 1, ops = ['?']}]\n");
-    const CASES: &[Case] = &[
-        Case(&[PREFIX, OPS, Text("]}]\n")], Accepted),
-        Case(&[PREFIX, OPS, PAST], Refused(ScriptError::Limit)),
-    ];
-    assert_cases(&rt, CASES);
+    assert_cases(&rt, LIMITS);
 }
 
 const NO_OPS: &[&str] = &[
@@ -210,7 +208,7 @@ fn modes_read(script: &Script) -> usize {
 
 /// Returns how many modes are read so in the script, up to the first that is not.
 fn modes_read_in_script(alloc: Global) -> usize {
-    match read_script(alloc, EACH_MODE.as_bytes()) {
+    match script_of(alloc, EACH_MODE.as_bytes()) {
         Ok(script) => modes_read(&script),
         Err(_) => 0,
     }

@@ -1,5 +1,6 @@
 //! The document of a script: its length, its nesting and its shape, and other ways to write it.
 use crate::helpers::Part::{Text, Times};
+use crate::helpers::assert_rows;
 use crate::script_cases::Answer::{Accepted, NoToml, Refused};
 use crate::script_cases::{
     Around, Case, assert_cases, assert_refused, assert_refused_in, comes_of_parts,
@@ -44,14 +45,7 @@ fn deep_nesting_is_refused(rt: HostRuntime) {
             &[Text("nodes = "), Times(b"[", 32_764), Times(b"]", 32_764)],
             NoToml(65_536),
         ),
-    ];
-    assert_cases(&rt, CASES);
-}
-
-/// None of these is closed.
-#[test]
-fn deep_tables_are_refused(rt: HostRuntime) {
-    const CASES: &[Case] = &[
+        // None of these tables is closed.
         Case(&[Text("nodes = "), Times(b"{a=", 21_842)], NoToml(65_534)),
         Case(&[Text("nodes"), Times(b".a", 32_765)], NoToml(65_535)),
         Case(&[Text("[nodes"), Times(b".a", 32_765)], NoToml(65_536)),
@@ -121,16 +115,24 @@ fn tables_refused(alloc: Global, rows: &[Tables], levels: usize) -> usize {
     rows.len()
 }
 
+/// Returns with how many of these levels all tables are refused, up to the first with which one is not.
+fn levels_refused(alloc: Global, rows: &[Tables], levels: &[usize]) -> usize {
+    for place in 0..levels.len() {
+        if tables_refused(alloc, rows, levels[place]) != rows.len() {
+            return place;
+        }
+    }
+    levels.len()
+}
+
 #[test]
 fn tables_in_tables_are_refused(rt: HostRuntime) {
-    let (alloc, tables) = (rt.alloc(), CLOSED_TABLES);
-    for levels in [1usize, 2, 78, 79, 80, 81, 100, 16_000] {
-        let refused = tables_refused(alloc, tables, levels);
-        assert!(rt;
-            refused == tables.len(),
-            "row {refused}, counted from 0, at {levels} levels"
-        );
-    }
+    const LEVELS: &[usize] = &[1, 2, 78, 79, 80, 81, 100, 16_000];
+    assert_rows(
+        &rt,
+        levels_refused(rt.alloc(), CLOSED_TABLES, LEVELS),
+        LEVELS.len(),
+    );
 }
 
 const OTHER_SHAPES: &[&str] = &[
@@ -149,11 +151,6 @@ const OTHER_SHAPES: &[&str] = &[
     "nodes = 2\nclient = [{node = 1, ops = ['X r', 1]}]\n",
 ];
 
-#[test]
-fn another_shape_is_refused(rt: HostRuntime) {
-    assert_refused(&rt, OTHER_SHAPES, ScriptError::Shape);
-}
-
 const OTHER_NUMBERS: &[&str] = &[
     "client = []\nnodes = 2.0\n",
     "client = []\nnodes = true\n",
@@ -161,23 +158,14 @@ const OTHER_NUMBERS: &[&str] = &[
     "client = []\nnodes = \"2\"\n",
 ];
 
-#[test]
-fn a_number_of_nodes_is_an_integer(rt: HostRuntime) {
-    assert_refused(&rt, OTHER_NUMBERS, ScriptError::Shape);
-}
-
 /// A script of one client, around its node.
 const NODE: Around = Around("nodes = 1\nclient = [{node = ", ", ops = []}]\n");
 
 /// A script of one client, around its only operation.
 const ONLY_OP: Around = Around("nodes = 1\nclient = [{node = 1, ops = [", "]}]\n");
 
-#[test]
-fn a_client_has_an_integer_and_strings(rt: HostRuntime) {
-    const VALUES: &[&str] = &["1.0", "true", "2024-05-06", "[]", "{}"];
-    assert_refused_in(&rt, NODE, VALUES, ScriptError::Shape);
-    assert_refused_in(&rt, ONLY_OP, VALUES, ScriptError::Shape);
-}
+/// Values that are neither integers nor strings.
+const VALUES: &[&str] = &["1.0", "true", "2024-05-06", "[]", "{}"];
 
 const THIRD_KEYS: &[&str] = &[
     "nodes = 2\nname = 'a'\nclient = []\n",
@@ -187,8 +175,12 @@ const THIRD_KEYS: &[&str] = &[
 ];
 
 #[test]
-fn a_third_key_is_refused_anywhere(rt: HostRuntime) {
+fn another_shape_is_refused(rt: HostRuntime) {
+    assert_refused(&rt, OTHER_SHAPES, ScriptError::Shape);
+    assert_refused(&rt, OTHER_NUMBERS, ScriptError::Shape);
     assert_refused(&rt, THIRD_KEYS, ScriptError::Shape);
+    assert_refused_in(&rt, NODE, VALUES, ScriptError::Shape);
+    assert_refused_in(&rt, ONLY_OP, VALUES, ScriptError::Shape);
 }
 
 #[test]

@@ -2,13 +2,14 @@
 use crate::acts::{
     Act, LOSES_REPLY, LOST_REPLY, ONE_LOCKS, Wire, Written, assert_written, fault_of,
 };
-use crate::helpers::{ONE_LOCK, ONE_LOCK_LENGTH, TWO_LOCKS, assert_rows, failing, printed};
+use crate::helpers::{ONE_LOCK, ONE_LOCK_LENGTH, TWO_LOCKS, assert_rows, assert_so, failing};
 use Act::{Ask, Deliver, Leave, Lose, Repeat};
 use Wire::{Replies, Requests};
 use ra_trace::WriteTraceError;
 use ra_world::{NodeRefusal, RunError, StepError};
 use std::alloc::Global;
 use std::io;
+use test_support::printed;
 
 /// What would happen among so many nodes, and why it is no run.
 struct Refused(u16, &'static [Act], RunError);
@@ -32,34 +33,34 @@ fn no_runs(alloc: Global, rows: &[Refused]) -> usize {
     rows.len()
 }
 
-#[test]
-fn one_client_locks_and_unlocks(rt: HostRuntime) {
-    assert_written(&rt, &[Written(2, ONE_LOCKS, ONE_LOCK)]);
-    assert!(rt; ONE_LOCK.len() == ONE_LOCK_LENGTH);
-}
+/// What happens in the trace of two clients who ask at once.
+const TWO_LOCK: &[Act] = &[
+    Ask(1, 1),
+    Ask(2, 2),
+    Deliver(Requests(1, 2)),
+    Deliver(Requests(1, 3)),
+    Deliver(Requests(2, 1)),
+    Deliver(Requests(2, 3)),
+    Deliver(Replies(2, 1)),
+    Deliver(Replies(3, 1)),
+    Leave(1, 1),
+    Deliver(Replies(3, 2)),
+    Deliver(Replies(1, 2)),
+    Leave(2, 2),
+];
 
+/// A loss and a step without marks have their lines, too.
 #[test]
-fn two_clients_ask_at_once(rt: HostRuntime) {
-    const ACTS: &[Act] = &[
-        Ask(1, 1),
-        Ask(2, 2),
-        Deliver(Requests(1, 2)),
-        Deliver(Requests(1, 3)),
-        Deliver(Requests(2, 1)),
-        Deliver(Requests(2, 3)),
-        Deliver(Replies(2, 1)),
-        Deliver(Replies(3, 1)),
-        Leave(1, 1),
-        Deliver(Replies(3, 2)),
-        Deliver(Replies(1, 2)),
-        Leave(2, 2),
-    ];
-    assert_written(&rt, &[Written(3, ACTS, TWO_LOCKS)]);
-}
-
-#[test]
-fn a_loss_and_a_step_without_marks_have_their_lines(rt: HostRuntime) {
-    assert_written(&rt, &[Written(2, LOSES_REPLY, LOST_REPLY)]);
+fn runs_have_their_traces(rt: HostRuntime) {
+    assert_written(
+        &rt,
+        &[
+            Written(2, ONE_LOCKS, ONE_LOCK),
+            Written(3, TWO_LOCK, TWO_LOCKS),
+            Written(2, LOSES_REPLY, LOST_REPLY),
+        ],
+    );
+    assert_so(&rt, ONE_LOCK.len() == ONE_LOCK_LENGTH);
 }
 
 /// What can't happen.
@@ -144,8 +145,9 @@ fn is_not_tried_again(alloc: Global, fault: Option<io::ErrorKind>) -> bool {
 
 #[test]
 fn a_writer_that_failed_is_not_tried_again(rt: HostRuntime) {
-    assert!(rt; is_not_tried_again(rt.alloc(), Some(io::ErrorKind::Interrupted)));
-    assert!(rt; is_not_tried_again(rt.alloc(), None));
+    let so = is_not_tried_again(rt.alloc(), Some(io::ErrorKind::Interrupted))
+        && is_not_tried_again(rt.alloc(), None);
+    assert_so(&rt, so);
 }
 
 const FAULTS: &[(WriteTraceError, &str)] = &[

@@ -1,7 +1,7 @@
 //! What the tests of worlds share: what happens in a world, and what it shows, one after the other.
 ghost use Rattle.ra_stamp.specs.NodeId.{IsNodeNumber};
 
-use crate::helpers::{assert_rows, is_quiet_after, prints, r};
+use crate::helpers::{assert_done, is_quiet_after, r};
 use Act::{
     Accepts, Ask, AskIn, Deliver, HasRepeats, HasSteps, IsQuiet, Leave, LeavesWith, Lock, Lose,
     Makes, MakesNear, MakesNothing, Refuses, Rejects, Repeat, Reports, UnderWay,
@@ -12,6 +12,7 @@ use ra_stamp::{Mark, Memory, Message, Mode, Name, NodeId};
 use ra_world::{Report, Step, StepError, World, report_text};
 use std::alloc::Global;
 use std::process::Abort;
+use test_support::prints;
 
 /// A message for the name `r`.
 #[derive(Clone, Copy)]
@@ -84,29 +85,40 @@ pub fn node(number: u16) -> NodeId
     NodeId::new(number).unwrap()
 }
 
-/// Returns the message, or `None` where a number is that of no node.
-fn message(wire: Wire) -> Option<Message> {
+/// Returns the message to this node.
+fn message_to(wire: Wire, from: NodeId, to: NodeId) -> Message {
     let name = r();
     match wire {
-        Requests(to) => match NodeId::new(to) {
-            Some(to) => Some(Message::Request {
-                from: node(1),
-                to,
-                name,
-                mode: Mode::Exclusive,
-                seq: 1,
-            }),
-            None => None,
+        Requests(_) => Message::Request {
+            from,
+            to,
+            name,
+            mode: Mode::Exclusive,
+            seq: 1,
         },
-        Replies(from, to, seq) => match (NodeId::new(from), NodeId::new(to)) {
-            (Some(from), Some(to)) => Some(Message::Reply {
-                from,
-                to,
-                name,
-                seq,
-            }),
-            _ => None,
+        Replies(_, _, seq) => Message::Reply {
+            from,
+            to,
+            name,
+            seq,
         },
+    }
+}
+
+/// Returns the numbers of the sender and the receiver.
+fn ends_of(wire: Wire) -> [u16; 2] {
+    match wire {
+        Requests(to) => [1, to],
+        Replies(from, to, _) => [from, to],
+    }
+}
+
+/// Returns the message, or `None` where a number is that of no node.
+fn message(wire: Wire) -> Option<Message> {
+    let [from, to] = ends_of(wire);
+    match (NodeId::new(from), NodeId::new(to)) {
+        (Some(from), Some(to)) => Some(message_to(wire, from, to)),
+        _ => None,
     }
 }
 
@@ -124,12 +136,12 @@ fn ask_in(number: u16, client: u32, letter: u8, mode: Mode) -> Option<Step> {
 }
 
 /// Returns the step by which a client asks for a name exclusively, or `None` where there is no such node or name.
-fn ask(number: u16, client: u32, letter: u8) -> Option<Step> {
+pub fn ask(number: u16, client: u32, letter: u8) -> Option<Step> {
     ask_in(number, client, letter, Mode::Exclusive)
 }
 
 /// Returns the step by which a client leaves, or `None` where there is no such node or name.
-fn leave(number: u16, client: u32, letter: u8) -> Option<Step> {
+pub fn leave(number: u16, client: u32, letter: u8) -> Option<Step> {
     match (NodeId::new(number), Name::new(&[letter])) {
         (Some(node), Ok(name)) => Some(Step::Leave { node, client, name }),
         _ => None,
@@ -137,7 +149,7 @@ fn leave(number: u16, client: u32, letter: u8) -> Option<Step> {
 }
 
 /// Returns the step by which a message is delivered, or `None` where there is none.
-fn deliver(message: Option<Message>) -> Option<Step> {
+pub fn deliver(message: Option<Message>) -> Option<Step> {
     match message {
         Some(message) => Some(Step::Deliver(message)),
         None => None,
@@ -145,7 +157,7 @@ fn deliver(message: Option<Message>) -> Option<Step> {
 }
 
 /// Returns the step by which a message is lost, or `None` where there is none.
-fn lose(message: Option<Message>) -> Option<Step> {
+pub fn lose(message: Option<Message>) -> Option<Step> {
     match message {
         Some(message) => Some(Step::Lose(message)),
         None => None,
@@ -153,7 +165,7 @@ fn lose(message: Option<Message>) -> Option<Step> {
 }
 
 /// Returns the step by which a message is repeated, or `None` where there is none.
-fn repeat(message: Option<Message>) -> Option<Step> {
+pub fn repeat(message: Option<Message>) -> Option<Step> {
     match message {
         Some(message) => Some(Step::Repeat(message)),
         None => None,
@@ -171,10 +183,25 @@ pub fn step(wish: Wish) -> Option<Step> {
     }
 }
 
+/// Makes a world of so many nodes, whose numbers begin at `start`.
+pub fn new_world(alloc: Global, nodes: u16, start: u64) -> Option<World> {
+    World::new(alloc, nodes, start).ok()
+}
+
+/// Returns why a world does not make a step, or `None` if it makes it.
+pub fn fault_of(alloc: Global, world: &mut World, step: &Step) -> Option<StepError> {
+    world.step(alloc, step).err()
+}
+
+/// Returns a world's report.
+pub fn report_of(alloc: Global, world: &World) -> Option<Report> {
+    world.report(alloc).ok()
+}
+
 /// Returns whether there is a step, and a world makes it.
 fn makes(alloc: Global, world: &mut World, step: Option<Step>) -> bool {
     match step {
-        Some(step) => world.step(alloc, &step).is_ok(),
+        Some(step) => fault_of(alloc, world, &step).is_none(),
         None => false,
     }
 }
@@ -182,7 +209,7 @@ fn makes(alloc: Global, world: &mut World, step: Option<Step>) -> bool {
 /// Returns whether there is a step, and a world accepts and makes it.
 fn accepts_and_makes(alloc: Global, world: &mut World, step: Option<Step>) -> bool {
     match step {
-        Some(step) => world.accepts(&step) && world.step(alloc, &step).is_ok(),
+        Some(step) => world.accepts(&step) && fault_of(alloc, world, &step).is_none(),
         None => false,
     }
 }
@@ -214,7 +241,7 @@ fn sends_nothing(alloc: Global, world: &mut World, step: &Step) -> bool {
 /// Returns whether there is a step, and a world neither accepts nor makes it, for this cause.
 fn refuses(alloc: Global, world: &mut World, step: Option<Step>, cause: StepError) -> bool {
     match step {
-        Some(step) => !world.accepts(&step) && world.step(alloc, &step).err() == Some(cause),
+        Some(step) => !world.accepts(&step) && fault_of(alloc, world, &step) == Some(cause),
         None => false,
     }
 }
@@ -328,17 +355,17 @@ pub fn is_text(found: Result<String, Memory>, text: &str) -> bool {
 
 /// Returns whether a world's report has this text.
 fn reports(alloc: Global, world: &World, text: &str) -> bool {
-    match world.report(alloc) {
-        Ok(report) => is_text(report_text(alloc, &report), text),
-        Err(_) => false,
+    match report_of(alloc, world) {
+        Some(report) => is_text(report_text(alloc, &report), text),
+        None => false,
     }
 }
 
 /// Returns whether a world reports so many repeats.
 fn has_repeats(alloc: Global, world: &World, repeats: u128) -> bool {
-    match world.report(alloc) {
-        Ok(report) => report.repeated == repeats,
-        Err(_) => false,
+    match report_of(alloc, world) {
+        Some(report) => report.repeated == repeats,
+        None => false,
     }
 }
 
@@ -349,9 +376,9 @@ fn is_quiet(report: &Report, marks: u64, requests: u128, sent: u128) -> bool {
 
 /// Returns whether a world reports so many marks, requests and messages, and no other total.
 fn reports_quiet(alloc: Global, world: &World, marks: u64, requests: u128, sent: u128) -> bool {
-    match world.report(alloc) {
-        Ok(report) => is_quiet(&report, marks, requests, sent),
-        Err(_) => false,
+    match report_of(alloc, world) {
+        Some(report) => is_quiet(&report, marks, requests, sent),
+        None => false,
     }
 }
 
@@ -398,18 +425,20 @@ fn done(alloc: Global, world: &mut World, acts: &[Act]) -> usize {
     acts.len()
 }
 
-/// Makes a world, and returns how much of this happens in it, up to the first that does not.
-fn done_by(alloc: Global, nodes: u16, start: u64, acts: &[Act]) -> Option<usize> {
-    match World::new(alloc, nodes, start) {
-        Ok(mut world) => Some(done(alloc, &mut world, acts)),
-        Err(_) => None,
+/// What it shows, how many nodes a world has, the number with which its numbers begin, and what happens in it.
+pub struct Scene(pub &'static str, pub u16, pub u64, pub &'static [Act]);
+
+/// Makes a world, and returns how much of a scene happens in it, up to the first that does not.
+fn done_in(alloc: Global, scene: &Scene) -> usize {
+    match new_world(alloc, scene.1, scene.2) {
+        Some(mut world) => done(alloc, &mut world, scene.3),
+        None => 0,
     }
 }
 
-/// Makes a world of this many nodes, whose numbers begin at `start`, and asserts that all of this happens in it.
-pub fn follow(rt: &(impl Abort + AllocGlobal), nodes: u16, start: u64, acts: &[Act]) {
-    match done_by(rt.alloc(), nodes, start, acts) {
-        Some(done) => assert_rows(rt, done, acts.len()),
-        None => panic!(rt; "there is no such world"),
+/// Asserts that all of each scene happens.
+pub fn follow(rt: &(impl Abort + AllocGlobal), scenes: &[Scene]) {
+    for scene in scenes {
+        assert_done(rt, scene.0, done_in(rt.alloc(), scene), scene.3.len());
     }
 }

@@ -1,4 +1,5 @@
 //! Whether two worlds are alike in all that they show.
+use crate::acts::report_of;
 use ra_world::{Report, World};
 use std::alloc::Global;
 
@@ -26,12 +27,13 @@ fn are_the_same(one: &Report, other: &Report) -> bool {
 
 /// Returns whether two worlds have made as many steps, have the same messages under way and report the same.
 pub fn are_alike(alloc: Global, one: &World, other: &World) -> bool {
-    let (Ok(report), Ok(expected)) = (one.report(alloc), other.report(alloc)) else {
-        return false;
+    let reports_alike = match (report_of(alloc, one), report_of(alloc, other)) {
+        (Some(report), Some(expected)) => are_the_same(&report, &expected),
+        _ => false,
     };
-    one.steps() == other.steps()
+    reports_alike
+        && one.steps() == other.steps()
         && one.requests() == other.requests()
         && one.sent() == other.sent()
         && have_the_same_messages(one, other)
-        && are_the_same(&report, &expected)
 }

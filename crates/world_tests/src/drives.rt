@@ -82,10 +82,30 @@ pub fn policy(alloc: Global, chooser: Chooser) -> Option<Policy> {
     }
 }
 
+/// Returns what `drive` answers.
+pub fn driven(
+    alloc: Global,
+    script: &Script,
+    policy: &Policy,
+    limit: u64,
+) -> Result<Recording, DriveError> {
+    drive(alloc, script, policy, limit)
+}
+
+/// Returns what `summarize` answers.
+pub fn summed(
+    alloc: Global,
+    script: &Script,
+    policy: &Policy,
+    limit: u64,
+) -> Result<Summary, DriveError> {
+    summarize(alloc, script, policy, limit)
+}
+
 /// Makes the recording of a policy's run that ends within this many turns.
 fn recorded(alloc: Global, script: &Script, chooser: Chooser, limit: u64) -> Option<Recording> {
     match policy(alloc, chooser) {
-        Some(policy) => drive(alloc, script, &policy, limit).ok(),
+        Some(policy) => driven(alloc, script, &policy, limit).ok(),
         None => None,
     }
 }
@@ -93,7 +113,7 @@ fn recorded(alloc: Global, script: &Script, chooser: Chooser, limit: u64) -> Opt
 /// Returns why a run does not end within this many turns, if it does not.
 fn refused(alloc: Global, script: &Script, chooser: Chooser, limit: u64) -> Option<DriveError> {
     match policy(alloc, chooser) {
-        Some(policy) => drive(alloc, script, &policy, limit).err(),
+        Some(policy) => driven(alloc, script, &policy, limit).err(),
         None => None,
     }
 }
@@ -109,7 +129,7 @@ fn is_of_one_lock(report: &Report) -> bool {
 }
 
 /// Returns whether a recording is finished and has this many turns.
-fn has_ended(recording: &Recording, turns: u64) -> bool {
+pub fn has_ended(recording: &Recording, turns: u64) -> bool {
     recording.finished && recording.steps.len() == turns
 }
 
@@ -191,7 +211,7 @@ fn goes(
 
 /// Returns whether three turns are too few to sum up one lock.
 fn sums_up_no_three_turns(alloc: Global, script: &Script) -> bool {
-    summarize(alloc, script, &Policy::Oldest, 3).err() == Some(DriveError::TurnLimit)
+    summed(alloc, script, &Policy::Oldest, 3).err() == Some(DriveError::TurnLimit)
 }
 
 /// Returns whether a summary is that of one lock.
@@ -201,7 +221,7 @@ fn sums_up_one_lock(summary: &Summary) -> bool {
 
 /// Returns whether the four turns of one lock are summed up.
 fn sums_up_four_turns(alloc: Global, script: &Script) -> bool {
-    match summarize(alloc, script, &Policy::Oldest, 4) {
+    match summed(alloc, script, &Policy::Oldest, 4) {
         Ok(summary) => sums_up_one_lock(&summary),
         Err(_) => false,
     }

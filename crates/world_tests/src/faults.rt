@@ -4,7 +4,7 @@
 //! PCG XSL RR 128/64, written from the rules in docs/ALGORITHM.md and docs/FORMATS.md. All others were found by hand.
 use crate::drives::{Chooser, Drive};
 use crate::helpers::assert_rows;
-use crate::plans::{Plan, carry_out};
+use crate::plans::{Plan, Scene, carry_out};
 use Chooser::{Faulty, Listed, Seeded};
 use Drive::{Goes, NamesNothing, TakesMoreTurns};
 use Mode::Exclusive;
@@ -43,108 +43,116 @@ fn faults_are_at_most_all_messages_and_few_repeats(rt: HostRuntime) {
     assert_rows(&rt, ranges_so(), RANGES.len());
 }
 
-/// With seed 0, the second random word names the REQUEST, and the third one is 81 modulo 1,000.
-#[test]
-fn the_word_behind_the_one_that_names_a_message_says_what_becomes_of_it(rt: HostRuntime) {
-    const PLANS: &[Plan] = &[
-        AddsLocker(1, Exclusive),
-        Drives(Goes(Faulty(0, 0, 0), "1dd1", 2, true)),
-        Drives(Goes(Faulty(0, 81, 0), "1dd1", 2, true)),
-        Drives(Goes(Faulty(0, 82, 0), "1l", 1, false)),
-        Drives(Goes(Faulty(0, 0, 81), "1dd1", 2, true)),
-        Drives(Goes(Faulty(0, 0, 82), "1rdddd1", 3, true)),
-        Drives(Goes(Faulty(0, 81, 1), "1rdddd1", 3, true)),
-        Drives(Goes(Faulty(0, 80, 1), "1dd1", 2, true)),
-        Drives(Goes(Faulty(0, 82, 1), "1l", 1, false)),
-        Drives(Goes(Faulty(0, 600, 400), "1l", 1, false)),
-    ];
-    carry_out(&rt, 2, PLANS);
-}
-
-/// So the two policies' runs of one seed differ even if no fault befalls a message.
-#[test]
-fn a_word_is_drawn_for_each_message_also_where_there_are_no_faults(rt: HostRuntime) {
-    const PLANS: &[Plan] = &[
-        AddsLocker(1, Exclusive),
-        AddsLocker(2, Exclusive),
-        Drives(Goes(Seeded(0), "2dd12dd1", 4, true)),
-        Drives(Goes(Faulty(0, 0, 0), "2d1dd2d1", 4, true)),
-        Drives(Goes(Seeded(1), "2d1dd2d1", 4, true)),
-        Drives(Goes(Faulty(1, 0, 0), "2dd1d2d1", 4, true)),
-        Drives(Goes(Seeded(6), "21dd1dd2", 4, true)),
-        Drives(Goes(Faulty(6, 0, 0), "21ddd1d2", 4, true)),
-    ];
-    carry_out(&rt, 2, PLANS);
-}
+const BY_CHANCE: &[Scene] = &[
+    // With seed 0, the second random word names the REQUEST, and the third one is 81 modulo 1,000.
+    Scene(
+        "the word behind the one that names a message says what becomes of it",
+        2,
+        &[
+            AddsLocker(1, Exclusive),
+            Drives(Goes(Faulty(0, 0, 0), "1dd1", 2, true)),
+            Drives(Goes(Faulty(0, 81, 0), "1dd1", 2, true)),
+            Drives(Goes(Faulty(0, 82, 0), "1l", 1, false)),
+            Drives(Goes(Faulty(0, 0, 81), "1dd1", 2, true)),
+            Drives(Goes(Faulty(0, 0, 82), "1rdddd1", 3, true)),
+            Drives(Goes(Faulty(0, 81, 1), "1rdddd1", 3, true)),
+            Drives(Goes(Faulty(0, 80, 1), "1dd1", 2, true)),
+            Drives(Goes(Faulty(0, 82, 1), "1l", 1, false)),
+            Drives(Goes(Faulty(0, 600, 400), "1l", 1, false)),
+        ],
+    ),
+    // So the two policies' runs of one seed differ even if no fault befalls a message.
+    Scene(
+        "a word is drawn for each message also where there are no faults",
+        2,
+        &[
+            AddsLocker(1, Exclusive),
+            AddsLocker(2, Exclusive),
+            Drives(Goes(Seeded(0), "2dd12dd1", 4, true)),
+            Drives(Goes(Faulty(0, 0, 0), "2d1dd2d1", 4, true)),
+            Drives(Goes(Seeded(1), "2d1dd2d1", 4, true)),
+            Drives(Goes(Faulty(1, 0, 0), "2dd1d2d1", 4, true)),
+            Drives(Goes(Seeded(6), "21dd1dd2", 4, true)),
+            Drives(Goes(Faulty(6, 0, 0), "21ddd1d2", 4, true)),
+        ],
+    ),
+    Scene(
+        "chance loses and repeats messages",
+        2,
+        &[
+            AddsLocker(1, Exclusive),
+            AddsLocker(2, Exclusive),
+            Drives(Goes(Faulty(0, 0, 100), "2r1dddd1d2", 4, true)),
+            Drives(Goes(Faulty(0, 100, 0), "2l1dd1", 3, false)),
+            Drives(Goes(Faulty(2, 100, 300), "2rld1d2rdrddd1l", 5, true)),
+            Drives(Goes(Faulty(3, 100, 300), "21drddrddr1rddrddd2", 5, true)),
+            Drives(Goes(Faulty(9, 100, 300), "21lrdrdrr1dddddddd", 7, false)),
+            Drives(Goes(
+                Faulty(7, 100, 300),
+                "2rdrd12drrrlrddddrdddr1rddrrdrdlrrddddd",
+                7,
+                true,
+            )),
+        ],
+    ),
+    Scene(
+        "all messages may be lost",
+        3,
+        &[
+            AddsLocker(1, Exclusive),
+            Drives(Goes(Faulty(5, 1_000, 0), "1ll", 2, false)),
+        ],
+    ),
+    Scene(
+        "a run with faults has a limit",
+        2,
+        &[
+            AddsLocker(1, Exclusive),
+            Drives(TakesMoreTurns(Faulty(0, 0, 82), 6)),
+            Drives(TakesMoreTurns(Faulty(0, 82, 0), 1)),
+        ],
+    ),
+];
 
 #[test]
 fn chance_loses_and_repeats_messages(rt: HostRuntime) {
-    const PLANS: &[Plan] = &[
-        AddsLocker(1, Exclusive),
-        AddsLocker(2, Exclusive),
-        Drives(Goes(Faulty(0, 0, 100), "2r1dddd1d2", 4, true)),
-        Drives(Goes(Faulty(0, 100, 0), "2l1dd1", 3, false)),
-        Drives(Goes(Faulty(2, 100, 300), "2rld1d2rdrddd1l", 5, true)),
-        Drives(Goes(Faulty(3, 100, 300), "21drddrddr1rddrddd2", 5, true)),
-        Drives(Goes(Faulty(9, 100, 300), "21lrdrdrr1dddddddd", 7, false)),
-        Drives(Goes(
-            Faulty(7, 100, 300),
-            "2rdrd12drrrlrddddrdddr1rddrrdrdlrrddddd",
-            7,
-            true,
-        )),
-    ];
-    carry_out(&rt, 2, PLANS);
-}
-
-#[test]
-fn all_messages_may_be_lost(rt: HostRuntime) {
-    const PLANS: &[Plan] = &[
-        AddsLocker(1, Exclusive),
-        Drives(Goes(Faulty(5, 1_000, 0), "1ll", 2, false)),
-    ];
-    carry_out(&rt, 3, PLANS);
-}
-
-#[test]
-fn a_run_with_faults_has_a_limit(rt: HostRuntime) {
-    const PLANS: &[Plan] = &[
-        AddsLocker(1, Exclusive),
-        Drives(TakesMoreTurns(Faulty(0, 0, 82), 6)),
-        Drives(TakesMoreTurns(Faulty(0, 82, 0), 1)),
-    ];
-    carry_out(&rt, 2, PLANS);
+    carry_out(&rt, BY_CHANCE);
 }
 
 /// The REQUEST is repeated, and then a REPLY; the first REPLY delivered lets the client in.
-#[test]
-fn a_choice_repeats_a_message(rt: HostRuntime) {
-    const REPEATS: &[Choice] = &[
-        Choice::Client(1),
-        Choice::Repeated(0),
-        Choice::Message(1),
-        Choice::Message(0),
-        Choice::Repeated(1),
-        Choice::Message(2),
-        Choice::Client(1),
-        Choice::Lost(1),
-        Choice::Message(0),
-    ];
-    const PLANS: &[Plan] = &[
-        AddsLocker(1, Exclusive),
-        Drives(Goes(Listed(REPEATS), "1rddrd1ld", 3, true)),
-    ];
-    carry_out(&rt, 2, PLANS);
-}
+const REPEATS: &[Choice] = &[
+    Choice::Client(1),
+    Choice::Repeated(0),
+    Choice::Message(1),
+    Choice::Message(0),
+    Choice::Repeated(1),
+    Choice::Message(2),
+    Choice::Client(1),
+    Choice::Lost(1),
+    Choice::Message(0),
+];
+
+const BY_CHOICE: &[Scene] = &[
+    Scene(
+        "a choice repeats a message",
+        2,
+        &[
+            AddsLocker(1, Exclusive),
+            Drives(Goes(Listed(REPEATS), "1rddrd1ld", 3, true)),
+        ],
+    ),
+    Scene(
+        "only a message under way is repeated",
+        2,
+        &[
+            AddsLocker(1, Exclusive),
+            Drives(NamesNothing(Listed(&[Choice::Repeated(0)]))),
+            Drives(NamesNothing(Listed(&[Choice::Client(1), Choice::Repeated(1)]))),
+        ],
+    ),
+];
 
 #[test]
-fn only_a_message_under_way_is_repeated(rt: HostRuntime) {
-    const BEFORE_IT_IS_SENT: &[Choice] = &[Choice::Repeated(0)];
-    const PAST_THE_LAST: &[Choice] = &[Choice::Client(1), Choice::Repeated(1)];
-    const PLANS: &[Plan] = &[
-        AddsLocker(1, Exclusive),
-        Drives(NamesNothing(Listed(BEFORE_IT_IS_SENT))),
-        Drives(NamesNothing(Listed(PAST_THE_LAST))),
-    ];
-    carry_out(&rt, 2, PLANS);
+fn choices_repeat_what_is_under_way(rt: HostRuntime) {
+    carry_out(&rt, BY_CHOICE);
 }

@@ -1,36 +1,36 @@
 //! What the tests of worlds and of schedules share.
 use ra_stamp::Name;
 use ra_world::Report;
-use std::alloc::Global;
-use std::fmt::Display;
 use std::process::Abort;
+use test_support::Tried;
 
 /// The name `r`.
 pub fn r() -> Name {
     Name::new(b"r").unwrap()
 }
 
-/// Returns whether a value is printed so.
-pub fn prints<T: Display>(alloc: Global, value: &T, expected: &str) -> bool {
-    match value.to_string(alloc) {
-        Ok(text) => text.as_str() == expected,
-        Err(_) => false,
-    }
-}
-
-/// Returns how many values are printed as is said beside them, up to the first that is not.
-pub fn printed<T: Display>(alloc: Global, rows: &[(T, &str)]) -> usize {
-    for place in 0..rows.len() {
-        if !prints(alloc, &rows[place].0, rows[place].1) {
-            return place;
-        }
-    }
-    rows.len()
-}
-
 /// Asserts that each of so many rows is so, where so many are so up to the first that is not.
 pub fn assert_rows(rt: &impl Abort, so: usize, rows: usize) {
     assert!(rt; so == rows, "row {so}, counted from 0");
+}
+
+/// Asserts that each of so many steps is so, where so many are so up to the first that is not. The label says what they show.
+pub fn assert_done(rt: &impl Abort, label: &str, done: usize, steps: usize) {
+    assert!(rt; done == steps, "{label}: step {done}, counted from 0");
+}
+
+/// Asserts that something is so.
+pub fn assert_so(rt: &impl Abort, so: bool) {
+    assert!(rt; so);
+}
+
+/// Asserts that calls of which a growth was refused had the right answer, and changed nothing.
+pub fn assert_grown(rt: &impl Abort, tried: Tried) {
+    match tried {
+        Tried::AtOnce => {}
+        Tried::Again => panic!(rt; "a growth was refused, and the call made again"),
+        Tried::Wrong => panic!(rt; "a refused growth had another answer, or changed something"),
+    }
 }
 
 /// Returns whether so many requests and messages were made, and nothing is under way, was lost or repeated, waits or is queued.

@@ -16,8 +16,6 @@ mod helpers;
 #[cfg(test)]
 mod listing;
 #[cfg(test)]
-mod many_repeats;
-#[cfg(test)]
 mod messages;
 #[cfg(test)]
 mod modes;

@@ -1,54 +1,57 @@
 //! The choices of a run, and the first seed that comes to an end.
-use crate::drives::{Chooser, policy};
-use crate::helpers::{assert_rows, r};
+use crate::drives::{Chooser, driven, policy};
+use crate::helpers::{assert_rows, assert_so};
+use crate::plans::adds_locker;
 use Chooser::{Faulty, Newest, Oldest, Seeded};
 use Ending::{Finished, Stuck};
 use ra_schedule::{
-    Choice, Ending, Figures, Observer, Op, Script, SeedOutcome, SeedRange, drive, first_seed,
-    survey,
+    Choice, Ending, Figures, Observer, Policy, Script, SeedOutcome, SeedRange, first_seed, survey,
 };
 use ra_stamp::{Memory, Mode};
 use std::alloc::Global;
 
-/// Adds a client at a node that locks `r` and unlocks it.
-fn add_locker(alloc: Global, script: &mut Script, node: u16) -> bool {
-    script.add_client(alloc, node).is_ok()
-        && script.add_op(Op::Lock(r(), Mode::Exclusive)).is_ok()
-        && script.add_op(Op::Unlock(r())).is_ok()
-}
-
-/// Makes a script of two nodes with this many such clients, alternately at the first and the second node.
-fn lockers(alloc: Global, clients: u16) -> Option<Script> {
-    let mut script = Script::new(alloc, 2).ok()?;
+/// Adds this many clients, alternately at the first and the second node, which lock `r` and unlock it.
+fn adds_lockers(alloc: Global, script: &mut Script, clients: u16) -> bool {
     for client in 0..clients {
-        if !add_locker(alloc, &mut script, 1 + client % 2) {
-            return None;
+        if !adds_locker(alloc, script, 1 + client % 2, Mode::Exclusive) {
+            return false;
         }
     }
-    Some(script)
+    true
+}
+
+/// Makes a script of two nodes with this many such clients.
+pub fn lockers(alloc: Global, clients: u16) -> Option<Script> {
+    match Script::new(alloc, 2) {
+        Ok(mut script) => {
+            if adds_lockers(alloc, &mut script, clients) {
+                Some(script)
+            } else {
+                None
+            }
+        }
+        Err(_) => None,
+    }
 }
 
 /// What chooses for four clients, and the choices of the run, each a letter and a digit.
 struct Listed(Chooser, &'static str);
 
-/// Returns the letter of a choice and its number.
-fn word_of(choice: &Choice) -> (u8, u64) {
-    match choice {
-        Choice::Client(client) => (b'c', u64::from(*client)),
-        Choice::Message(place) => (b'm', *place),
-        Choice::Lost(place) => (b'l', *place),
-        Choice::Repeated(place) => (b'r', *place),
+/// Returns whether a word is this letter and this digit.
+fn is_letter_and(word: &[u8], letter: u8, number: u64) -> bool {
+    match word {
+        [first, digit] => *first == letter && u64::from(*digit) == number.saturating_add(48),
+        _ => false,
     }
 }
 
 /// Returns whether a word of a letter and a digit is that of a choice.
 fn is_word(word: &[u8], choice: &Choice) -> bool {
-    match word {
-        [letter, digit] => {
-            let (expected, number) = word_of(choice);
-            *letter == expected && u64::from(*digit) == number.saturating_add(48)
-        }
-        _ => false,
+    match choice {
+        Choice::Client(client) => is_letter_and(word, b'c', u64::from(*client)),
+        Choice::Message(place) => is_letter_and(word, b'm', *place),
+        Choice::Lost(place) => is_letter_and(word, b'l', *place),
+        Choice::Repeated(place) => is_letter_and(word, b'r', *place),
     }
 }
 
@@ -65,15 +68,20 @@ fn are_words(words: &str, choices: &[Choice]) -> bool {
     place == choices.len()
 }
 
+/// Returns whether a policy's run of a script has these choices.
+fn chooses(alloc: Global, script: &Script, policy: &Policy, words: &str) -> bool {
+    match driven(alloc, script, policy, 10_000) {
+        Ok(recording) => are_words(words, recording.choices.as_slice()),
+        Err(_) => false,
+    }
+}
+
 /// Returns whether a policy's run of four clients has these choices.
 fn is_listed(alloc: Global, row: &Listed) -> bool {
-    let (Some(script), Some(policy)) = (lockers(alloc, 4), policy(alloc, row.0)) else {
-        return false;
-    };
-    let Ok(recording) = drive(alloc, &script, &policy, 10_000) else {
-        return false;
-    };
-    are_words(row.1, recording.choices.as_slice())
+    match (lockers(alloc, 4), policy(alloc, row.0)) {
+        (Some(script), Some(policy)) => chooses(alloc, &script, &policy, row.1),
+        _ => false,
+    }
 }
 
 /// Returns how many rows hold, up to the first that does not.
@@ -112,40 +120,64 @@ fn the_choices_of_a_run_are_those_of_a_model(rt: HostRuntime) {
     assert_rows(&rt, are_listed(rt.alloc(), ROWS), ROWS.len());
 }
 
-/// Returns the first seed of a range with which one client of two nodes comes to this end within this many turns. It
-/// takes four.
-fn first_of(
+/// Returns the first seed of a range with which a script comes to this end within so many turns.
+pub fn found<O: Observer>(
     alloc: Global,
+    script: &Script,
     ending: Ending,
-    first: u64,
-    last: u64,
+    seeds: SeedRange,
     limit: u64,
+    observer: &mut O,
 ) -> Result<Option<u64>, Memory> {
-    let seeds = SeedRange { first, last };
-    match lockers(alloc, 1) {
-        Some(script) => first_seed(alloc, &script, None, ending, seeds, limit, &mut ()),
-        None => Err(Memory),
-    }
+    first_seed(alloc, script, None, ending, seeds, limit, observer)
 }
+
+/// An end, the first and the last seed of a range, how many turns there are, and the first seed of the range with which one
+/// client of two nodes comes to this end. It takes four turns.
+struct First(Ending, u64, u64, u64, Option<u64>);
 
 /// The greatest seed.
 const GREATEST: u64 = 18_446_744_073_709_551_615;
 
+const FIRST: &[First] = &[
+    First(Finished, 5, 7, 4, Some(5)),
+    First(Finished, GREATEST, GREATEST, 4, Some(GREATEST)),
+    First(Stuck, 5, 7, 4, None),
+    // A run that is cut off is neither.
+    First(Finished, 5, 7, 3, None),
+    First(Stuck, 5, 7, 3, None),
+    First(Finished, 7, 5, 4, None),
+];
+
+/// Returns whether the first seed is found.
+fn is_first(alloc: Global, script: &Script, row: &First) -> bool {
+    let seeds = SeedRange {
+        first: row.1,
+        last: row.2,
+    };
+    match found(alloc, script, row.0, seeds, row.3, &mut ()) {
+        Ok(seed) => seed == row.4,
+        Err(Memory) => false,
+    }
+}
+
+/// Returns how many rows hold for a script, up to the first that does not.
+fn are_first(alloc: Global, script: &Script, rows: &[First]) -> usize {
+    for place in 0..rows.len() {
+        if !is_first(alloc, script, &rows[place]) {
+            return place;
+        }
+    }
+    rows.len()
+}
+
 #[test]
 fn the_first_seed_of_an_end_is_found(rt: HostRuntime) {
-    let alloc = rt.alloc();
-    assert!(rt; matches!(first_of(alloc, Finished, 5, 7, 4), Ok(Some(5))));
-    assert!(rt;
-        matches!(
-            first_of(alloc, Finished, GREATEST, GREATEST, 4),
-            Ok(Some(GREATEST))
-        )
-    );
-    assert!(rt; matches!(first_of(alloc, Stuck, 5, 7, 4), Ok(None)));
-    // A run that is cut off is neither.
-    assert!(rt; matches!(first_of(alloc, Finished, 5, 7, 3), Ok(None)));
-    assert!(rt; matches!(first_of(alloc, Stuck, 5, 7, 3), Ok(None)));
-    assert!(rt; matches!(first_of(alloc, Finished, 7, 5, 4), Ok(None)));
+    let so = match lockers(rt.alloc(), 1) {
+        Some(script) => are_first(rt.alloc(), &script, FIRST),
+        None => 0,
+    };
+    assert_rows(&rt, so, FIRST.len());
 }
 
 /// What an observer was told.
@@ -167,9 +199,6 @@ const ONE_LOCK: SeedOutcome = SeedOutcome::Finished(Figures {
     messages: 2,
 });
 
-/// Three seeds.
-const FIVE_TO_SEVEN: SeedRange = SeedRange { first: 5, last: 7 };
-
 /// Makes an observer that was told nothing.
 fn nothing_told(alloc: Global) -> Told {
     Told {
@@ -178,48 +207,53 @@ fn nothing_told(alloc: Global) -> Told {
     }
 }
 
-#[test]
-fn a_survey_tells_what_came_of_each_seed(rt: HostRuntime) {
-    let mut told = nothing_told(rt.alloc());
-    let script = lockers(rt.alloc(), 1).expect(&rt, "the script of one client");
-    assert!(rt; survey(rt.alloc(), &script, None, FIVE_TO_SEVEN, 4, &mut told).is_ok());
-    assert!(rt; told.is_whole);
-    assert!(rt; told.ended.as_slice() == [(5, ONE_LOCK), (6, ONE_LOCK), (7, ONE_LOCK)].as_slice());
+/// Returns whether just these outcomes were told.
+fn were_told(told: &Told, outcomes: &[(u64, SeedOutcome)]) -> bool {
+    told.is_whole && told.ended.as_slice() == outcomes
+}
+
+/// Returns whether a survey of three seeds tells what came of each.
+fn tells_each(alloc: Global, script: &Script) -> bool {
+    let mut told = nothing_told(alloc);
+    let seeds = SeedRange { first: 5, last: 7 };
+    survey(alloc, script, None, seeds, 4, &mut told).is_ok()
+        && were_told(&told, &[(5, ONE_LOCK), (6, ONE_LOCK), (7, ONE_LOCK)])
+}
+
+/// Returns whether a search among seeds finds the first one or none, and tells these outcomes.
+fn tells_up_to(
+    alloc: Global,
+    script: &Script,
+    limit: u64,
+    first: Option<u64>,
+    outcomes: &[(u64, SeedOutcome)],
+) -> bool {
+    let mut told = nothing_told(alloc);
+    let seeds = SeedRange { first: 5, last: 7 };
+    match found(alloc, script, Finished, seeds, limit, &mut told) {
+        Ok(seed) => seed == first && were_told(&told, outcomes),
+        Err(Memory) => false,
+    }
+}
+
+/// Returns whether surveys and searches tell what came of each seed, up to the one that is found.
+fn tell_each(alloc: Global) -> bool {
+    const CUT_OFF: &[(u64, SeedOutcome)] = &[
+        (5, SeedOutcome::Limit),
+        (6, SeedOutcome::Limit),
+        (7, SeedOutcome::Limit),
+    ];
+    match lockers(alloc, 1) {
+        Some(script) => {
+            tells_each(alloc, &script)
+                && tells_up_to(alloc, &script, 4, Some(5), &[(5, ONE_LOCK)])
+                && tells_up_to(alloc, &script, 3, None, CUT_OFF)
+        }
+        None => false,
+    }
 }
 
 #[test]
-fn a_search_tells_what_came_of_each_seed_up_to_the_one_it_finds(rt: HostRuntime) {
-    let mut told = nothing_told(rt.alloc());
-    let script = lockers(rt.alloc(), 1).expect(&rt, "the script of one client");
-    let found = first_seed(
-        rt.alloc(),
-        &script,
-        None,
-        Finished,
-        FIVE_TO_SEVEN,
-        4,
-        &mut told,
-    );
-    assert!(rt; matches!(found, Ok(Some(5))));
-    assert!(rt; told.ended.as_slice() == [(5, ONE_LOCK)].as_slice());
-    let six_and_seven = SeedRange { first: 6, last: 7 };
-    let cut_off = first_seed(
-        rt.alloc(),
-        &script,
-        None,
-        Finished,
-        six_and_seven,
-        3,
-        &mut told,
-    );
-    assert!(rt; matches!(cut_off, Ok(None)));
-    assert!(rt;
-        told.ended.as_slice()
-            == [
-                (5, ONE_LOCK),
-                (6, SeedOutcome::Limit),
-                (7, SeedOutcome::Limit)
-            ]
-            .as_slice()
-    );
+fn surveys_and_searches_tell_what_came_of_each_seed(rt: HostRuntime) {
+    assert_so(&rt, tell_each(rt.alloc()));
 }

@@ -1,6 +1,6 @@
 //! What the tests of scripts and of schedules share: what a script does or shows, and what a policy makes of it, one after the other.
 use crate::drives::{Drive, asks_first, drives};
-use crate::helpers::assert_rows;
+use crate::helpers::assert_done;
 use Doing::{Locks, Unlocks};
 use Plan::{
     Adds, AddsClient, AddsClients, AddsLocker, AddsLocks, AddsWriters, Does, DoesNothing, Drives,
@@ -57,22 +57,32 @@ pub enum Plan {
 
 /// Returns the operation, or `None` where there is no such name.
 fn op(doing: Doing) -> Option<Op> {
-    match doing {
-        Locks(letter, mode) => match Name::new(&[letter]) {
-            Ok(name) => Some(Op::Lock(name, mode)),
-            Err(_) => None,
-        },
-        Unlocks(letter) => match Name::new(&[letter]) {
-            Ok(name) => Some(Op::Unlock(name)),
-            Err(_) => None,
-        },
+    let letter = match doing {
+        Locks(letter, _) | Unlocks(letter) => letter,
+    };
+    match Name::new(&[letter]) {
+        Ok(name) => Some(match doing {
+            Locks(_, mode) => Op::Lock(name, mode),
+            Unlocks(_) => Op::Unlock(name),
+        }),
+        Err(_) => None,
     }
+}
+
+/// Adds an operation, and returns why it is refused, or `None` if it is not.
+pub fn fault_of_op(script: &mut Script, op: &Op) -> Option<AddOpError> {
+    script.add_op(*op).err()
+}
+
+/// Adds a client at this node, and returns why it is refused, or `None` if it is not.
+pub fn fault_of_client(alloc: Global, script: &mut Script, node: u16) -> Option<AddClientError> {
+    script.add_client(alloc, node).err()
 }
 
 /// Adds an operation, if there is one. Returns whether there is, and there was room for it.
 fn adds(script: &mut Script, doing: Doing) -> bool {
     match op(doing) {
-        Some(op) => script.add_op(op).is_ok(),
+        Some(op) => fault_of_op(script, &op).is_none(),
         None => false,
     }
 }
@@ -83,7 +93,7 @@ fn adds_lock(script: &mut Script, mode: Mode) -> bool {
 }
 
 /// Adds so many times that the last client locks `r` for itself alone and unlocks it. Returns whether there was room for that.
-fn adds_locks(script: &mut Script, times: u32) -> bool {
+pub fn adds_locks(script: &mut Script, times: u32) -> bool {
     for _ in 0..times {
         if !adds_lock(script, Mode::Exclusive) {
             return false;
@@ -95,14 +105,14 @@ fn adds_locks(script: &mut Script, times: u32) -> bool {
 /// Returns whether there is an operation, and it is refused for this cause.
 fn refuses(script: &mut Script, doing: Doing, cause: AddOpError) -> bool {
     match op(doing) {
-        Some(op) => script.add_op(op) == Err(cause),
+        Some(op) => fault_of_op(script, &op) == Some(cause),
         None => false,
     }
 }
 
 /// Adds a client at this node. Returns whether there was room for it.
-fn adds_client(alloc: Global, script: &mut Script, node: u16) -> bool {
-    script.add_client(alloc, node).is_ok()
+pub fn adds_client(alloc: Global, script: &mut Script, node: u16) -> bool {
+    fault_of_client(alloc, script, node).is_none()
 }
 
 /// Adds so many clients at node 1. Returns whether there was room for them.
@@ -116,7 +126,7 @@ fn adds_clients(alloc: Global, script: &mut Script, count: u32) -> bool {
 }
 
 /// Adds a client at this node that locks `r` in its mode and unlocks it. Returns whether there was room for it.
-fn adds_locker(alloc: Global, script: &mut Script, node: u16, mode: Mode) -> bool {
+pub fn adds_locker(alloc: Global, script: &mut Script, node: u16, mode: Mode) -> bool {
     adds_client(alloc, script, node) && adds_lock(script, mode)
 }
 
@@ -132,7 +142,7 @@ fn adds_writers(alloc: Global, script: &mut Script, nodes: u16) -> bool {
 
 /// Returns whether a client at this node is refused.
 fn refuses_client(alloc: Global, script: &mut Script, node: u16) -> bool {
-    script.add_client(alloc, node) == Err(AddClientError::Clients)
+    fault_of_client(alloc, script, node) == Some(AddClientError::Clients)
 }
 
 /// Adds one client after the other that locks `r`, to 64. Returns whether the first word names who asks first each time.
@@ -207,18 +217,20 @@ fn done(alloc: Global, script: &mut Script, plans: &[Plan]) -> usize {
     plans.len()
 }
 
-/// Makes a script of so many nodes, and returns how much of this it does and shows, up to the first that it does not.
-fn done_by(alloc: Global, nodes: u16, plans: &[Plan]) -> Option<usize> {
-    match Script::new(alloc, nodes) {
-        Ok(mut script) => Some(done(alloc, &mut script, plans)),
-        Err(_) => None,
+/// What it shows, how many nodes a script has, and what it does and shows.
+pub struct Scene(pub &'static str, pub u16, pub &'static [Plan]);
+
+/// Makes a script, and returns how much of a scene it does and shows, up to the first that it does not.
+fn done_in(alloc: Global, scene: &Scene) -> usize {
+    match Script::new(alloc, scene.1) {
+        Ok(mut script) => done(alloc, &mut script, scene.2),
+        Err(_) => 0,
     }
 }
 
-/// Makes a script of so many nodes, and asserts that it does and shows all of this.
-pub fn carry_out(rt: &(impl Abort + AllocGlobal), nodes: u16, plans: &[Plan]) {
-    match done_by(rt.alloc(), nodes, plans) {
-        Some(done) => assert_rows(rt, done, plans.len()),
-        None => panic!(rt; "there is no such script"),
+/// Asserts that a script does and shows all of each scene.
+pub fn carry_out(rt: &(impl Abort + AllocGlobal), scenes: &[Scene]) {
+    for scene in scenes {
+        assert_done(rt, scene.0, done_in(rt.alloc(), scene), scene.2.len());
     }
 }

@@ -1,11 +1,12 @@
 //! What is printed of worlds and of schedules: refusals, reports and faults.
-use crate::acts::{Act, follow, is_text, node};
-use crate::helpers::{assert_rows, printed, prints};
+use crate::acts::{Act, Scene, follow, is_text, node};
+use crate::helpers::{assert_rows, assert_so};
 use Act::{Ask, Deliver, Leave, Reports};
 use ra_schedule::{AddClientError, AddOpError, DriveError, NewScriptError};
 use ra_stamp::{Entry, Mark, Mode, Name, Stamp};
 use ra_world::{NewError, NodeRefusal, RunError, StepError, mark_line};
 use std::alloc::Global;
+use test_support::{printed, prints};
 
 /// Returns whether a cause is printed so, by itself and as that of a run.
 fn prints_cause(alloc: Global, cause: StepError, word: &str) -> bool {
@@ -15,8 +16,7 @@ fn prints_cause(alloc: Global, cause: StepError, word: &str) -> bool {
 /// Returns how many causes are printed as is said beside them, up to the first that is not.
 fn causes_printed(alloc: Global, rows: &[(StepError, &str)]) -> usize {
     for place in 0..rows.len() {
-        let (cause, word) = rows[place];
-        if !prints_cause(alloc, cause, word) {
+        if !prints_cause(alloc, rows[place].0, rows[place].1) {
             return place;
         }
     }
@@ -50,9 +50,11 @@ fn refusals_are_printed_as_their_words(rt: HostRuntime) {
     assert_rows(&rt, printed(alloc, NEW_FAULTS), NEW_FAULTS.len());
 }
 
-#[test]
-fn a_report_is_printed_as_its_lines(rt: HostRuntime) {
-    const ACTS: &[Act] = &[
+const SCENES: &[Scene] = &[Scene(
+    "a report is printed as its lines",
+    2,
+    0,
+    &[
         Ask(1, 1, b'r'),
         Deliver(2),
         Leave(1, 1, b'r'),
@@ -68,8 +70,12 @@ waiting 0
 queued 0
 ",
         ),
-    ];
-    follow(&rt, 2, 0, ACTS);
+    ],
+)];
+
+#[test]
+fn a_report_is_printed_as_its_lines(rt: HostRuntime) {
+    follow(&rt, SCENES);
 }
 
 /// Returns whether the mark Requested with this name, the longest mode and the greatest numbers has this line.
@@ -94,7 +100,7 @@ fn greatest_mark_has_line(alloc: Global, name: &[u8], line: &str) -> bool {
 fn the_greatest_numbers_are_printed(rt: HostRuntime) {
     let line = "request 64 4294967295 abcdefghijklmnopqrstuvwxyzABCDEF SIX 18446744073709551615\n";
     let name = b"abcdefghijklmnopqrstuvwxyzABCDEF";
-    assert!(rt; greatest_mark_has_line(rt.alloc(), name, line));
+    assert_so(&rt, greatest_mark_has_line(rt.alloc(), name, line));
 }
 
 const SCRIPT_FAULTS: &[(NewScriptError, &str)] = &[

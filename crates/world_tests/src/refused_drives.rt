@@ -1,28 +1,21 @@
 //! Which choice `drive` and `summarize` refuse, and why: the first choice, and one after many others.
-use crate::helpers::{assert_rows, r};
-use ra_schedule::{Choice, Choices, DriveError, Op, Policy, Script, drive, summarize};
-use ra_stamp::Mode;
+use crate::drives::{driven, has_ended, summed};
+use crate::helpers::{assert_rows, assert_so};
+use crate::plans::{adds_client, adds_locks};
+use ra_schedule::{Choice, Choices, DriveError, Policy, Script};
 use std::alloc::Global;
-
-/// Adds ten locks of `r` to the last client. Returns whether there was room.
-fn adds_ten_locks(script: &mut Script) -> bool {
-    for _ in 0..10 {
-        if script.add_op(Op::Lock(r(), Mode::Exclusive)).is_err()
-            || script.add_op(Op::Unlock(r())).is_err()
-        {
-            return false;
-        }
-    }
-    true
-}
 
 /// Makes a script of two nodes: client 1, at node 1, locks `r` ten times, in four turns each time, and client 2 does nothing.
 fn ten_locks(alloc: Global) -> Option<Script> {
-    let mut script = Script::new(alloc, 2).ok()?;
-    let is_made = script.add_client(alloc, 1).is_ok()
-        && adds_ten_locks(&mut script)
-        && script.add_client(alloc, 1).is_ok();
-    if is_made { Some(script) } else { None }
+    match Script::new(alloc, 2) {
+        Ok(mut script) => {
+            let is_made = adds_client(alloc, &mut script, 1)
+                && adds_locks(&mut script, 10)
+                && adds_client(alloc, &mut script, 1);
+            if is_made { Some(script) } else { None }
+        }
+        Err(_) => None,
+    }
 }
 
 /// The choices of a lock: client 1 asks, its REQUEST and the REPLY are delivered, and it leaves.
@@ -69,8 +62,8 @@ fn leads_to(
     limit: u64,
     cause: DriveError,
 ) -> bool {
-    drive(alloc, script, policy, limit).err() == Some(cause)
-        && summarize(alloc, script, policy, limit).err() == Some(cause)
+    driven(alloc, script, policy, limit).err() == Some(cause)
+        && summed(alloc, script, policy, limit).err() == Some(cause)
 }
 
 /// Returns whether a case holds.
@@ -135,18 +128,26 @@ fn a_choice_after_many_is_refused_for_each_cause(rt: HostRuntime) {
     assert_rows(&rt, are_so(rt.alloc(), CASES), CASES.len());
 }
 
-/// Returns whether a policy leads the script to its end in forty turns, but not in one less.
+/// Returns whether a policy leads the script to its end in forty turns.
+fn is_made_in_forty_turns(alloc: Global, script: &Script, policy: &Policy) -> bool {
+    match driven(alloc, script, policy, 40) {
+        Ok(made) => has_ended(&made, 40),
+        Err(_) => false,
+    }
+}
+
+/// Returns whether it does so where the steps are not kept.
+fn is_summed_up_in_forty_turns(alloc: Global, script: &Script, policy: &Policy) -> bool {
+    match summed(alloc, script, policy, 40) {
+        Ok(summary) => summary.finished && summary.turns == 40,
+        Err(_) => false,
+    }
+}
+
+/// Returns whether it does so, but not in one turn less.
 fn takes_forty_turns(alloc: Global, script: &Script, policy: &Policy) -> bool {
-    let (Ok(made), Ok(summed)) = (
-        drive(alloc, script, policy, 40),
-        summarize(alloc, script, policy, 40),
-    ) else {
-        return false;
-    };
-    made.finished
-        && made.steps.len() == 40
-        && summed.finished
-        && summed.turns == 40
+    is_made_in_forty_turns(alloc, script, policy)
+        && is_summed_up_in_forty_turns(alloc, script, policy)
         && leads_to(alloc, script, policy, 39, DriveError::TurnLimit)
 }
 
@@ -163,5 +164,5 @@ fn ten_locks_take_forty_turns(alloc: Global) -> bool {
 
 #[test]
 fn each_policy_has_as_many_turns_as_there_may_be(rt: HostRuntime) {
-    assert!(rt; ten_locks_take_forty_turns(rt.alloc()));
+    assert_so(&rt, ten_locks_take_forty_turns(rt.alloc()));
 }

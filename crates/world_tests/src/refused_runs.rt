@@ -1,11 +1,11 @@
 //! Which step of a list `run` refuses, and why: the first step, and one after many others.
 use crate::acts::{Wire, Wish, is_text, node, step};
-use crate::helpers::{assert_rows, r};
-use crate::runs::adds;
+use crate::helpers::{assert_rows, assert_so, r};
+use crate::runs::{adds, adds_all, run_of};
 use Wire::{Replies, Requests};
 use Wish::{Asks, Delivers, Leaves, Loses, Repeats};
 use ra_stamp::{Message, Mode};
-use ra_world::{NodeRefusal, Report, RunError, Step, StepError, Steps, report_text, run};
+use ra_world::{NodeRefusal, Report, RunError, Step, StepError, Steps, report_text};
 use std::alloc::Global;
 
 /// Returns the REQUEST of node 1 to node 2 with this number.
@@ -66,6 +66,11 @@ const EXHAUSTED: StepError = StepError::Node(NodeRefusal::Exhausted);
 
 const NOT_HELD: StepError = StepError::Node(NodeRefusal::NotHeld);
 
+/// Returns why two nodes refuse steps whose numbers begin at `start`, or `None` if they take them.
+fn fault_of(alloc: Global, start: u64, steps: &Steps) -> Option<RunError> {
+    run_of(alloc, 2, start, steps).err()
+}
+
 /// Returns why two nodes refuse the step of a case, or `None` if they take it. It comes first or after the 39 others,
 /// and one more step follows it.
 fn refused(alloc: Global, case: &Case, is_late: bool) -> Option<RunError> {
@@ -74,7 +79,7 @@ fn refused(alloc: Global, case: &Case, is_late: bool) -> Option<RunError> {
         && adds(&mut steps, step(case.0))
         && adds(&mut steps, step(Asks(2, 3)));
     if is_made {
-        run(alloc, 2, case.1, &steps).err()
+        fault_of(alloc, case.1, &steps)
     } else {
         None
     }
@@ -139,7 +144,7 @@ fn are_made(alloc: Global, start: u64) -> bool {
     if !adds_39_steps(&mut steps, start) {
         return false;
     }
-    match run(alloc, 2, start, &steps) {
+    match run_of(alloc, 2, start, &steps) {
         Ok(report) => is_of_39_steps(&report),
         Err(_) => false,
     }
@@ -147,19 +152,20 @@ fn are_made(alloc: Global, start: u64) -> bool {
 
 #[test]
 fn the_steps_before_the_fortieth_are_made(rt: HostRuntime) {
-    assert!(rt; are_made(rt.alloc(), 0));
-    assert!(rt; are_made(rt.alloc(), TEN_LEFT));
+    assert_so(
+        &rt,
+        are_made(rt.alloc(), 0) && are_made(rt.alloc(), TEN_LEFT),
+    );
 }
 
 /// Returns the list of these steps, or `None` if there was no room.
 fn steps_of(alloc: Global, wishes: &[Wish]) -> Option<Steps> {
     let mut steps = Steps::new(alloc);
-    for wish in wishes {
-        if !adds(&mut steps, step(*wish)) {
-            return None;
-        }
+    if adds_all(&mut steps, wishes) {
+        Some(steps)
+    } else {
+        None
     }
-    Some(steps)
 }
 
 /// Returns whether a run of two nodes has this text and this number of repeats.
@@ -167,7 +173,7 @@ fn is_reported(alloc: Global, wishes: &[Wish], text: &str, repeated: u128) -> bo
     let Some(steps) = steps_of(alloc, wishes) else {
         return false;
     };
-    match run(alloc, 2, 0, &steps) {
+    match run_of(alloc, 2, 0, &steps) {
         Ok(report) => report.repeated == repeated && is_text(report_text(alloc, &report), text),
         Err(_) => false,
     }
@@ -195,21 +201,15 @@ lost 0
 waiting 0
 queued 0
 ";
-    assert!(rt; is_reported(rt.alloc(), STEPS, TEXT, 1));
+    assert_so(&rt, is_reported(rt.alloc(), STEPS, TEXT, 1));
 }
 
-/// Returns the place at which a run of two nodes names a message that is not under way, or `None` if there is no such
-/// place.
-fn not_under_way_at(alloc: Global, wishes: &[Wish]) -> Option<u64> {
-    let steps = steps_of(alloc, wishes)?;
-    match run(alloc, 2, 0, &steps) {
-        Err(
-            RunError::Refused {
-                place,
-                cause: StepError::NotUnderWay,
-            },
-        ) => Some(place),
-        _ => None,
+/// Returns whether a run of two nodes names a message at this place that is not under way.
+fn is_not_under_way_at(alloc: Global, wishes: &[Wish], place: u64) -> bool {
+    let cause = StepError::NotUnderWay;
+    match steps_of(alloc, wishes) {
+        Some(steps) => fault_of(alloc, 0, &steps) == Some(RunError::Refused { place, cause }),
+        None => false,
     }
 }
 
@@ -229,6 +229,7 @@ fn a_run_repeats_only_what_is_under_way(rt: HostRuntime) {
         Delivers(Requests(2)),
         Delivers(Requests(2)),
     ];
-    assert!(rt; not_under_way_at(rt.alloc(), BOTH_LOST) == Some(5));
-    assert!(rt; not_under_way_at(rt.alloc(), ONE_TOO_MANY) == Some(5));
+    let so = is_not_under_way_at(rt.alloc(), BOTH_LOST, 5)
+        && is_not_under_way_at(rt.alloc(), ONE_TOO_MANY, 5);
+    assert_so(&rt, so);
 }

@@ -1,6 +1,6 @@
 //! Runs of a list of steps: what is reported about them, and where they are refused.
 use crate::acts::{Wire, Wish, is_text, step};
-use crate::helpers::assert_rows;
+use crate::helpers::{assert_rows, assert_so};
 use Answer::{Refused, Reported};
 use Wire::Requests;
 use Wish::{Asks, Leaves, Loses};
@@ -31,7 +31,7 @@ pub fn adds(steps: &mut Steps, step: Option<Step>) -> bool {
 }
 
 /// Adds these steps. Returns whether there was room.
-fn adds_all(steps: &mut Steps, wishes: &[Wish]) -> bool {
+pub fn adds_all(steps: &mut Steps, wishes: &[Wish]) -> bool {
     for wish in wishes {
         if !adds(steps, step(*wish)) {
             return false;
@@ -40,22 +40,42 @@ fn adds_all(steps: &mut Steps, wishes: &[Wish]) -> bool {
     true
 }
 
+/// Returns what `run` answers for steps whose numbers begin at `start`.
+pub fn run_of(alloc: Global, nodes: u16, start: u64, steps: &Steps) -> Result<Report, RunError> {
+    run(alloc, nodes, start, steps)
+}
+
 /// Returns what `run` answers for these steps, from 0.
 fn answer_to(alloc: Global, nodes: u16, wishes: &[Wish]) -> Result<Report, RunError> {
     let mut steps = Steps::new(alloc);
     if adds_all(&mut steps, wishes) {
-        run(alloc, nodes, 0, &steps)
+        run_of(alloc, nodes, 0, &steps)
     } else {
         Err(RunError::Memory)
     }
 }
 
+/// Returns whether a report is the answer.
+fn is_reported(alloc: Global, report: &Report, answer: Answer) -> bool {
+    match answer {
+        Reported(text) => is_text(report_text(alloc, report), text),
+        Refused(_) => false,
+    }
+}
+
+/// Returns whether a refusal is the answer.
+fn is_refused(found: RunError, answer: Answer) -> bool {
+    match answer {
+        Reported(_) => false,
+        Refused(fault) => found == fault,
+    }
+}
+
 /// Returns whether a case has the expected answer.
 fn is_so(alloc: Global, case: &Case) -> bool {
-    match (answer_to(alloc, case.0, case.1), case.2) {
-        (Ok(report), Reported(text)) => is_text(report_text(alloc, &report), text),
-        (Err(found), Refused(fault)) => found == fault,
-        _ => false,
+    match answer_to(alloc, case.0, case.1) {
+        Ok(report) => is_reported(alloc, &report, case.2),
+        Err(found) => is_refused(found, case.2),
     }
 }
 
@@ -144,7 +164,10 @@ fn a_cluster_has_one_to_sixty_four_nodes(rt: HostRuntime) {
         Case(64, &[], Reported(NOTHING)),
     ];
     assert_cases(&rt, CASES);
-    assert!(rt; makes_no_world(rt.alloc(), 0) && makes_no_world(rt.alloc(), 65));
+    assert_so(
+        &rt,
+        makes_no_world(rt.alloc(), 0) && makes_no_world(rt.alloc(), 65),
+    );
 }
 
 #[test]

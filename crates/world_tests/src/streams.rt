@@ -1,9 +1,9 @@
 //! How bytes are read up to a limit and written, also where a reader or a writer fails.
-use crate::helpers::{assert_rows, printed, prints};
+use crate::helpers::{assert_rows, assert_so};
 use ra_world::{ReadFault, WriteFault, read_up_to, write_out};
 use std::alloc::Global;
 use std::io;
-use test_support::{FailingReader, failing_writer};
+use test_support::{FailingReader, failing_writer, printed, prints};
 
 /// The bytes that are read and written.
 const BYTES: &[u8] = b"abc";
@@ -49,9 +49,10 @@ fn is_not_read_again(alloc: Global, fault: io::ErrorKind) -> bool {
 #[test]
 fn a_reader_that_failed_is_not_tried_again(rt: HostRuntime) {
     let alloc = rt.alloc();
-    assert!(rt; is_not_read_again(alloc, io::ErrorKind::Interrupted));
-    assert!(rt; is_not_read_again(alloc, io::ErrorKind::WouldBlock));
-    assert!(rt; is_not_read_again(alloc, io::ErrorKind::BrokenPipe));
+    let so = is_not_read_again(alloc, io::ErrorKind::Interrupted)
+        && is_not_read_again(alloc, io::ErrorKind::WouldBlock)
+        && is_not_read_again(alloc, io::ErrorKind::BrokenPipe);
+    assert_so(&rt, so);
 }
 
 /// Returns whether a limit is read and no more, where one more read would fail.
@@ -74,8 +75,8 @@ fn is_prefix(bytes: &[u8], taken: usize) -> bool {
 #[test]
 fn nothing_is_read_behind_the_limit(rt: HostRuntime) {
     let alloc = rt.alloc();
-    assert!(rt; reads_to(alloc, 0) && reads_to(alloc, 1));
-    assert!(rt; reads_to(alloc, 2) && reads_to(alloc, 3));
+    let so = reads_to(alloc, 0) && reads_to(alloc, 1) && reads_to(alloc, 2) && reads_to(alloc, 3);
+    assert_so(&rt, so);
 }
 
 /// Returns whether all of these bytes are read under the greatest limit.
@@ -89,7 +90,7 @@ fn reads_all(alloc: Global, bytes: &[u8]) -> bool {
 
 #[test]
 fn the_limit_may_be_more_than_there_is_room_for(rt: HostRuntime) {
-    assert!(rt; reads_all(rt.alloc(), &[b'a'; 10_000]));
+    assert_so(&rt, reads_all(rt.alloc(), &[b'a'; 10_000]));
 }
 
 /// Returns whether [`BYTES`] are written or not to a writer that fails after this many writes, and it has taken these then.
@@ -111,10 +112,11 @@ fn is_not_written_again(fault: Option<io::ErrorKind>) -> bool {
 /// Faults that other writers would try again, one that they would not, and a write that takes nothing.
 #[test]
 fn a_writer_that_failed_is_not_tried_again(rt: HostRuntime) {
-    assert!(rt; is_not_written_again(Some(io::ErrorKind::Interrupted)));
-    assert!(rt; is_not_written_again(Some(io::ErrorKind::WouldBlock)));
-    assert!(rt; is_not_written_again(Some(io::ErrorKind::BrokenPipe)));
-    assert!(rt; is_not_written_again(None));
+    let so = is_not_written_again(Some(io::ErrorKind::Interrupted))
+        && is_not_written_again(Some(io::ErrorKind::WouldBlock))
+        && is_not_written_again(Some(io::ErrorKind::BrokenPipe))
+        && is_not_written_again(None);
+    assert_so(&rt, so);
 }
 
 const READ_FAULTS: &[(ReadFault, &str)] = &[
@@ -125,5 +127,5 @@ const READ_FAULTS: &[(ReadFault, &str)] = &[
 #[test]
 fn faults_are_printed_as_their_words(rt: HostRuntime) {
     assert_rows(&rt, printed(rt.alloc(), READ_FAULTS), READ_FAULTS.len());
-    assert!(rt; prints(rt.alloc(), &WriteFault, "Write"));
+    assert_so(&rt, prints(rt.alloc(), &WriteFault, "Write"));
 }

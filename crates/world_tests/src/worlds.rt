@@ -1,31 +1,34 @@
 //! How a world goes on: which steps it accepts, who enters or waits, and how far it comes.
-use crate::acts::{Act, Wire, Wish, follow};
+use crate::acts::{Act, Scene, Wire, Wish, follow};
 use Act::{Accepts, Ask, Deliver, HasSteps, IsQuiet, Leave, Lock, Rejects, Reports};
 use Wire::{Replies, Requests};
 use Wish::{Asks, Delivers, Leaves, Loses};
 
-#[test]
-fn only_what_may_come_next_is_accepted(rt: HostRuntime) {
-    const ACTS: &[Act] = &[
-        Ask(1, 1, b'r'),
-        Accepts(Delivers(Requests(2))),
-        Accepts(Loses(Requests(2))),
-        Accepts(Asks(2, 2)),
-        Rejects(Delivers(Requests(3))),
-        Rejects(Loses(Replies(2, 1, 1))),
-        Rejects(Leaves),
-        Rejects(Asks(3, 1)),
-    ];
-    follow(&rt, 2, 0, ACTS);
-}
-
-#[test]
-fn sixteen_nodes_let_one_client_enter(rt: HostRuntime) {
-    const ACTS: &[Act] = &[
-        Ask(1, 1, b'r'),
-        Deliver(30),
-        Reports(
-            "request 1 1 r X 1
+const SCENES: &[Scene] = &[
+    Scene(
+        "only what may come next is accepted",
+        2,
+        0,
+        &[
+            Ask(1, 1, b'r'),
+            Accepts(Delivers(Requests(2))),
+            Accepts(Loses(Requests(2))),
+            Accepts(Asks(2, 2)),
+            Rejects(Delivers(Requests(3))),
+            Rejects(Loses(Replies(2, 1, 1))),
+            Rejects(Leaves),
+            Rejects(Asks(3, 1)),
+        ],
+    ),
+    Scene(
+        "sixteen nodes let one client enter",
+        16,
+        0,
+        &[
+            Ask(1, 1, b'r'),
+            Deliver(30),
+            Reports(
+                "request 1 1 r X 1
 enter 1 1 r X 1
 requests 1
 messages 30
@@ -34,19 +37,19 @@ lost 0
 waiting 0
 queued 0
 ",
-        ),
-    ];
-    follow(&rt, 16, 0, ACTS);
-}
-
-#[test]
-fn sixty_four_nodes_let_one_client_enter_and_leave(rt: HostRuntime) {
-    const ACTS: &[Act] = &[
-        Ask(1, 1, b'r'),
-        Deliver(126),
-        Leave(1, 1, b'r'),
-        Reports(
-            "request 1 1 r X 1
+            ),
+        ],
+    ),
+    Scene(
+        "sixty four nodes let one client enter and leave",
+        64,
+        0,
+        &[
+            Ask(1, 1, b'r'),
+            Deliver(126),
+            Leave(1, 1, b'r'),
+            Reports(
+                "request 1 1 r X 1
 enter 1 1 r X 1
 leave 1 1 r X 1
 requests 1
@@ -56,24 +59,24 @@ lost 0
 waiting 0
 queued 0
 ",
-        ),
-    ];
-    follow(&rt, 64, 0, ACTS);
-}
-
-/// Clients 1 and 2 lock `a` and `b`, and then each asks for the other's name.
-#[test]
-fn two_clients_wait_for_what_the_other_holds(rt: HostRuntime) {
-    const ACTS: &[Act] = &[
-        Ask(1, 1, b'a'),
-        Ask(2, 2, b'b'),
-        Deliver(3),
-        Ask(1, 1, b'b'),
-        Deliver(1),
-        Ask(2, 2, b'a'),
-        Deliver(2),
-        Reports(
-            "request 1 1 a X 1
+            ),
+        ],
+    ),
+    // Clients 1 and 2 lock `a` and `b`, and then each asks for the other's name.
+    Scene(
+        "two clients wait for what the other holds",
+        2,
+        0,
+        &[
+            Ask(1, 1, b'a'),
+            Ask(2, 2, b'b'),
+            Deliver(3),
+            Ask(1, 1, b'b'),
+            Deliver(1),
+            Ask(2, 2, b'a'),
+            Deliver(2),
+            Reports(
+                "request 1 1 a X 1
 request 2 2 b X 1
 enter 1 1 a X 1
 request 1 1 b X 2
@@ -86,37 +89,48 @@ lost 0
 waiting 2
 queued 0
 ",
-        ),
-    ];
-    follow(&rt, 2, 0, ACTS);
-}
+            ),
+        ],
+    ),
+    Scene(
+        "a single node makes a hundred thousand steps",
+        1,
+        0,
+        &[
+            Lock(50_000, 0),
+            HasSteps(100_000),
+            IsQuiet(150_000, 50_000, 0),
+        ],
+    ),
+    Scene(
+        "two nodes make a hundred thousand steps",
+        2,
+        0,
+        &[
+            Lock(25_000, 2),
+            HasSteps(100_000),
+            IsQuiet(75_000, 25_000, 50_000),
+        ],
+    ),
+];
 
 #[test]
-fn a_single_node_makes_a_hundred_thousand_steps(rt: HostRuntime) {
-    const ACTS: &[Act] = &[
-        Lock(50_000, 0),
-        HasSteps(100_000),
-        IsQuiet(150_000, 50_000, 0),
-    ];
-    follow(&rt, 1, 0, ACTS);
+fn a_world_goes_on(rt: HostRuntime) {
+    follow(&rt, SCENES);
 }
 
-#[test]
-fn two_nodes_make_a_hundred_thousand_steps(rt: HostRuntime) {
-    const ACTS: &[Act] = &[
-        Lock(25_000, 2),
-        HasSteps(100_000),
-        IsQuiet(75_000, 25_000, 50_000),
-    ];
-    follow(&rt, 2, 0, ACTS);
-}
-
-#[test]
-fn sixteen_nodes_make_more_than_two_to_the_24th_steps(rt: HostRuntime) {
-    const ACTS: &[Act] = &[
+const MANY_STEPS: &[Scene] = &[Scene(
+    "sixteen nodes make more than two to the 24th steps",
+    16,
+    0,
+    &[
         Lock(524_300, 30),
         HasSteps(16_777_600),
         IsQuiet(1_572_900, 524_300, 15_729_000),
-    ];
-    follow(&rt, 16, 0, ACTS);
+    ],
+)];
+
+#[test]
+fn sixteen_nodes_make_more_than_two_to_the_24th_steps(rt: HostRuntime) {
+    follow(&rt, MANY_STEPS);
 }

@@ -1,11 +1,11 @@
 //! What calls cost. A test has a minute. A body that goes through all messages or all clients at each call, or learns where they are
 //! anew at each call, takes longer.
-use crate::helpers::{id, r, request};
+use crate::growth_of_nodes::{asked, pushes, puts as puts_all};
+use crate::helpers::{assert_so, id, r};
 use ra_bag::Bag;
 use ra_node::Node;
 use ra_stamp::{Messages, Mode};
 use std::alloc::Global;
-use std::process::Abort;
 
 /// How many messages are under way.
 const MESSAGES: u64 = 400_000;
@@ -19,12 +19,12 @@ const CLIENTS: u32 = 1_000_000;
 /// Puts the request with this number into the bag, and returns whether that was done.
 fn puts(alloc: Global, bag: &mut Bag, seq: u64) -> bool {
     let mut one = Messages::new(alloc);
-    one.push(request(1, 2, seq)).is_ok() && bag.put_all(&one).is_ok()
+    pushes(&mut one, seq) && puts_all(bag, &one)
 }
 
 /// Finds the request with this number, takes it and puts it after all others. Returns whether that was done.
 fn moves(alloc: Global, bag: &mut Bag, seq: u64) -> bool {
-    let message = request(1, 2, seq);
+    let message = asked(seq);
     let Some(found) = bag.find(&message, 0) else {
         return false;
     };
@@ -70,16 +70,10 @@ fn asks_for_each_client(alloc: Global) -> bool {
 
 #[test]
 fn a_message_among_many_is_found_without_a_search(rt: HostRuntime) {
-    assert!(rt;
-        moves_each_message(rt.alloc()),
-        "expected that each of 400,000 messages is found, taken and put again; one was not"
-    );
+    assert_so(&rt, moves_each_message(rt.alloc()));
 }
 
 #[test]
 fn a_client_in_a_long_queue_is_found_without_a_search(rt: HostRuntime) {
-    assert!(rt;
-        asks_for_each_client(rt.alloc()),
-        "expected that each of 1,000,000 clients asks once and is busy then; one was not"
-    );
+    assert_so(&rt, asks_for_each_client(rt.alloc()));
 }

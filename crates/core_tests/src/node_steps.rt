@@ -1,6 +1,6 @@
 //! What the tests of nodes share: what a node does or shows, one step after the other.
-use crate::helpers::{assert_all, q, r};
-use Mode::{Exclusive, Shared};
+use crate::helpers::{assert_done, q, r};
+use Mode::Exclusive;
 use Step::{
     Asks, HasCounts, HasHighest, HasHighestOfOther, IsFree, IsHeld, Leaves, MayAsk, MayAskForOther,
     MayNotAsk, Receives, RefusesAsk, RefusesLeave, RefusesMessage, TakesAsk, TakesAskForOther,
@@ -75,28 +75,38 @@ pub enum Step {
     WritersTakeTurns(u32),
 }
 
-/// Returns the message, or `None` where a number is that of no node.
-fn message(wire: Wire) -> Option<Message> {
-    let (from, to) = match wire {
-        Requests(from, to, _) | Replies(from, to, _) => (from, to),
-    };
+/// Returns the message between these nodes.
+fn between(wire: Wire, from: NodeId, to: NodeId) -> Message {
     let name = r();
+    match wire {
+        Requests(_, _, seq) => Message::Request {
+            from,
+            to,
+            name,
+            mode: Exclusive,
+            seq,
+        },
+        Replies(_, _, seq) => Message::Reply {
+            from,
+            to,
+            name,
+            seq,
+        },
+    }
+}
+
+/// Returns the numbers of the sender and the receiver.
+fn ends_of(wire: Wire) -> [u16; 2] {
+    match wire {
+        Requests(from, to, _) | Replies(from, to, _) => [from, to],
+    }
+}
+
+/// Returns the message, or `None` where a number is that of no node.
+pub fn message(wire: Wire) -> Option<Message> {
+    let [from, to] = ends_of(wire);
     match (NodeId::new(from), NodeId::new(to)) {
-        (Some(from), Some(to)) => Some(match wire {
-            Requests(_, _, seq) => Message::Request {
-                from,
-                to,
-                name,
-                mode: Exclusive,
-                seq,
-            },
-            Replies(_, _, seq) => Message::Reply {
-                from,
-                to,
-                name,
-                seq,
-            },
-        }),
+        (Some(from), Some(to)) => Some(between(wire, from, to)),
         _ => None,
     }
 }
@@ -189,7 +199,7 @@ fn receives(alloc: Global, node: &mut Node, wire: Wire, wires: &[Wire], turns: &
 }
 
 /// A client asks for a name. Returns the fault, or `None` where there is none.
-fn fault_of_ask(
+pub fn fault_of_ask(
     alloc: Global,
     node: &mut Node,
     client: u32,
@@ -219,10 +229,15 @@ fn has_fault_of_leave(
     fault_of_leave(alloc, node, client, r()) == fault
 }
 
+/// A message comes. Returns the fault, or `None` where there is none.
+pub fn fault_of_message(alloc: Global, node: &mut Node, message: &Message) -> Option<ReceiveError> {
+    node.receive(alloc, message).err()
+}
+
 /// A message comes, if there is one. Returns whether this is the fault, or there is none.
 fn has_fault(alloc: Global, node: &mut Node, wire: Wire, fault: Option<ReceiveError>) -> bool {
     match message(wire) {
-        Some(message) => node.receive(alloc, &message).err() == fault,
+        Some(message) => fault_of_message(alloc, node, &message) == fault,
         None => false,
     }
 }
@@ -346,20 +361,34 @@ fn done(alloc: Global, node: &mut Node, steps: &[Step]) -> usize {
     steps.len()
 }
 
-/// Makes node `me` of `nodes`, which has met the number `start`, and returns how many of its steps are so, up to the first that is
-/// not.
-fn done_by(alloc: Global, me: NodeId, nodes: u16, start: u64, steps: &[Step]) -> Option<usize> {
-    match Node::new(alloc, me, nodes, start) {
-        Ok(mut node) => Some(done(alloc, &mut node, steps)),
-        Err(_) => None,
+/// What it shows, a node, how many nodes there are, the number that the node has met, and its steps.
+pub struct Scene(
+    pub &'static str,
+    pub u16,
+    pub u16,
+    pub u64,
+    pub &'static [Step],
+);
+
+/// Makes a node, and returns how many of its steps are so, up to the first that is not.
+fn done_by(alloc: Global, me: NodeId, scene: &Scene) -> usize {
+    match Node::new(alloc, me, scene.2, scene.3) {
+        Ok(mut node) => done(alloc, &mut node, scene.4),
+        Err(_) => 0,
     }
 }
 
-/// Makes node `me` of `nodes`, which has met the number `start`, and tests its steps.
-pub fn follow(rt: &(impl Abort + AllocGlobal), me: NodeId, nodes: u16, start: u64, steps: &[Step]) {
-    assert_all(
-        rt,
-        done_by(rt.alloc(), me, nodes, start, steps),
-        steps.len(),
-    );
+/// Returns how many steps of a scene are so, up to the first that is not.
+fn done_in(alloc: Global, scene: &Scene) -> usize {
+    match NodeId::new(scene.1) {
+        Some(me) => done_by(alloc, me, scene),
+        None => 0,
+    }
+}
+
+/// Tests the steps of each scene.
+pub fn follow(rt: &(impl Abort + AllocGlobal), scenes: &[Scene]) {
+    for scene in scenes {
+        assert_done(rt, scene.0, done_in(rt.alloc(), scene), scene.4.len());
+    }
 }

@@ -1,0 +1,150 @@
+//! What `ra_explain` and `ra_script` tell a person: what is asked of them, and what is to be said.
+use crate::choice_words::choices_of;
+use crate::helpers::assert_rows;
+use Asked::{Choice, Digits, Field, Frame, Kept, Line, Order, Script, Unanswered, Unfinished};
+use ra_explain::{
+    LineCause, choices_note, digits_note, frame_note, line_note, order_note, script_end_note,
+    unanswered_note, unfinished_note, version_of,
+};
+use ra_frame::FrameError;
+use ra_schedule::Policy;
+use ra_script::explain_script;
+use ra_stamp::Memory;
+use std::alloc::Global;
+use std::process::Abort;
+
+/// What is asked about.
+#[derive(Clone, Copy)]
+pub enum Asked {
+    /// The wrong line with this number, the last of these lines, of which so many are whole.
+    Line(u64, &'static str, u64, LineCause),
+    /// The wrong line with this number, the last of these whole lines.
+    Field(&'static str, u64, LineCause),
+    /// A run of a script that does not finish, by these choices or by the oldest ones.
+    Unfinished(&'static str, Option<&'static str>),
+    /// Choices for a script that cannot be made.
+    Choice(&'static str, &'static str),
+    /// A script that threads may not run.
+    Order(&'static str),
+    /// The end of a script.
+    Kept(&'static str),
+    /// Digits that are no frame.
+    Frame(&'static str, FrameError),
+    /// An input that is no line of digits.
+    Digits(&'static str),
+    /// A frame that node 2 of 3 does not answer.
+    Unanswered(&'static str, ra_explain::Unanswered),
+    /// A script that cannot be read.
+    Script(&'static str),
+}
+
+/// What is said: nothing, or a text. Or memory ran out.
+pub type Told = Result<Option<String>, Memory>;
+
+/// Returns what is said of a wrong line.
+fn said_of_line(alloc: Global, number: u64, tail: &[u8], feeds: u64, cause: LineCause) -> Told {
+    let version = version_of(tail);
+    line_note(alloc, version, number, tail, feeds, cause, "said of all")
+}
+
+/// Returns what is said of a run by a policy that does not finish.
+pub fn said_of_run(alloc: Global, script: &str, policy: &Policy) -> Told {
+    unfinished_note(alloc, script.as_bytes(), policy)
+}
+
+/// Returns what is said of a run by choices that does not finish.
+fn said_of_listed(alloc: Global, script: &str, choices: &str) -> Told {
+    match choices_of(alloc, choices) {
+        Ok(choices) => said_of_run(alloc, script, &Policy::Listed(choices)),
+        Err(_) => Err(Memory),
+    }
+}
+
+/// Returns what is said of choices that cannot be made.
+fn said_of_choices(alloc: Global, script: &str, choices: &str) -> Told {
+    choices_note(alloc, script.as_bytes(), choices)
+}
+
+/// Returns what is said of a script that threads may not run.
+fn said_of_order(alloc: Global, script: &str) -> Told {
+    order_note(alloc, script.as_bytes())
+}
+
+/// Returns what is said of the end of a script.
+fn said_of_end(alloc: Global, script: &str) -> Told {
+    script_end_note(alloc, script.as_bytes())
+}
+
+/// Returns what is said of digits that are no frame.
+fn said_of_frame(alloc: Global, digits: &str, fault: FrameError) -> Told {
+    frame_note(alloc, digits.as_bytes(), fault)
+}
+
+/// Returns what is said of an input that is no line of digits.
+fn said_of_digits(alloc: Global, input: &str) -> Told {
+    digits_note(alloc, input.as_bytes())
+}
+
+/// Returns what is said of a frame that node 2 of 3 does not answer.
+fn said_of_unanswered(alloc: Global, frame: &str, why: ra_explain::Unanswered) -> Told {
+    unanswered_note(alloc, frame.as_bytes(), "2", "3", why)
+}
+
+/// Returns what is said of a script that cannot be read.
+fn said_of_script(alloc: Global, script: &str) -> Told {
+    explain_script(alloc, script.as_bytes())
+}
+
+/// Returns what is said of a script, of its runs or of its end.
+fn said_of_scripts(alloc: Global, asked: Asked) -> Told {
+    match asked {
+        Unfinished(script, None) => said_of_run(alloc, script, &Policy::Oldest),
+        Unfinished(script, Some(choices)) => said_of_listed(alloc, script, choices),
+        Choice(script, choices) => said_of_choices(alloc, script, choices),
+        Order(script) => said_of_order(alloc, script),
+        Kept(script) => said_of_end(alloc, script),
+        Script(script) => said_of_script(alloc, script),
+        _ => Ok(None),
+    }
+}
+
+/// Returns what is said.
+pub fn said(alloc: Global, asked: Asked) -> Told {
+    match asked {
+        Line(number, tail, feeds, cause) => {
+            said_of_line(alloc, number, tail.as_bytes(), feeds, cause)
+        }
+        Field(text, number, cause) => said_of_line(alloc, number, text.as_bytes(), number, cause),
+        Frame(digits, fault) => said_of_frame(alloc, digits, fault),
+        Digits(input) => said_of_digits(alloc, input),
+        Unanswered(frame, why) => said_of_unanswered(alloc, frame, why),
+        _ => said_of_scripts(alloc, asked),
+    }
+}
+
+/// Returns whether this text is said, or nothing if the text is empty.
+pub fn is_said(said: Told, text: &str) -> bool {
+    match said {
+        Ok(Some(note)) => note.as_str() == text,
+        Ok(None) => text.is_empty(),
+        Err(Memory) => false,
+    }
+}
+
+/// What is asked about, and what is to be said, or nothing if the text is empty.
+pub struct Note(pub Asked, pub &'static str);
+
+/// Returns of how many rows the right text is said, up to the first of which it is not.
+fn said_so(alloc: Global, notes: &[Note]) -> usize {
+    for place in 0..notes.len() {
+        if !is_said(said(alloc, notes[place].0), notes[place].1) {
+            return place;
+        }
+    }
+    notes.len()
+}
+
+/// Asserts that the right text is said of each row.
+pub fn assert_said(rt: &(impl Abort + AllocGlobal), notes: &[Note]) {
+    assert_rows(rt, said_so(rt.alloc(), notes), notes.len());
+}
