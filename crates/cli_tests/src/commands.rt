@@ -165,7 +165,7 @@ fn each_help_keeps_within_80_columns(rt: HostRuntime) {
 }
 
 /// What is read and written: frames and traces of two versions.
-const VERSION: &str = "ra 0.1.0 (frames 1 and 2, traces 1 and 2)\n";
+const VERSION: &str = "ra 0.2.0-dev (frames 1 and 2, traces 1 and 2)\n";
 
 #[test]
 fn the_version_says_what_is_read(rt: HostRuntime) {

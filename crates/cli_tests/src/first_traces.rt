@@ -1,4 +1,4 @@
-//! The trace of the first of many seeds whose run ends finished or stuck, printed by `ra sim --seeds A..B --find E`.
+//! The trace or the choices of the first of many seeds whose run ends finished or stuck, printed by `ra sim --seeds A..B --find E`.
 use crate::helpers::{Case, Refused, assert_meets, assert_refuses};
 use crate::scripts::ONE_CLIENT;
 
@@ -60,7 +60,17 @@ const REFUSED: &[Refused] = &[
         word: "Usage",
     },
     Refused {
-        words: "ra sim --policy seeded --seeds 1..2 --find stuck --trace",
+        words: "ra sim --policy seeded --find stuck --as-choices",
+        input: ONE_CLIENT,
+        word: "Usage",
+    },
+    Refused {
+        words: "ra sim --policy seeded --seeds 1..2 --find stuck --trace --as-choices",
+        input: ONE_CLIENT,
+        word: "Usage",
+    },
+    Refused {
+        words: "ra sim --policy faulty --repeat 1 --seeds 1..2 --find stuck --as-choices",
         input: ONE_CLIENT,
         word: "Usage",
     },
@@ -231,9 +241,46 @@ const FOUND: &[Case] = &[
         status: 0,
         output: "none\n",
     },
+    Case {
+        shows: "the trace may be asked for",
+        words: "ra sim --policy seeded --seeds 5..7 --find stuck --trace",
+        input: CROSSED,
+        status: 3,
+        output: CROSSED_7,
+    },
+    // The choices are those that make these traces, derived by hand from them: the place of each message that is delivered
+    // among those under way.
+    Case {
+        shows: "the choices of the first run of all that is stuck",
+        words: "ra sim --policy seeded --seeds 0..99 --find stuck --as-choices",
+        input: CROSSED,
+        status: 3,
+        output: "c2 m0 m0 c1 c2 m1 m0 m0 c1 m0\n",
+    },
+    Case {
+        shows: "the choices of the first run that is finished",
+        words: "ra sim --policy seeded --seeds 0..99 --find finished --as-choices",
+        input: CROSSED,
+        status: 0,
+        output: "c1 m0 m0 c1 m0 m0 c1 c1 c2 m0 m0 c2 m0 m0 c2 c2\n",
+    },
+    Case {
+        shows: "no choices are those of no run",
+        words: "ra sim --policy seeded --seeds 5..6 --find stuck --as-choices",
+        input: CROSSED,
+        status: 0,
+        output: "none\n",
+    },
+    Case {
+        shows: "what is lost has a word",
+        words: "ra sim --policy faulty --lose 1000 --seeds 1..9 --find stuck --as-choices",
+        input: ONE_CLIENT,
+        status: 3,
+        output: "c1 l0\n",
+    },
 ];
 
 #[test]
-fn the_trace_is_that_of_the_first_seed(rt: HostRuntime) {
+fn what_is_printed_is_of_the_first_seed(rt: HostRuntime) {
     assert_meets(&rt, FOUND);
 }

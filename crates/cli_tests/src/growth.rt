@@ -188,8 +188,18 @@ fn growth_of_the_command_sim_with_the_first_finished_seed(rt: HostRuntime) {
 }
 
 #[test]
+fn growth_of_the_command_sim_with_the_choices_of_the_first_finished_seed(rt: HostRuntime) {
+    let line = "ra sim --policy seeded --seeds 5..7 --find finished --as-choices";
+    let first = try_line(&rt, line, SCRIPT, "c1 m0 m0 c1\n");
+    end(
+        &rt,
+        again(first, try_line(&rt, line, SCRIPT, "c1 m0 m0 c1\n")),
+    );
+}
+
+#[test]
 fn growth_of_the_version(rt: HostRuntime) {
-    let version = "ra 0.1.0 (frames 1 and 2, traces 1 and 2)\n";
+    let version = "ra 0.2.0-dev (frames 1 and 2, traces 1 and 2)\n";
     let first = try_line(&rt, "ra --version", "", version);
     end(
         &rt,

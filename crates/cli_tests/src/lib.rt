@@ -16,6 +16,8 @@ mod commands;
 #[cfg(test)]
 mod drawings;
 #[cfg(test)]
+mod ends;
+#[cfg(test)]
 mod faults;
 #[cfg(test)]
 mod first_traces;

@@ -146,7 +146,7 @@ const BROKEN: &[Broken] = &[
     Broken {
         words: "ra --version",
         input: "",
-        printed: "ra 0.1.0",
+        printed: "ra 0.2.0",
         note: "",
     },
     Broken {

@@ -24,14 +24,30 @@ const MANY_SEEDS: &[Noted] = &[
     },
 ];
 
-/// The first of some seeds whose run is stuck because the REQUEST is lost.
-const FIRST_STUCK: &[Noted] = &[Noted {
-    words: "ra sim --policy faulty --lose 1000 --seeds 3..9 --find stuck",
-    input: ONE_CLIENT,
-    status: 3,
-    output: "trace 2 2 0\nask 1 1 r X\nrequest 1 1 r X 1\nlose request 1 2 r X 1\nend\n",
-    note: "ra: the run did not finish: client 1 at node 1 waits for 'r' (X): no client blocks it, but a message was lost\n",
-}];
+/// The first of some seeds whose run ends as asked: stuck because the REQUEST is lost, or finished.
+const FOUND: &[Noted] = &[
+    Noted {
+        words: "ra sim --policy faulty --lose 1000 --seeds 3..9 --find stuck",
+        input: ONE_CLIENT,
+        status: 3,
+        output: "trace 2 2 0\nask 1 1 r X\nrequest 1 1 r X 1\nlose request 1 2 r X 1\nend\n",
+        note: "ra: the run did not finish: client 1 at node 1 waits for 'r' (X): no client blocks it, but a message was lost\nra: this run has seed 3: --seed 3 in place of --seeds and --find makes it again\n",
+    },
+    Noted {
+        words: "ra sim --policy seeded --seeds 4..9 --find=finished --as-choices",
+        input: ONE_CLIENT,
+        status: 0,
+        output: "c1 m0 m0 c1\n",
+        note: "ra: this run has seed 4: --seed 4 in place of --seeds and --find makes it again\n",
+    },
+    Noted {
+        words: "ra sim --policy seeded --seeds 4..9 --find stuck",
+        input: ONE_CLIENT,
+        status: 0,
+        output: "none\n",
+        note: "",
+    },
+];
 
 /// Seeds of which some runs do not finish.
 const SOME_STUCK: &[Noted] = &[Noted {
@@ -48,8 +64,8 @@ fn that_seeds_do_not_finish_is_said(rt: HostRuntime) {
 }
 
 #[test]
-fn who_waits_by_the_first_stuck_seed_is_said(rt: HostRuntime) {
-    assert_says(&rt, FIRST_STUCK);
+fn which_seed_was_found_is_said(rt: HostRuntime) {
+    assert_says(&rt, FOUND);
 }
 
 #[test]

@@ -63,7 +63,7 @@ const USAGES: &[Noted] = &[
         input: ONE_CLIENT,
         status: 2,
         output: "refused Usage\n",
-        note: "ra: --seeds must be A..B (A at most B), such as 1..1000, with --policy seeded or faulty and without --trace or --as-choices; see ra sim --help\n",
+        note: "ra: --seeds is '2..1': the first seed is above the last; see ra sim --help\n",
     },
     Noted {
         words: "ra sim --policy seeded --find stuck",

@@ -390,7 +390,8 @@ seed of each, and the least and the most turns and messages of a run.
 Example: ra sim --policy seeded --seeds 1..1000 < script.toml
 
 --find finished or --find stuck prints the trace of the first of these runs that
-ends so, and tries no seed after it; if there is none, it prints `none`.
+ends so or, with --as-choices, its choices, and tries no seed after it; if there
+is none, it prints `none`.
 Example: ra sim --policy seeded --seeds 1..1000 --find stuck < script.toml
 
 Exit status:

@@ -2,7 +2,7 @@
 #![tactic(auto)]
 
 use ra_cli::{
-    CommandFault, SeenReader, SeenWriter, refuse_words_with_note, serve_with_notes,
+    CommandFault, EndReader, SeenReader, SeenWriter, refuse_words_with_note, serve_with_notes,
     write_waiting_note,
 };
 use std::io::{BufReader, IsTerminal};
@@ -37,7 +37,7 @@ fn main(rt: HostRuntime) -> ExitCode {
         write_waiting_note(words.as_slice(), &mut notes);
     }
     // It is read in small pieces, which would else be a call of the system each.
-    let mut reader = match BufReader::new(alloc, input) {
+    let mut reader = match BufReader::new(alloc, EndReader::new(input)) {
         Ok(reader) => SeenReader::new(alloc, reader),
         Err(_) => {
             let status = refuse_words_with_note(&mut writer, CommandFault::Memory, &mut notes);

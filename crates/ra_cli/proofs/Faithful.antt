@@ -6,10 +6,10 @@ use Rattle.ra_cli.specs.Words.{SimsFaithfully}
 use Rattle.ra_cli.specs.declared.command_line.Task.{Task}
 
 -- a premise that another one follows from may take its place
-pub under : (P Q : Type 0) → (P → Q) → (result : Option Task) → IfSome result (λ task. Q → RunsFaithfully task)
-    → IfSome result (λ task. P → RunsFaithfully task)
-under P Q f None h = tt
-under P Q f (Some task) h = λ p. h (f p)
+pub under : (Holds : Task → Type 0) (P Q : Type 0) → (P → Q) → (result : Option Task) → IfSome result (λ task. Q → Holds task)
+    → IfSome result (λ task. P → Holds task)
+under Holds P Q f None h = tt
+under Holds P Q f (Some task) h = λ p. h (f p)
 
 -- the words ask for no command but `sim`
 pub is_sim : (words : List (List ℕ)) (word : List ℕ) → slice_get words 1 ≡ Some word → SimsFaithfully words → word ≡ codes "sim"

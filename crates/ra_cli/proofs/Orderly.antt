@@ -24,6 +24,7 @@ use Rattle.ra_script.specs.declared.format.Format.{Format}
 use Rattle.ra_script.specs.declared.format.Format.TheVariants.{Lines, Trace, Choices}
 use Rattle.ra_script.specs.ChoicesText.{choices_of}
 use Rattle.ra_script.specs.declared.error.ScriptError.{ScriptError}
+use Rattle.ra_script.specs.Finding.{NoneEndsSo}
 use Rattle.ra_script.specs.Performed.{RefusesAs, IsPerformedAs, IsOrderly, Unwritten}
 use Rattle.ra_script.specs.ScriptText.{script_of}
 use Rattle.ra_cli.specs.declared.cluster_output.ClusterOutput.{ClusterOutput}
@@ -31,12 +32,13 @@ use Rattle.ra_cli.specs.declared.command_line.PolicyName.{PolicyName}
 use Rattle.ra_cli.specs.declared.command_line.PolicyName.TheVariants.{Oldest, Newest, Seeded, Faulty, Listed}
 use Rattle.ra_cli.specs.declared.command_line.Task.{Task}
 use Rattle.ra_cli.specs.declared.command_line.Task.TheVariants as task
+use Rattle.ra_cli.specs.declared.search.Search.{Search}
 use Rattle.ra_cli.specs.declared.refusal.Refusal.{Refusal}
 use Rattle.ra_cli.specs.declared.refusal.Refusal.TheVariants as refusal
 use Rattle.ra_cli.specs.Finishing.{HasNoChoices, IsFaithful, RunsFaithfully}
 use Rattle.ra_cli.specs.Performs.{IsNamed}
 use Rattle.ra_cli.specs.Refusals.{IsOfReader, IsOfWriter, choices_word, perform_word, refused_line, run_word, word_of}
-use Rattle.ra_cli.specs.Surveyed.{IsTold, RefusesSurvey}
+use Rattle.ra_cli.specs.Surveyed.{FoundHasNoWords, IsTold, RefusesSurvey, none_is_good}
 use Rattle.ra_cli.specs.Tasks.{IsCauseFor, IsLeftBy, IsRefusedBy}
 use Rattle.ra_cli.specs.declared.error.RunScriptError.{RunScriptError}
 use Rattle.ra_cli.specs.declared.error.RunScriptError.TheVariants as run
@@ -97,23 +99,26 @@ module _ (laws : FinishingLaws) (faults : Option FaultRates) (first last : ℕ) 
   released : (script : ScriptState) → script_of input ≡ Ok script → IsUnreleased script → ⊥
   released script is = subst (λ (s : ScriptState). IsUnreleased s → ⊥) (ok_same (sym orderly.script_is ∙ is)) orderly.released
 
-  told : (find : Option Ending) (output : List ℕ) (finished : Bool) → IsTold faults find first last input output finished → finished ≡ true
+  none_ends : (ending : Ending) (finished : Bool) → NoneEndsSo faults ending first last input → finished ≡ none_is_good ending → finished ≡ true
+  none_ends endings.Finished finished none is =
+      let (outcome, came, missed) = none.none first (omega arith) (omega (arith, some)) in
+      let chosen = by_chance faults first lost repeated in
+      let came_to = laws.outcomes none.script faults 16777216 first outcome (laws.scripts input none.script none.script_is) (in_order none.script none.script_is) (released none.script none.script_is)
+      chosen.unlost chosen.unrepeated (few none.script none.script_is) came in
+      absurd (false≢true (sym missed ∙ came_to))
+  none_ends endings.Stuck finished none is = is
+
+  told : (find : Option Search) (output : List ℕ) (finished : Bool) → IsTold faults find first last input output finished → finished ≡ true
   told None output finished is =
       let ends = laws.surveys is.script faults 16777216 first last is.survey (laws.scripts input is.script is.script_is) is.survey_is in
       is.finished_is.1 (
         ends.none_stuck (in_order is.script is.script_is) (released is.script is.script_is) lost,
         ends.none_at_limit repeated (few is.script is.script_is),
       )
-  told (Some ending) output finished (inl found) =
+  told (Some search) output finished (inl found) =
       let chosen = by_chance faults found.seed lost repeated in
-      ends_finished Trace (chance faults found.seed) input output finished found.traced chosen.unlost chosen.itself orderly
-  told (Some endings.Finished) output finished (inr (none, line, is)) =
-      let (outcome, came, missed) = none.none first (omega arith) (omega (arith, some)) in
-      let chosen = by_chance faults first lost repeated in
-      let came_to = laws.outcomes none.script faults 16777216 first outcome (laws.scripts input none.script none.script_is) (in_order none.script none.script_is) (released none.script none.script_is)
-      chosen.unlost chosen.unrepeated (few none.script none.script_is) came in
-      absurd (false≢true (sym missed ∙ came_to))
-  told (Some endings.Stuck) output finished (inr (none, line, is)) = is
+      ends_finished search.format (chance faults found.seed) input output finished found.performed chosen.unlost chosen.itself orderly
+  told (Some search) output finished (inr (none, line, is)) = none_ends search.ending finished none is
 
 -- ---- Every task
 
@@ -147,6 +152,17 @@ always_driven laws (task.Draw kind part) input cause faithful refuses = faithful
 always_driven laws (task.Cluster printed) input cause faithful refuses = faithful
 always_driven laws (task.Help text) input cause faithful refuses = faithful
 
+-- choices that are not to be written have words
+written : (format : Format) (policy : Policy) (input : List ℕ) → format ≢ Choices → Unwritten format policy input → ⊥
+written Lines policy input not h = h
+written Trace policy input not h = h
+written Choices policy input not h = not refl
+
+none_wordless : (faults : Option FaultRates) (find : Option Search) (first last : ℕ) (input : List ℕ) → IfSome find (λ search. search.format ≢ Choices)
+    → FoundHasNoWords faults find first last input → ⊥
+none_wordless faults None first last input plain h = h
+none_wordless faults (Some search) first last input plain h = written search.format (chance faults h.seed) input plain h.unwritten
+
 -- it is refused for want of memory only
 pub refused_for_memory : FinishingLaws → (asked : Task) (input : List ℕ) (why : Refusal) → IsOrderly input → RunsFaithfully asked → HasNoChoices asked
     → (IsOfReader why → ⊥) → (IsOfWriter why → ⊥) → IsCauseFor asked input why → word_of why ≡ codes "Memory"
@@ -160,18 +176,13 @@ refused_for_memory laws (task.Sim name choices format) input why orderly faithfu
 refused_for_memory laws (task.Sim name choices format) input why orderly faithful plain reader writer (inr (fault, is, policy, named, cause)) =
     ap word_of is ∙ of_run fault is cause
   where
-    unwritten : (format : Format) → format ≢ Choices → Unwritten format policy input → ⊥
-    unwritten Lines not h = h
-    unwritten Trace not h = h
-    unwritten Choices not h = not refl
-
     of_run : (fault : PerformError) → why ≡ refusal.Perform fault → RefusesAs format policy input fault → perform_word fault ≡ codes "Memory"
     of_run perform.Read is h = absurd (reader (inr (inl is)))
     of_run (perform.Script wrong) is h = let read = orderly.script_is in let other = h.1 in absurd cc
     of_run (perform.Drive cause) is h =
         let chosen = willing name choices.now policy faithful named in
         absurd (laws.never_refused format policy input cause chosen.unrepeated chosen.itself h)
-    of_run perform.Choice is h = absurd (unwritten format plain.1 h)
+    of_run perform.Choice is h = absurd (written format policy input plain.1 h)
     of_run perform.Memory is h = refl
     of_run perform.Write is h = absurd (writer (inr (inl is)))
 refused_for_memory laws (task.Survey faults find first last) input why orderly faithful plain reader writer (fault, is, cause) =
@@ -181,6 +192,7 @@ refused_for_memory laws (task.Survey faults find first last) input why orderly f
     of_survey run.Read is h = absurd (reader (inr (inr (inr (inl is)))))
     of_survey (run.Script wrong) is h = let read = orderly.script_is in absurd cc
     of_survey (run.Cluster wrong) is h = absurd h
+    of_survey run.Choice is h = absurd (none_wordless faults find first last input plain h)
     of_survey run.Memory is h = refl
     of_survey run.Write is h = absurd (writer (inr (inr (inl is))))
 refused_for_memory laws task.Check input why orderly faithful plain reader writer cause = absurd faithful

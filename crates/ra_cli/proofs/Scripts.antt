@@ -34,6 +34,7 @@ too_long : (taken input : List ℕ) (why : RunScriptError) → why ≢ fault.Wri
 too_long taken input fault.Read early t i h = h
 too_long taken input (fault.Script why) early t i h = (h.0, long_is_refused input i ∙ sym (long_is_refused taken t) ∙ h.1)
 too_long taken input (fault.Cluster why) early t i (script, is, stops) = absurd (no_long_script taken script t is)
+too_long taken input fault.Choice early t i h = h
 too_long taken input fault.Memory early t i h = h
 too_long taken input fault.Write early t i h = absurd (early refl)
 

@@ -3,7 +3,6 @@ use Rattle.std.proofs.Common.{◌≡◌, ◌≢◌, ◌⊎◌, ℕ, Bool, List, 
 use Rattle.std.specs.Prelude.{IfSome}
 use Rattle.std.specs.Io.KnownBytes.{Appends}
 use Rattle.ra_schedule.specs.declared.choice.Policy.{Policy}
-use Rattle.ra_schedule.specs.declared.finding.Ending.{Ending}
 use Rattle.ra_schedule.specs.Faults.{FaultRates}
 use Rattle.ra_script.specs.declared.format.Format.{Format}
 use Rattle.ra_script.specs.Performed.{IsPerformedAs}
@@ -23,6 +22,7 @@ use Rattle.ra_cli.specs.declared.error.AnswerError.TheVariants as answer
 use Rattle.ra_cli.specs.declared.cluster_output.ClusterOutput.{ClusterOutput}
 use Rattle.ra_cli.specs.declared.error.RunScriptError.{RunScriptError}
 use Rattle.ra_cli.specs.declared.error.RunScriptError.TheVariants as run
+use Rattle.ra_cli.specs.declared.search.Search.{Search}
 use Rattle.ra_cli.specs.declared.refusal.Refusal.{Refusal}
 use Rattle.ra_cli.specs.declared.refusal.Refusal.TheVariants.{Command, Answer, Choices, Perform, Check, Draw, Cluster}
 use Rattle.ra_cli.specs.Answer.{IsAnswered}
@@ -157,7 +157,7 @@ of_cluster_run words printed old before after by =
     (λ input. BreaksOff words input before after)
     (λ input (prefix, rest, runs, left, some). (prefix, rest, inr (inr (inr (inr (inl (printed, by, runs))))), left, some))
 
-pub of_surveyed : (words : List (List ℕ)) (faults : Option FaultRates) (find : Option Ending) (first last : ℕ) (old before after : Option (List ℕ))
+pub of_surveyed : (words : List (List ℕ)) (faults : Option FaultRates) (find : Option Search) (first last : ℕ) (old before after : Option (List ℕ))
     → IfSome old (λ input. (prefix rest : List ℕ) × (finished : Bool) × IsTold faults find first last input (prefix ++ rest) finished × (rest ≢ [])
     × Appends before after prefix)
     → IfSome old (λ input. BreaksOff words input before after)

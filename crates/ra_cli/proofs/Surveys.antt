@@ -2,18 +2,20 @@
 use Rattle.std.proofs.Common.{◌≡◌, ◌↔◌, ◌≢◌, ℕ, Bool, List, Option, Ok, IsTrue, refl}
 use Rattle.std.specs.Prelude.{IfSome}
 use Rattle.std.specs.Io.KnownBytes.{Consumes, Appends}
-use Rattle.ra_schedule.specs.declared.finding.Ending.{Ending}
 use Rattle.ra_schedule.specs.declared.outcomes.Survey.{Survey}
 use Rattle.ra_schedule.specs.Faults.{FaultRates}
 use Rattle.ra_schedule.specs.Script.{ScriptState}
 use Rattle.ra_schedule.specs.Survey.{IsSurvey}
+use Rattle.ra_script.specs.declared.error.ChoicesError.{ChoicesError}
+use Rattle.ra_script.specs.declared.error.ChoicesError.TheVariants as choices
 use Rattle.ra_script.specs.Performed.{turn_limit}
 use Rattle.ra_script.specs.ScriptText.{script_of}
 use Rattle.ra_cluster.specs.declared.cluster_run.ClusterError.{ClusterError}
 use Rattle.ra_cli.specs.declared.error.RunScriptError.{RunScriptError}
 use Rattle.ra_cli.specs.declared.error.RunScriptError.TheVariants as fault
-use Rattle.ra_cli.specs.ClusterRun.{RefusesRun}
-use Rattle.ra_cli.specs.Surveyed.{AllFinished, IsSurveyed, IsTold, RefusesSurvey, SurveysBy, survey_text}
+use Rattle.ra_cli.specs.declared.search.Search.{Search}
+use Rattle.ra_cli.specs.ClusterRun.{RefusesRun, of_choices}
+use Rattle.ra_cli.specs.Surveyed.{AllFinished, FoundHasNoWords, IsSurveyed, IsTold, RefusesSurvey, SurveysBy, survey_text}
 use Rattle.ra_cli.proofs.ClusterRuns.{of_known}
 
 -- the lines of a survey of the script of a text
@@ -30,7 +32,7 @@ surveyed faults first last text script survey finished is surveys all = record {
 }
 
 -- what is told of the script of a text
-pub surveys_by : (faults : Option FaultRates) (find : Option Ending) (first last : ℕ) (old new before after : Option (List ℕ)) (script : ScriptState) (told : List ℕ) (finished : Bool)
+pub surveys_by : (faults : Option FaultRates) (find : Option Search) (first last : ℕ) (old new before after : Option (List ℕ)) (script : ScriptState) (told : List ℕ) (finished : Bool)
     → IfSome old (λ input. (script_of input ≡ Ok script) × Consumes old new input) → (text : List ℕ) × (script_of text ≡ Ok script)
     → ((text : List ℕ) → script_of text ≡ Ok script → IsTold faults find first last text told finished) → Appends before after told
     → SurveysBy faults find first last old new before after finished
@@ -42,10 +44,17 @@ surveys_by faults find first last old new before after script told finished know
 )
 
 -- what keeps a script from being read keeps it from being surveyed
-pub unread : (faults : Option FaultRates) (find : Option Ending) (first last : ℕ) (input : List ℕ) (why : RunScriptError) → why ≢ fault.Write
+pub unread : (faults : Option FaultRates) (find : Option Search) (first last : ℕ) (input : List ℕ) (why : RunScriptError) → why ≢ fault.Write
     → ((cause : ClusterError) → why ≢ fault.Cluster cause) → RefusesRun input why → RefusesSurvey faults find first last input why
 unread faults find first last input fault.Read write cluster h = tt
 unread faults find first last input (fault.Script why) write cluster h = h.1
 unread faults find first last input (fault.Cluster why) write cluster h = absurd (cluster why refl)
+unread faults find first last input fault.Choice write cluster h = absurd h
 unread faults find first last input fault.Memory write cluster h = tt
 unread faults find first last input fault.Write write cluster h = absurd (write refl)
+
+-- why nothing is told of the seeds
+pub untold : (faults : Option FaultRates) (find : Option Search) (first last : ℕ) (input : List ℕ) (why : ChoicesError)
+    → (why ≡ choices.Choice → FoundHasNoWords faults find first last input) → RefusesSurvey faults find first last input (of_choices why)
+untold faults find first last input choices.Choice wordless = wordless refl
+untold faults find first last input choices.Memory wordless = tt

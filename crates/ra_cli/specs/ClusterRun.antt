@@ -10,6 +10,8 @@ use Rattle.ra_world.specs.Traffic.{Move}
 use Rattle.ra_world.specs.World.{Reports}
 use Rattle.ra_schedule.specs.Script.{ScriptState}
 use Rattle.ra_trace.specs.TraceText.{IsTrace}
+use Rattle.ra_script.specs.declared.error.ChoicesError.{ChoicesError}
+use Rattle.ra_script.specs.declared.error.ChoicesError.TheVariants as choices
 use Rattle.ra_script.specs.declared.error.ScriptError.{ScriptError}
 use Rattle.ra_script.specs.declared.error.ScriptError.TheVariants as text
 use Rattle.ra_script.specs.ScriptText.{script_of}
@@ -75,12 +77,13 @@ StopsAt script cluster.Lost = MayRun script
 StopsAt script cluster.UnderWay = MayRun script
 StopsAt script cluster.Memory = ⊥
 
--- when each refusal may come: its cause applies, and no earlier one does. `Memory` and faults of the reader and the
--- writer come from outside.
+-- when each refusal may come: its cause applies, and no earlier one does. `Choice` may not come. `Memory` and faults of
+-- the reader and the writer come from outside.
 abbrev pub RefusesRun : List ℕ → RunScriptError → Type 0
 RefusesRun input fault.Read = Unit {0}
 RefusesRun input (fault.Script why) = (why ≢ text.Memory) × (script_of input ≡ Err why)
 RefusesRun input (fault.Cluster why) = (script : ScriptState) × (script_of input ≡ Ok script) × StopsAt script why
+RefusesRun input fault.Choice = ⊥
 RefusesRun input fault.Memory = Unit {0}
 RefusesRun input fault.Write = (printed : ClusterOutput) × (output : List ℕ) × IsClusterRun printed input output
 
@@ -102,6 +105,11 @@ of_script text.NotHeld = fault.Script text.NotHeld
 of_script text.AlreadyHeld = fault.Script text.AlreadyHeld
 of_script text.Limit = fault.Script text.Limit
 of_script text.Memory = fault.Memory
+
+-- the refusal of choices that are not written
+abbrev pub of_choices : ChoicesError → RunScriptError
+of_choices choices.Choice = fault.Choice
+of_choices choices.Memory = fault.Memory
 
 -- the refusal of a script that threads did not bring to its end
 abbrev pub of_cluster : ClusterError → RunScriptError

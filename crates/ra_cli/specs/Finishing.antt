@@ -1,5 +1,5 @@
 -- Which tasks run every orderly script to its end.
-use Rattle.std.specs.Prelude.{◌≡◌, ◌≢◌, ⊤, ◌≤◌, []}
+use Rattle.std.specs.Prelude.{◌≡◌, ◌≢◌, ⊤, ◌≤◌, [], IfSome}
 use Rattle.ra_schedule.specs.Survey.{NoneIsLost, NoneIsRepeated}
 use Rattle.ra_script.specs.declared.format.Format.TheVariants.{Choices}
 use Rattle.ra_cli.specs.declared.command_line.PolicyName.{PolicyName}
@@ -30,7 +30,7 @@ RunsFaithfully (task.Help text) = ⊥
 abbrev pub HasNoChoices : Task → Type 0
 HasNoChoices (task.Answer node nodes) = ⊤
 HasNoChoices (task.Sim policy choices format) = (choices.now ≡ []) × (format ≢ Choices)
-HasNoChoices (task.Survey faults find first last) = ⊤
+HasNoChoices (task.Survey faults find first last) = IfSome find (λ search. search.format ≢ Choices)
 HasNoChoices task.Check = ⊤
 HasNoChoices task.CheckMarks = ⊤
 HasNoChoices (task.Draw kind part) = ⊤

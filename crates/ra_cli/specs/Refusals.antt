@@ -122,6 +122,7 @@ abbrev pub run_word : RunScriptError → List ℕ
 run_word run.Read = codes "Read"
 run_word (run.Script why) = script_word why
 run_word (run.Cluster why) = cluster_word why
+run_word run.Choice = codes "Choice"
 run_word run.Memory = codes "Memory"
 run_word run.Write = codes "Write"
 

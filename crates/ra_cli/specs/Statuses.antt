@@ -2,12 +2,12 @@
 use Rattle.std.specs.Prelude.{◌≡◌, ◌≢◌, ℕ, ◌≤◌, ◌⊎◌, List, [], ◌++◌, Bool, true, false, Option, IfSome, Any, codes}
 use Rattle.std.specs.Io.KnownBytes.{Consumes, Appends}
 use Rattle.ra_schedule.specs.declared.choice.Policy.{Policy}
-use Rattle.ra_schedule.specs.declared.finding.Ending.{Ending}
 use Rattle.ra_schedule.specs.Faults.{FaultRates}
 use Rattle.ra_script.specs.declared.format.Format.{Format}
 use Rattle.ra_script.specs.Performed.{IsOrderly, IsPerformedAs}
 use Rattle.ra_cli.specs.declared.cluster_output.ClusterOutput.{ClusterOutput}
 use Rattle.ra_cli.specs.declared.refusal.Refusal.{Refusal}
+use Rattle.ra_cli.specs.declared.search.Search.{Search}
 use Rattle.ra_cli.specs.Answer.{IsAnswered}
 use Rattle.ra_cli.specs.Words.{IsHelpWord, GivesNode, NamesNoChoices, PrintsBy, SimsFaithfully}
 use Rattle.ra_cli.specs.Performs.{Performs}
@@ -59,7 +59,7 @@ IsPrinted words input text =
     ⊎ ((printed : ClusterOutput) × PrintsBy words printed × IsClusterRun printed input text)
     ⊎ Any IsHelpWord words
     ⊎ IsDrawing words input text
-    ⊎ ((faults : Option FaultRates) × (find : Option Ending) × (first last : ℕ) × (finished : Bool) × IsTold faults find first last input text finished)
+    ⊎ ((faults : Option FaultRates) × (find : Option Search) × (first last : ℕ) × (finished : Bool) × IsTold faults find first last input text finished)
 
 -- a prefix of what is to be printed was written, but not all of it
 abbrev pub BreaksOff : (words : List (List ℕ)) → (input : List ℕ) → (before after : Option (List ℕ)) → Type 0

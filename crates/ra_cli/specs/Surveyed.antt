@@ -10,11 +10,12 @@ use Rattle.ra_schedule.specs.declared.finding.Ending.TheVariants.{Finished, Stuc
 use Rattle.ra_schedule.specs.Faults.{FaultRates}
 use Rattle.ra_schedule.specs.Script.{ScriptState}
 use Rattle.ra_schedule.specs.Survey.{IsSurvey}
-use Rattle.ra_script.specs.Finding.{IsFirstTrace, NoneEndsSo}
+use Rattle.ra_script.specs.Finding.{IsFirstRun, IsFirstUnwritten, NoneEndsSo}
 use Rattle.ra_script.specs.Performed.{turn_limit}
 use Rattle.ra_script.specs.ScriptText.{script_of}
 use Rattle.ra_cli.specs.declared.error.RunScriptError.{RunScriptError}
 use Rattle.ra_cli.specs.declared.error.RunScriptError.TheVariants as fault
+use Rattle.ra_cli.specs.declared.search.Search.{Search}
 
 -- the line of an end: how many seeds came to it, and the first of them; no line if no seed did
 abbrev pub tally_line : List ℕ → Option Tally → List ℕ
@@ -56,24 +57,30 @@ abbrev pub none_is_good : Ending → Bool
 none_is_good Finished = false
 none_is_good Stuck = true
 
--- The output is the trace of the run under the first of these seeds that brings the input's script to this end, and
--- `finished` says whether that run finished. Or no seed does, and the output is the line `none`.
-abbrev pub IsFound : Option FaultRates → Ending → (first last : ℕ) → (input output : List ℕ) → (finished : Bool) → Type 0
-IsFound faults ending first last input output finished =
-    IsFirstTrace faults ending first last input output finished
-    ⊎ (NoneEndsSo faults ending first last input × (output ≡ codes "none\n") × (finished ≡ none_is_good ending))
+-- The output says, in the format of the search, what came of the input's script by the first of these seeds that brings
+-- it to the end that is looked for, and `finished` says whether that run finished. Or no seed does, and the output is the
+-- line `none`.
+abbrev pub IsFound : Option FaultRates → Search → (first last : ℕ) → (input output : List ℕ) → (finished : Bool) → Type 0
+IsFound faults search first last input output finished =
+    IsFirstRun search.format faults search.ending first last input output finished
+    ⊎ (NoneEndsSo faults search.ending first last input × (output ≡ codes "none\n") × (finished ≡ none_is_good search.ending))
 
--- the output says what came of the seeds: it counts them or, if an end is looked for, is the first trace that came to
--- that end
-abbrev pub IsTold : Option FaultRates → Option Ending → (first last : ℕ) → (input output : List ℕ) → (finished : Bool) → Type 0
+-- the output says what came of the seeds: it counts them or, if an end is looked for, it tells of the first run that came
+-- to that end
+abbrev pub IsTold : Option FaultRates → Option Search → (first last : ℕ) → (input output : List ℕ) → (finished : Bool) → Type 0
 IsTold faults None first last input output finished = IsSurveyed faults first last input output finished
-IsTold faults (Some ending) first last input output finished = IsFound faults ending first last input output finished
+IsTold faults (Some search) first last input output finished = IsFound faults search first last input output finished
+
+-- the choices of the run that is looked for are to be printed, and one of them cannot be
+abbrev pub FoundHasNoWords : Option FaultRates → Option Search → (first last : ℕ) → (input : List ℕ) → Type 0
+FoundHasNoWords faults None first last input = ⊥
+FoundHasNoWords faults (Some search) first last input = IsFirstUnwritten search.format faults search.ending first last input
 
 -- ---- What is read and written
 
 -- If the input is known, the output is what `IsTold` says of it. The input was read to its end, and exactly the output
 -- was written. If the input is not known, such an input still exists.
-abbrev pub SurveysBy : Option FaultRates → Option Ending → (first last : ℕ) → (old new before after : Option (List ℕ)) → Bool → Type 0
+abbrev pub SurveysBy : Option FaultRates → Option Search → (first last : ℕ) → (old new before after : Option (List ℕ)) → Bool → Type 0
 SurveysBy faults find first last old new before after finished =
     IfSome old (λ input. (output : List ℕ) × IsTold faults find first last input output finished × Consumes old new input × Appends before after output)
     × ((input output : List ℕ) × IsTold faults find first last input output finished × Appends before after output)
@@ -81,13 +88,14 @@ SurveysBy faults find first last old new before after finished =
 -- `SurveysBy` holds for some faults, some end and some seeds
 abbrev pub Surveys : (old new before after : Option (List ℕ)) → Bool → Type 0
 Surveys old new before after finished =
-    (faults : Option FaultRates) × (find : Option Ending) × (first last : ℕ) × SurveysBy faults find first last old new before after finished
+    (faults : Option FaultRates) × (find : Option Search) × (first last : ℕ) × SurveysBy faults find first last old new before after finished
 
 -- when each refusal may come: its cause applies. `Cluster` may not come, since no threads are used.
-abbrev pub RefusesSurvey : Option FaultRates → Option Ending → (first last : ℕ) → List ℕ → RunScriptError → Type 0
+abbrev pub RefusesSurvey : Option FaultRates → Option Search → (first last : ℕ) → List ℕ → RunScriptError → Type 0
 RefusesSurvey faults find first last input fault.Read = Unit {0}
 RefusesSurvey faults find first last input (fault.Script why) = script_of input ≡ Err why
 RefusesSurvey faults find first last input (fault.Cluster why) = ⊥
+RefusesSurvey faults find first last input fault.Choice = FoundHasNoWords faults find first last input
 RefusesSurvey faults find first last input fault.Memory = Unit {0}
 RefusesSurvey faults find first last input fault.Write =
     (output : List ℕ) × (finished : Bool) × IsTold faults find first last input output finished × (output ≢ [])

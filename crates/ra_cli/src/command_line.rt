@@ -7,6 +7,7 @@ ghost use Rattle.ra_cli.specs.Finishing.{HasNoChoices, IsFaithful, RunsFaithfull
 use crate::cluster_output::ClusterOutput;
 use crate::command_rows::command;
 use crate::input_kind::InputKind;
+use crate::search::Search;
 use clap::error::ErrorKind;
 use clap::{ArgMatches, Error as ParseError};
 use ra_draw::Part;
@@ -41,11 +42,11 @@ pub enum Task<'a> {
         choices: &'a str,
         format: Format,
     },
-    /// The command `sim` with many seeds: the faults of chance, where it has any, the end of which the first trace is to be printed, if
-    /// there is one, and the first and the last seed, both included.
+    /// The command `sim` with many seeds: the faults of chance, where it has any, what is looked for among the runs, if
+    /// anything is, and the first and the last seed, both included.
     Survey {
         faults: Option<Faults>,
-        find: Option<Ending>,
+        find: Option<Search>,
         first: u64,
         last: u64,
     },
@@ -251,23 +252,47 @@ fn chance_of(policy: PolicyName) -> Option<Option<Faults>>
     }
 }
 
-/// Returns the task of the command `sim` with many seeds: under a policy of chance, and in no format of one run.
+/// Returns what is printed of a run that was looked for: its trace, unless the choices are asked for. It does not allocate.
+fn found_format(format: Format) -> Format
+    ensures { format ≢ Format.Choices → result ≢ Format.Choices }
+{
+    match format {
+        Format::Choices => Format::Choices,
+        _ => Format::Trace,
+    }
+}
+
+/// Returns what is looked for among the runs of many seeds, if an end is given, or `None` if there is none and yet a format of one run. It
+/// does not allocate.
+fn search_of(ending: Option<Ending>, format: Format) -> Option<Option<Search>>
+    ensures { IfSome result (λ find. format ≢ Format.Choices → IfSome find (λ search. search.format ≢ Format.Choices)) }
+{
+    match ending {
+        Some(ending) => Some(Some(Search {
+            ending,
+            format: found_format(format),
+        })),
+        None if matches!(format, Format::Lines) => Some(None),
+        None => None,
+    }
+}
+
+/// Returns the task of the command `sim` with many seeds: under a policy of chance and, unless an end is looked for, in no format
+/// of one run.
 fn survey_task<'a>(
     policy: PolicyName,
     seeds: &str,
-    find: Option<Ending>,
+    ending: Option<Ending>,
     format: Format,
 ) -> Option<Task<'a>>
     ensures help { IfSome result (λ task. OnHelp task ⊥) }
     ensures numbers { IfSome result (λ task. OnAnswer task (λ _ _. ⊥)) }
     ensures marks { IfSome result (λ task. (any : List (List ℕ)) → ChecksBy any task) }
     ensures faithful { IfSome result (λ task. IsFaithful policy → RunsFaithfully task) }
-    ensures choices { IfSome result HasNoChoices }
+    ensures choices { IfSome result (λ task. format ≢ Format.Choices → HasNoChoices task) }
 {
     let faults = chance_of(policy)?;
-    if !matches!(format, Format::Lines) {
-        return None;
-    }
+    let find = search_of(ending, format)?;
     let (first, last) = seeds_of(seeds)?;
     Some(Task::Survey {
         faults,
@@ -288,11 +313,11 @@ fn sim_task<'a>(words: &'a [String], sim: &ArgMatches<'a>) -> Option<Task<'a>>
     let policy = policy_name(words, sim)?;
     let choices = choices_word(words);
     let format = format_of(&policy, words, sim)?;
-    let find = ending_of(sim);
+    let ending = ending_of(sim);
     if let Some(seeds) = sim.get_str("seeds") {
-        return survey_task(policy, seeds, find, format);
+        return survey_task(policy, seeds, ending, format);
     }
-    if find.is_some() {
+    if ending.is_some() {
         return None;
     }
     Some(Task::Sim {

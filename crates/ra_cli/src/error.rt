@@ -1,12 +1,12 @@
 ghost use Rattle.std.specs.Prelude.{◌≡◌};
 ghost use Rattle.ra_cli.specs.declared.error.AnswerError.TheVariants.{Read, Frame, Memory, Write};
 ghost use Rattle.ra_cli.specs.declared.error.RunScriptError.TheVariants as run;
-ghost use Rattle.ra_cli.specs.ClusterRun.{of_read, of_script, of_cluster};
+ghost use Rattle.ra_cli.specs.ClusterRun.{of_read, of_script, of_choices, of_cluster};
 ghost use Rattle.ra_world.specs.declared.error.ReadFault.{ReadFault};
 
 use ra_cluster::ClusterError;
 use ra_frame::FrameError;
-use ra_script::ScriptError;
+use ra_script::{ChoicesError, ScriptError};
 use ra_stamp::Memory;
 use ra_world::{ReadFault, WriteFault};
 use thiserror::Error;
@@ -40,7 +40,7 @@ pub enum AnswerError {
     Write,
 }
 
-/// Why a script was not run by threads to its end, in the order in which the causes are looked for.
+/// Why a script was not run by threads to its end, or not under many seeds, in the order in which the causes are looked for.
 #[derive(Clone, Copy)]
 pub enum RunScriptError {
     /// The reader failed.
@@ -49,6 +49,8 @@ pub enum RunScriptError {
     Script(ScriptError),
     /// Threads may not run it, or did not bring it to its end. It is never that memory ran out.
     Cluster(ClusterError),
+    /// The choices of the run that was found are to be printed, and no word stands for one of them.
+    Choice,
     /// Memory ran out.
     Memory,
     /// The writer failed.
@@ -114,6 +116,18 @@ impl From<ScriptError> for RunScriptError {
         match fault {
             ScriptError::Memory => RunScriptError::Memory,
             fault => RunScriptError::Script(fault),
+        }
+    }
+}
+
+impl From<ChoicesError> for RunScriptError {
+    ghost from_gives = { λ fault e. e ≡ of_choices fault };
+
+    /// Names why the choices are not printed.
+    fn from(fault: ChoicesError) -> RunScriptError {
+        match fault {
+            ChoicesError::Choice => RunScriptError::Choice,
+            ChoicesError::Memory => RunScriptError::Memory,
         }
     }
 }

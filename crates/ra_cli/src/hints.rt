@@ -1,5 +1,5 @@
 //! Hints for the user when nothing was refused but something may surprise: options that have no effect, names that stay
-//! locked, and, on a terminal, what the command waits for.
+//! locked, which seed was found, and, on a terminal, what the command waits for.
 use crate::command_line::{asks_for_help, choices_word, has_word, policy_word, text_of};
 use crate::said::write_line;
 use crate::seen::Seen;
@@ -90,12 +90,34 @@ fn write_end<N: Write>(alloc: Global, seen: &Seen, notes: &mut N) {
     }
 }
 
-/// Writes the hints on a command that was done, or ended with something left to do. It ignores a failure of the writer.
+/// Returns whether a run was found that ends as the words ask: a finished one if the command was done, and otherwise one
+/// that is stuck. It does not allocate.
+fn is_found(words: &[String], is_done: bool) -> bool {
+    match text_of(words, "--find") {
+        Some("finished") => is_done,
+        Some(_) => !is_done,
+        None => false,
+    }
+}
+
+/// Writes which seed made the run that was found, unless memory runs out. It ignores a failure of the writer.
+fn write_seed<N: Write>(alloc: Global, seed: u64, notes: &mut N) {
+    let text = format!(in alloc;
+        "this run has seed {seed}: --seed {seed} in place of --seeds and --find makes it again"
+    );
+    if let Ok(text) = text {
+        write_line(notes, text.as_str());
+    }
+}
+
+/// Writes the hints on a command that was done, or ended with something left to do. With many seeds, `last_seed` is the
+/// last one that was tried. It ignores a failure of the writer.
 pub fn write_hints<N: Write>(
     alloc: Global,
     words: &[String],
     seen: &Seen,
     is_done: bool,
+    last_seed: Option<u64>,
     notes: &mut N,
 ) {
     let Some(command) = words.get(1) else {
@@ -105,6 +127,11 @@ pub fn write_hints<N: Write>(
         write_sim_hints(words, notes);
         if is_done && !is_given(words, "--seeds") {
             write_end(alloc, seen, notes);
+        }
+        if let Some(seed) = last_seed
+            && is_found(words, is_done)
+        {
+            write_seed(alloc, seed, notes);
         }
     }
 }

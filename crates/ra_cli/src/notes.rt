@@ -23,7 +23,8 @@ use std::alloc::Global;
 use std::io::Write;
 
 /// Writes the note on what came of the words and the input. If nothing was refused, it adds a line for each option that
-/// has no effect. With many seeds, `last_seed` is the last one that was tried. It ignores a failure of the writer.
+/// has no effect, and one for the seed that was found. With many seeds, `last_seed` is the last one that was tried. It
+/// ignores a failure of the writer.
 pub fn write_notes<N: Write>(
     alloc: Global,
     words: &[String],
@@ -36,7 +37,8 @@ pub fn write_notes<N: Write>(
         said_of(alloc, words, seen, remark, last_seed).write(notes);
     }
     if outcome.is_fair() {
-        write_hints(alloc, words, seen, outcome.status != UNFINISHED, notes);
+        let is_done = outcome.status != UNFINISHED;
+        write_hints(alloc, words, seen, is_done, last_seed, notes);
     }
 }
 
@@ -174,7 +176,7 @@ fn no_choice_note(alloc: Global, word: &str) -> Said {
 }
 
 /// Returns whether a word is a choice.
-fn is_choice(alloc: Global, word: &str) -> bool {
+pub fn is_choice(alloc: Global, word: &str) -> bool {
     !word.is_empty() && read_choices(alloc, word).is_ok()
 }
 
@@ -226,6 +228,7 @@ fn of_run(why: RunScriptError) -> Said {
         RunScriptError::Read => Said::Text(NO_INPUT),
         RunScriptError::Script(_) => Said::Text(UNEXPLAINED),
         RunScriptError::Cluster(fault) => Said::Text(cluster_text(fault)),
+        RunScriptError::Choice => Said::Text(NO_WORD),
         RunScriptError::Memory => Said::Text(NO_MEMORY),
         RunScriptError::Write => Said::Nothing,
     }

@@ -181,7 +181,7 @@ fn draw_line(fault: DrawError) -> &'static str
     }
 }
 
-/// Returns the line that says why a script is not run by threads. It does not allocate.
+/// Returns the line that says why a script is not run by threads, or not under many seeds. It does not allocate.
 fn run_line(fault: RunScriptError) -> &'static str
     ensures { result.now ≡ spec.refused_line (spec.run_word fault) }
 {
@@ -189,6 +189,7 @@ fn run_line(fault: RunScriptError) -> &'static str
         RunScriptError::Read => "refused Read\n",
         RunScriptError::Script(why) => script_line(why),
         RunScriptError::Cluster(why) => cluster_line(why),
+        RunScriptError::Choice => "refused Choice\n",
         RunScriptError::Memory => "refused Memory\n",
         RunScriptError::Write => "refused Write\n",
     }

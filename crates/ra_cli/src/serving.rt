@@ -34,6 +34,7 @@ use crate::notes::{write_notes, write_output_note, write_words_note};
 use crate::outcome::{Outcome, Remark, UNFINISHED, marks_remark_of, remark_of};
 use crate::refusal::{Refusal, line_of};
 use crate::running::run_script;
+use crate::search::Search;
 use crate::seed_progress::SeedProgress;
 use crate::seen::SeenReader;
 use crate::seen_writer::SeenWriter;
@@ -232,19 +233,24 @@ fn simulate<R: Read, W: Write>(
 }
 
 /// Returns what there is to say of seeds where a run was stuck, or none was finished.
-fn remark_on(find: Option<Ending>) -> Remark {
+fn remark_on(find: Option<Search>) -> Remark {
     match find {
-        Some(Ending::Stuck) => Remark::Unfinished,
+        Some(
+            Search {
+                ending: Ending::Stuck,
+                ..
+            },
+        ) => Remark::Unfinished,
         _ => Remark::SomeUnfinished,
     }
 }
 
 /// Drives a cluster through the script of the reader under each of many seeds, and writes the lines of what came of them, or
-/// the first trace of those that come to an end.
+/// what is to be printed of the first run that comes to an end.
 fn survey_seeds<R: Read, W: Write, O: Observer>(
     alloc: Global,
     faults: Option<Faults>,
-    find: Option<Ending>,
+    find: Option<Search>,
     first: u64,
     last: u64,
     reader: &mut R,
@@ -522,8 +528,8 @@ pub fn serve<T: Threads + Wait + Sync, R: BufRead, W: Write>(
 
 /// Does as [`serve`], and then writes a line for a person to `notes`, where something was refused, a text is no trace or a log is none,
 /// or a run ended with something left to do: what is wrong, where in what was read, and what would be right; and one for each option that
-/// says nothing, where the policy `listed` has no choices, and where a finished run leaves names locked; and one where `writer` failed, but
-/// for a pipe that nobody reads on. While many seeds take long, it writes there how far
+/// says nothing, where the policy `listed` has no choices, where a finished run leaves names locked, and for the seed of a run that was
+/// found; and one where `writer` failed, but for a pipe that nobody reads on. While many seeds take long, it writes there how far
 /// it is. Each line begins with `ra: `. Nothing of it goes to `writer`, and it is left out where memory or `notes` fails, which changes
 /// nothing else. To find the place in a script it is read once more, for who waits for whom it is run once more, and for the mark that is
 /// due, or an ask or a release that is refused, the steps of a trace are made once more.

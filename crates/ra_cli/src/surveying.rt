@@ -1,15 +1,17 @@
 //! A script under many seeds, from its text to the lines of what came of it.
-ghost use Rattle.std.specs.Prelude.{◌≡◌, ◌≢◌, ◌<◌, ◌≤◌, ◌++◌, ◌↔◌, List, ℕ, [], Bool, Ok, length, string_bytes, IsTrue, IfOk, IfErr, IfSome, IsErrOf};
+ghost use Rattle.std.specs.Prelude.{◌≡◌, ◌≢◌, ◌<◌, ◌≤◌, ◌++◌, ◌↔◌, List, ℕ, [], Bool, Ok, codes, length, string_bytes, IsTrue, IfOk, IfErr, IfSome, IsErrOf};
 ghost use Rattle.std.specs.Io.KnownBytes.{Consumes, Appends};
+ghost use Rattle.ra_script.specs.Finding.{IsFirstUnwritten};
 ghost use Rattle.ra_script.specs.ScriptText.{script_of};
-ghost use Rattle.ra_cli.specs.Surveyed.{AllFinished, IsFound, IsSurveyed, IsTold, RefusesSurvey, SurveysBy};
+ghost use Rattle.ra_cli.specs.Surveyed.{AllFinished, FoundHasNoWords, IsFound, IsSurveyed, IsTold, RefusesSurvey, SurveysBy};
 ghost use Rattle.ra_cli.specs.Surveyed as spec;
 
 use crate::error::RunScriptError;
 use crate::running::script_from;
+use crate::search::Search;
 use crate::survey_text::survey_text;
 use ra_schedule::{Ending, Faults, Observer, Script, SeedRange, Survey, survey};
-use ra_script::{MAX_TURNS, Printed, find_trace};
+use ra_script::{ChoicesError, MAX_TURNS, Printed, find_run};
 use ra_stamp::Memory;
 use ra_world::write_out;
 use std::alloc::Global;
@@ -47,29 +49,43 @@ fn counted_of<O: Observer>(
     })
 }
 
-/// Returns the trace by the first seed by which a script comes to an end, and whether that run is finished; or a line that says that there is
-/// none, and whether that is as it should be.
+/// Returns the line that says that no run came to the end that was looked for.
+fn none_line(alloc: Global) -> Result<String, Memory>
+    ensures { IfOk result (λ text. string_bytes text ≡ codes "none\n") }
+{
+    let text = String::from_str(alloc, "none\n")?;
+    Ok(text)
+}
+
+/// Returns what is to be printed of the run by the first seed by which a script comes to the end that is looked for, and whether that run
+/// is finished; or a line that says that there is none, and whether that is as it should be.
 ///
 /// # Errors
 ///
-/// `Memory`: memory ran out.
+/// The first that holds, except that `Memory` may come before the other:
+///
+/// 1. `Choice`: the choices are to be printed, and no word stands for one of them.
+/// 2. `Memory`: memory ran out.
 fn found_of<O: Observer>(
     alloc: Global,
     script: &Script,
     faults: Option<Faults>,
-    ending: Ending,
+    search: Search,
     first: u64,
     last: u64,
     observer: &mut O,
-) -> Result<Printed, Memory>
-    ensures { (input : List ℕ) → script_of input ≡ Ok script.now
-        → IfOk result (λ told. IsFound faults ending first last input (string_bytes told.text) told.finished) }
+) -> Result<Printed, ChoicesError>
+    ensures ok { (input : List ℕ) → script_of input ≡ Ok script.now
+        → IfOk result (λ told. IsFound faults search first last input (string_bytes told.text) told.finished) }
+    ensures wordless { (input : List ℕ) → script_of input ≡ Ok script.now → IsErrOf result ChoicesError.Choice
+        → IsFirstUnwritten search.format faults search.ending first last input }
 {
+    let Search { ending, format } = search;
     let seeds = SeedRange { first, last };
-    if let Some(found) = find_trace(alloc, script, faults, ending, seeds, observer)? {
+    if let Some(found) = find_run(alloc, script, faults, ending, seeds, format, observer)? {
         return Ok(found);
     }
-    let text = String::from_str(alloc, "none\n")?;
+    let text = none_line(alloc)?;
     Ok(Printed {
         text,
         finished: none_is_good(ending),
@@ -87,30 +103,33 @@ fn none_is_good(ending: Ending) -> bool
 ///
 /// # Errors
 ///
-/// `Memory`: memory ran out.
+/// Those of `found_of`.
 fn told_of<O: Observer>(
     alloc: Global,
     script: &Script,
     faults: Option<Faults>,
-    find: Option<Ending>,
+    find: Option<Search>,
     first: u64,
     last: u64,
     observer: &mut O,
-) -> Result<Printed, Memory>
-    ensures { (input : List ℕ) → script_of input ≡ Ok script.now
+) -> Result<Printed, ChoicesError>
+    ensures ok { (input : List ℕ) → script_of input ≡ Ok script.now
         → IfOk result (λ told. IsTold faults find first last input (string_bytes told.text) told.finished) }
+    ensures wordless { (input : List ℕ) → script_of input ≡ Ok script.now → IsErrOf result ChoicesError.Choice
+        → FoundHasNoWords faults find first last input }
 {
-    match find {
-        None => counted_of(alloc, script, faults, first, last, observer),
-        Some(ending) => found_of(alloc, script, faults, ending, first, last, observer),
-    }
+    let Some(search) = find else {
+        let counted = counted_of(alloc, script, faults, first, last, observer)?;
+        return Ok(counted);
+    };
+    found_of(alloc, script, faults, search, first, last, observer)
 }
 
 /// Reads the text of a script, drives a cluster through it by chance, with faults or without, under each seed from the first to the last,
-/// both of them included, each in at most 16,777,216 turns, and writes what came of them; or, where an end is looked for, goes up to the
-/// first seed whose run comes to it, and writes its trace, or `none`. Returns whether each run is finished, or the run of the trace, or
-/// where there is no trace whether it is runs that are stuck that were looked for. The observer is told of each seed. It takes at most
-/// 65,537 bytes from the reader, and no read or write that failed is tried again.
+/// both of them included, each in at most 16,777,216 turns, and writes what came of them; or, if an end is looked for, goes up to the
+/// first seed whose run comes to it, and writes its trace or its choices, or `none`. Returns whether each run is finished, or the run that
+/// was found, or if there is none whether it is runs that are stuck that were looked for. The observer is told of each seed. It takes at
+/// most 65,537 bytes from the reader, and no read or write that failed is tried again.
 ///
 /// # Errors
 ///
@@ -118,14 +137,15 @@ fn told_of<O: Observer>(
 ///
 /// 1. `Read`: the reader failed, before its end and before it gave 65,537 bytes.
 /// 2. `Script`: the input is no script.
-/// 3. `Memory`: memory ran out.
-/// 4. `Write`: the writer failed or took nothing, with bytes left to write. A prefix of the lines was written.
+/// 3. `Choice`: choices are to be written, and no word stands for one of them.
+/// 4. `Memory`: memory ran out.
+/// 5. `Write`: the writer failed or took nothing, with bytes left to write. A prefix of the text was written.
 ///
 /// After each of the others the writer is as before.
 pub fn survey_script<R: Read, W: Write, O: Observer>(
     alloc: Global,
     faults: Option<Faults>,
-    find: Option<Ending>,
+    find: Option<Search>,
     first: u64,
     last: u64,
     reader: &mut R,

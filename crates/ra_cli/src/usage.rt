@@ -1,7 +1,8 @@
 //! What the parser says about words that are not a command line, on one line.
-use crate::command_line::{format_of, policy_name};
+use crate::command_line::{PolicyName, format_of, policy_name, text_of};
 use crate::command_rows::command;
 use crate::hints::is_given;
+use crate::notes::is_choice;
 use crate::said::Said;
 use clap::error::ErrorKind;
 use clap::{ArgMatches, Command, Error as ParseError};
@@ -12,9 +13,12 @@ use std::alloc::Global;
 const FAULTS_TEXT: &str =
     "--repeat must be at most 400, and --lose and --repeat together at most 1000; see ra sim --help";
 
-/// What is said about seeds that are not a range, or that the other options do not allow.
-const SEEDS_TEXT: &str =
-    "--seeds must be A..B (A at most B), such as 1..1000, with --policy seeded or faulty and without --trace or --as-choices; see ra sim --help";
+/// What is said about seeds under a policy that draws none.
+const SEEDS_POLICY_TEXT: &str = "--seeds requires --policy seeded or faulty; see ra sim --help";
+
+/// What is said about seeds with an option that prints one run.
+const SEEDS_FORMAT_TEXT: &str =
+    "--seeds takes --trace or --as-choices only with --find; see ra sim --help";
 
 /// What is said if an end is looked for without seeds.
 const FIND_TEXT: &str = "--find requires --seeds; see ra sim --help";
@@ -28,6 +32,102 @@ const PART_TEXT: &str = "--from must be at least 1, and at most --to; see ra dra
 
 /// What is said if `node` has an argument that the parser passes over, which only `--` is.
 const NODE_TEXT: &str = "node takes no arguments; see ra node --help";
+
+/// An option that takes a number, and which ones it takes.
+#[derive(Clone, Copy)]
+struct Range {
+    option: &'static str,
+    text: &'static str,
+}
+
+/// The options that take a number.
+const RANGES: &[Range] = &[
+    Range {
+        option: "--seed",
+        text: "0 to 18446744073709551615",
+    },
+    Range {
+        option: "--lose",
+        text: "0 to 1000, of 1000 messages",
+    },
+    Range {
+        option: "--repeat",
+        text: "0 to 400, of 1000 messages",
+    },
+    Range {
+        option: "--nodes",
+        text: "1 to 64",
+    },
+    Range {
+        option: "--node",
+        text: "1 to the value of --nodes",
+    },
+    Range {
+        option: "--from",
+        text: "the number of a line, 1 or more",
+    },
+    Range {
+        option: "--to",
+        text: "the number of a line, at least that of --from",
+    },
+];
+
+/// Returns which numbers an option takes, or `None` if it takes none.
+fn range_of(option: &str) -> Option<&'static str> {
+    for range in RANGES {
+        if range.option == option {
+            return Some(range.text);
+        }
+    }
+    None
+}
+
+/// Returns whether a word is a negative number, which the parser takes for an option.
+fn is_negative(word: &str) -> bool {
+    matches!(word.as_bytes(), [b'-', b'0'..=b'9', ..])
+}
+
+/// Returns the option that takes a number and is followed by a negative one, and that number, or `None`.
+fn negative_in(words: &[String]) -> Option<(&str, &str)> {
+    for place in 1..words.len() {
+        let option = words[place].as_str();
+        if range_of(option).is_some()
+            && let Some(next) = words.get(place + 1)
+            && is_negative(next.as_str())
+        {
+            return Some((option, next.as_str()));
+        }
+    }
+    None
+}
+
+/// Returns the option of which the parser says that its value is wrong, and that value, or `None`.
+fn wrong_value_in(said: &str) -> Option<(&str, &str)> {
+    let (_, rest) = said.split_once("invalid value '")?;
+    let (value, rest) = rest.split_once("' for '")?;
+    let (option, _) = rest.split_once(" <")?;
+    Some((option, value))
+}
+
+/// Adds which numbers an option takes if a wrong one is given, and returns whether one is.
+fn push_number(note: &mut Note, words: &[String], said: &str) -> bool {
+    let wrong = match negative_in(words) {
+        Some(wrong) => Some(wrong),
+        None => wrong_value_in(said),
+    };
+    let Some((option, value)) = wrong else {
+        return false;
+    };
+    let Some(text) = range_of(option) else {
+        return false;
+    };
+    note.push(option);
+    note.push(" is ");
+    note.quoted_text(value);
+    note.push(": must be ");
+    note.push(text);
+    true
+}
 
 /// Returns whether a word is a command, each of which reads standard input.
 fn is_command(word: &str) -> bool {
@@ -76,27 +176,45 @@ fn push_said(note: &mut Note, said: &str) {
     }
 }
 
-/// Adds where to read more and, if a word may name a file, how to read that file.
-fn push_advice(note: &mut Note, words: &[String], said: &str) {
-    let Some(name) = command_named(words) else {
-        note.push("; see ra --help");
-        return;
-    };
-    if let Some(word) = unexpected_in(said) {
+/// Adds what a word may be that the parser did not expect: one of the choices, which are one argument, or a file.
+fn push_unexpected(alloc: Global, note: &mut Note, words: &[String], name: &str, word: &str) {
+    if is_given(words, "--choices") && is_choice(alloc, word) {
+        note.push("; all choices are one argument: quote them, as in --choices \"c1 m0\"");
+    } else {
         note.push("; to read a file, run ra ");
         note.push(name);
         note.push(" < ");
         note.shown(word);
     }
+}
+
+/// Adds where to read more.
+fn push_see(note: &mut Note, words: &[String]) {
     note.push("; see ra ");
-    note.push(name);
-    note.push(" --help");
+    if let Some(name) = command_named(words) {
+        note.push(name);
+        note.push(" ");
+    }
+    note.push("--help");
 }
 
 /// Adds what is said about help options that share a word with others, and where to read more.
 fn push_help(note: &mut Note, words: &[String]) {
     note.push("-h and -V must be arguments of their own");
-    push_advice(note, words, "");
+    push_see(note, words);
+}
+
+/// Adds what the parser says, or which numbers an option takes, and what an unexpected word may be.
+fn push_parsed(alloc: Global, note: &mut Note, words: &[String], said: &str) {
+    if push_number(note, words, said) {
+        return;
+    }
+    push_said(note, said);
+    if let Some(name) = command_named(words)
+        && let Some(word) = unexpected_in(said)
+    {
+        push_unexpected(alloc, note, words, name, word);
+    }
 }
 
 /// Adds what the parser says about the words with its error, and where to read more.
@@ -110,25 +228,63 @@ fn push_error(alloc: Global, note: &mut Note, words: &[String], error: &ParseErr
     }
     match format!(in alloc; "{error}") {
         Ok(said) => {
-            push_said(note, said.as_str());
-            push_advice(note, words, said.as_str());
+            push_parsed(alloc, note, words, said.as_str());
+            push_see(note, words);
         }
         Err(_) => note.refuse_if(true),
     }
 }
 
-/// Returns what is said about words of the command `sim` in which the parser finds nothing wrong. The causes are tried
-/// in the order in which a task is made from the words.
-fn unseen_text(words: &[String], sim: &ArgMatches) -> &'static str {
-    let Some(policy) = policy_name(words, sim) else {
-        return FAULTS_TEXT;
-    };
-    if format_of(&policy, words, sim).is_none() {
-        AS_CHOICES_TEXT
-    } else if is_given(words, "--seeds") {
-        SEEDS_TEXT
+/// Adds what is wrong with the text of `--seeds`.
+fn push_seeds(note: &mut Note, seeds: &str) {
+    note.push("--seeds is ");
+    note.quoted_text(seeds);
+    note.push(if is_range(seeds) {
+        ": the first seed is above the last"
     } else {
-        FIND_TEXT
+        ": must be A..B, such as 1..1000, with two numbers from 0 to 18446744073709551615"
+    });
+    note.push("; see ra sim --help");
+}
+
+/// Returns whether a text is two seeds with two dots between them.
+fn is_range(seeds: &str) -> bool {
+    match seeds.split_once("..") {
+        Some((first, last)) => is_seed(first) && is_seed(last),
+        None => false,
+    }
+}
+
+/// Returns whether a text is a seed.
+fn is_seed(text: &str) -> bool {
+    let seed: Option<u64> = text.parse().ok();
+    seed.is_some()
+}
+
+/// Returns whether the trace or the choices of one run are to be printed.
+fn prints_one_run(sim: &ArgMatches) -> bool {
+    sim.get_flag("trace") || sim.get_flag("as-choices")
+}
+
+/// Adds what is wrong with words of the command `sim` that ask for many seeds.
+fn push_survey(note: &mut Note, words: &[String], policy: &PolicyName, sim: &ArgMatches) {
+    if !matches!(policy, PolicyName::Seeded(_) | PolicyName::Faulty { .. }) {
+        note.push(SEEDS_POLICY_TEXT);
+    } else if prints_one_run(sim) && !is_given(words, "--find") {
+        note.push(SEEDS_FORMAT_TEXT);
+    } else {
+        push_seeds(note, text_of(words, "--seeds").unwrap_or(""));
+    }
+}
+
+/// Adds what is wrong with words of the command `sim` in which the parser finds nothing wrong. The causes are tried in
+/// the order in which a task is made from the words.
+fn push_unseen(note: &mut Note, words: &[String], sim: &ArgMatches) {
+    match policy_name(words, sim) {
+        None => note.push(FAULTS_TEXT),
+        Some(policy) if format_of(&policy, words, sim).is_none() => note.push(AS_CHOICES_TEXT),
+        Some(policy) if is_given(words, "--seeds") => push_survey(note, words, &policy, sim),
+        Some(_) => note.push(FIND_TEXT),
     }
 }
 
@@ -139,7 +295,7 @@ fn push_usage<'a>(alloc: Global, note: &mut Note, words: &'a [String], command: 
         Ok(matches) => match matches.subcommand() {
             Some(("draw", _)) => note.push(PART_TEXT),
             Some(("node", _)) => note.push(NODE_TEXT),
-            Some((_, given)) => note.push(unseen_text(words, given)),
+            Some((_, given)) => push_unseen(note, words, given),
             None => push_help(note, words),
         },
         Err(error) => push_error(alloc, note, words, &error),

@@ -1,24 +1,34 @@
--- The trace of the first run of a script that comes to a given end.
+-- The first run of a script that comes to a given end.
 use Rattle.std.specs.Prelude.{◌≡◌, ℕ, List, Bool, Option, Some, None, Ok}
 use Rattle.ra_schedule.specs.declared.finding.Ending.{Ending}
 use Rattle.ra_schedule.specs.Faults.{FaultRates}
 use Rattle.ra_schedule.specs.Finding.{IsFirstSeed}
 use Rattle.ra_schedule.specs.Script.{ScriptState}
 use Rattle.ra_schedule.specs.Survey.{chance}
-use Rattle.ra_script.specs.Performed.{IsTraced, turn_limit}
+use Rattle.ra_script.specs.declared.format.Format.{Format}
+use Rattle.ra_script.specs.Performed.{IsPerformedAs, Unwritten, turn_limit}
 use Rattle.ra_script.specs.ScriptText.{script_of}
 
--- the text is the trace by the least of these seeds that brings the script of the input to this end; `finished` says
--- whether that run is finished
-pub record IsFirstTrace (faults : Option FaultRates) (ending : Ending) (first last : ℕ) (input text : List ℕ) (finished : Bool) : Type 0 where
+-- the text says in this format what came of the script of the input by the least of these seeds that brings it to this
+-- end; `finished` says whether that run is finished
+pub record IsFirstRun (format : Format) (faults : Option FaultRates) (ending : Ending) (first last : ℕ) (input text : List ℕ) (finished : Bool) : Type 0 where
   pub script : ScriptState
   pub script_is : script_of input ≡ Ok script
   pub seed : ℕ
   pub seed_is : IsFirstSeed script faults turn_limit ending first last (Some seed)
-  pub traced : IsTraced (chance faults seed) input text finished
+  pub performed : IsPerformedAs format (chance faults seed) input text finished
 
 -- none of these seeds brings the script of the input to this end
 pub record NoneEndsSo (faults : Option FaultRates) (ending : Ending) (first last : ℕ) (input : List ℕ) : Type 0 where
   pub script : ScriptState
   pub script_is : script_of input ≡ Ok script
   pub none : IsFirstSeed script faults turn_limit ending first last None
+
+-- the choices of the run by the least of these seeds that brings the script of the input to this end are to be written,
+-- and one of them cannot be
+pub record IsFirstUnwritten (format : Format) (faults : Option FaultRates) (ending : Ending) (first last : ℕ) (input : List ℕ) : Type 0 where
+  pub script : ScriptState
+  pub script_is : script_of input ≡ Ok script
+  pub seed : ℕ
+  pub seed_is : IsFirstSeed script faults turn_limit ending first last (Some seed)
+  pub unwritten : Unwritten format (chance faults seed) input

@@ -1,5 +1,5 @@
 //! The texts of scripts and of lists of choices. A script is performed from its text to the lines of its report, to its
-//! trace or to its choices. It can also be performed by many seeds, up to the first trace that ends as wanted.
+//! trace or to its choices. It can also be performed by many seeds, up to the first run that ends as wanted.
 #![tactic(auto)]
 
 mod choices;
@@ -18,7 +18,7 @@ mod spelling;
 pub use choices::read_choices;
 pub use error::{ChoicesError, PerformError, ScriptError};
 pub use explaining::explain_script;
-pub use finding::find_trace;
+pub use finding::find_run;
 pub use format::Format;
 pub use laws::read_scripts_come_to_rest;
 pub use performing::{MAX_TURNS, Printed, perform, perform_as, perform_trace};

@@ -60,7 +60,7 @@ fn lines_of(alloc: Global, policy: &Policy, script: &Script) -> Result<Printed, 
 ///
 /// 1. `Drive`: the policy can't go on.
 /// 2. `Memory`: memory ran out.
-pub fn trace_of(alloc: Global, policy: &Policy, script: &Script) -> Result<Printed, PerformError>
+fn trace_of(alloc: Global, policy: &Policy, script: &Script) -> Result<Printed, PerformError>
     ensures ok { (input : List ℕ) → script_of input ≡ Ok script.now
         → IfOk result (λ printed. IsPerformedAs Format.Trace policy.now input (string_bytes printed.text) printed.finished) }
     ensures err { (input : List ℕ) → script_of input ≡ Ok script.now → IfErr result (RefusesAs Format.Trace policy.now input) }
@@ -112,6 +112,34 @@ fn choices_of(alloc: Global, policy: &Policy, script: &Script) -> Result<Printed
     })
 }
 
+/// Drives a cluster through a script by a policy, and returns what is written of the run in a format.
+///
+/// # Errors
+///
+/// The first that holds, except that `Memory` may come before the others:
+///
+/// 1. `Drive`: the policy can't go on.
+/// 2. `Choice`: the choices are to be written, and no word stands for one of them.
+/// 3. `Memory`: memory ran out.
+pub fn print_run(
+    alloc: Global,
+    format: Format,
+    policy: &Policy,
+    script: &Script,
+) -> Result<Printed, PerformError>
+    ensures ok { (input : List ℕ) → script_of input ≡ Ok script.now
+        → IfOk result (λ printed. IsPerformedAs format policy.now input (string_bytes printed.text) printed.finished) }
+    ensures err { (input : List ℕ) → script_of input ≡ Ok script.now → IfErr result (RefusesAs format policy.now input) }
+    ensures early { IfErr result (λ fault. fault ≢ PerformError.Write) }
+    ensures unread { ¬ IsErrOf result PerformError.Read }
+{
+    match format {
+        Format::Lines => lines_of(alloc, policy, script),
+        Format::Trace => trace_of(alloc, policy, script),
+        Format::Choices => choices_of(alloc, policy, script),
+    }
+}
+
 /// Returns what is written of what comes of a script.
 ///
 /// # Errors
@@ -134,11 +162,7 @@ fn make_printed(
     ensures unread { ¬ IsErrOf result PerformError.Read }
 {
     let script = read_script(alloc, input)?;
-    match format {
-        Format::Lines => lines_of(alloc, policy, &script),
-        Format::Trace => trace_of(alloc, policy, &script),
-        Format::Choices => choices_of(alloc, policy, &script),
-    }
+    print_run(alloc, format, policy, &script)
 }
 
 /// Reads the text of a script, drives a cluster through it by a policy, and returns what is to be written of it in a format.

@@ -17,7 +17,7 @@ use ra_explain::LineCause;
 use ra_explain::Unanswered::WrongNode;
 use ra_frame::FrameError;
 use ra_schedule::{Ending, Policy, SeedRange};
-use ra_script::{ChoicesError, Format, PerformError, ScriptError, find_trace};
+use ra_script::{ChoicesError, Format, PerformError, ScriptError, find_run};
 use ra_stamp::Memory;
 use ra_trace::{Cause, MarksVerdict, TraceError, Verdict, WriteTraceError};
 use std::alloc::Global;
@@ -308,12 +308,12 @@ fn try_search(alloc: Global, ending: Ending, is_there: bool) -> Result<Tried, bo
         Ok(script) => script,
         Err(fault) => return Err(fault == ScriptError::Memory),
     };
-    match find_trace(alloc, &script, None, ending, SEEDS, &mut ()) {
+    match find_run(alloc, &script, None, ending, SEEDS, Format::Trace, &mut ()) {
         Ok(Some(found)) => {
             Ok(tried_if(is_there && found.finished && found.text.as_str() == ONE_LOCK))
         }
         Ok(None) => Ok(tried_if(!is_there)),
-        Err(Memory) => Err(true),
+        Err(fault) => Err(fault == ChoicesError::Memory),
     }
 }
 

@@ -1,4 +1,5 @@
 use Rattle.std.proofs.Common.{arith, map, string_bytes, codes}
+use Rattle.ra_cli.specs.Finishing.{RunsFaithfully}
 use Rattle.ra_cli.specs.Words.{NamesFaithfully, NamesNoChoices, SimsFaithfully}
 use Rattle.ra_cli.proofs.Faithful.{anyway, no_other, other, under}
 use Rattle.ra_cli.proofs.command_line.task_of.Goals as goal
@@ -11,7 +12,7 @@ returns-in-answer-clause-faithful c =
 pub returns-in-sim-clause-faithful : goal.returns-in-sim-clause-faithful
 returns-in-sim-clause-faithful c =
     let words = map string_bytes c.args.words.now in
-    under (SimsFaithfully words) (NamesFaithfully words) (λ sims. sims.names) c.sim_task.result c.sim_task.ensures.faithful
+    under RunsFaithfully (SimsFaithfully words) (NamesFaithfully words) (λ sims. sims.names) c.sim_task.result c.sim_task.ensures.faithful
 
 pub returns-in-cluster-clause-faithful : goal.returns-in-cluster-clause-faithful
 returns-in-cluster-clause-faithful c sims =
