@@ -139,13 +139,22 @@ fn gets_part(
     Some(gets(auditor, observer, node, after, events))
 }
 
+/// Puts all that can be put into the run, of which callers know the answer alone, so that their proofs are short.
+fn advance(
+    alloc: Global,
+    auditor: &mut Auditor,
+    observer: &mut Compares<'_>,
+) -> Result<(), AuditError> {
+    auditor.advance(alloc, observer)
+}
+
 /// Puts all that can be put into the run. If that is refused, returns whether memory ran out.
 fn advances_once(
     alloc: Global,
     auditor: &mut Auditor,
     observer: &mut Compares<'_>,
 ) -> Result<(), bool> {
-    match auditor.advance(alloc, observer) {
+    match advance(alloc, auditor, observer) {
         Ok(()) => Ok(()),
         Err(fault) => Err(matches!(fault, AuditError::Memory)),
     }
@@ -187,7 +196,7 @@ pub fn fault_of(name: Name, came: Came) -> Option<AuditFault> {
 
 /// Puts all that can be put into the run, and returns what does not fit.
 fn found(alloc: Global, auditor: &mut Auditor, observer: &mut Compares<'_>) -> Option<AuditFault> {
-    match auditor.advance(alloc, observer) {
+    match advance(alloc, auditor, observer) {
         Ok(()) | Err(AuditError::Memory) => None,
         Err(AuditError::Fault(fault)) => Some(fault),
     }

@@ -1,19 +1,16 @@
 //! What the tests of books share: the steps that a book does or shows, one after another.
 use crate::helpers;
-use crate::helpers::{assert_prints, r};
+use crate::helpers::r;
 use Call::{Ask, Leave, Receive};
 use Step::{
     Asked, Fails, Gave, Got, Has, HasFault, IsFree, IsHeld, IsNew, Loses, Posts, Refuses,
-    RefusesByte, RefusesToLose, Takes, TakesAgain, WasSent,
+    RefusesToLose, Takes, WasSent,
 };
 use Wire::{Asks, Replies};
-use ra_cluster::{
-    Book, BookError, BookEvent, BookKind, MarkLostError, NewError, Posted, Sent, Stop,
-};
-use ra_frame::{Frame, FrameError, encode};
+use ra_cluster::{Book, BookError, BookEvent, BookKind, MarkLostError, Posted, Sent, Stop};
+use ra_frame::{Frame, encode};
 use ra_stamp::{Entry, Mark, Message, Mode, Name, NodeId};
 use std::alloc::Global;
-use std::process::Abort;
 
 /// A REQUEST with number 1 from node 1 to node 2 for `r`, exclusively, at clock 1.
 pub const ASKS: [u8; 25] = [
@@ -77,16 +74,10 @@ pub enum Turn {
 pub enum Step<'a> {
     /// It takes the call, whatever comes of it.
     Takes(Call<'a>),
-    /// It takes the call, or takes it when it is made again because memory ran out. In that case it was unchanged in
-    /// between, with this many events and sent frames, and this clock. The call sends exactly this message, or none, at
-    /// the next clock, and has exactly this mark.
-    TakesAgain(Call<'a>, u64, u64, u64, Option<Wire>, Turn),
     /// It takes the call, which sends exactly one frame with this text, or none, and has exactly this mark, or none.
     Posts(Call<'a>, Option<&'a [u8; 25]>, Option<Turn>),
     /// It refuses the call, for this reason.
     Refuses(Call<'a>, BookError),
-    /// It refuses the bytes of [`ASKS`] with another byte at this place, for this reason.
-    RefusesByte(usize, u8, BookError),
     /// It gets this fault.
     Fails(Stop),
     /// It has this fault.
@@ -205,22 +196,6 @@ fn posts(
     }
 }
 
-fn refuses_byte(
-    alloc: Global,
-    book: &mut Book,
-    name: Name,
-    place: usize,
-    byte: u8,
-    fault: BookError,
-) -> bool {
-    let mut bytes = ASKS;
-    match bytes.get_mut(place) {
-        Some(slot) => *slot = byte,
-        None => return false,
-    }
-    refuses(alloc, book, name, Receive(&bytes), fault)
-}
-
 /// Flags the REQUEST of [`ASKS`] at this clock as lost. Returns whether it is refused for this reason, or accepted if
 /// that is `None`.
 fn loses(book: &mut Book, name: Name, clock: u64, refusal: Option<MarkLostError>) -> bool {
@@ -277,74 +252,12 @@ fn is_new(book: &Book, name: &Name) -> bool {
         && book.node().highest(name) == 7
 }
 
-/// Returns whether exactly this message is sent, at this clock, or no message if it is `None`.
-fn has_message(posted: &Posted, name: Name, clock: u64, wire: Option<Wire>) -> bool {
-    let Some(wire) = wire else {
-        return posted.frames.len() == 0;
-    };
-    match message(name, wire) {
-        Some(message) => {
-            posted.frames.len() == 1 && posted.frames.at(0) == Some(Frame { clock, message })
-        }
-        None => false,
-    }
-}
-
-/// The events, sent frames and clock of a book before a call, and what the call sends and marks.
-#[derive(Clone, Copy)]
-struct Expected {
-    events: u64,
-    sent: u64,
-    clock: u64,
-    wire: Option<Wire>,
-    turn: Turn,
-}
-
-/// Makes a call, and makes it again if memory ran out. Returns whether a refused call left the book as it was, and the
-/// answer is as expected.
-fn takes_again(
-    alloc: Global,
-    book: &mut Book,
-    name: Name,
-    call: Call<'_>,
-    expected: &Expected,
-) -> bool {
-    let answer = match make(alloc, book, name, call) {
-        Err(BookError::Memory) if has(book, expected.events, expected.sent, expected.clock) => {
-            make(alloc, book, name, call)
-        }
-        answer => answer,
-    };
-    match answer {
-        Ok(posted) => {
-            has_message(
-                &posted,
-                name,
-                expected.clock.saturating_add(1),
-                expected.wire,
-            ) && has_mark(&posted, name, Some(expected.turn))
-        }
-        Err(_) => false,
-    }
-}
-
 /// Returns whether a book does or shows this step.
 pub fn does(alloc: Global, book: &mut Book, name: Name, step: Step<'_>) -> bool {
     match step {
         Takes(call) => takes(alloc, book, name, call),
-        TakesAgain(call, events, sent, clock, wire, turn) => {
-            let expected = Expected {
-                events,
-                sent,
-                clock,
-                wire,
-                turn,
-            };
-            takes_again(alloc, book, name, call, &expected)
-        }
         Posts(call, text, turn) => posts(alloc, book, name, call, text, turn),
         Refuses(call, fault) => refuses(alloc, book, name, call, fault),
-        RefusesByte(place, byte, fault) => refuses_byte(alloc, book, name, place, byte, fault),
         Fails(stop) => {
             book.fail(stop);
             true
@@ -378,24 +291,16 @@ fn done(alloc: Global, book: &mut Book, name: Name, steps: &[Step<'_>]) -> usize
 
 /// Returns how many of these steps the book of node `me` of `nodes` that begins at `start` does and shows, in order,
 /// before the first that it does not, or `None` if there is no such book.
-fn done_by(alloc: Global, me: u16, nodes: u16, start: u64, steps: &[Step<'_>]) -> Option<usize> {
-    let (me, name) = (NodeId::new(me)?, r()?);
-    match Book::new(alloc, me, nodes, start) {
-        Ok(mut book) => Some(done(alloc, &mut book, name, steps)),
-        Err(_) => None,
-    }
-}
-
-/// Ends the test unless the book does and shows all of these steps.
-pub fn assert_book_does<R: Abort + AllocGlobal>(
-    rt: &R,
+pub fn done_by(
+    alloc: Global,
     me: u16,
     nodes: u16,
     start: u64,
     steps: &[Step<'_>],
-) {
-    match done_by(rt.alloc(), me, nodes, start, steps) {
-        Some(done) => assert!(rt; done == steps.len(), "step {done}, counted from 0"),
-        None => panic!(rt; "there is no such book"),
+) -> Option<usize> {
+    let (me, name) = (NodeId::new(me)?, r()?);
+    match Book::new(alloc, me, nodes, start) {
+        Ok(mut book) => Some(done(alloc, &mut book, name, steps)),
+        Err(_) => None,
     }
 }

@@ -1,10 +1,11 @@
 //! Frames of which one byte is another, or of which the last bytes are missing: whether a book takes them, and that it is as before
 //! where it does not.
-use crate::books::{ASKS, ASKS_1};
+use crate::books::Call::Receive;
+use crate::books::{ASK, ASKS, ASKS_1, has, make};
 use crate::helpers::r;
 use ra_cluster::{Book, BookError};
 use ra_frame::FrameError;
-use ra_stamp::{Mode, Name, NodeId};
+use ra_stamp::{Name, NodeId};
 use std::alloc::Global;
 
 /// With how many of the 256 bytes at each place node 2 of 3 takes the REQUEST of version 1.
@@ -38,9 +39,7 @@ fn with<const N: usize>(text: &[u8; N], place: usize, byte: u8) -> [u8; N] {
 
 /// Returns whether a book has nothing but the ask: one event, two REQUESTs, the clock 1, no fault, and the number 1, which waits.
 fn is_as_before(book: &Book, name: &Name) -> bool {
-    book.events().len() == 1
-        && book.sent_len() == 2
-        && book.clock() == 1
+    has(book, 1, 2, 1)
         && book.fault().is_none()
         && book.node().highest(name) == 1
         && book.node().waiting() == 1
@@ -55,19 +54,14 @@ fn outcome_at(
     name: &Name,
     bytes: &[u8],
 ) -> Option<Result<(), BookError>> {
-    if book.ask(alloc, 1, *name, Mode::Exclusive).is_err() {
+    if make(alloc, book, *name, ASK).is_err() {
         return None;
     }
-    let outcome = match book.receive(alloc, bytes) {
-        Ok(_) => Ok(()),
-        Err(fault) => Err(fault),
-    };
-    let is_so = if outcome.is_ok() {
-        book.events().len() == 2
-    } else {
-        is_as_before(book, name)
-    };
-    if is_so { Some(outcome) } else { None }
+    match make(alloc, book, *name, Receive(bytes)) {
+        Ok(_) if book.events().len() == 2 => Some(Ok(())),
+        Err(fault) if is_as_before(book, name) => Some(Err(fault)),
+        _ => None,
+    }
 }
 
 /// The same for the book of node 2 of 3 and the name `r`.

@@ -132,18 +132,15 @@ const MANY: u64 = 5_000;
 
 /// A client of a cluster of one node asks for `r` and leaves it, many times.
 fn try_many_calls(alloc: Global, book: &mut Book, name: Name) -> Tried {
-    let mut tried = Tried::AtOnce;
+    let (mut tried, mut events) = (Tried::AtOnce, 0u64);
     for _ in 0..MANY {
-        let (events, clock) = (book.events().len(), book.clock());
-        tried = both(
-            tried,
-            try_call(alloc, book, name, ASK, Kept(events, 0, clock)),
-        );
-        let (events, clock) = (book.events().len(), book.clock());
-        tried = both(
-            tried,
-            try_call(alloc, book, name, LEAVE, Kept(events, 0, clock)),
-        );
+        for call in [ASK, LEAVE] {
+            tried = both(
+                tried,
+                try_call(alloc, book, name, call, Kept(events, 0, events)),
+            );
+            events = events.wrapping_add(1);
+        }
     }
     tried
 }

@@ -2,10 +2,10 @@
 //! that carries frames, and do what they should when they are made again.
 use crate::growth::end;
 use crate::growth_of_sites::WANTING;
-use crate::helpers::r;
+use crate::helpers::{closed, r};
 use crate::plans::{TWO_WRITERS, script_of};
 use ra_cluster::{
-    BookError, CallError, Cluster, ClusterError, Grant, NewPostError, OpenGate, ScriptRun,
+    Book, BookError, CallError, Cluster, ClusterError, Grant, NewPostError, OpenGate, ScriptRun,
     SiteError, Stop, run_cluster, run_threads,
 };
 use ra_schedule::Script;
@@ -28,47 +28,63 @@ fn is_wanting(fault: SiteError) -> bool {
     )
 }
 
-/// A client of a node of a cluster locks `r`, does nothing and unlocks it, which needs no memory. If it is not let in, or
-/// the cluster was stopped, returns whether memory ran out.
-fn try_work<R: Wait>(
+/// Makes a cluster of so many nodes. If it cannot be made, returns whether memory ran out.
+fn new_cluster(alloc: Global, nodes: u16) -> Result<Cluster<OpenGate>, bool> {
+    match Cluster::new(alloc, nodes, 0, OpenGate) {
+        Ok(cluster) => Ok(cluster),
+        Err(fault) => Err(fault == NewPostError::Memory),
+    }
+}
+
+/// A client of a node of a cluster locks `r`, does nothing and unlocks it.
+fn work<R: Wait>(
     rt: &R,
     alloc: Global,
     cluster: &Cluster<OpenGate>,
     node: NodeId,
     name: Name,
-) -> Result<Tried, bool> {
+) -> Result<Result<(), SiteError>, CallError> {
     let mode = Mode::Exclusive;
-    let held = match cluster.with_lock(rt, alloc, node, 1, name, mode, |_grant: Grant| {}) {
-        Ok(held) => held,
-        Err(CallError::Site(fault)) => return Err(is_wanting(fault)),
-        Err(CallError::NoNode) => return Ok(Tried::Wrong),
-    };
-    match held.unlocked {
-        Ok(()) => Ok(Tried::AtOnce),
-        Err(fault) if fault == WANTING => Ok(Tried::Wrong),
-        Err(fault) => Err(is_wanting(fault)),
+    match cluster.with_lock(rt, alloc, node, 1, name, mode, |_grant: Grant| {}) {
+        Ok(held) => Ok(held.unlocked),
+        Err(fault) => Err(fault),
     }
 }
 
-/// Makes a cluster of one node, has a client work at it, and closes it, which takes no memory. If the cluster cannot be
-/// made, returns whether memory ran out.
-fn try_whole<R: Wait>(rt: &R, alloc: Global) -> Result<Tried, bool> {
+/// The client of node 1 does so, of which the unlock needs no memory. If it is not let in, or the cluster was stopped, returns whether
+/// memory ran out.
+fn try_work<R: Wait>(rt: &R, alloc: Global, cluster: &Cluster<OpenGate>) -> Result<Tried, bool> {
     let (Some(node), Some(name)) = (NodeId::new(1), r()) else {
         return Ok(Tried::Wrong);
     };
-    let cluster = match Cluster::new(alloc, 1, 0, OpenGate) {
-        Ok(cluster) => cluster,
-        Err(fault) => return Err(fault == NewPostError::Memory),
-    };
-    let tried = again(
-        try_work(rt, alloc, &cluster, node, name),
-        try_work(rt, alloc, &cluster, node, name),
-    );
-    if cluster.close(alloc).len() == 1 {
-        Ok(tried)
+    match work(rt, alloc, cluster, node, name) {
+        Ok(Ok(())) => Ok(Tried::AtOnce),
+        Ok(Err(fault)) if fault == WANTING => Ok(Tried::Wrong),
+        Ok(Err(fault)) => Err(is_wanting(fault)),
+        Err(CallError::Site(fault)) => Err(is_wanting(fault)),
+        Err(CallError::NoNode) => Ok(Tried::Wrong),
+    }
+}
+
+/// Returns this if a cluster has so many books when it is closed, which takes no memory.
+fn after_closing(
+    alloc: Global,
+    cluster: Cluster<OpenGate>,
+    nodes: usize,
+    tried: Result<Tried, bool>,
+) -> Result<Tried, bool> {
+    if closed(alloc, cluster).len() == nodes {
+        tried
     } else {
         Ok(Tried::Wrong)
     }
+}
+
+/// Makes a cluster of one node, has a client work at it, and closes it. If the cluster cannot be made, returns whether memory ran out.
+fn try_whole<R: Wait>(rt: &R, alloc: Global) -> Result<Tried, bool> {
+    let cluster = new_cluster(alloc, 1)?;
+    let tried = again(try_work(rt, alloc, &cluster), try_work(rt, alloc, &cluster));
+    after_closing(alloc, cluster, 1, Ok(tried))
 }
 
 #[test]
@@ -80,19 +96,9 @@ fn growth_of_a_whole_cluster(rt: HostRuntime) {
 /// Makes a cluster of two nodes, has a client work at the first, and closes it. If the cluster cannot be made, or was
 /// stopped, returns whether memory ran out.
 fn try_two<R: Threads + Wait + Sync>(rt: &R, alloc: Global) -> Result<Tried, bool> {
-    let (Some(one), Some(name)) = (NodeId::new(1), r()) else {
-        return Ok(Tried::Wrong);
-    };
-    let cluster = match Cluster::new(alloc, 2, 0, OpenGate) {
-        Ok(cluster) => cluster,
-        Err(fault) => return Err(fault == NewPostError::Memory),
-    };
-    let tried = cluster.run(rt, alloc, || try_work(rt, alloc, &cluster, one, name));
-    if cluster.close(alloc).len() == 2 {
-        tried
-    } else {
-        Ok(Tried::Wrong)
-    }
+    let cluster = new_cluster(alloc, 2)?;
+    let tried = cluster.run(rt, alloc, || try_work(rt, alloc, &cluster));
+    after_closing(alloc, cluster, 2, tried)
 }
 
 #[test]
@@ -142,32 +148,44 @@ fn growth_of_a_cluster(rt: HostRuntime) {
     end(&rt, again(try_cluster(&rt, alloc), try_cluster(&rt, alloc)));
 }
 
-/// Has threads run a script of two writers, and looks at the grants that are kept. If not both are, returns whether the
-/// cluster was stopped because memory ran out.
-fn try_keeping<R: Threads + Wait + Sync>(rt: &R, alloc: Global) -> Result<Tried, bool> {
-    let (Some(script), Ok(cluster)) = (
-        script_of(alloc, 2, TWO_WRITERS),
-        Cluster::new(alloc, 2, 0, OpenGate),
-    ) else {
-        return Err(true);
-    };
+/// Has threads run a script in a cluster. Returns how many grants are kept.
+fn count_kept<R: Threads + Wait + Sync>(
+    rt: &R,
+    alloc: Global,
+    script: &Script,
+    cluster: &Cluster<OpenGate>,
+) -> usize {
     let grants = Mutex::new(Vec::new(alloc));
     let run = ScriptRun {
-        script: &script,
-        cluster: &cluster,
+        script,
+        cluster,
         grants: &grants,
     };
     run_threads(rt, alloc, &run);
-    let kept = grants.into_inner().len();
-    let books = cluster.close(alloc);
-    match books.first() {
-        Some(one) => match one.fault() {
-            None if kept == 2 => Ok(Tried::AtOnce),
-            None => Ok(Tried::Wrong),
-            Some(stop) => Err(is_of_memory(ClusterError::Fault(stop))),
-        },
-        None => Err(false),
+    grants.into_inner().len()
+}
+
+/// Returns whether both grants of two writers were kept. If a node was stopped, returns whether that is since memory ran out.
+fn judge_kept(books: &[Book], kept: usize) -> Result<Tried, bool> {
+    let Some(one) = books.first() else {
+        return Err(false);
+    };
+    match one.fault() {
+        None if kept == 2 => Ok(Tried::AtOnce),
+        None => Ok(Tried::Wrong),
+        Some(stop) => Err(is_of_memory(ClusterError::Fault(stop))),
     }
+}
+
+/// Has threads run a script of two writers, and looks at the grants that are kept. If not both are, returns whether the
+/// cluster was stopped because memory ran out.
+fn try_keeping<R: Threads + Wait + Sync>(rt: &R, alloc: Global) -> Result<Tried, bool> {
+    let Some(script) = script_of(alloc, 2, TWO_WRITERS) else {
+        return Err(true);
+    };
+    let cluster = new_cluster(alloc, 2)?;
+    let kept = count_kept(rt, alloc, &script, &cluster);
+    judge_kept(&closed(alloc, cluster), kept)
 }
 
 #[test]

@@ -3,10 +3,11 @@
 use crate::growth::end;
 use crate::growth_of_sites::WANTING;
 use crate::helpers::r;
+use crate::rounds::{last_round, leaves, lock_at, round};
 use ra_cluster::{
-    Auditor, CallError, Cluster, FinishError, NewPostError, OpenGate, RoundError, TakeError, Told,
+    Auditor, CallError, Cluster, FinishError, NewPostError, OpenGate, RoundError, TakeError,
 };
-use ra_stamp::{Mode, Name, NodeId};
+use ra_stamp::{Mode, Name};
 use ra_world::NewError;
 use std::alloc::Global;
 use std::sync::Wait;
@@ -46,15 +47,15 @@ fn is_of_memory(refused: RoundError) -> bool {
     }
 }
 
+/// Client 1 locks the name. If it is refused, returns whether memory ran out, as do those below.
 fn locks<R: Wait>(
     rt: &R,
     alloc: Global,
     cluster: &Cluster<OpenGate>,
-    node: NodeId,
     name: Name,
-) -> Result<Tried, bool> {
-    match cluster.lock(rt, alloc, node, 1, name, Mode::Exclusive) {
-        Ok(_) => Ok(Tried::AtOnce),
+) -> Result<(), bool> {
+    match lock_at(rt, alloc, cluster, 1, name, Mode::Exclusive) {
+        Ok(()) => Ok(()),
         Err(fault) => Err(fault == CallError::Site(WANTING)),
     }
 }
@@ -63,12 +64,12 @@ fn unlocks<R: Wait>(
     rt: &R,
     alloc: Global,
     cluster: &Cluster<OpenGate>,
-    node: NodeId,
     name: Name,
-) -> Result<Tried, bool> {
-    match cluster.unlock(rt, alloc, node, 1, name) {
-        Ok(()) => Ok(Tried::AtOnce),
-        Err(_) => Ok(Tried::Wrong),
+) -> Result<(), bool> {
+    if leaves(rt, alloc, cluster, 1, name) {
+        Ok(())
+    } else {
+        Err(false)
     }
 }
 
@@ -77,9 +78,9 @@ fn audits<R: Wait>(
     alloc: Global,
     cluster: &Cluster<OpenGate>,
     auditor: &mut Auditor,
-) -> Result<Tried, bool> {
-    match cluster.audit(rt, alloc, auditor, &mut Told::new()) {
-        Ok(()) => Ok(Tried::AtOnce),
+) -> Result<(), bool> {
+    match round(rt, alloc, cluster, auditor) {
+        Ok(()) => Ok(()),
         Err(refused) => Err(is_of_memory(refused)),
     }
 }
@@ -89,9 +90,9 @@ fn ends<R: Wait>(
     alloc: Global,
     cluster: &mut Cluster<OpenGate>,
     auditor: &mut Auditor,
-) -> Result<Tried, bool> {
-    match cluster.finish(rt, alloc, auditor, &mut Told::new()) {
-        Ok(()) => Ok(Tried::AtOnce),
+) -> Result<(), bool> {
+    match last_round(rt, alloc, cluster, auditor) {
+        Ok(()) => Ok(()),
         Err(FinishError::Round(refused)) => Err(is_of_memory(refused)),
         Err(FinishError::NeverSent(_)) => Err(false),
     }
@@ -103,37 +104,46 @@ fn try_once<R: Wait>(
     alloc: Global,
     cluster: &mut Cluster<OpenGate>,
     auditor: &mut Auditor,
-    node: NodeId,
     name: Name,
     act: Act,
-) -> Result<Tried, bool> {
+) -> Result<(), bool> {
     match act {
-        Act::Locks => locks(rt, alloc, cluster, node, name),
-        Act::Unlocks => unlocks(rt, alloc, cluster, node, name),
+        Act::Locks => locks(rt, alloc, cluster, name),
+        Act::Unlocks => unlocks(rt, alloc, cluster, name),
         Act::Audits => audits(rt, alloc, cluster, auditor),
         Act::Ends => ends(rt, alloc, cluster, auditor),
     }
 }
 
-/// Does all of it, each once more if memory ran out. Then all four events are in the run.
+/// Does this, and once more if memory ran out.
+fn try_act<R: Wait>(
+    rt: &R,
+    alloc: Global,
+    cluster: &mut Cluster<OpenGate>,
+    auditor: &mut Auditor,
+    name: Name,
+    act: Act,
+) -> Tried {
+    match try_once(rt, alloc, cluster, auditor, name, act) {
+        Ok(()) => Tried::AtOnce,
+        Err(is_memory) if is_memory && try_once(rt, alloc, cluster, auditor, name, act).is_ok() => {
+            Tried::Again
+        }
+        Err(_) => Tried::Wrong,
+    }
+}
+
+/// Does all of it. Then all four events are in the run.
 fn try_acts<R: Wait>(
     rt: &R,
     alloc: Global,
     cluster: &mut Cluster<OpenGate>,
     auditor: &mut Auditor,
-    node: NodeId,
     name: Name,
 ) -> Tried {
     let mut tried = Tried::AtOnce;
     for act in ACTS {
-        let done = match try_once(rt, alloc, cluster, auditor, node, name, *act) {
-            Ok(tried) => tried,
-            Err(is_memory) => {
-                let second = try_once(rt, alloc, cluster, auditor, node, name, *act);
-                again(Err(is_memory), second)
-            }
-        };
-        tried = both(tried, done);
+        tried = both(tried, try_act(rt, alloc, cluster, auditor, name, *act));
     }
     if auditor.steps() == 4 {
         tried
@@ -142,21 +152,30 @@ fn try_acts<R: Wait>(
     }
 }
 
+/// Makes the auditor. If it can't be made, returns whether memory ran out.
+fn new_auditor(alloc: Global) -> Result<Auditor, bool> {
+    match Auditor::new(alloc, 1, 0) {
+        Ok(auditor) => Ok(auditor),
+        Err(fault) => Err(fault == NewError::Memory),
+    }
+}
+
+/// Makes the cluster. If it can't be made, returns whether memory ran out.
+fn new_cluster(alloc: Global) -> Result<Cluster<OpenGate>, bool> {
+    match Cluster::new_audited(alloc, 1, 0, OpenGate) {
+        Ok(cluster) => Ok(cluster),
+        Err(fault) => Err(fault == NewPostError::Memory),
+    }
+}
+
 /// Makes a cluster and an auditor, and does all of it. If they can't be made, returns whether memory ran out.
 fn try_rounds<R: Wait>(rt: &R, alloc: Global) -> Result<Tried, bool> {
-    let (Some(node), Some(name)) = (NodeId::new(1), r()) else {
+    let Some(name) = r() else {
         return Ok(Tried::Wrong);
     };
-    match (
-        Cluster::new_audited(alloc, 1, 0, OpenGate),
-        Auditor::new(alloc, 1, 0),
-    ) {
-        (Ok(mut cluster), Ok(mut auditor)) => {
-            Ok(try_acts(rt, alloc, &mut cluster, &mut auditor, node, name))
-        }
-        (Err(fault), _) => Err(fault == NewPostError::Memory),
-        (_, Err(fault)) => Err(fault == NewError::Memory),
-    }
+    let mut auditor = new_auditor(alloc)?;
+    let mut cluster = new_cluster(alloc)?;
+    Ok(try_acts(rt, alloc, &mut cluster, &mut auditor, name))
 }
 
 #[test]

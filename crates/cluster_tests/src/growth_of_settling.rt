@@ -1,13 +1,12 @@
 //! Each growth of a settling is refused: it answers that memory ran out, and does what it should when it is done again.
 use crate::books::Step::Takes;
-use crate::books::{ASK, LEAVE};
+use crate::books::{ASK, LEAVE, make};
 use crate::growth::end;
-use crate::helpers::r;
+use crate::helpers::{r, settled};
 use crate::histories::Done::{At, Passes};
 use crate::histories::{Done, Granted, ONE, TWO, books_after, grants_of};
-use ra_cluster::{Book, SettleError, Settled, is_cluster, settle};
-use ra_stamp::{Mode, NodeId};
-use ra_world::Step as WorldStep;
+use ra_cluster::{Book, Grant, SettleError, Settled};
+use ra_stamp::{Mode, Name, NodeId};
 use std::alloc::Global;
 use test_support::{Tried, again};
 
@@ -19,20 +18,55 @@ pub const ONE_LOCK: &[Done] = &[
     At(1, Takes(LEAVE)),
 ];
 
+/// How many steps the run has into which books settle, and what its report says.
+#[derive(Clone, Copy)]
+struct Due {
+    steps: u64,
+    requests: u128,
+    sent: u128,
+    lost: u128,
+    waiting: u128,
+}
+
+/// Returns whether books settled into such a run.
+fn judge(settled: &Settled, due: Due) -> Tried {
+    let report = &settled.report;
+    if settled.steps.len() == due.steps
+        && report.requests == due.requests
+        && report.sent == due.sent
+        && report.lost == due.lost
+        && report.waiting == due.waiting
+        && report.under_way == 0
+    {
+        Tried::AtOnce
+    } else {
+        Tried::Wrong
+    }
+}
+
+/// Settles books. If that is refused, returns whether memory ran out.
+fn try_to_settle(alloc: Global, books: &[Book], grants: &[Grant], due: Due) -> Result<Tried, bool> {
+    match settled(alloc, books, grants) {
+        Some(Ok(settled)) => Ok(judge(&settled, due)),
+        Some(Err(fault)) => Err(fault == SettleError::Memory),
+        None => Err(false),
+    }
+}
+
+/// The run of the one lock: the ask, two messages and the leave.
+const ONE_RUN: Due = Due {
+    steps: 4,
+    requests: 1,
+    sent: 2,
+    lost: 0,
+    waiting: 0,
+};
+
 /// Settles two books. If that is refused, returns whether memory ran out.
 fn try_settling(alloc: Global) -> Result<Tried, bool> {
-    let Ok(books) = books_after(alloc, &[ONE, TWO], ONE_LOCK) else {
-        return Err(true);
-    };
-    if !is_cluster(&books) {
-        return Err(false);
-    }
-    match settle(alloc, &books, &[]) {
-        Ok(settled) if settled.report.requests == 1 && settled.report.sent == 2 => {
-            Ok(Tried::AtOnce)
-        }
-        Ok(_) => Ok(Tried::Wrong),
-        Err(fault) => Err(fault == SettleError::Memory),
+    match books_after(alloc, &[ONE, TWO], ONE_LOCK) {
+        Ok(books) => try_to_settle(alloc, &books, &[], ONE_RUN),
+        Err(_) => Err(true),
     }
 }
 
@@ -56,45 +90,33 @@ fn loses_second(books: &mut [Book]) -> bool {
     }
 }
 
-/// Makes the books after that, with the last REQUEST lost, or returns `None` if memory ran out.
+/// The run of the client, with the loss at its end.
+const LOSING_RUN: Due = Due {
+    steps: 6,
+    requests: 2,
+    sent: 3,
+    lost: 1,
+    waiting: 1,
+};
+
+/// Makes the two books, with the last REQUEST lost, or returns `None` if memory ran out.
 fn books_with_a_loss(alloc: Global) -> Option<Vec<Book>> {
-    match books_after(alloc, &[ONE, TWO], ASKS_AGAIN) {
-        Ok(mut books) => {
-            if loses_second(&mut books) {
-                Some(books)
-            } else {
-                None
-            }
-        }
-        Err(_) => None,
+    let mut books = books_after(alloc, &[ONE, TWO], ASKS_AGAIN).ok()?;
+    if loses_second(&mut books) {
+        Some(books)
+    } else {
+        None
     }
 }
 
-/// Returns whether books settled into the run of the client, with the loss at its end.
-fn is_with_a_loss(settled: &Settled) -> bool {
-    let report = &settled.report;
-    settled.steps.len() == 6
-        && matches!(settled.steps.at(5), Some(WorldStep::Lose(_)))
-        && report.requests == 2
-        && report.sent == 3
-        && report.lost == 1
-        && report.waiting == 1
-        && report.under_way == 0
-}
-
-/// Settles two books with a grant and a lost frame. If that is refused, returns whether memory ran out.
+/// Settles two books with a grant, and with the last REQUEST lost. If that is refused, returns whether memory ran out.
 fn try_settling_a_loss(alloc: Global) -> Result<Tried, bool> {
-    let granted = grants_of(alloc, &[Granted(1, 1, Mode::Exclusive, 1)]);
-    let (Some(books), Some(grants)) = (books_with_a_loss(alloc), granted) else {
+    let Some(grants) = grants_of(alloc, &[Granted(1, 1, Mode::Exclusive, 1)]) else {
         return Err(true);
     };
-    if !is_cluster(&books) {
-        return Err(false);
-    }
-    match settle(alloc, &books, &grants) {
-        Ok(settled) if is_with_a_loss(&settled) => Ok(Tried::AtOnce),
-        Ok(_) => Ok(Tried::Wrong),
-        Err(fault) => Err(fault == SettleError::Memory),
+    match books_with_a_loss(alloc) {
+        Some(books) => try_to_settle(alloc, &books, &grants, LOSING_RUN),
+        None => Err(true),
     }
 }
 
@@ -110,36 +132,42 @@ fn growth_of_settling_with_a_grant_and_a_loss(rt: HostRuntime) {
 /// How often a client asks for `r` and leaves it in the book that is settled. Each time takes two events.
 const VERY_MANY: u64 = 50_000;
 
-/// Makes the book of a single node, with very many events, or returns `None` if memory ran out.
-fn large_book(alloc: Global) -> Option<Book> {
-    let (me, name) = (NodeId::new(1)?, r()?);
-    let mut book = Book::new(alloc, me, 1, 0).ok()?;
+/// Has a client ask for a name and leave it very often. Returns whether that succeeds.
+fn asks_and_leaves(alloc: Global, book: &mut Book, name: Name) -> bool {
     for _ in 0..VERY_MANY {
-        book.ask(alloc, 1, name, Mode::Exclusive).ok()?;
-        book.leave(alloc, 1, name).ok()?;
+        if make(alloc, book, name, ASK).is_err() || make(alloc, book, name, LEAVE).is_err() {
+            return false;
+        }
     }
-    Some(book)
+    true
 }
 
-/// Makes the books of a single node, or returns `None` if memory ran out.
+/// Makes the books of a single node, with very many events, or returns `None` if memory ran out.
 fn large_books(alloc: Global) -> Option<Vec<Book>> {
+    let (me, name) = (NodeId::new(1)?, r()?);
     let mut books = Vec::new(alloc);
-    books.push(large_book(alloc)?).ok()?;
-    Some(books)
+    books.push(Book::new(alloc, me, 1, 0).ok()?).ok()?;
+    let is_large = match books.get_mut(0) {
+        Some(book) => asks_and_leaves(alloc, book, name),
+        None => false,
+    };
+    if is_large { Some(books) } else { None }
 }
+
+/// The run of that client.
+const LARGE_RUN: Due = Due {
+    steps: 2 * VERY_MANY,
+    requests: VERY_MANY as u128,
+    sent: 0,
+    lost: 0,
+    waiting: 0,
+};
 
 /// Settles books with very many events. If that is refused, returns whether memory ran out.
 fn try_large_settling(alloc: Global) -> Result<Tried, bool> {
-    let Some(books) = large_books(alloc) else {
-        return Err(true);
-    };
-    if !is_cluster(&books) {
-        return Err(false);
-    }
-    match settle(alloc, &books, &[]) {
-        Ok(settled) if settled.report.requests == u128::from(VERY_MANY) => Ok(Tried::AtOnce),
-        Ok(_) => Ok(Tried::Wrong),
-        Err(fault) => Err(fault == SettleError::Memory),
+    match large_books(alloc) {
+        Some(books) => try_to_settle(alloc, &books, &[], LARGE_RUN),
+        None => Err(true),
     }
 }
 

@@ -2,7 +2,7 @@
 //! made again; or a frame is lost, and all sites are stopped.
 use crate::growth::end;
 use crate::helpers::{books_of, r, request, sites_of};
-use crate::steps::{have_ended, make_cluster, stopped};
+use crate::steps::{Cluster, have_ended, loses_inbox, make_cluster, stopped};
 use ra_cluster::{
     Book, BookError, Inbox, NewPostError, OpenGate, Post, SendError, Site, SiteError, Stop,
     is_site_of,
@@ -179,28 +179,29 @@ fn are_accounted_for(books: &[Book], left: u64) -> Tried {
     }
 }
 
-/// Has client 1 of node 1 of three lock `r`. The inbox of node 2 is gone, so at least the frame for node 2 is lost. If the
-/// client was refused, or what came of it cannot be looked at, returns whether memory ran out.
-fn try_losing<R: Wait>(rt: &R, alloc: Global) -> Result<Tried, bool> {
-    let (Some(name), Some(mut all)) = (r(), make_cluster(alloc, 3, 0, u64::MAX)) else {
-        return Err(true);
-    };
-    if all.inboxes.len() != 3 {
-        return Err(false);
-    }
-    drop(all.inboxes.remove(1));
+/// Has client 1 of node 1 of three lock `r`, and closes the post. The inbox of node 2 is gone, so at least the frame for node 2 is lost.
+/// Returns how many frames are left for node 3. If the client was refused, or that cannot be looked at, returns whether memory ran out.
+fn loses<R: Wait>(rt: &R, alloc: Global, all: &Cluster, name: &Name) -> Result<u64, bool> {
     let (Some(site), Some(inbox)) = (all.sites.first(), all.inboxes.get(1)) else {
         return Err(false);
     };
-    let mode = Mode::Exclusive;
-    let answer = all.lock_at(rt, alloc, site, 1, &name, mode, &OpenGate);
+    let answer = all.lock_at(rt, alloc, site, 1, name, Mode::Exclusive, &OpenGate);
     all.post.close(rt);
     if answer != Err(SiteError::Stopped(Stop::Send)) {
         return Err(answer == Err(WANTING));
     }
-    let Some(left) = frames_left(rt, alloc, inbox, 3) else {
+    frames_left(rt, alloc, inbox, 3).ok_or(true)
+}
+
+/// Makes the three nodes, and does so. If it cannot be done, returns whether memory ran out.
+fn try_losing<R: Wait>(rt: &R, alloc: Global) -> Result<Tried, bool> {
+    let (Some(name), Some(mut all)) = (r(), make_cluster(alloc, 3, 0, u64::MAX)) else {
         return Err(true);
     };
+    if !loses_inbox(&mut all, 1) {
+        return Err(false);
+    }
+    let left = loses(rt, alloc, &all, &name)?;
     match books_of(alloc, all.sites) {
         Some(books) => Ok(are_accounted_for(&books, left)),
         None => Err(true),

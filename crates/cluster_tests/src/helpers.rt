@@ -1,5 +1,8 @@
 //! What several files of tests use.
-use ra_cluster::{Book, ClusterError, Gate, Settled, Site, run_cluster};
+use ra_cluster::{
+    Book, Cluster, ClusterError, Gate, Grant, SettleError, Settled, Site, is_cluster, run_cluster,
+    settle,
+};
 use ra_schedule::Script;
 use ra_stamp::{Entry, Message, Mode, Name, NodeId, Stamp};
 use std::alloc::Global;
@@ -147,6 +150,25 @@ pub fn books_of(alloc: Global, sites: Vec<Site>) -> Option<Vec<Book>> {
         books.push(site.close()).ok()?;
     }
     Some(books)
+}
+
+/// Closes a cluster, and returns its books. The contracts of `close`, of `settle` and of some other calls are long, so their callers
+/// call them by functions such as this one, which have none.
+pub fn closed<G: Gate + Drop>(alloc: Global, cluster: Cluster<G>) -> Vec<Book> {
+    cluster.close(alloc)
+}
+
+/// Settles books with grants, or returns `None` if they are not a cluster.
+pub fn settled(
+    alloc: Global,
+    books: &[Book],
+    grants: &[Grant],
+) -> Option<Result<Settled, SettleError>> {
+    if is_cluster(books) {
+        Some(settle(alloc, books, grants))
+    } else {
+        None
+    }
 }
 
 /// Counts the steps and lets so many of them pass, and lets either nobody or everybody be inside.

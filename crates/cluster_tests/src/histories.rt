@@ -1,5 +1,6 @@
 //! Books to which something was done, and grants that clients got.
-use crate::books::{Step, does};
+use crate::books::Call::Receive;
+use crate::books::{Step, does, make};
 use crate::helpers::{entry, r};
 use Done::{At, Passes};
 use ra_cluster::{Book, Grant};
@@ -75,7 +76,7 @@ fn sent(books: &[Book], number: u16, place: u64) -> Option<Frame> {
 }
 
 /// Delivers a frame to its destination node. Returns whether that node's book takes it.
-fn takes(alloc: Global, books: &mut [Book], frame: &Frame) -> bool {
+fn takes(alloc: Global, books: &mut [Book], name: Name, frame: &Frame) -> bool {
     let place = usize::from(frame.message.to().get()).wrapping_sub(1);
     if !frame.fits() {
         return false;
@@ -84,7 +85,7 @@ fn takes(alloc: Global, books: &mut [Book], frame: &Frame) -> bool {
         return false;
     };
     match encode(alloc, frame) {
-        Ok(bytes) => book.receive(alloc, bytes.as_slice()).is_ok(),
+        Ok(bytes) => make(alloc, book, name, Receive(bytes.as_slice())).is_ok(),
         Err(_) => false,
     }
 }
@@ -97,7 +98,7 @@ fn is_done(alloc: Global, books: &mut [Book], name: Name, done: Done) -> bool {
             None => false,
         },
         Passes(number, place) => match sent(books, number, place) {
-            Some(frame) => takes(alloc, books, &frame),
+            Some(frame) => takes(alloc, books, name, &frame),
             None => false,
         },
     }

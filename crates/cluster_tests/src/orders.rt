@@ -1,13 +1,11 @@
 //! Scripts whose clients a gate brings into an order that no policy chooses. The report has to tell what the threads
 //! did, and not what a simulation of the script would do.
 use crate::endings::is_done;
-use crate::helpers::{comes_to, r, ran};
+use crate::helpers::{comes_to, entry, r, ran};
 use crate::plans::Does::{Locks, Unlocks};
 use crate::plans::{Client, script_of};
 use ra_cluster::{Gate, Settled};
-use ra_schedule::Script;
-use ra_stamp::{Entry, Name, NodeId};
-use ra_world::report_text;
+use ra_stamp::{Entry, Mark, Mode, Name, NodeId};
 use std::alloc::Global;
 use std::process::Abort;
 use std::sync::Wait;
@@ -50,56 +48,58 @@ const OWN_AND_R: &[Client] = &[
     },
 ];
 
-/// Returns whether a text has these lines, the first before the second.
-fn has_in_order(text: &str, first: &str, second: &str) -> bool {
+/// Returns whether both marks are there, the first before the second.
+fn are_in_order(marks: &[Mark], first: Mark, second: Mark) -> bool {
     let mut has_first = false;
-    for line in text.split_terminator('\n') {
-        if line == second {
+    for mark in marks {
+        if *mark == second {
             return has_first;
         }
-        has_first = has_first || line == first;
+        has_first = has_first || *mark == first;
     }
     false
 }
 
-/// Returns whether these two lines are printed for the settled run, the first before the second.
-fn are_printed(alloc: Global, settled: &Settled, first: &str, second: &str) -> bool {
-    match report_text(alloc, &settled.report) {
-        Ok(text) => has_in_order(text.as_str(), first, second),
-        Err(_) => false,
-    }
+/// Returns whether the client at the first of these nodes enters `r` with number 1, and after it that at the second with number 2.
+fn enter_in_order(settled: &Settled, r: Name, first: u16, second: u16) -> Option<bool> {
+    let x = Mode::Exclusive;
+    let (one, two) = (
+        entry(r, first, u32::from(first), x, 1)?,
+        entry(r, second, u32::from(second), x, 2)?,
+    );
+    let marks = settled.report.marks.as_slice();
+    Some(are_in_order(marks, Mark::Entered(one), Mark::Entered(two)))
 }
 
-/// Returns whether the script comes to its end while this client is kept, and these lines are printed in order.
+/// Returns whether the script comes to its end while the client of this node is kept, and the other one enters `r` first.
 fn ends_so<R: Threads + Wait + Abort + Sync>(
     rt: &R,
     alloc: Global,
-    client: u32,
-    first: &str,
-    second: &str,
+    kept: u16,
+    other: u16,
 ) -> Option<bool> {
-    let script: Script = script_of(alloc, 2, OWN_AND_R)?;
+    let (script, r) = (script_of(alloc, 2, OWN_AND_R)?, r()?);
     let gate = Keeps {
-        client,
-        r: r()?,
+        client: u32::from(kept),
+        r,
         others: AtomicU64::new(0),
     };
-    let settled = ran(rt, alloc, &script, &gate).ok()?;
-    Some(is_done(&settled, 4, 8) && are_printed(alloc, &settled, first, second))
+    match ran(rt, alloc, &script, &gate) {
+        Ok(settled) => Some(
+            is_done(&settled, 4, 8) && enter_in_order(&settled, r, other, kept) == Some(true),
+        ),
+        Err(_) => None,
+    }
 }
 
-/// Which client is kept, and the lines of the two that enter `r`: the first to enter has number 1, and the other has
-/// number 2.
-const ORDERS: &[(u32, &str, &str)] = &[
-    (1, "enter 2 2 r X 1", "enter 1 1 r X 2"),
-    (2, "enter 1 1 r X 1", "enter 2 2 r X 2"),
-];
+/// The node whose client is kept, and the other node. Each client has the number of its node.
+const ORDERS: &[(u16, u16)] = &[(1, 2), (2, 1)];
 
 #[test]
 fn what_settles_is_what_the_threads_did(rt: HostRuntime) {
     for row in ORDERS {
         assert!(rt;
-            ends_so(&rt, rt.alloc(), row.0, row.1, row.2) == Some(true),
+            ends_so(&rt, rt.alloc(), row.0, row.1) == Some(true),
             "client {} is kept",
             row.0
         );

@@ -1,13 +1,13 @@
 //! Rounds of the audit of a cluster: what they take, what they answer, and what is left in the books. Frames come that no node sent.
 use crate::audits::{Came, Shown, fault_of};
 use crate::books::Wire;
-use crate::helpers::{in_a_thread, r, request};
+use crate::helpers::{closed, in_a_thread, r, request};
 use crate::steps;
 use crate::steps::{Ended, have_ended, make_cluster, sends};
 use Act::{Asks, Audits, AuditsAnew, Comes, Ends, Enters, HasAt, Leaves, Shows, Stops, Waits};
 use Answer::{Finds, Fine, NeverSent, NotAudited, OtherCluster, OutOfTurn};
 use ra_cluster::{
-    Auditor, CallError, Cluster, FinishError, Inbox, OpenGate, Post, RoundError, Site, SiteError,
+    AuditFault, Auditor, CallError, Cluster, FinishError, OpenGate, RoundError, Site, SiteError,
     Stop, TakeError, Told,
 };
 use ra_stamp::{Message, Mode, Name, NodeId};
@@ -83,46 +83,149 @@ const TWO_NODES: Made = Made {
     auditor: (2, 0),
 };
 
-/// Returns what a round answers then, or `None` if it can't answer so.
-fn round_answer(name: Name, answer: Answer) -> Option<Result<(), RoundError>> {
+/// Makes a round, of which callers know its answer alone, so that their proofs are short.
+pub fn round<R: Wait>(
+    rt: &R,
+    alloc: Global,
+    cluster: &Cluster<OpenGate>,
+    auditor: &mut Auditor,
+) -> Result<(), RoundError> {
+    cluster.audit(rt, alloc, auditor, &mut Told::new())
+}
+
+/// Ends an audit, of which callers know the answer alone.
+pub fn last_round<R: Wait>(
+    rt: &R,
+    alloc: Global,
+    cluster: &mut Cluster<OpenGate>,
+    auditor: &mut Auditor,
+) -> Result<(), FinishError> {
+    cluster.finish(rt, alloc, auditor, &mut Told::new())
+}
+
+/// Returns whether this event is the one that came.
+fn is_event(name: Name, fault: AuditFault, came: Came) -> bool {
+    fault_of(name, came) == Some(fault)
+}
+
+/// Returns whether a round that found this event is to find it.
+fn is_found(name: Name, fault: AuditFault, answer: Answer) -> bool {
     match answer {
-        Fine => Some(Ok(())),
-        Finds(came) => Some(Err(RoundError::Fault(fault_of(name, came)?))),
-        NeverSent(_) => None,
-        NotAudited => Some(Err(RoundError::NotAudited)),
-        OtherCluster => Some(Err(RoundError::OtherCluster)),
-        OutOfTurn(number) => {
-            let (node, cause) = (NodeId::new(number)?, TakeError::OutOfTurn);
-            Some(Err(RoundError::NotTaken { node, cause }))
-        }
+        Finds(came) => is_event(name, fault, came),
+        _ => false,
     }
 }
 
-/// Returns what the end of an audit answers then.
-fn end_answer(name: Name, answer: Answer) -> Option<Result<(), FinishError>> {
-    if let NeverSent(came) = answer {
-        return Some(Err(FinishError::NeverSent(fault_of(name, came)?)));
-    }
-    match round_answer(name, answer)? {
-        Ok(()) => Some(Ok(())),
-        Err(refused) => Some(Err(FinishError::Round(refused))),
+/// Returns whether the end of an audit is to find that this frame was never sent.
+fn is_never_sent(name: Name, fault: AuditFault, answer: Answer) -> bool {
+    match answer {
+        NeverSent(came) => is_event(name, fault, came),
+        _ => false,
     }
 }
 
-/// Returns whether client 1 of node 1 locks the name.
-fn enters<R: Wait>(rt: &R, alloc: Global, cluster: &Cluster<OpenGate>, name: Name) -> bool {
-    match NodeId::new(1) {
-        Some(one) => cluster
-            .lock(rt, alloc, one, 1, name, Mode::Exclusive)
-            .is_ok(),
-        None => false,
+/// Returns whether a round that was refused is to be refused so.
+fn is_refusal(name: Name, refused: RoundError, answer: Answer) -> bool {
+    match refused {
+        RoundError::Fault(fault) => is_found(name, fault, answer),
+        RoundError::NotAudited => matches!(answer, NotAudited),
+        RoundError::OtherCluster => matches!(answer, OtherCluster),
+        RoundError::NotTaken { node, cause } => match answer {
+            OutOfTurn(number) => node.get() == number && cause == TakeError::OutOfTurn,
+            _ => false,
+        },
+        RoundError::Memory => false,
     }
 }
 
-/// Returns whether client 1 of node 1 unlocks the name.
-fn leaves<R: Wait>(rt: &R, alloc: Global, cluster: &Cluster<OpenGate>, name: Name) -> bool {
-    match NodeId::new(1) {
-        Some(one) => cluster.unlock(rt, alloc, one, 1, name) == Ok(()),
+/// Returns whether a round answers this.
+fn audits<R: Wait>(
+    rt: &R,
+    alloc: Global,
+    cluster: &Cluster<OpenGate>,
+    auditor: &mut Auditor,
+    name: Name,
+    answer: Answer,
+) -> bool {
+    match round(rt, alloc, cluster, auditor) {
+        Ok(()) => matches!(answer, Fine),
+        Err(refused) => is_refusal(name, refused, answer),
+    }
+}
+
+/// Returns whether a round with a new auditor answers this.
+fn audits_anew<R: Wait>(
+    rt: &R,
+    alloc: Global,
+    cluster: &Cluster<OpenGate>,
+    name: Name,
+    answer: Answer,
+) -> bool {
+    match Auditor::new(alloc, cluster.nodes(), 0) {
+        Ok(mut other) => audits(rt, alloc, cluster, &mut other, name, answer),
+        Err(_) => false,
+    }
+}
+
+/// Returns whether the end of the audit answers this.
+fn ends<R: Wait>(
+    rt: &R,
+    alloc: Global,
+    cluster: &mut Cluster<OpenGate>,
+    auditor: &mut Auditor,
+    name: Name,
+    answer: Answer,
+) -> bool {
+    match last_round(rt, alloc, cluster, auditor) {
+        Ok(()) => matches!(answer, Fine),
+        Err(FinishError::Round(refused)) => is_refusal(name, refused, answer),
+        Err(FinishError::NeverSent(fault)) => is_never_sent(name, fault, answer),
+    }
+}
+
+/// Has client 1 of a node lock the name.
+///
+/// # Errors
+///
+/// Why it does not, or `NoNode` if there is no such number.
+pub fn lock_at<R: Wait>(
+    rt: &R,
+    alloc: Global,
+    cluster: &Cluster<OpenGate>,
+    number: u16,
+    name: Name,
+    mode: Mode,
+) -> Result<(), CallError> {
+    let Some(node) = NodeId::new(number) else {
+        return Err(CallError::NoNode);
+    };
+    match cluster.lock(rt, alloc, node, 1, name, mode) {
+        Ok(_) => Ok(()),
+        Err(refused) => Err(refused),
+    }
+}
+
+/// Returns whether client 1 of a node locks the name.
+fn enters<R: Wait>(
+    rt: &R,
+    alloc: Global,
+    cluster: &Cluster<OpenGate>,
+    number: u16,
+    name: Name,
+) -> bool {
+    lock_at(rt, alloc, cluster, number, name, Mode::Exclusive).is_ok()
+}
+
+/// Returns whether client 1 of a node unlocks the name.
+pub fn leaves<R: Wait>(
+    rt: &R,
+    alloc: Global,
+    cluster: &Cluster<OpenGate>,
+    number: u16,
+    name: Name,
+) -> bool {
+    match NodeId::new(number) {
+        Some(node) => cluster.unlock(rt, alloc, node, 1, name).is_ok(),
         None => false,
     }
 }
@@ -136,62 +239,59 @@ fn asks<R: Wait>(
     number: u16,
     mode: Mode,
 ) -> bool {
-    let stopped = CallError::Site(SiteError::Stopped(Stop::Send));
     cluster.close_post(rt);
-    match NodeId::new(number) {
-        Some(node) => cluster.lock(rt, alloc, node, 1, name, mode) == Err(stopped),
-        None => false,
-    }
+    matches!(
+        lock_at(rt, alloc, cluster, number, name, mode),
+        Err(CallError::Site(SiteError::Stopped(Stop::Send)))
+    )
 }
 
-/// Has a message come to a site, by a post that is not its cluster's, in a frame with this clock. What the site answers goes to no node.
-/// Returns whether the frame was sent.
+/// Has a message come to a site by the post of this cluster, which is not its own, in a frame with this clock. What the site answers
+/// goes to the sites of others. Returns whether the frame was sent.
 fn carries<R: Wait>(
     rt: &R,
     alloc: Global,
+    carrier: &steps::Cluster,
     others: &steps::Cluster,
-    post: &Post,
-    inboxes: &[Inbox],
     site: &Site,
     clock: u64,
     message: Option<Message>,
 ) -> bool {
-    let is_sent = sends(rt, alloc, post, clock, message, None);
-    post.close(rt);
-    match inboxes.get(usize::from(site.node().get()).wrapping_sub(1)) {
+    let is_sent = sends(rt, alloc, &carrier.post, clock, message, None);
+    carrier.post.close(rt);
+    let place = usize::from(site.node().get()).wrapping_sub(1);
+    match carrier.inboxes.get(place) {
         Some(inbox) => is_sent && others.pump_at(rt, alloc, site, inbox, &OpenGate),
         None => false,
     }
 }
 
-/// Makes a post for it, and has the message come to a node.
+/// Makes what is needed for it, and has the message come to a site.
+fn comes_to<R: Wait>(
+    rt: &R,
+    alloc: Global,
+    site: &Site,
+    clock: u64,
+    message: Option<Message>,
+) -> Option<bool> {
+    let carrier = make_cluster(alloc, 2, 0, u64::MAX)?;
+    let others = make_cluster(alloc, 2, 0, u64::MAX)?;
+    Some(carries(rt, alloc, &carrier, &others, site, clock, message))
+}
+
+/// Has a REQUEST come to the second node, in a frame with this clock, as if the first had sent it.
 fn comes<R: Wait>(
     rt: &R,
     alloc: Global,
     cluster: &Cluster<OpenGate>,
     clock: u64,
-    message: Option<Message>,
+    from: u16,
     to: u16,
+    name: Name,
 ) -> Option<bool> {
     let site = cluster.site(NodeId::new(to)?)?;
-    match (make_cluster(alloc, 2, 0, u64::MAX), Post::new(alloc, 2)) {
-        (Some(others), Ok((post, inboxes))) => {
-            Some(carries(rt, alloc, &others, &post, &inboxes, site, clock, message))
-        }
-        _ => None,
-    }
-}
-
-/// Returns what a round with a new auditor answers, or `None` if there is no memory for one.
-fn answer_anew<R: Wait>(
-    rt: &R,
-    alloc: Global,
-    cluster: &Cluster<OpenGate>,
-) -> Option<Result<(), RoundError>> {
-    match Auditor::new(alloc, cluster.nodes(), 0) {
-        Ok(mut other) => Some(cluster.audit(rt, alloc, &mut other, &mut Told::new())),
-        Err(_) => None,
-    }
+    let message = request(name, from, to, Mode::Exclusive);
+    comes_to(rt, alloc, site, clock, message)
 }
 
 /// Returns whether the auditor has this run.
@@ -201,6 +301,11 @@ fn shows(auditor: &Auditor, shown: Shown) -> bool {
         && auditor.requests() == requests
         && auditor.sent() == sent
         && auditor.under_way() == under_way
+}
+
+/// Returns whether so many events wait to be put into the run.
+fn waits(auditor: &Auditor, events: u128) -> bool {
+    auditor.waiting() == events
 }
 
 /// Returns whether the site of a node shows this clock, and so many events.
@@ -225,27 +330,15 @@ fn does<R: Wait>(
     act: Act,
 ) -> bool {
     match act {
-        Enters => enters(rt, alloc, cluster, name),
-        Leaves => leaves(rt, alloc, cluster, name),
+        Enters => enters(rt, alloc, cluster, 1, name),
+        Leaves => leaves(rt, alloc, cluster, 1, name),
         Asks(node, mode) => asks(rt, alloc, cluster, name, node, mode),
-        Comes(clock, from, to) => {
-            let message = request(name, from, to, Mode::Exclusive);
-            comes(rt, alloc, cluster, clock, message, to) == Some(true)
-        }
-        Audits(answer) => {
-            let found = cluster.audit(rt, alloc, auditor, &mut Told::new());
-            round_answer(name, answer) == Some(found)
-        }
-        AuditsAnew(answer) => {
-            let found = answer_anew(rt, alloc, cluster);
-            found.is_some() && round_answer(name, answer) == found
-        }
-        Ends(answer) => {
-            let found = cluster.finish(rt, alloc, auditor, &mut Told::new());
-            end_answer(name, answer) == Some(found)
-        }
+        Comes(clock, from, to) => comes(rt, alloc, cluster, clock, from, to, name) == Some(true),
+        Audits(answer) => audits(rt, alloc, cluster, auditor, name, answer),
+        AuditsAnew(answer) => audits_anew(rt, alloc, cluster, name, answer),
+        Ends(answer) => ends(rt, alloc, cluster, auditor, name, answer),
         Shows(shown) => shows(auditor, shown),
-        Waits(events) => auditor.waiting() == events,
+        Waits(events) => waits(auditor, events),
         HasAt(node, clock, events) => has_at(rt, cluster, node, clock, events) == Some(true),
         Stops(stop) => {
             cluster.stop(rt, stop);
@@ -280,24 +373,9 @@ fn cluster_of(alloc: Global, made: Made) -> Option<Cluster<OpenGate>> {
     }
 }
 
-/// Has a cluster and an auditor do and show all of this, and closes the cluster. Returns how many were done up to the first that was
-/// not, and whether the books have ended so.
-fn outcome<R: Wait>(
-    rt: &R,
-    alloc: Global,
-    made: Made,
-    acts: &[Act],
-    ended: &[Ended],
-) -> Option<(usize, bool)> {
-    let name = r()?;
-    let (nodes, start) = made.auditor;
-    match (cluster_of(alloc, made), Auditor::new(alloc, nodes, start)) {
-        (Some(mut cluster), Ok(mut auditor)) => {
-            let done = done(rt, alloc, &mut cluster, &mut auditor, name, acts);
-            Some((done, have_ended(&cluster.close(alloc), ended)))
-        }
-        _ => None,
-    }
+/// Closes a cluster, and returns whether its books have ended so.
+fn has_ended(alloc: Global, cluster: Cluster<OpenGate>, ended: &[Ended]) -> bool {
+    have_ended(&closed(alloc, cluster), ended)
 }
 
 /// What is done with a cluster and its auditor, in a few words, and how its books end.
@@ -308,23 +386,29 @@ struct Row {
     ended: &'static [Ended],
 }
 
-/// Ends the test unless all of this is done and shown, in order, and the books have ended so.
-fn assert_does<R: Threads + Wait + Abort + Sync + AllocGlobal>(rt: &R, row: &Row) {
-    let alloc = rt.alloc();
-    let found = in_a_thread(
-        rt,
-        move || outcome(rt, alloc, row.made, row.acts, row.ended),
-    );
-    match found {
-        Some((done, have_ended)) => {
-            assert!(rt;
-                done == row.acts.len(),
-                "{}: act {done}, counted from 0",
-                row.words
-            );
-            assert!(rt; have_ended, "{}: the books", row.words);
-        }
-        None => panic!(rt; "{}: the cluster and the auditor are made", row.words),
+/// Has a cluster and an auditor do and show all of this, and closes the cluster. Returns how many were done up to the first that was
+/// not, or one more if the books have ended so, too; or `None` if there are no such cluster and auditor.
+fn outcome<R: Wait>(rt: &R, alloc: Global, row: &Row) -> Option<usize> {
+    let name = r()?;
+    let mut auditor = Auditor::new(alloc, row.made.auditor.0, row.made.auditor.1).ok()?;
+    let mut cluster = cluster_of(alloc, row.made)?;
+    let done = done(rt, alloc, &mut cluster, &mut auditor, name, row.acts);
+    if has_ended(alloc, cluster, row.ended) {
+        Some(done.saturating_add(1))
+    } else {
+        Some(done)
+    }
+}
+
+/// Ends the test unless all of these are done and shown, in order, and the books have ended so.
+fn assert_does<R: Threads + Wait + Abort + Sync + AllocGlobal>(rt: &R, rows: &'static [Row]) {
+    for row in rows {
+        let done = in_a_thread(rt, move || outcome(rt, rt.alloc(), row)).unwrap_or(0);
+        assert!(rt;
+            done == row.acts.len().saturating_add(1),
+            "{}: {done} acts are done, the end of the books counted as one",
+            row.words
+        );
     }
 }
 
@@ -452,9 +536,7 @@ const FRAMES: &[Row] = &[
 
 #[test]
 fn rounds_find_frames_that_no_node_sent(rt: HostRuntime) {
-    for row in FRAMES {
-        assert_does(&rt, row);
-    }
+    assert_does(&rt, FRAMES);
 }
 
 /// Auditors that a cluster may have or not.
@@ -530,9 +612,7 @@ const AUDITORS: &[Row] = &[
 
 #[test]
 fn a_round_has_the_auditor_of_the_round_before(rt: HostRuntime) {
-    for row in AUDITORS {
-        assert_does(&rt, row);
-    }
+    assert_does(&rt, AUDITORS);
 }
 
 /// What the sites and the books of an audited cluster show.
@@ -582,9 +662,7 @@ const BOOKS: &[Row] = &[
 
 #[test]
 fn rounds_take_the_events_out_of_the_books(rt: HostRuntime) {
-    for row in BOOKS {
-        assert_does(&rt, row);
-    }
+    assert_does(&rt, BOOKS);
 }
 
 /// Has a client of a node lock and unlock the name, and then audits. Returns whether it did, and the round is `Ok`.
@@ -595,19 +673,26 @@ fn locks_and_audits<R: Wait>(
     auditor: &mut Auditor,
     number: u16,
     name: Name,
-) -> Option<bool> {
-    let node = NodeId::new(number)?;
-    let held = cluster.with_lock(rt, alloc, node, 1, name, Mode::Exclusive, |_grant| {});
-    let is_given_back = match held {
-        Ok(held) => held.unlocked.is_ok(),
-        Err(_) => false,
-    };
-    let answer = cluster.audit(rt, alloc, auditor, &mut Told::new());
-    Some(is_given_back && answer == Ok(()))
+) -> bool {
+    enters(rt, alloc, cluster, number, name)
+        && leaves(rt, alloc, cluster, number, name)
+        && round(rt, alloc, cluster, auditor).is_ok()
 }
 
-/// Has clients of two nodes lock the name in turn while the threads of the nodes run, with a round after each. Returns whether all that
-/// happened is in the run at the end, and left the books: two locks, with an ask, a REQUEST, a REPLY and a leave each.
+/// Has clients of two nodes lock the name in turn, with a round after each.
+fn locks_in_turn<R: Wait>(
+    rt: &R,
+    alloc: Global,
+    cluster: &Cluster<OpenGate>,
+    auditor: &mut Auditor,
+    name: Name,
+) -> bool {
+    locks_and_audits(rt, alloc, cluster, auditor, 1, name)
+        && locks_and_audits(rt, alloc, cluster, auditor, 2, name)
+}
+
+/// Does this while the threads of the nodes run. Returns whether all that happened is in the run at the end, and left the books: two
+/// locks, with an ask, a REQUEST, a REPLY and a leave each.
 fn takes_all<R: Threads + Wait + Sync>(
     rt: &R,
     alloc: Global,
@@ -616,25 +701,23 @@ fn takes_all<R: Threads + Wait + Sync>(
     name: Name,
 ) -> bool {
     let shared = &*cluster;
-    let are_given = shared.run(rt, alloc, || {
-        let first = locks_and_audits(rt, alloc, shared, auditor, 1, name);
-        let second = locks_and_audits(rt, alloc, shared, auditor, 2, name);
-        first == Some(true) && second == Some(true)
-    });
-    let has_ended = cluster.finish(rt, alloc, auditor, &mut Told::new()) == Ok(());
-    are_given && has_ended && shows(auditor, Shown(8, 2, 4, 0, 0))
+    let are_given = shared.run(
+        rt,
+        alloc,
+        || locks_in_turn(rt, alloc, shared, auditor, name),
+    );
+    are_given
+        && last_round(rt, alloc, cluster, auditor).is_ok()
+        && shows(auditor, Shown(8, 2, 4, 0, 0))
 }
 
 /// Makes the cluster and the auditor, and returns whether all is taken.
 fn is_audited<R: Threads + Wait + Sync>(rt: &R, alloc: Global) -> Option<bool> {
     let name = r()?;
-    match (cluster_of(alloc, TWO_NODES), Auditor::new(alloc, 2, 0)) {
-        (Some(mut cluster), Ok(mut auditor)) => {
-            let are_taken = takes_all(rt, alloc, &mut cluster, &mut auditor, name);
-            Some(are_taken && have_ended(&cluster.close(alloc), &[TAKEN, TAKEN]))
-        }
-        _ => None,
-    }
+    let mut auditor = Auditor::new(alloc, 2, 0).ok()?;
+    let mut cluster = cluster_of(alloc, TWO_NODES)?;
+    let are_taken = takes_all(rt, alloc, &mut cluster, &mut auditor, name);
+    Some(has_ended(alloc, cluster, &[TAKEN, TAKEN]) && are_taken)
 }
 
 #[test]

@@ -314,7 +314,8 @@ fn asks(name: Name, from: u16, to: u16) -> Option<Message> {
     request(name, from, to, Mode::Exclusive)
 }
 
-fn loses_inbox(all: &mut Cluster, place: usize) -> bool {
+/// Drops the inbox at a place. Returns whether there was one.
+pub fn loses_inbox(all: &mut Cluster, place: usize) -> bool {
     if place < all.inboxes.len() {
         drop(all.inboxes.remove(place));
         true
@@ -414,17 +415,23 @@ pub fn books_after<R: Threads + Wait + Abort + Sync>(
     )
 }
 
-/// Returns how many of the books, from the first on, end as expected, or `None` if there are more or fewer books.
+/// Returns whether the book at this place is there, and ends as expected.
+fn has_ended(books: &[Book], place: usize, ended: &Ended) -> bool {
+    match books.get(place) {
+        Some(book) => book.fault() == ended.fault && book.events().len() == ended.events,
+        None => false,
+    }
+}
+
+/// Returns how many of the books, from the first on, end as expected, or `None` if there are more books than ends.
 fn ended_so(books: &[Book], ended: &[Ended]) -> Option<usize> {
-    let mut count = 0usize;
-    for (book, ended) in books.iter().zip(ended.iter()) {
-        if book.fault() != ended.fault || book.events().len() != ended.events {
-            return Some(count);
+    for place in 0..ended.len() {
+        if !has_ended(books, place, &ended[place]) {
+            return Some(place);
         }
-        count = count.saturating_add(1);
     }
     if books.len() == ended.len() {
-        Some(count)
+        Some(ended.len())
     } else {
         None
     }

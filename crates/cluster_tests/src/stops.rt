@@ -1,6 +1,6 @@
 //! In which order the sites are stopped where a frame is lost, and which locks are taken for it.
 use crate::helpers::{books_of, comes_to, in_a_thread, r};
-use crate::steps::{Cluster, has_left, make_cluster};
+use crate::steps::{Cluster, has_left, loses_inbox, make_cluster};
 use ra_cluster::{Book, BookError, Gate, OpenGate, Site, SiteError, Stop};
 use ra_stamp::{Entry, Mode, Name, NodeId};
 use std::alloc::Global;
@@ -134,10 +134,9 @@ fn has_lost_one(books: &[Book]) -> bool {
 fn are_stopped_in_turn<R: Threads + Wait + Abort + Sync>(rt: &R, alloc: Global) -> Option<bool> {
     let name = r()?;
     let mut all = make_cluster(alloc, 3, 0, u64::MAX)?;
-    if all.inboxes.len() != 3 {
+    if !loses_inbox(&mut all, 1) {
         return None;
     }
-    drop(all.inboxes.remove(1));
     let in_turn = stops_in_turn(rt, alloc, &name, &all);
     let books = books_of(alloc, all.sites)?;
     Some(in_turn && has_lost_one(&books))

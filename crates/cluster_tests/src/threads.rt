@@ -1,5 +1,5 @@
 //! The threads that do a script, in a cluster that the test makes.
-use crate::helpers::{entry, in_a_thread, r};
+use crate::helpers::{closed, entry, in_a_thread, r};
 use crate::plans::Does::{Locks, Shares, Unlocks};
 use crate::plans::{Client, USES_R, script_of};
 use crate::steps::{Ended, have_ended, runs, stopped};
@@ -69,7 +69,7 @@ fn ends_so<R: Threads + Wait + Abort + Sync>(
 ) -> Option<bool> {
     let script = script_of(alloc, 2, &[Client { node, ops: USES_R }])?;
     let grants = run_in(rt, alloc, &script, &cluster);
-    let books = cluster.close(alloc);
+    let books = closed(alloc, cluster);
     Some(grants.is_empty() && have_ended(&books, ended))
 }
 

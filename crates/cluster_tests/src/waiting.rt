@@ -1,9 +1,7 @@
 //! Clients that wait at sites which threads share.
-use crate::helpers::{Counting, books_of, comes_to, entry, in_a_thread, r};
+use crate::helpers::{Counting, books_of, comes_to, entry, in_a_thread, r, settled};
 use crate::steps::{Cluster, make_cluster};
-use ra_cluster::{
-    Book, BookError, Gate, Grant, OpenGate, Site, SiteError, Stop, is_cluster, settle,
-};
+use ra_cluster::{Book, BookError, Grant, OpenGate, Site, SiteError, Stop};
 use ra_stamp::{Mode, Name};
 use std::alloc::Global;
 use std::process::Abort;
@@ -306,12 +304,9 @@ fn settle_into_a_loss(alloc: Global, books: &[Book], grants: &[Grant]) -> bool {
             return false;
         }
     }
-    if !is_cluster(books) {
-        return false;
-    }
-    match settle(alloc, books, grants) {
-        Ok(settled) => settled.report.lost > 0,
-        Err(_) => false,
+    match settled(alloc, books, grants) {
+        Some(Ok(settled)) => settled.report.lost > 0,
+        _ => false,
     }
 }
 
