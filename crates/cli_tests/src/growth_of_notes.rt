@@ -9,16 +9,16 @@ use std::sync::Wait;
 use std::thread::Threads;
 use test_support::{Tried, again};
 
-/// A command of which something is said.
+/// A command of which something is said, if anything.
 #[derive(Clone, Copy)]
-struct Noted {
-    words: &'static str,
-    input: &'static str,
-    status: u8,
-    output: &'static str,
-    note: &'static str,
+pub struct Noted {
+    pub words: &'static str,
+    pub input: &'static str,
+    pub status: u8,
+    pub output: &'static str,
+    pub note: &'static str,
     /// What is said in place of the note if there is no memory for it, or not for all of it.
-    less: &'static [&'static str],
+    pub less: &'static [&'static str],
 }
 
 /// Returns whether what was written is one of these texts.
@@ -71,7 +71,7 @@ fn try_noted<T: AllocGlobal + Threads + Wait + Sync>(rt: &T, case: &Noted) -> Re
 }
 
 /// Ends a test of a command of which something is said.
-fn end_noted<T: AllocGlobal + Threads + Wait + Sync + Abort>(rt: &T, case: &Noted) {
+pub fn end_noted<T: AllocGlobal + Threads + Wait + Sync + Abort>(rt: &T, case: &Noted) {
     let first = try_noted(rt, case);
     end(rt, again(first, try_noted(rt, case)));
 }

@@ -28,6 +28,8 @@ mod growth;
 #[cfg(test)]
 mod growth_of_notes;
 #[cfg(test)]
+mod growth_of_settling;
+#[cfg(test)]
 mod helpers;
 #[cfg(test)]
 mod many_seeds;
@@ -53,6 +55,8 @@ mod refused_scripts;
 mod scripts;
 #[cfg(test)]
 mod seeds;
+#[cfg(test)]
+mod settles;
 #[cfg(test)]
 mod sims;
 #[cfg(test)]

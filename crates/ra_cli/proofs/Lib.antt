@@ -8,6 +8,8 @@ mod Surveys
 mod NodeRuns
 mod Options
 mod Statuses
+mod SettleWords
+mod SettleRuns
 mod Helping
 mod PictureLemmas
 mod TaskLemmas

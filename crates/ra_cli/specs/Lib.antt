@@ -9,6 +9,7 @@ pub mod Pictures
 pub mod ClusterRun
 pub mod Surveyed
 pub mod NodeRun
+pub mod SettleRun
 pub mod Statuses
 pub mod Tasks
 pub mod Finishing

@@ -14,6 +14,7 @@ use Rattle.ra_cli.specs.Performs.{Performs}
 use Rattle.ra_cli.specs.Checks.{Judges, IsJudged}
 use Rattle.ra_cli.specs.ClusterRun.{IsClusterRun, RunsBy}
 use Rattle.ra_cli.specs.NodeRun.{AreNodeWords, ServesNode}
+use Rattle.ra_cli.specs.SettleRun.{AreSettleWords, AsksToSettle, ServesSettle}
 use Rattle.ra_cli.specs.Pictures.{IsDenied, IsDrawing, IsDrawn}
 use Rattle.ra_cli.specs.Surveyed.{IsTold, Surveys}
 use Rattle.ra_cli.specs.Refusals.{IsOfReader, IsOfWriter, refused_line, word_of}
@@ -80,12 +81,12 @@ pub record Serves (words : List (List ℕ)) (old new before after : Option (List
   -- Status 0 comes only if the input was answered or drawn, was performed to its end, under one seed or each of many, or
   -- was run by threads to its end and, exactly with the word `--trace`, written as a trace; or if it is the trace of a run
   -- or, with the word `--marks`, the log of one of the lock table; or if a word asks for a text of help or for the
-  -- version, and nothing was read; or for `ra node`.
+  -- version, and nothing was read; or for `ra node` and `ra settle`.
   pub done : status ≡ 0 → (Untouched × Any IsHelpWord words) ⊎ IsDone words old new before after ⊎ RunsBy words old new before after
-      ⊎ AreNodeWords words
+      ⊎ AreNodeWords words ⊎ AreSettleWords words
   -- Status 3 comes only if the input was performed and something is left to do, under one seed or some of many, or is the
-  -- trace or the log of no run.
-  pub unfinished : status ≡ 3 → IsUnfinished words old new before after
+  -- trace or the log of no run; or for `ra settle`.
+  pub unfinished : status ≡ 3 → IsUnfinished words old new before after ⊎ AreSettleWords words
   -- It never comes of a script whose clients take names in ascending order and give them all back, if the words ask for
   -- `ra sim` by a policy that neither loses nor repeats a message.
   pub finished : SimsFaithfully words → IfSome old (λ input. IsOrderly input → status ≢ 3)
@@ -98,6 +99,8 @@ pub record Serves (words : List (List ℕ)) (old new before after : Option (List
   -- Status 1 comes only if the reader or the writer failed, with the line that says so of the reader, or a prefix of what
   -- is printed. If the reader tells nothing of its input, it is not said of what a prefix was written; nor is it ever said
   -- what the texts of help and of the version are, which are the parser's.
-  pub broken : status ≡ 1 → IsBroken words old before after ⊎ AreNodeWords words
+  pub broken : status ≡ 1 → IsBroken words old before after ⊎ AreNodeWords words ⊎ AreSettleWords words
   -- `ra node` answers what it reads line by line, and its status says how that ended.
   pub node : AreNodeWords words → ServesNode old new before after status
+  -- `ra settle` prints the report or the trace of the run into which the books settle that it reads, or why they do not.
+  pub settle : (printed : ClusterOutput) → AsksToSettle words printed → ServesSettle printed old new before after status

@@ -17,6 +17,7 @@ pub enum CommandKind {
     Check,
     Draw,
     Node,
+    Settle,
 }
 
 /// A command, its name, and what its help says first.
@@ -58,6 +59,11 @@ const COMMANDS: &[CommandRow] = &[
         kind: CommandKind::Node,
         name: "node",
         about: "Be one node: read what happens at it, and answer line by line",
+    },
+    CommandRow {
+        kind: CommandKind::Settle,
+        name: "settle",
+        about: "Settle the books of all nodes into one run of the cluster",
     },
 ];
 

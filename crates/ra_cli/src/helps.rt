@@ -264,6 +264,35 @@ Exit status:
   2  the command line was refused, or the first line, which is answered
      `refused Line`";
 
+/// The help of the command `settle`, below its options.
+const SETTLE_HELP: &str = "\
+Read the books of all nodes of a cluster from standard input, one after the
+other, each as `ra node --help` describes it. They may be in any order. Find out
+whether they are one run of the cluster: whether each frame that came was sent,
+with its clock, and no message came twice. If they are, print its marks and
+totals, or with --trace its trace, which `ra check` and `ra draw` read.
+Example: cat *.book | ra settle
+
+A line that is cut off at the end of the text, without a line feed, is passed
+over. If the books do not settle, print `invalid`, the line, counted over the
+whole text, and the cause:
+  Line     not a line of a book, or the text does not begin with a first line
+  Books    a first line, but its node has a book already, or the numbers of
+           nodes or the starts differ; at the number of lines plus 1, the book
+           of a node is missing
+  Refused  the node does not take the event, or the frame has a fault
+  NotSent  a frame comes that its sender did not send with this clock
+  Twice    a message comes that came by an earlier line
+The first line that is Line, Books or Refused comes before a missing book, then
+the first that is NotSent, and then the first that is Twice.
+
+Exit status:
+  0  the books settle
+  1  standard input or standard output failed
+  2  the command line was refused, memory ran out, or the input has more than
+     1073741824 bytes
+  3  invalid";
+
 /// The summary of the help of each command, below its options.
 const SUMMARY_HELP: &str = "\
 The command reads standard input. See --help for what it reads and prints, an
@@ -277,7 +306,7 @@ Exit status:
   0  done
   1  standard input or standard output failed
   2  refused: standard output has the cause as one word
-  3  a run did not finish, or a trace or a mark log is not valid";
+  3  a run did not finish, or a trace, a mark log or books are not valid";
 
 /// Returns the help of the command `answer`. Each of these texts has a function of its own, since the cost of proving a
 /// function grows with the square of the bytes of the texts that it names.
@@ -310,6 +339,11 @@ fn node_help() -> &'static str {
     NODE_HELP
 }
 
+/// Returns the help of the command `settle`.
+fn settle_help() -> &'static str {
+    SETTLE_HELP
+}
+
 /// Returns the help of a command, below its options.
 pub fn help_on(kind: CommandKind) -> &'static str {
     match kind {
@@ -319,6 +353,7 @@ pub fn help_on(kind: CommandKind) -> &'static str {
         CommandKind::Check => check_help(),
         CommandKind::Draw => draw_help(),
         CommandKind::Node => node_help(),
+        CommandKind::Settle => settle_help(),
     }
 }
 

@@ -152,6 +152,9 @@ fn input_text(command: &str, reads_marks: bool) -> Option<&'static str> {
             "reading a trace from standard input: type it and then Ctrl-D, or redirect a file with < FILE",
         ),
         "node" => Some("reading a book from standard input: type its lines, and Ctrl-D at the end"),
+        "settle" => Some(
+            "reading books from standard input: redirect a file with < FILE, or several with cat FILE .. |",
+        ),
         _ => None,
     }
 }

@@ -28,6 +28,8 @@ mod seed_progress;
 mod seen;
 mod seen_writer;
 mod serving;
+mod settle_notes;
+mod settle_task;
 mod survey_text;
 mod surveying;
 mod usage;

@@ -1,6 +1,7 @@
 //! The texts of notes that depend on neither the words nor what the input says.
 use crate::said::NO_MEMORY;
 use ra_cluster::{ClusterError, Stop};
+use ra_settle::TextCause;
 use ra_trace::{Cause, MarkCause};
 
 /// What is said if an explanation finds no memory. It is also said if an explanation finds nothing, which it never does.
@@ -24,6 +25,9 @@ pub const NO_WORD: &str =
 
 /// What is said if a trace or a mark log is too long.
 pub const TOO_MANY_BYTES: &str = "standard input has more than 16777216 bytes";
+
+/// What is said if a text of books is too long.
+pub const BOOKS_TOO_LONG: &str = "standard input has more than 1073741824 bytes";
 
 /// What is said if too many lines are to be drawn.
 pub const TOO_LONG: &str =
@@ -108,5 +112,24 @@ pub fn mark_cause_text(cause: MarkCause) -> &'static str {
             "a conflicting request waits for the name with a lower number, or with the same number at a lower node"
         }
         MarkCause::NotHeld => "no such request holds the name",
+    }
+}
+
+/// Returns what is said about the line at which a text of books is wrong.
+pub fn text_cause_text(cause: TextCause) -> &'static str {
+    match cause {
+        TextCause::Line => {
+            "not a line of a book (see ra settle --help); each line ends with a line feed alone, and the text begins with the first line of a book"
+        }
+        TextCause::Books => {
+            "a node has two books, or books name different numbers of nodes or starts, or the book of a node is missing: expected one book of each node, with one NODES and one START"
+        }
+        TextCause::Refused => {
+            "the node of this book does not take this event: give the book to ra node to see why"
+        }
+        TextCause::NotSent => {
+            "its sender's book did not send this frame with this clock: expected one that ra node prints for that book"
+        }
+        TextCause::Twice => "this message came by an earlier line: expected each message once",
     }
 }

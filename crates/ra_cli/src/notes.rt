@@ -3,8 +3,9 @@ use crate::command_line::{choices_word, text_of};
 use crate::error::RunScriptError;
 use crate::hints::write_hints;
 use crate::note_texts::{
-    NO_BOOK, NO_INPUT, NO_OUTPUT, NO_SPACE, NO_TEXT, NO_WORD, SEEDS_LEFT, TOO_LONG, TOO_MANY_BYTES,
-    TOO_MANY_TURNS, UNEXPLAINED, cause_text, cluster_text, mark_cause_text,
+    BOOKS_TOO_LONG, NO_BOOK, NO_INPUT, NO_OUTPUT, NO_SPACE, NO_TEXT, NO_WORD, SEEDS_LEFT, TOO_LONG,
+    TOO_MANY_BYTES, TOO_MANY_TURNS, UNEXPLAINED, cause_text, cluster_text, mark_cause_text,
+    text_cause_text,
 };
 use crate::outcome::{Outcome, Remark, UNFINISHED};
 use crate::places::place_of;
@@ -94,6 +95,11 @@ fn cause_of(alloc: Global, words: &[String], remark: &Remark) -> Said {
             text: NO_BOOK,
         },
         Remark::Unread => Said::Text(NO_INPUT),
+        Remark::Unsettled { line, cause } => Said::Line {
+            line: *line,
+            text: text_cause_text(*cause),
+        },
+        Remark::TooManyBooks => Said::Text(BOOKS_TOO_LONG),
     }
 }
 

@@ -133,6 +133,13 @@ const CLUSTER_OPTIONS: &[OptionRow] = &[OptionRow {
     ..FLAG
 }];
 
+/// The option of the command `settle`.
+const SETTLE_OPTIONS: &[OptionRow] = &[OptionRow {
+    name: "trace",
+    help: "Print the trace in place of marks and totals",
+    ..FLAG
+}];
+
 /// The option of the command `check`.
 const CHECK_OPTIONS: &[OptionRow] = &[OptionRow {
     name: "marks",
@@ -178,6 +185,7 @@ pub fn options_of(kind: CommandKind) -> &'static [OptionRow<'static>] {
         CommandKind::Check => CHECK_OPTIONS,
         CommandKind::Draw => DRAW_OPTIONS,
         CommandKind::Cluster => CLUSTER_OPTIONS,
+        CommandKind::Settle => SETTLE_OPTIONS,
         CommandKind::Node => &[],
     }
 }

@@ -2,9 +2,10 @@
 ghost use Rattle.std.specs.Prelude.{◌≡◌};
 
 use crate::refusal::Refusal;
+use ra_settle::TextCause;
 use ra_trace::{Cause, MarkCause, MarksVerdict, Verdict};
 
-/// The run ended with something left to do, or the trace or the log is none.
+/// The run ended with something left to do, the trace or the log is none, or the books do not settle.
 pub const UNFINISHED: u8 = 3;
 
 /// What there is to say to a person of what came of a command. A note is made of it when all else is done, so that it takes no part in what
@@ -23,6 +24,10 @@ pub enum Remark {
     NoBook,
     /// The reader of a book failed.
     Unread,
+    /// The books of a text do not settle: the line that is wrong, and why.
+    Unsettled { line: u64, cause: TextCause },
+    /// The text of books is too long.
+    TooManyBooks,
     /// The log is no run of the lock table: its first wrong line, and why.
     NoLog { line: u64, cause: MarkCause },
 }

@@ -7,6 +7,7 @@ use crate::outcome::Remark;
 use crate::refusal::Refusal;
 use crate::seen::Seen;
 use crate::serving::policy_of;
+use crate::settle_notes::unsettled_note;
 use ra_cluster::ClusterError;
 use ra_explain::{
     LineCause, Unanswered, choices_note, digits_note, frame_note, line_note, order_note,
@@ -184,6 +185,7 @@ pub fn place_of(
             let text = mark_cause_text(cause);
             line_place(alloc, seen, line, LineCause::Marks(cause), text)
         }
+        Remark::Unsettled { line, cause } => unsettled_note(alloc, seen.bytes()?, line, cause),
         _ => place_in(alloc, words, seen.bytes()?, remark, last_seed),
     };
     said.unwrap_or(None)

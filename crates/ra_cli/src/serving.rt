@@ -38,6 +38,7 @@ use crate::search::Search;
 use crate::seed_progress::SeedProgress;
 use crate::seen::SeenReader;
 use crate::seen_writer::SeenWriter;
+use crate::settle_task::{settle_books, settle_words};
 use crate::surveying::survey_script;
 use crate::verdict::verdict_text;
 use crate::{AnswerError, CommandFault, answer};
@@ -52,7 +53,7 @@ use std::sync::Wait;
 use std::thread::Threads;
 
 /// The command did what it was asked.
-const DONE: u8 = 0;
+pub const DONE: u8 = 0;
 
 /// The input or the output failed.
 const BROKEN: u8 = 1;
@@ -61,7 +62,7 @@ const BROKEN: u8 = 1;
 const REFUSED: u8 = 2;
 
 /// Writes a text and returns the status, or that of a fault where the writer fails. It does not allocate.
-fn written<W: Write>(writer: &mut W, text: &[u8], status: u8) -> u8
+pub fn written<W: Write>(writer: &mut W, text: &[u8], status: u8) -> u8
     requires { status ≤ 3 }
     ensures range { result ≤ 3 }
     ensures value { ((result ≡ status) × Appends (W.contents writer.old) (W.contents writer.new) text.now)
@@ -103,7 +104,7 @@ fn is_of_the_reader(refusal: Refusal) -> bool
 
 /// Prints the line of a refusal and returns what came of it, with status 1 where the reader or the writer failed, and else 2. After a
 /// fault of the writer it prints nothing. It does not allocate.
-fn refuse<W: Write>(writer: &mut W, refusal: Refusal) -> Outcome
+pub fn refuse<W: Write>(writer: &mut W, refusal: Refusal) -> Outcome
     ensures range { result.status ≤ 2 }
     ensures not_done { 1 ≤ result.status }
     ensures unwritten { IsOfWriter refusal → (result.status ≡ 1) × (writer.new ≡ writer.old) }
@@ -502,6 +503,9 @@ fn outcome_of<T: Threads + Wait + Sync, R: BufRead, W: Write, O: Observer>(
     if are_node_words(words) {
         return be_a_node(alloc, reader, writer);
     }
+    if let Some(printed) = settle_words(words) {
+        return settle_books(alloc, printed, reader, writer);
+    }
     match parse(alloc, words) {
         Ok(task) => do_task(rt, alloc, task, reader, writer, observer),
         Err(fault) => refuse(writer, Refusal::Command(fault)),
@@ -509,8 +513,8 @@ fn outcome_of<T: Threads + Wait + Sync, R: BufRead, W: Write, O: Observer>(
 }
 
 /// Does what the words ask for, of which the first is the program's name, and returns the exit status: 0 done, 1 a fault of
-/// the input or the output, 2 refused, 3 a run that ended with something left to do, or a trace or a log that is not one. A refusal is
-/// printed as one line, `refused` and its word; `ra node` answers refused lines and goes on. No read or write that failed is tried again,
+/// the input or the output, 2 refused, 3 a run that ended with something left to do, a trace or a log that is not one, or books that do
+/// not settle. A refusal is printed as one line, `refused` and its word; `ra node` answers refused lines and goes on. No read or write that failed is tried again,
 /// and after a fault of the output nothing more is written. It waits for nobody but the reader and the writer, and with the command
 /// `cluster` for the threads that it starts. The reader has a buffer for the commands `check` and `node`, which take of it what they read.
 pub fn serve<T: Threads + Wait + Sync, R: BufRead, W: Write>(
@@ -527,12 +531,12 @@ pub fn serve<T: Threads + Wait + Sync, R: BufRead, W: Write>(
 }
 
 /// Does as [`serve`], and then writes a line for a person to `notes`, where something was refused, a text is no trace or a log is none,
-/// or a run ended with something left to do: what is wrong, where in what was read, and what would be right; and one for each option that
-/// says nothing, where the policy `listed` has no choices, where a finished run leaves names locked, and for the seed of a run that was
-/// found; and one where `writer` failed, but for a pipe that nobody reads on. While many seeds take long, it writes there how far
-/// it is. Each line begins with `ra: `. Nothing of it goes to `writer`, and it is left out where memory or `notes` fails, which changes
-/// nothing else. To find the place in a script it is read once more, for who waits for whom it is run once more, and for the mark that is
-/// due, or an ask or a release that is refused, the steps of a trace are made once more.
+/// books do not settle, or a run ended with something left to do: what is wrong, where in what was read, and what would be right; and one
+/// for each option that says nothing, where the policy `listed` has no choices, where a finished run leaves names locked, and for the
+/// seed of a run that was found; and one where `writer` failed, but for a pipe that nobody reads on. While many seeds take long, it
+/// writes there how far it is. Each line begins with `ra: `. Nothing of it goes to `writer`, and it is left out where memory or `notes`
+/// fails, which changes nothing else. To find the place in a script it is read once more, for who waits for whom it is run once more, and
+/// for the mark that is due, or an ask or a release that is refused, the steps of a trace are made once more.
 pub fn serve_with_notes<T: Threads + Wait + Sync, R: BufRead, W: Write, N: Write>(
     rt: &T,
     alloc: Global,

@@ -33,6 +33,9 @@ const PART_TEXT: &str = "--from must be at least 1, and at most --to; see ra dra
 /// What is said if `node` has an argument that the parser passes over, which only `--` is.
 const NODE_TEXT: &str = "node takes no arguments; see ra node --help";
 
+/// What is said if `settle` has an argument that the parser passes over, which only `--` is.
+const SETTLE_TEXT: &str = "settle takes no arguments but --trace; see ra settle --help";
+
 /// An option that takes a number, and which ones it takes.
 #[derive(Clone, Copy)]
 struct Range {
@@ -133,7 +136,7 @@ fn push_number(note: &mut Note, words: &[String], said: &str) -> bool {
 fn is_command(word: &str) -> bool {
     matches!(
         word,
-        "answer" | "sim" | "cluster" | "check" | "draw" | "node"
+        "answer" | "sim" | "cluster" | "check" | "draw" | "node" | "settle"
     )
 }
 
@@ -295,6 +298,7 @@ fn push_usage<'a>(alloc: Global, note: &mut Note, words: &'a [String], command: 
         Ok(matches) => match matches.subcommand() {
             Some(("draw", _)) => note.push(PART_TEXT),
             Some(("node", _)) => note.push(NODE_TEXT),
+            Some(("settle", _)) => note.push(SETTLE_TEXT),
             Some((_, given)) => push_unseen(note, words, given),
             None => push_help(note, words),
         },

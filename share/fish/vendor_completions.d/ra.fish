@@ -6,6 +6,7 @@ complete -c ra -n __fish_use_subcommand -a cluster -d 'Run a script in a cluster
 complete -c ra -n __fish_use_subcommand -a check -d 'Check the trace of a run, or the mark log of a lock service'
 complete -c ra -n __fish_use_subcommand -a draw -d 'Draw the trace of a run, or a mark log, as an SVG file'
 complete -c ra -n __fish_use_subcommand -a node -d 'Be one node: read what happens at it, and answer line by line'
+complete -c ra -n __fish_use_subcommand -a settle -d 'Settle the books of all nodes into one run of the cluster'
 complete -c ra -n '__fish_use_subcommand' -s h -l help -d 'Print help'
 complete -c ra -n '__fish_use_subcommand' -s V -l version -d 'Print version'
 complete -c ra -n '__fish_seen_subcommand_from answer' -l node -x -a '' -d 'Answer as this node, 1 to the value of --nodes'
@@ -30,3 +31,5 @@ complete -c ra -n '__fish_seen_subcommand_from draw' -l from -x -a '' -d 'Draw f
 complete -c ra -n '__fish_seen_subcommand_from draw' -l to -x -a '' -d 'Draw up to and including this line [default: the last]'
 complete -c ra -n '__fish_seen_subcommand_from draw' -s h -l help -d 'Print help, or a summary with -h'
 complete -c ra -n '__fish_seen_subcommand_from node' -s h -l help -d 'Print help, or a summary with -h'
+complete -c ra -n '__fish_seen_subcommand_from settle' -l trace -d 'Print the trace in place of marks and totals'
+complete -c ra -n '__fish_seen_subcommand_from settle' -s h -l help -d 'Print help, or a summary with -h'

@@ -1,15 +1,19 @@
-use Rattle.std.proofs.Common.{arith, ◌≡◌, ◌≢◌, ◌⊎◌, ℕ, ◌≤◌, List, Option, codes, map, refl, sym, ◌∙◌, string_bytes, inl, inr}
+use Rattle.std.proofs.Common.{arith, ◌≡◌, ◌≢◌, ◌⊎◌, ℕ, ◌≤◌, List, Option, codes, map, refl, sym, ◌∙◌, string_bytes, subst, inl, inr}
 use Rattle.std.proofs.lemmas.Bool.{false≢true}
 use Rattle.std.specs.Io.KnownBytes.{Appends}
 use Rattle.ra_script.specs.Performed.{IsOrderly}
 use Rattle.ra_cli.specs.declared.refusal.Refusal.TheVariants.{Command}
 use Rattle.ra_cli.specs.Finishing.{HasNoChoices, RunsFaithfully}
 use Rattle.ra_cli.specs.Refusals.{command_word, refused_line}
+use Rattle.ra_cli.specs.declared.cluster_output.ClusterOutput.{ClusterOutput}
 use Rattle.ra_cli.specs.declared.command_line.CommandFault.{CommandFault}
 use Rattle.ra_cli.specs.declared.command_line.CommandFault.TheVariants as command
 use Rattle.ra_cli.proofs.ClusterRuns.{of_known}
 use Rattle.ra_cli.proofs.Helping.{for_each}
+use Rattle.ra_cli.specs.SettleRun.{AreSettleWords, ServesSettle}
 use Rattle.ra_cli.proofs.NodeRuns.{no_book, no_sim}
+use Rattle.ra_cli.proofs.SettleRuns.{two_refuses}
+use Rattle.ra_cli.proofs.SettleWords.{no_node_words, no_sim_words, none_asked, one_thing}
 use Rattle.ra_cli.proofs.Statuses.{none_of_command, refused, broken}
 use Rattle.ra_cli.proofs.TaskLemmas.{done, left, suits, without_cause}
 use Rattle.ra_cli.proofs.serving.outcome_of.Goals as goal
@@ -32,21 +36,45 @@ returns-then-are_node_words g c =
     let status = c.be_a_node.result.status in
     record {
       range = omega (arith, node.range);
-      done = λ zero. inr (inr (inr are));
+      done = λ zero. inr (inr (inr (inl are)));
       unfinished = λ three. absurd (not_three status node.range three);
       finished = λ sims. for_each (g.R.Read.remaining c.args.reader.now) (λ input. IsOrderly input → status ≢ 3)
           (λ input orderly is. not_three status node.range is);
       only_memory = λ sims none two. absurd (no_sim (map string_bytes c.args.words.now) are sims.command);
       refused = no_book _ _ _ _ status node.serves;
-      broken = λ one. inr are;
+      broken = λ one. inr (inl are);
       node = λ words. node.serves;
+      settle = λ printed asks. absurd (no_node_words (map string_bytes c.args.words.now) (printed, asks) are);
+    }
+
+pub returns-in-Some : goal.returns-in-Some
+returns-in-Some g c =
+    let words = map string_bytes c.args.words.now in
+    let asks = c.in-Some.ensures in
+    let are : AreSettleWords words = (c.in-Some.printed, asks) in
+    let serves = c.settle_books.ensures in
+    let status = c.settle_books.result.status in
+    let old = g.R.Read.remaining c.args.reader.now in
+    let new = g.R.Read.remaining c.settle_books.new.reader in
+    let before = g.W.Write.contents c.args.writer.now in
+    let after = g.W.Write.contents c.settle_books.new.writer in
+    record {
+      range = serves.range;
+      done = λ zero. inr (inr (inr (inr are)));
+      unfinished = λ three. inr are;
+      finished = λ sims. absurd (no_sim_words words are sims.command);
+      only_memory = λ sims none two. absurd (no_sim_words words are sims.command);
+      refused = two_refuses c.in-Some.printed old new before after status serves;
+      broken = λ one. inr (inr are);
+      node = λ node. absurd (no_node_words words are node);
+      settle = λ printed other. subst (λ (p : ClusterOutput). ServesSettle p old new before after status) (one_thing words c.in-Some.printed printed asks other) serves;
     }
 
 -- what was done by other words
-no_node_words : (A B C D : Type 0) → A ⊎ B ⊎ C → A ⊎ B ⊎ C ⊎ D
-no_node_words A B C D (inl a) = inl a
-no_node_words A B C D (inr (inl b)) = inr (inl b)
-no_node_words A B C D (inr (inr c)) = inr (inr (inl c))
+other_words : (A B C D : Type 0) → A ⊎ B ⊎ C → A ⊎ B ⊎ C ⊎ D
+other_words A B C D (inl a) = inl a
+other_words A B C D (inr (inl b)) = inr (inl b)
+other_words A B C D (inr (inr c)) = inr (inr (inl c))
 
 pub returns-in-Ok : goal.returns-in-Ok
 returns-in-Ok g c =
@@ -61,8 +89,8 @@ returns-in-Ok g c =
     let fits = suits words asked c.in-Ok.ensures.help c.in-Ok.ensures.numbers c.in-Ok.ensures.marks in
     record {
       range = task.range;
-      done = λ is. no_node_words _ _ _ _ (done words asked old new before after _ c.in-Ok.ensures.help fits (task.done is));
-      unfinished = λ is. left (map string_bytes words) asked old new before after fits (task.unfinished is);
+      done = λ is. other_words _ _ _ _ (done words asked old new before after _ c.in-Ok.ensures.help fits (task.done is));
+      unfinished = λ is. inl (left (map string_bytes words) asked old new before after fits (task.unfinished is));
       finished = λ sims. of_known old (λ input. IsOrderly input → RunsFaithfully asked → status ≢ 3) (λ input. IsOrderly input → status ≢ 3)
           (λ input h orderly. h orderly (c.in-Ok.ensures.faithful sims)) task.finished;
       only_memory = λ sims none two. of_known old
@@ -72,6 +100,7 @@ returns-in-Ok g c =
       refused = λ is. without_cause _ before after (task.refused is);
       broken = λ is. inl (task.broken (map string_bytes words) fits is);
       node = λ are. absurd (false≢true (sym c.if-are_node_words.false ∙ c.are_node_words.ensures.1 are));
+      settle = λ printed asks. absurd (none_asked (map string_bytes c.args.words.now) c.settle_words.result c.settle_words.ensures c.in_default.not-Some (printed, asks));
     }
 
 not_done : (status : ℕ) → 1 ≤ status → status ≡ 0 → ⊥
@@ -96,4 +125,5 @@ returns-in-Err g c =
       broken = λ one. inl (broken (map string_bytes c.args.words.now) (g.R.Read.remaining c.args.reader.now) before before after why
           (λ is. absurd (never is)) (λ is. absurd (never is)) (λ other. refl) (c.refuse.ensures.broken one));
       node = λ are. absurd (false≢true (sym c.if-are_node_words.false ∙ c.are_node_words.ensures.1 are));
+      settle = λ printed asks. absurd (none_asked (map string_bytes c.args.words.now) c.settle_words.result c.settle_words.ensures c.in_default.not-Some (printed, asks));
     }

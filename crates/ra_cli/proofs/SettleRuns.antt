@@ -1,0 +1,161 @@
+-- What it means for the statuses that books were settled, or not.
+use Rattle.std.proofs.Common.{◌≡◌, ◌≢◌, ◌⊎◌, ℕ, ◌<◌, ◌≤◌, ◌^◌, List, [], ◌++◌, length, Option, inl, inr, refl, sym, ap, subst, codes, arith}
+use Rattle.std.specs.Io.KnownBytes.{Appends, Consumes}
+use Rattle.ra_world.specs.Input.{Reads}
+use Rattle.ra_trace.specs.declared.error.TraceError.{TraceError}
+use Rattle.ra_trace.specs.declared.error.TraceError.TheVariants as fault
+use Rattle.ra_cli.specs.declared.cluster_output.ClusterOutput.{ClusterOutput}
+use Rattle.ra_cli.specs.declared.refusal.Refusal.TheVariants.{Check}
+use Rattle.ra_cli.specs.Refusals.{IsOfReader, IsOfWriter, refused_line, trace_word, word_of}
+use Rattle.ra_cli.specs.SettleRun.{Contradicts, ReadsBooks, RefusesInput, ServesSettle, Settles, TellsSettled}
+use Rattle.ra_cli.specs.Statuses.{IsRefused, IsSaid}
+use Rattle.ra_cli.proofs.Statuses.{none_of_check}
+
+of_reader : (why : TraceError) → IsOfReader (Check why) → why ≡ fault.Read
+of_reader why (inl is) = absurd cc
+of_reader why (inr (inl is)) = absurd cc
+of_reader why (inr (inr (inl is))) = cc
+of_reader why (inr (inr (inr (inl is)))) = absurd cc
+of_reader why (inr (inr (inr (inr is)))) = absurd cc
+
+-- what `refuse` says of a refusal of the input
+module _ (why : TraceError) (before after : Option (List ℕ)) (status : ℕ) (range : status ≤ 2) (not_done : 1 ≤ status)
+    (two : status ≡ 2 → (IsOfReader (Check why) → ⊥) × (IsOfWriter (Check why) → ⊥) × Appends before after (refused_line (word_of (Check why))))
+    (one : status ≡ 1 → IsOfWriter (Check why) ⊎ ((IsOfWriter (Check why) → ⊥) × IsSaid (Check why) before after)) where
+  of_said : IsOfWriter (Check why) ⊎ ((IsOfWriter (Check why) → ⊥) × IsSaid (Check why) before after)
+      → ((why ≡ fault.Read) × Appends before after (codes "refused Read\n"))
+      ⊎ ((prefix : List ℕ) × (rest : List ℕ) × (rest ≢ []) × Appends before after prefix × (prefix ++ rest ≡ refused_line (trace_word why)))
+  of_said (inl writer) = absurd (none_of_check why writer)
+  of_said (inr (other, inl (reader, all))) =
+      inl (of_reader why reader, subst (λ (w : TraceError). Appends before after (refused_line (trace_word w))) (of_reader why reader) all)
+  of_said (inr (other, inr (prefix, rest, is, left, some))) = inr (prefix, rest, left, some, sym is)
+
+  pub refuses : RefusesInput why before after status
+  refuses = record {
+    range = (not_done, range);
+    refused = λ is. (λ reads. (two is).0 (inr (inr (inl (ap Check reads)))), (two is).2);
+    broken = λ is. of_said (one is);
+  }
+
+-- that memory ran out
+pub no_memory : (printed : ClusterOutput) (input : List ℕ) (before after : Option (List ℕ)) (status : ℕ) → RefusesInput fault.Memory before after status
+    → TellsSettled printed input before after status
+no_memory printed input before after status h = record {
+  range = omega (arith, h.range.1);
+  done = λ is. absurd (omega (arith, is, h.range.0));
+  unfinished = λ is. absurd (omega (arith, is, h.range.1));
+  refused = λ is. (h.refused is).1;
+  broken = λ is. of_broken (h.broken is);
+}
+  where
+    of_broken : ((fault.Memory ≡ fault.Read) × Appends before after (codes "refused Read\n"))
+        ⊎ ((prefix : List ℕ) × (rest : List ℕ) × (rest ≢ []) × Appends before after prefix × (prefix ++ rest ≡ refused_line (codes "Memory")))
+        → (prefix : List ℕ) × (rest : List ℕ) × (rest ≢ []) × Appends before after prefix
+        × (Settles printed input (prefix ++ rest) ⊎ Contradicts input (prefix ++ rest) ⊎ (prefix ++ rest ≡ refused_line (codes "Memory")))
+    of_broken (inl read) = absurd (let clash = read.0 in cc)
+    of_broken (inr (prefix, rest, left, some, is)) = (prefix, rest, left, some, inr (inr is))
+
+-- a text that is written, or of which the writer takes a prefix
+abbrev Writes : List ℕ → (before after : Option (List ℕ)) → (status good : ℕ) → Type 0
+Writes output before after status good = ((status ≡ good) × Appends before after output)
+    ⊎ ((status ≡ 1) × (prefix : List ℕ) × (rest : List ℕ) × (output ≡ prefix ++ rest) × (rest ≢ []) × Appends before after prefix)
+
+pub shown : (printed : ClusterOutput) (input output : List ℕ) (before after : Option (List ℕ)) (status : ℕ) → status ≤ 3 → Settles printed input output
+    → Writes output before after status 0 → TellsSettled printed input before after status
+shown printed input output before after status range is (inl (zero, all)) = record {
+  range = range;
+  done = λ _. (output, is, all);
+  unfinished = λ three. absurd (omega (arith, zero, three));
+  refused = λ two. absurd (omega (arith, zero, two));
+  broken = λ one. absurd (omega (arith, zero, one));
+}
+shown printed input output before after status range is (inr (one, prefix, rest, parts, left, some)) = record {
+  range = range;
+  done = λ zero. absurd (omega (arith, zero, one));
+  unfinished = λ three. absurd (omega (arith, one, three));
+  refused = λ two. absurd (omega (arith, one, two));
+  broken = λ _. (prefix, rest, left, some, inl (subst (Settles printed input) parts is));
+}
+
+pub contradicted : (printed : ClusterOutput) (input output : List ℕ) (before after : Option (List ℕ)) (status : ℕ) → status ≤ 3 → Contradicts input output
+    → Writes output before after status 3 → TellsSettled printed input before after status
+contradicted printed input output before after status range is (inl (three, all)) = record {
+  range = range;
+  done = λ zero. absurd (omega (arith, three, zero));
+  unfinished = λ _. (output, is, all);
+  refused = λ two. absurd (omega (arith, three, two));
+  broken = λ one. absurd (omega (arith, three, one));
+}
+contradicted printed input output before after status range is (inr (one, prefix, rest, parts, left, some)) = record {
+  range = range;
+  done = λ zero. absurd (omega (arith, zero, one));
+  unfinished = λ three. absurd (omega (arith, one, three));
+  refused = λ two. absurd (omega (arith, one, two));
+  broken = λ _. (prefix, rest, left, some, inr (inl (subst (Contradicts input) parts is)));
+}
+
+-- ---- With what was read
+
+pub served : (printed : ClusterOutput) (input : List ℕ) (old new before after : Option (List ℕ)) (status : ℕ) → Reads old new 1073741825 input → length input ≤ 1073741824
+    → TellsSettled printed input before after status → ServesSettle printed old new before after status
+served printed input old new before after status reads short h = record {
+  range = h.range;
+  done = λ is. let (output, settles, all) = h.done is in (input, output, read, settles, all);
+  unfinished = λ is. let (output, wrong, all) = h.unfinished is in (input, output, read, wrong, all);
+  refused = λ is. inl (h.refused is);
+  broken = λ is. inr (of_broken (h.broken is));
+}
+  where
+    read : ReadsBooks old new input
+    read = record { taken = reads.taken; ended = reads.ended (omega (arith, short)); short = short }
+
+    of_broken : (prefix : List ℕ) × (rest : List ℕ) × (rest ≢ []) × Appends before after prefix
+        × (Settles printed input (prefix ++ rest) ⊎ Contradicts input (prefix ++ rest) ⊎ (prefix ++ rest ≡ refused_line (codes "Memory")))
+        → (prefix : List ℕ) × (rest : List ℕ) × (rest ≢ []) × Appends before after prefix
+        × (((text : List ℕ) × ReadsBooks old new text × (Settles printed text (prefix ++ rest) ⊎ Contradicts text (prefix ++ rest)))
+        ⊎ ((w : TraceError) × (prefix ++ rest ≡ refused_line (trace_word w))))
+    of_broken (prefix, rest, left, some, inl settles) = (prefix, rest, left, some, inl (input, read, inl settles))
+    of_broken (prefix, rest, left, some, inr (inl wrong)) = (prefix, rest, left, some, inl (input, read, inr wrong))
+    of_broken (prefix, rest, left, some, inr (inr is)) = (prefix, rest, left, some, inr (fault.Memory, is))
+
+-- or without: it was not all read
+pub unread : (printed : ClusterOutput) (why : TraceError) (old new before after : Option (List ℕ)) (status : ℕ) → RefusesInput why before after status
+    → (why ≡ fault.Limit → (input : List ℕ) × Consumes old new input × (2 ^ 30 < length input)) → ServesSettle printed old new before after status
+unread printed why old new before after status h too_long = record {
+  range = omega (arith, h.range.1);
+  done = λ is. absurd (omega (arith, is, h.range.0));
+  unfinished = λ is. absurd (omega (arith, is, h.range.1));
+  refused = λ is. by_fault why (h.refused is) too_long;
+  broken = λ is. of_broken (h.broken is);
+}
+  where
+    by_fault : (w : TraceError) → (w ≢ fault.Read) × Appends before after (refused_line (trace_word w))
+        → (w ≡ fault.Limit → (input : List ℕ) × Consumes old new input × (2 ^ 30 < length input))
+        → Appends before after (refused_line (codes "Memory"))
+        ⊎ (Appends before after (refused_line (codes "Limit")) × ((input : List ℕ) × Consumes old new input × (2 ^ 30 < length input)))
+    by_fault fault.Read (other, all) long = absurd (other refl)
+    by_fault fault.Limit (other, all) long = inr (all, long refl)
+    by_fault fault.Memory (other, all) long = inl all
+
+    of_broken : ((why ≡ fault.Read) × Appends before after (codes "refused Read\n"))
+        ⊎ ((prefix : List ℕ) × (rest : List ℕ) × (rest ≢ []) × Appends before after prefix × (prefix ++ rest ≡ refused_line (trace_word why)))
+        → Appends before after (codes "refused Read\n")
+        ⊎ ((prefix : List ℕ) × (rest : List ℕ) × (rest ≢ []) × Appends before after prefix
+        × (((input : List ℕ) × ReadsBooks old new input × (Settles printed input (prefix ++ rest) ⊎ Contradicts input (prefix ++ rest)))
+        ⊎ ((w : TraceError) × (prefix ++ rest ≡ refused_line (trace_word w)))))
+    of_broken (inl (is, all)) = inl all
+    of_broken (inr (prefix, rest, left, some, is)) = inr (prefix, rest, left, some, inr (why, is))
+
+-- ---- As the statuses tell it
+
+pub two_refuses : (printed : ClusterOutput) (old new before after : Option (List ℕ)) (status : ℕ) → ServesSettle printed old new before after status → status ≡ 2
+    → IsRefused before after
+two_refuses printed old new before after status h two = by_word (h.refused two)
+  where
+    not_reader : (why : TraceError) → (why ≢ fault.Read) → IsOfReader (Check why) → ⊥
+    not_reader why other is = other (of_reader why is)
+
+    by_word : Appends before after (refused_line (codes "Memory"))
+        ⊎ (Appends before after (refused_line (codes "Limit")) × ((input : List ℕ) × Consumes old new input × (2 ^ 30 < length input))) → IsRefused before after
+    by_word (inl all) = (Check fault.Memory, not_reader fault.Memory (λ is. cc), none_of_check fault.Memory, all)
+    by_word (inr (all, long)) = (Check fault.Limit, not_reader fault.Limit (λ is. cc), none_of_check fault.Limit, all)

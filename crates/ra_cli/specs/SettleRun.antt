@@ -1,0 +1,91 @@
+-- What `ra settle` reads and prints, and its exit status.
+use Rattle.std.specs.Prelude.{◌≡◌, ◌≢◌, ◌⊎◌, ℕ, ◌<◌, ◌≤◌, ◌^◌, List, [], ◌∷◌, ◌++◌, Option, codes, decimal, length, map}
+use Rattle.std.specs.Io.KnownBytes.{Appends, Consumes, IsAtEnd}
+use Rattle.ra_world.specs.Lines.{field, report_text}
+use Rattle.ra_world.specs.Traffic.{Move}
+use Rattle.ra_trace.specs.TraceText.{IsTrace}
+use Rattle.ra_settle.specs.declared.error.TextCause.{TextCause}
+use Rattle.ra_settle.specs.declared.error.TextCause.TheVariants as cause
+use Rattle.ra_settle.specs.declared.settling.SettledText.{SettledText}
+use Rattle.ra_settle.specs.Verdicts.{IsSettledText, IsWrong}
+use Rattle.ra_trace.specs.declared.error.TraceError.{TraceError}
+use Rattle.ra_trace.specs.declared.error.TraceError.TheVariants as trace_fault
+use Rattle.ra_cli.specs.declared.cluster_output.ClusterOutput.{ClusterOutput}
+use Rattle.ra_cli.specs.declared.cluster_output.ClusterOutput.TheVariants.{Lines, Trace}
+use Rattle.ra_cli.specs.Refusals.{refused_line, trace_word}
+
+-- the words are the program's name and `settle`, and `--trace` if the trace of the run is to be printed
+abbrev pub AsksToSettle : (words : List (List ℕ)) → ClusterOutput → Type 0
+AsksToSettle words Lines = (name : List ℕ) × (words ≡ name ∷ codes "settle" ∷ [])
+AsksToSettle words Trace = (name : List ℕ) × (words ≡ name ∷ codes "settle" ∷ codes "--trace" ∷ [])
+
+abbrev pub AreSettleWords : (words : List (List ℕ)) → Type 0
+AreSettleWords words = (printed : ClusterOutput) × AsksToSettle words printed
+
+-- what is printed of the settled run: the lines of its report, or its trace
+abbrev pub Prints : ClusterOutput → SettledText → List ℕ → Type 0
+Prints Lines text output = output ≡ report_text text.settled.report
+Prints Trace text output = (moves : List Move) × (map (λ move. move.step) moves ≡ text.settled.steps.items)
+    × IsTrace text.nodes text.start moves output
+
+-- the input is a text of books that settle, and this is printed of their run
+abbrev pub Settles : ClusterOutput → (input output : List ℕ) → Type 0
+Settles printed input output = (text : SettledText) × IsSettledText input text × Prints printed text output
+
+-- the word for why a text does not settle
+abbrev pub text_cause_word : TextCause → List ℕ
+text_cause_word cause.Line = codes "Line"
+text_cause_word cause.Books = codes "Books"
+text_cause_word cause.Refused = codes "Refused"
+text_cause_word cause.NotSent = codes "NotSent"
+text_cause_word cause.Twice = codes "Twice"
+
+-- the line for a text that does not settle
+abbrev pub unsettled_line : ℕ → TextCause → List ℕ
+unsettled_line number why = codes "invalid" ++ field (decimal number) ++ field (text_cause_word why) ++ codes "\n"
+
+-- the input does not settle, and this says at which line, and why
+abbrev pub Contradicts : (input output : List ℕ) → Type 0
+Contradicts input output = (number : ℕ) × (why : TextCause) × IsWrong input number why × (output ≡ unsettled_line number why)
+
+-- what comes of an input that was read, by the status
+pub record TellsSettled (printed : ClusterOutput) (input : List ℕ) (before after : Option (List ℕ)) (status : ℕ) : Type 0 where
+  pub range : status ≤ 3
+  pub done : status ≡ 0 → (output : List ℕ) × Settles printed input output × Appends before after output
+  pub unfinished : status ≡ 3 → (output : List ℕ) × Contradicts input output × Appends before after output
+  pub refused : status ≡ 2 → Appends before after (refused_line (codes "Memory"))
+  -- only a prefix of one of these was written
+  pub broken : status ≡ 1 → (prefix : List ℕ) × (rest : List ℕ) × (rest ≢ []) × Appends before after prefix
+      × (Settles printed input (prefix ++ rest) ⊎ Contradicts input (prefix ++ rest)
+      ⊎ (prefix ++ rest ≡ refused_line (codes "Memory")))
+
+-- the input was read to its end, and has at most as many bytes as a text may
+pub record ReadsBooks (old new : Option (List ℕ)) (input : List ℕ) : Type 0 where
+  pub taken : Consumes old new input
+  pub ended : IsAtEnd new
+  pub short : length input ≤ 2 ^ 30
+
+-- Status 0: the input is a text of books that settle, and exactly the report or the trace of their run was written.
+-- Status 3: it is none, and exactly the line that says where and why was written. Status 2: it is too long, or memory
+-- ran out, and the line that says so was written. Status 1: the reader failed, and the line that says so was written; or
+-- the writer failed, and only a prefix of what is printed was written.
+pub record ServesSettle (printed : ClusterOutput) (old new before after : Option (List ℕ)) (status : ℕ) : Type 0 where
+  pub range : status ≤ 3
+  pub done : status ≡ 0
+      → (input : List ℕ) × (output : List ℕ) × ReadsBooks old new input × Settles printed input output × Appends before after output
+  pub unfinished : status ≡ 3
+      → (input : List ℕ) × (output : List ℕ) × ReadsBooks old new input × Contradicts input output × Appends before after output
+  pub refused : status ≡ 2 → Appends before after (refused_line (codes "Memory"))
+      ⊎ (Appends before after (refused_line (codes "Limit")) × ((input : List ℕ) × Consumes old new input × (2 ^ 30 < length input)))
+  pub broken : status ≡ 1 → Appends before after (codes "refused Read\n")
+      ⊎ ((prefix : List ℕ) × (rest : List ℕ) × (rest ≢ []) × Appends before after prefix
+      × (((input : List ℕ) × ReadsBooks old new input × (Settles printed input (prefix ++ rest) ⊎ Contradicts input (prefix ++ rest)))
+      ⊎ ((fault : TraceError) × (prefix ++ rest ≡ refused_line (trace_word fault)))))
+
+-- what comes of an input that was not read to its end: the status is 1 if the reader failed, and otherwise 2, or 1 if the
+-- writer failed
+pub record RefusesInput (fault : TraceError) (before after : Option (List ℕ)) (status : ℕ) : Type 0 where
+  pub range : (1 ≤ status) × (status ≤ 2)
+  pub refused : status ≡ 2 → (fault ≢ trace_fault.Read) × Appends before after (refused_line (trace_word fault))
+  pub broken : status ≡ 1 → ((fault ≡ trace_fault.Read) × Appends before after (codes "refused Read\n"))
+      ⊎ ((prefix : List ℕ) × (rest : List ℕ) × (rest ≢ []) × Appends before after prefix × (prefix ++ rest ≡ refused_line (trace_word fault)))

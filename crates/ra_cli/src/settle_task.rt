@@ -1,0 +1,198 @@
+//! The command `settle`.
+ghost use Rattle.std.specs.Prelude.{◌≡◌, ◌↔◌, List, ℕ, map, string_bytes, IfOk, IsTrue, MatchOption};
+ghost use Rattle.ra_settle.specs.Verdicts.{IsSettledText, IsWrong};
+ghost use Rattle.ra_cli.specs.declared.cluster_output.ClusterOutput.{ClusterOutput};
+ghost use Rattle.ra_cli.specs.SettleRun as spec;
+ghost use Rattle.ra_cli.specs.SettleRun.{AreSettleWords, AsksToSettle, Prints, RefusesInput, ServesSettle, TellsSettled, unsettled_line};
+
+use crate::cluster_output::ClusterOutput;
+use crate::outcome::{Outcome, Remark, UNFINISHED};
+use crate::refusal::Refusal;
+use crate::serving::{DONE, refuse, written};
+use ra_settle::{SettleTextError, SettledText, TextCause, settle_text};
+use ra_stamp::Memory;
+use ra_trace::{TraceError, trace_text};
+use ra_world::{ReadFault, push_field, push_number, read_up_to, report_text};
+use std::alloc::Global;
+use std::io::{Read, Write};
+
+/// The most bytes that a text of books may have.
+const MAX_TEXT: usize = 1 << 30;
+
+/// Returns whether a word is this text. It does not allocate.
+fn is_text(word: &String, text: &str) -> bool
+    ensures { IsTrue result ↔ (string_bytes word.now ≡ text.now) }
+{
+    word.as_str() == text
+}
+
+/// Returns what the words ask to be printed of the run into which books settle, or `None` if they do not ask to settle any: they
+/// are the program's name, `settle`, and perhaps `--trace`. It does not allocate.
+pub fn settle_words(words: &[String]) -> Option<ClusterOutput>
+    ensures { MatchOption result (AreSettleWords (map string_bytes words.now) → ⊥)
+        (AsksToSettle (map string_bytes words.now)) }
+{
+    match words {
+        [_, word] => {
+            if is_text(word, "settle") {
+                Some(ClusterOutput::Lines)
+            } else {
+                None
+            }
+        }
+        [_, word, option] => {
+            if is_text(word, "settle") && is_text(option, "--trace") {
+                Some(ClusterOutput::Trace)
+            } else {
+                None
+            }
+        }
+        _ => None,
+    }
+}
+
+/// Returns the word for why a text does not settle. It does not allocate.
+fn word_of(cause: TextCause) -> &'static str
+    ensures { result.now ≡ spec.text_cause_word cause }
+{
+    match cause {
+        TextCause::Line => "Line",
+        TextCause::Books => "Books",
+        TextCause::Refused => "Refused",
+        TextCause::NotSent => "NotSent",
+        TextCause::Twice => "Twice",
+    }
+}
+
+/// Returns the line for a text that does not settle.
+///
+/// # Errors
+///
+/// `Memory`: there is none for it.
+fn unsettled_text(alloc: Global, line: u64, cause: TextCause) -> Result<String, Memory>
+    ensures { IfOk result (λ text. string_bytes text ≡ unsettled_line line cause) }
+{
+    let mut text = String::new(alloc);
+    text.push_str("invalid")?;
+    push_number(&mut text, line)?;
+    push_field(&mut text, word_of(cause))?;
+    text.push_str("\n")?;
+    Ok(text)
+}
+
+/// Returns the trace of a settled run. The steps are made once more for it.
+///
+/// # Errors
+///
+/// `Memory`: memory ran out.
+fn trace_of(alloc: Global, text: &SettledText) -> Result<String, Memory>
+    ensures { IfOk result (λ output. Prints ClusterOutput.Trace text.now (string_bytes output)) }
+{
+    // The steps are a run, so only `Memory` can come.
+    match trace_text(alloc, text.nodes, text.start, &text.settled.steps) {
+        Ok(output) => Ok(output),
+        Err(_) => Err(Memory),
+    }
+}
+
+/// Returns the lines of the report of a settled run, or its trace.
+///
+/// # Errors
+///
+/// `Memory`: memory ran out.
+fn run_text(alloc: Global, printed: ClusterOutput, text: &SettledText) -> Result<String, Memory>
+    ensures { IfOk result (λ output. Prints printed text.now (string_bytes output)) }
+{
+    match printed {
+        ClusterOutput::Lines => report_text(alloc, &text.settled.report),
+        ClusterOutput::Trace => trace_of(alloc, text),
+    }
+}
+
+/// Prints that memory ran out.
+fn refuse_memory<W: Write>(writer: &mut W) -> Outcome
+    ensures { (printed : ClusterOutput) (input : List ℕ)
+        → TellsSettled printed input (W.contents writer.old) (W.contents writer.new) result.status }
+{
+    refuse(writer, Refusal::Check(TraceError::Memory))
+}
+
+/// Prints the settled run of a text.
+fn show<W: Write>(
+    alloc: Global,
+    printed: ClusterOutput,
+    text: &SettledText,
+    writer: &mut W,
+) -> Outcome
+    ensures { (input : List ℕ) → IsSettledText input text.now
+        → TellsSettled printed input (W.contents writer.old) (W.contents writer.new) result.status }
+{
+    match run_text(alloc, printed, text) {
+        Ok(output) => Outcome::new(written(writer, output.as_bytes(), DONE), None),
+        Err(_) => refuse_memory(writer),
+    }
+}
+
+/// Prints the line of a text that does not settle.
+fn contradict<W: Write>(alloc: Global, line: u64, cause: TextCause, writer: &mut W) -> Outcome
+    ensures { (printed : ClusterOutput) (input : List ℕ) → IsWrong input line cause
+        → TellsSettled printed input (W.contents writer.old) (W.contents writer.new) result.status }
+{
+    match unsettled_text(alloc, line, cause) {
+        Ok(text) => {
+            let status = written(writer, text.as_bytes(), UNFINISHED);
+            Outcome::judged(status, Some(Remark::Unsettled { line, cause }))
+        }
+        Err(_) => refuse_memory(writer),
+    }
+}
+
+/// Settles the books of a text, and prints what comes of it.
+fn settle_input<W: Write>(
+    alloc: Global,
+    printed: ClusterOutput,
+    input: &[u8],
+    writer: &mut W,
+) -> Outcome
+    ensures { TellsSettled printed input.now (W.contents writer.old) (W.contents writer.new) result.status }
+{
+    match settle_text(alloc, input) {
+        Ok(text) => show(alloc, printed, &text, writer),
+        Err(SettleTextError::Invalid { line, cause }) => contradict(alloc, line, cause, writer),
+        Err(SettleTextError::Memory) => refuse_memory(writer),
+    }
+}
+
+/// Prints that the reader failed, or gave more than a text may have, or that memory ran out, and returns what came of it.
+fn refuse_input<W: Write>(writer: &mut W, fault: TraceError) -> Outcome
+    ensures { RefusesInput fault (W.contents writer.old) (W.contents writer.new) result.status }
+{
+    let outcome = refuse(writer, Refusal::Check(fault));
+    match fault {
+        TraceError::Limit => Outcome::new(outcome.status, Some(Remark::TooManyBooks)),
+        TraceError::Read | TraceError::Memory => outcome,
+    }
+}
+
+/// Reads the books of all nodes, one after the other in one text, and prints the report of the run into which they settle, or its
+/// trace, with status 0. If they do not settle, it prints the line that is wrong, and the cause, with status 3. The status is 2 if
+/// the text has more than 1,073,741,824 bytes or memory ran out, and 1 if the reader or the writer failed.
+pub fn settle_books<R: Read, W: Write>(
+    alloc: Global,
+    printed: ClusterOutput,
+    reader: &mut R,
+    writer: &mut W,
+) -> Outcome
+    ensures { ServesSettle printed (R.remaining reader.old) (R.remaining reader.new)
+        (W.contents writer.old) (W.contents writer.new) result.status }
+{
+    let input = match read_up_to(alloc, reader, MAX_TEXT + 1) {
+        Ok(input) => input,
+        Err(ReadFault::Read) => return refuse_input(writer, TraceError::Read),
+        Err(ReadFault::Memory) => return refuse_input(writer, TraceError::Memory),
+    };
+    if input.len() > MAX_TEXT {
+        return refuse_input(writer, TraceError::Limit);
+    }
+    settle_input(alloc, printed, &input, writer)
+}
