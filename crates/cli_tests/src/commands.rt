@@ -89,6 +89,7 @@ Commands:
   check    Check the trace of a run, or the mark log of a lock service
   draw     Draw the trace of a run, or a mark log, as an SVG file
   node     Be one node: read what happens at it, and answer line by line
+  settle   Settle the books of all nodes into one run of the cluster
 
 Options:
   -h, --help     Print help
@@ -100,7 +101,7 @@ Exit status:
   0  done
   1  standard input or standard output failed
   2  refused: standard output has the cause as one word
-  3  a run did not finish, or a trace or a mark log is not valid
+  3  a run did not finish, or a trace, a mark log or books are not valid
 ";
 
 #[test]

@@ -14,7 +14,7 @@ const USAGES: &[Noted] = &[
         input: "",
         status: 2,
         output: "refused Usage\n",
-        note: "ra: 'ra' requires a subcommand but one was not provided [subcommands: answer, sim, cluster, check, draw, node]; see ra --help\n",
+        note: "ra: 'ra' requires a subcommand but one was not provided [subcommands: answer, sim, cluster, check, draw, node, settle]; see ra --help\n",
     },
     Noted {
         words: "ra simm",

@@ -1,7 +1,7 @@
 //! Several clients asleep at one node of a cluster: what a watchdog sees of them, and who wakes when.
-use crate::helpers::{comes_to, entry, in_a_thread, r};
-use ra_cluster::{BookError, CallError, Cluster, Grant, OpenGate, Site, SiteError, Stop};
-use ra_stamp::{Mode, Name, NodeId};
+use crate::helpers::{comes_to, entry, in_a_thread};
+use ra_cluster::{BookError, CallError, Cluster, Grant, OpenGate, SiteError, Stop};
+use ra_stamp::{Entry, Mode, Name, NodeId};
 use std::alloc::Global;
 use std::process::Abort;
 use std::sync::atomic::{AtomicU64, Ordering};
@@ -10,32 +10,32 @@ use std::thread;
 use std::thread::Threads;
 
 /// How many requests of a node wait, how many of its clients are queued, and how many events its book has.
-#[derive(Clone, Copy)]
+#[derive(Clone, Copy, Debug, PartialEq, Eq)]
 struct Seen {
     waiting: u64,
     queued: u128,
     events: u64,
 }
 
-/// Waits until the book of a node has so many events, for which it looks many times.
-fn wait_for_events<R: Wait>(rt: &R, site: &Site, events: u64) {
+/// Returns what a watchdog sees of a node once its book has so many events, for which it looks many times.
+fn seen_after<R: Wait>(
+    rt: &R,
+    cluster: &Cluster<OpenGate>,
+    node: NodeId,
+    events: u64,
+) -> Option<Seen> {
+    let site = cluster.site(node)?;
     for _ in 0..1_000_000u32 {
         if site.events(rt) >= events {
             break;
         }
         thread::yield_now();
     }
-}
-
-/// Returns whether a watchdog sees this of a node once its book has so many events.
-fn sees<R: Wait>(rt: &R, cluster: &Cluster<OpenGate>, node: NodeId, seen: Seen) -> bool {
-    let Some(site) = cluster.site(node) else {
-        return false;
-    };
-    wait_for_events(rt, site, seen.events);
-    site.waiting(rt) == seen.waiting
-        && site.queued(rt) == seen.queued
-        && site.events(rt) == seen.events
+    Some(Seen {
+        waiting: site.waiting(rt),
+        queued: site.queued(rt),
+        events: site.events(rt),
+    })
 }
 
 /// Yields some hundred times, so that clients that are about to sleep most likely do. Nothing tells that they do.
@@ -114,215 +114,156 @@ const CAUSES: [Stop; 8] = [
     Stop::Spawn,
 ];
 
-/// What is done with a cluster of two nodes, in which the clients of node 1 ask for two names.
-#[derive(Drop)]
-struct Sleep<'a> {
-    cluster: &'a Cluster<OpenGate>,
-    node: NodeId,
-    names: [Name; 2],
-    /// The cause for which the cluster is stopped.
+/// The client after whose ask a watchdog saw something else than is expected, and what it saw.
+type Wrong = Mutex<Option<(u32, Option<Seen>)>>;
+
+/// Has the clients ask, and stops the cluster for this cause once they all wait. Counts those that are told of the cause.
+fn wait_and_stop<R: Threads + Wait + Abort + Sync>(
+    rt: &R,
+    alloc: Global,
+    cluster: &Cluster<OpenGate>,
+    node: &NodeId,
+    names: &[Name; 2],
     cause: Stop,
-    /// How many clients are told of the cause.
-    told: AtomicU64,
-    /// How many clients have ended.
-    ended: AtomicU64,
-    /// The client after whose ask a watchdog saw something else than is expected, or 0.
-    wrong: AtomicU64,
-}
-
-/// Has the client of a row ask, and counts it if it is told of the cause.
-fn ask_of<R: Wait>(rt: &R, alloc: Global, sleep: &Sleep<'_>, row: &Ask) {
-    let [first, second] = &sleep.names;
-    let name = if row.takes_second { second } else { first };
-    let got = sleep
-        .cluster
-        .lock(rt, alloc, sleep.node, row.client, *name, Mode::Exclusive);
-    if got == Err(CallError::Site(SiteError::Stopped(sleep.cause))) {
-        sleep.told.fetch_add(1, Ordering::SeqCst);
-    }
-    sleep.ended.fetch_add(1, Ordering::SeqCst);
-}
-
-/// Notes the client of a row if a watchdog does not see what is expected after its ask.
-fn look_after<R: Wait>(rt: &R, sleep: &Sleep<'_>, row: &Ask) {
-    if !sees(rt, sleep.cluster, sleep.node, row.seen) {
-        sleep.wrong.store(u64::from(row.client), Ordering::SeqCst);
-    }
-}
-
-/// Has the clients ask, and stops the cluster once they all wait.
-fn wait_and_stop<R: Threads + Wait + Abort + Sync>(rt: &R, alloc: Global, sleep: &Sleep<'_>) {
+    told: &AtomicU64,
+    wrong: &Wrong,
+) {
+    let ended = AtomicU64::new(0);
+    let ended = &ended;
     thread::scope(thread::scope_env(), rt, move |scope| {
+        let [first, second] = names;
         let mut started = 0u64;
         for row in ASKS {
-            if scope.spawn(move || ask_of(rt, alloc, sleep, row)).is_ok() {
+            let name = if row.takes_second { second } else { first };
+            let waits = scope.spawn(move || {
+                let got = cluster.lock(rt, alloc, *node, row.client, *name, Mode::Exclusive);
+                if got == Err(CallError::Site(SiteError::Stopped(cause))) {
+                    told.fetch_add(1, Ordering::SeqCst);
+                }
+                ended.fetch_add(1, Ordering::SeqCst);
+            });
+            if waits.is_ok() {
                 started = started.saturating_add(1);
             }
-            look_after(rt, sleep, row);
+            let seen = seen_after(rt, cluster, *node, row.seen.events);
+            if seen != Some(row.seen) {
+                *wrong.lock(rt) = Some((row.client, seen));
+            }
         }
         let_others_sleep();
-        sleep.cluster.stop(rt, sleep.cause);
+        cluster.stop(rt, cause);
         // The scope would wait forever for a client that is not woken.
-        assert!(rt; comes_to(&sleep.ended, started), "all clients are woken");
+        assert!(rt; comes_to(ended, started), "all clients are woken");
     })
 }
 
-/// Has the clients of a cluster sleep until it is stopped for this cause. Returns after whose ask a watchdog saw what it should not
-/// see, or 0, and how many clients were told of the cause.
+/// Returns what a watchdog of such a cluster saw that it should not see, and how many clients were told of the cause.
 fn came_of<R: Threads + Wait + Abort + Sync>(
     rt: &R,
     alloc: Global,
     cause: Stop,
-) -> Option<(u64, u64)> {
-    let (node, r, s) = (
+) -> Option<(Option<(u32, Option<Seen>)>, u64)> {
+    let (node, names) = (
         NodeId::new(1)?,
-        Name::new(b"r").ok()?,
-        Name::new(b"s").ok()?,
+        [Name::new(b"r").ok()?, Name::new(b"s").ok()?],
     );
     let cluster = Cluster::new(alloc, 2, 0, OpenGate).ok()?;
-    let sleep = Sleep {
-        cluster: &cluster,
-        node,
-        names: [r, s],
-        cause,
-        told: AtomicU64::new(0),
-        ended: AtomicU64::new(0),
-        wrong: AtomicU64::new(0),
-    };
-    wait_and_stop(rt, alloc, &sleep);
-    Some((
-        sleep.wrong.load(Ordering::SeqCst),
-        sleep.told.load(Ordering::SeqCst),
-    ))
-}
-
-/// Ends the test unless all clients are told this cause, and a watchdog sees what it should see.
-fn assert_told<R: Threads + Wait + Abort + Sync + AllocGlobal>(rt: &R, cause: Stop) {
-    let came = in_a_thread(rt, || came_of(rt, rt.alloc(), cause));
-    let Some((wrong, told)) = came else {
-        panic!(rt; "there is no such cluster");
-    };
-    assert!(rt;
-        wrong == 0 && told == 5,
-        "cause {cause}: {told} clients were told of it, and something is wrong after the ask of client {wrong}"
-    );
+    let (told, wrong) = (AtomicU64::new(0), Mutex::new(None));
+    wait_and_stop(rt, alloc, &cluster, &node, &names, cause, &told, &wrong);
+    Some((wrong.into_inner(), told.load(Ordering::SeqCst)))
 }
 
 #[test]
 fn all_clients_that_sleep_at_a_node_are_told_the_cause_of_a_stop(rt: HostRuntime) {
     for cause in CAUSES {
-        assert_told(&rt, cause);
+        let came = in_a_thread(&rt, || came_of(&rt, rt.alloc(), cause));
+        assert_eq!(rt; came, Some((None, 5)), "cause {cause}");
     }
 }
 
 /// How often two threads use one client number.
 const ROUNDS: u32 = 200;
 
-/// What two threads share that use client number 1 of a single node, at which client 2 holds the name.
-#[derive(Drop)]
-struct Shares<'a> {
-    cluster: &'a Cluster<OpenGate>,
-    node: NodeId,
-    name: Name,
+/// What two threads get that use one client number.
+struct Shared {
     /// The grant of the first.
-    first: Mutex<Option<Grant>>,
-    /// How many threads have ended.
-    ended: AtomicU64,
+    first: Option<Grant>,
+    /// Why the second was refused while the first waited.
+    refused: Option<CallError>,
+    /// The grant of the second, which it got after that.
+    second: Option<Grant>,
 }
 
-/// Has a client lock the name.
-fn locks<R: Wait>(
-    rt: &R,
-    alloc: Global,
-    shares: &Shares<'_>,
-    client: u32,
-) -> Result<Grant, CallError> {
-    let mode = Mode::Exclusive;
-    shares
-        .cluster
-        .lock(rt, alloc, shares.node, client, shares.name, mode)
-}
-
-/// Returns whether a client unlocks the name.
-fn unlocks<R: Wait>(rt: &R, alloc: Global, shares: &Shares<'_>, client: u32) -> bool {
-    shares
-        .cluster
-        .unlock(rt, alloc, shares.node, client, shares.name)
-        .is_ok()
-}
-
-/// The first thread waits for client 2 to leave the name.
-fn waits<R: Wait>(rt: &R, alloc: Global, shares: &Shares<'_>) {
-    let first = locks(rt, alloc, shares, 1).ok();
-    *shares.first.lock(rt) = first;
-    shares.ended.fetch_add(1, Ordering::SeqCst);
-}
-
-/// As soon as the first thread waits and client 2 leaves, the second one unlocks the name, which the first has by then, and asks for it
-/// again. Returns the grant of the second, if it was refused while the first waited.
-fn comes_second<R: Wait>(rt: &R, alloc: Global, shares: &Shares<'_>) -> Option<Grant> {
-    let site = shares.cluster.site(shares.node)?;
-    wait_for_events(rt, site, 2);
-    let refused = locks(rt, alloc, shares, 1);
-    let have_left = unlocks(rt, alloc, shares, 2) && unlocks(rt, alloc, shares, 1);
-    let second = locks(rt, alloc, shares, 1).ok();
-    let busy = CallError::Site(SiteError::Refused(BookError::Busy));
-    if have_left && refused == Err(busy) {
-        second
-    } else {
-        None
-    }
-}
-
-/// Has both threads use the number, and returns the grant of the second.
+/// Two threads use client number 1 of a single node. The first waits for client 2 to leave the name. As soon as client 2
+/// leaves, the second one unlocks the name, which the first has by then, and asks for it again.
 fn share_a_number<R: Threads + Wait + Abort + Sync>(
     rt: &R,
     alloc: Global,
-    shares: &Shares<'_>,
-) -> Option<Grant> {
-    let is_held = locks(rt, alloc, shares, 2).is_ok();
+    cluster: &Cluster<OpenGate>,
+    node: &NodeId,
+    name: &Name,
+    shared: &Mutex<Shared>,
+) {
+    let x = Mode::Exclusive;
+    let ended = AtomicU64::new(0);
+    let ended = &ended;
     thread::scope(thread::scope_env(), rt, move |scope| {
-        let is_started = scope.spawn(move || waits(rt, alloc, shares)).is_ok();
-        let second = comes_second(rt, alloc, shares);
-        if !is_held || !is_started || second.is_none() {
-            shares.cluster.stop(rt, Stop::Refused);
+        let held = cluster.lock(rt, alloc, *node, 2, *name, x);
+        let waits = scope.spawn(move || {
+            let first = cluster.lock(rt, alloc, *node, 1, *name, x).ok();
+            shared.lock(rt).first = first;
+            ended.fetch_add(1, Ordering::SeqCst);
+        });
+        let seen = seen_after(rt, cluster, *node, 2);
+        let refused = cluster.lock(rt, alloc, *node, 1, *name, x).err();
+        let left = cluster.unlock(rt, alloc, *node, 2, *name);
+        let taken = cluster.unlock(rt, alloc, *node, 1, *name);
+        let second = cluster.lock(rt, alloc, *node, 1, *name, x).ok();
+        shared.lock(rt).refused = refused;
+        shared.lock(rt).second = second;
+        if held.is_err() || waits.is_err() || seen.is_none() || left.is_err() || taken.is_err() {
+            cluster.stop(rt, Stop::Refused);
         }
         assert!(rt;
-            !is_started || comes_to(&shares.ended, 1),
+            waits.is_err() || comes_to(ended, 1),
             "the first thread is woken"
         );
-        second
     })
 }
 
-/// Returns whether the first thread got the second request of the node, and the second thread the third.
-fn are_granted(name: Name, first: Option<Grant>, second: Option<Grant>) -> Option<bool> {
-    let x = Mode::Exclusive;
-    let (two, three) = (entry(name, 1, 1, x, 2)?, entry(name, 1, 1, x, 3)?);
-    Some(first?.entry == two && second?.entry == three)
+/// Returns the requests whose grants two threads with one number get, and why the second was refused while the first
+/// waited.
+fn requests_granted<R: Threads + Wait + Abort + Sync>(
+    rt: &R,
+    alloc: Global,
+) -> Option<(Entry, Entry, CallError)> {
+    let (node, name) = (NodeId::new(1)?, Name::new(b"r").ok()?);
+    let cluster = Cluster::new(alloc, 1, 0, OpenGate).ok()?;
+    let shared = Mutex::new(Shared {
+        first: None,
+        refused: None,
+        second: None,
+    });
+    share_a_number(rt, alloc, &cluster, &node, &name, &shared);
+    let Shared {
+        first,
+        refused,
+        second,
+    } = shared.into_inner();
+    Some((first?.entry, second?.entry, refused?))
 }
 
-/// Returns whether two threads with one number get the grants of their own requests, and the second is refused while the first waits.
-fn get_their_own<R: Threads + Wait + Abort + Sync>(rt: &R, alloc: Global) -> Option<bool> {
-    let (node, name) = (NodeId::new(1)?, r()?);
-    let cluster = Cluster::new(alloc, 1, 0, OpenGate).ok()?;
-    let shares = Shares {
-        cluster: &cluster,
-        node,
-        name,
-        first: Mutex::new(None),
-        ended: AtomicU64::new(0),
-    };
-    let second = share_a_number(rt, alloc, &shares);
-    are_granted(name, shares.first.into_inner(), second)
+/// Returns what is expected of them: the second request of the node, the third, and that the client waits already.
+fn expected_requests() -> Option<(Entry, Entry, CallError)> {
+    let (name, x) = (Name::new(b"r").ok()?, Mode::Exclusive);
+    let busy = CallError::Site(SiteError::Refused(BookError::Busy));
+    Some((entry(name, 1, 1, x, 2)?, entry(name, 1, 1, x, 3)?, busy))
 }
 
 #[test]
 fn a_thread_gets_no_grant_of_another_threads_request(rt: HostRuntime) {
     for round in 0..ROUNDS {
-        assert!(rt;
-            in_a_thread(&rt, || get_their_own(&rt, rt.alloc()) == Some(true)),
-            "round {round}"
-        );
+        let came = in_a_thread(&rt, || requests_granted(&rt, rt.alloc()));
+        assert_eq!(rt; came, expected_requests(), "round {round}");
     }
 }

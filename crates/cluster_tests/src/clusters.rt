@@ -1,5 +1,5 @@
 //! What a whole cluster answers if its gate or a stop ends it, and what its clients get.
-use crate::helpers::{Counting, assert_prints, closed, in_a_thread, r};
+use crate::helpers::{Counting, assert_prints, in_a_thread, r};
 use ra_cluster::{Book, BookError, CallError, Cluster, Grant, Held, OpenGate, SiteError, Stop};
 use ra_stamp::{Mode, Name, NodeId};
 use std::alloc::Global;
@@ -20,21 +20,26 @@ const CAUSES: [Stop; 8] = [
     Stop::Spawn,
 ];
 
-/// What a client meets that locks and unlocks a name: whether it is let in, and why it is not, or does not give the name back.
-#[derive(Clone, Copy)]
-struct Met {
-    is_let_in: bool,
-    refused: Option<SiteError>,
+/// What a client meets that locks and unlocks a name.
+#[derive(Clone, Copy, Debug, PartialEq, Eq)]
+enum Met {
+    /// It is let in, and gives the name back.
+    Done,
+    /// It is let in, and does not give the name back, for this reason.
+    Keeps(SiteError),
+    /// It is not let in, for this reason.
+    Refused(CallError),
 }
 
-/// Returns what a client met, or `None` if it did not find its node.
-fn met_by(held: Result<Held<()>, CallError>) -> Option<Met> {
-    let (is_let_in, refused) = match held {
-        Ok(held) => (true, held.unlocked.err()),
-        Err(CallError::Site(refused)) => (false, Some(refused)),
-        Err(CallError::NoNode) => return None,
-    };
-    Some(Met { is_let_in, refused })
+/// Returns what a client met.
+fn met_by(held: Result<Held<()>, CallError>) -> Met {
+    match held {
+        Ok(held) => match held.unlocked {
+            Ok(()) => Met::Done,
+            Err(refused) => Met::Keeps(refused),
+        },
+        Err(refused) => Met::Refused(refused),
+    }
 }
 
 /// How many steps the gate of two nodes lets pass, what a client of node 1 meets then, and how many events each node has.
@@ -46,10 +51,7 @@ struct Passed {
 }
 
 /// A client that the gate did not let in.
-const NOT_LET_IN: Met = Met {
-    is_let_in: false,
-    refused: Some(SiteError::Stopped(Stop::Gate)),
-};
+const NOT_LET_IN: Met = Met::Refused(CallError::Site(SiteError::Stopped(Stop::Gate)));
 
 /// The steps are the ask, the REQUEST that comes to node 2, the REPLY that comes to node 1, and the leave.
 const PASSED: &[Passed] = &[
@@ -70,43 +72,30 @@ const PASSED: &[Passed] = &[
     },
     Passed {
         steps: 3,
-        met: Met {
-            is_let_in: true,
-            ..NOT_LET_IN
-        },
+        met: Met::Keeps(SiteError::Stopped(Stop::Gate)),
         events: (2, 1),
     },
     Passed {
         steps: 4,
-        met: Met {
-            is_let_in: true,
-            refused: None,
-        },
+        met: Met::Done,
         events: (3, 1),
     },
 ];
 
-/// Has client 1 of a node lock the name and unlock it.
-fn work<R: Wait>(
-    rt: &R,
-    alloc: Global,
-    cluster: &Cluster<&Counting>,
-    node: NodeId,
-    name: Name,
-) -> Option<Met> {
-    let mode = Mode::Exclusive;
-    met_by(cluster.with_lock(rt, alloc, node, 1, name, mode, |_grant: Grant| {}))
-}
-
-/// Does the same while the nodes carry their frames.
+/// Has client 1 of a node lock the name and unlock it, while the nodes carry their frames.
 fn works<R: Threads + Wait + Abort + Sync>(
     rt: &R,
     alloc: Global,
     cluster: &Cluster<&Counting>,
     node: NodeId,
     name: Name,
-) -> Option<Met> {
-    cluster.run(rt, alloc, || work(rt, alloc, cluster, node, name))
+) -> Met {
+    let mode = Mode::Exclusive;
+    cluster.run(
+        rt,
+        alloc,
+        || met_by(cluster.with_lock(rt, alloc, node, 1, name, mode, |_grant: Grant| {})),
+    )
 }
 
 /// Returns how many events the books of two nodes have.
@@ -117,134 +106,123 @@ fn events_of(books: &[Book]) -> Option<(u64, u64)> {
     }
 }
 
-/// Returns whether the gate was asked about so many steps of a row: also about the one that it refuses.
-fn is_asked(row: &Passed, asked: u64) -> bool {
-    if row.steps == 4 {
-        asked == 4
-    } else {
-        asked > row.steps
-    }
-}
-
-/// Returns whether this was met, and so many events were left.
-fn is_so(row: &Passed, met: Met, events: (u64, u64)) -> bool {
-    met.is_let_in == row.met.is_let_in
-        && met.refused == row.met.refused
-        && events.0 == row.events.0
-        && events.1 == row.events.1
-}
-
-/// Returns whether a client of two nodes meets behind such a gate what it should, and the gate is asked.
-fn came<R: Threads + Wait + Abort + Sync>(rt: &R, alloc: Global, row: &Passed) -> Option<bool> {
-    let (name, one, gate) = (r()?, NodeId::new(1)?, Counting::new(row.steps, true));
+/// What a client of two nodes meets behind such a gate, how many steps the gate was asked about, and how many events the
+/// nodes have.
+fn came<R: Threads + Wait + Abort + Sync>(
+    rt: &R,
+    alloc: Global,
+    steps: u64,
+) -> Option<(Met, u64, (u64, u64))> {
+    let (name, one, gate) = (r()?, NodeId::new(1)?, Counting::new(steps, true));
     let cluster = Cluster::new(alloc, 2, 0, &gate).ok()?;
     let met = works(rt, alloc, &cluster, one, name);
-    let events = events_of(&closed(alloc, cluster));
-    Some(is_so(row, met?, events?) && is_asked(row, gate.steps.load(Ordering::SeqCst)))
+    let events = events_of(&cluster.close(alloc))?;
+    Some((met, gate.steps.load(Ordering::SeqCst), events))
 }
 
 #[test]
 fn the_gate_of_a_cluster_is_asked_before_each_step_of_each_node(rt: HostRuntime) {
     for row in PASSED {
+        let came = in_a_thread(&rt, || came(&rt, rt.alloc(), row.steps));
+        let Some((met, asked, events)) = came else {
+            panic!(rt; "there is no such cluster");
+        };
+        assert_eq!(rt; met, row.met, "{} steps", row.steps);
+        assert_eq!(rt; events, row.events, "{} steps", row.steps);
+        // It is asked about the step that it refuses, too.
+        let is_asked = if row.steps == 4 {
+            asked == 4
+        } else {
+            asked > row.steps
+        };
         assert!(rt;
-            in_a_thread(&rt, || came(&rt, rt.alloc(), row) == Some(true)),
-            "{} steps",
+            is_asked,
+            "{} steps pass, and it was asked about {asked}",
             row.steps
         );
     }
 }
 
-/// Returns whether a node of a cluster is stopped for this cause.
-fn is_stopped_for<R: Wait>(
+/// Returns the first node of a cluster that is not stopped for this cause, and the cause for which it is stopped, if it is.
+fn not_stopped_for<R: Wait>(
     rt: &R,
     cluster: &Cluster<OpenGate>,
-    number: u16,
     cause: Stop,
-) -> Option<bool> {
-    let site = cluster.site(NodeId::new(number)?)?;
-    Some(site.fault(rt) == Some(cause))
-}
-
-/// Waits until the pumps of all nodes end, which would wait forever if the post were open. Returns whether all nodes are stopped for
-/// this cause.
-fn are_stopped_for<R: Wait>(
-    rt: &R,
-    alloc: Global,
-    cluster: &Cluster<OpenGate>,
-    cause: Stop,
-) -> Option<bool> {
+) -> Option<(u16, Option<Stop>)> {
     for number in 1..=cluster.nodes() {
-        cluster.pump(rt, alloc, NodeId::new(number)?);
-        if is_stopped_for(rt, cluster, number, cause) != Some(true) {
-            return Some(false);
+        let fault = match NodeId::new(number) {
+            Some(node) => match cluster.site(node) {
+                Some(site) => site.fault(rt),
+                None => None,
+            },
+            None => None,
+        };
+        if fault != Some(cause) {
+            return Some((number, fault));
         }
     }
-    Some(true)
+    None
 }
 
-/// Returns whether a client of the last node is refused, since the node is stopped.
-fn has_failed<R: Wait>(rt: &R, alloc: Global, cluster: &Cluster<OpenGate>) -> Option<bool> {
-    let (node, name) = (NodeId::new(cluster.nodes())?, r()?);
-    let answer = cluster.lock(rt, alloc, node, 1, name, Mode::Shared);
-    Some(answer == Err(CallError::Site(SiteError::Refused(BookError::Failed))))
-}
-
-/// Stops a cluster of so many nodes for this cause, and then for another. Returns whether all are stopped for the first, and refuse a
-/// client then.
-fn stops_all<R: Wait>(rt: &R, alloc: Global, nodes: u16, cause: Stop) -> Option<bool> {
+/// Stops a cluster of so many nodes for this cause, and waits until the pumps end. Returns the first node that is not
+/// stopped for it, and why a client of the last node is refused then.
+fn after_a_stop<R: Wait>(
+    rt: &R,
+    alloc: Global,
+    nodes: u16,
+    cause: Stop,
+) -> Option<(Option<(u16, Option<Stop>)>, Option<CallError>)> {
     let cluster = Cluster::new(alloc, nodes, 0, OpenGate).ok()?;
     cluster.stop(rt, cause);
+    // The first cause is kept.
     cluster.stop(rt, Stop::Gate);
-    Some(
-        are_stopped_for(rt, alloc, &cluster, cause) == Some(true)
-            && has_failed(rt, alloc, &cluster) == Some(true),
-    )
-}
-
-/// Ends the test if it is not so for each cause.
-fn assert_stops_all<R: Threads + Wait + Abort + Sync + AllocGlobal>(rt: &R, nodes: u16) {
-    for cause in CAUSES {
-        assert!(rt;
-            in_a_thread(rt, || stops_all(rt, rt.alloc(), nodes, cause) == Some(true)),
-            "{nodes} nodes, cause {cause}"
-        );
+    for number in 1..=nodes {
+        // These would wait forever if the post were open.
+        cluster.pump(rt, alloc, NodeId::new(number)?);
     }
+    let refused = cluster
+        .lock(rt, alloc, NodeId::new(nodes)?, 1, r()?, Mode::Shared)
+        .err();
+    Some((not_stopped_for(rt, &cluster, cause), refused))
 }
 
 #[test]
 fn a_stop_of_a_cluster_stops_all_nodes_for_its_cause_and_ends_the_pumps(rt: HostRuntime) {
+    let failed = CallError::Site(SiteError::Refused(BookError::Failed));
     for nodes in [1u16, 2, 3] {
-        assert_stops_all(&rt, nodes);
+        for cause in CAUSES {
+            let came = in_a_thread(&rt, || after_a_stop(&rt, rt.alloc(), nodes, cause));
+            assert_eq!(rt;
+                came,
+                Some((None, Some(failed))),
+                "{nodes} nodes, cause {cause}"
+            );
+        }
     }
 }
 
-/// Returns why client 1 of a single node is refused that locks the name.
-fn refusal<R: Wait>(rt: &R, alloc: Global, cluster: &Cluster<OpenGate>) -> Option<CallError> {
+/// Returns why a client of a single node is refused that holds the name already.
+fn holds_already<R: Wait>(rt: &R, alloc: Global) -> Option<CallError> {
     let (name, one) = (r()?, NodeId::new(1)?);
+    let cluster = Cluster::new(alloc, 1, 0, OpenGate).ok()?;
+    let _grant = cluster.lock(rt, alloc, one, 1, name, Mode::Exclusive).ok()?;
     cluster.lock(rt, alloc, one, 1, name, Mode::Exclusive).err()
 }
 
-/// Returns why it is refused if it holds the name already.
-fn holds_already<R: Wait>(rt: &R, alloc: Global) -> Option<CallError> {
-    let cluster = Cluster::new(alloc, 1, 0, OpenGate).ok()?;
-    match refusal(rt, alloc, &cluster) {
-        None => refusal(rt, alloc, &cluster),
-        Some(_) => None,
-    }
-}
-
-/// Returns why it is refused if no number is left.
+/// Returns why a client is refused if no number is left.
 fn has_no_number<R: Wait>(rt: &R, alloc: Global) -> Option<CallError> {
     let cluster = Cluster::new(alloc, 1, u64::MAX, OpenGate).ok()?;
-    refusal(rt, alloc, &cluster)
+    cluster
+        .lock(rt, alloc, NodeId::new(1)?, 1, r()?, Mode::Exclusive)
+        .err()
 }
 
 #[test]
 fn a_refused_lock_of_a_cluster_tells_why(rt: HostRuntime) {
     let busy = CallError::Site(SiteError::Refused(BookError::Busy));
     let exhausted = CallError::Site(SiteError::Refused(BookError::Exhausted));
-    assert!(rt; holds_already(&rt, rt.alloc()) == Some(busy));
-    assert!(rt; has_no_number(&rt, rt.alloc()) == Some(exhausted));
+    assert_eq!(rt; holds_already(&rt, rt.alloc()), Some(busy));
+    assert_eq!(rt; has_no_number(&rt, rt.alloc()), Some(exhausted));
 }
 
 /// Why a call of a cluster failed, and the word of it.
@@ -263,10 +241,11 @@ fn why_a_call_of_a_cluster_failed_is_printed_as_its_word(rt: HostRuntime) {
 fn runs_nothing<R: Threads + Wait + Abort + Sync>(rt: &R, alloc: Global) -> Option<(u8, usize)> {
     let cluster = Cluster::new(alloc, 3, 0, OpenGate).ok()?;
     let value = cluster.run(rt, alloc, || -> u8 { 7 });
-    Some((value, closed(alloc, cluster).len()))
+    Some((value, cluster.close(alloc).len()))
 }
 
 #[test]
 fn a_cluster_ends_its_pumps_when_the_closure_returns(rt: HostRuntime) {
-    assert!(rt; in_a_thread(&rt, || runs_nothing(&rt, rt.alloc()) == Some((7, 3))));
+    let ran = in_a_thread(&rt, || runs_nothing(&rt, rt.alloc()));
+    assert_eq!(rt; ran, Some((7, 3)));
 }

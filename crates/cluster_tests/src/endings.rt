@@ -2,14 +2,119 @@
 use crate::helpers::ran;
 use crate::plans::{Client, script_of};
 use ra_cluster::{ClusterError, Gate, Settled};
+use ra_stamp::{Entry, Mark, Mode};
+use ra_world::Step;
 use std::alloc::Global;
 use std::process::Abort;
 use std::sync::Wait;
 use std::thread::Threads;
 
+/// How many steps or marks there are of each kind.
+#[derive(Clone, Copy, PartialEq, Eq)]
+struct Counts {
+    asks: u128,
+    deliveries: u128,
+    enters: u128,
+    leaves: u128,
+    others: u128,
+}
+
+/// Nothing is counted yet.
+const NOTHING: Counts = Counts {
+    asks: 0,
+    deliveries: 0,
+    enters: 0,
+    leaves: 0,
+    others: 0,
+};
+
+/// Counts steps.
+fn steps_counted(steps: &[Step]) -> Counts {
+    let mut counts = NOTHING;
+    for step in steps {
+        let count = match step {
+            Step::Ask { .. } => &mut counts.asks,
+            Step::Deliver(_) => &mut counts.deliveries,
+            Step::Leave { .. } => &mut counts.leaves,
+            Step::Lose(_) | Step::Repeat(_) => &mut counts.others,
+        };
+        *count = count.saturating_add(1);
+    }
+    counts
+}
+
+/// Counts marks.
+fn marks_counted(marks: &[Mark]) -> Counts {
+    let mut counts = NOTHING;
+    for mark in marks {
+        let count = match mark {
+            Mark::Requested(_) => &mut counts.asks,
+            Mark::Entered(_) => &mut counts.enters,
+            Mark::Left(_) => &mut counts.leaves,
+        };
+        *count = count.saturating_add(1);
+    }
+    counts
+}
+
+/// Returns whether the numbers of steps and marks fit this many requests, each granted and left, and this many
+/// messages, each delivered.
+fn are_as_many(settled: &Settled, requests: u128, sent: u128) -> bool {
+    let steps = Counts {
+        asks: requests,
+        deliveries: sent,
+        leaves: requests,
+        ..NOTHING
+    };
+    let marks = Counts {
+        asks: requests,
+        enters: requests,
+        leaves: requests,
+        ..NOTHING
+    };
+    steps_counted(settled.steps.as_slice()) == steps
+        && marks_counted(settled.report.marks.as_slice()) == marks
+}
+
+/// Returns whether the mark at this place grants a name that another request still holds, and one of the two is a
+/// writer's.
+fn is_too_early(marks: &[Mark], place: usize) -> bool {
+    let Some(Mark::Entered(entered)) = marks.get(place) else {
+        return false;
+    };
+    let mut holders = 0u64;
+    for mark in marks.iter().take(place) {
+        match mark {
+            Mark::Entered(other) if other.name == entered.name && conflict(other, entered) => {
+                holders = holders.saturating_add(1);
+            }
+            Mark::Left(other) if other.name == entered.name && conflict(other, entered) => {
+                holders = holders.saturating_sub(1);
+            }
+            _ => {}
+        }
+    }
+    holders > 0
+}
+
+/// Returns whether the requests of two readers or writers conflict.
+fn conflict(one: &Entry, other: &Entry) -> bool {
+    one.mode != Mode::Shared || other.mode != Mode::Shared
+}
+
+/// Returns whether no grant comes too early.
+fn exclude_each_other(marks: &[Mark]) -> bool {
+    for place in 0..marks.len() {
+        if is_too_early(marks, place) {
+            return false;
+        }
+    }
+    true
+}
+
 /// Returns whether this many requests were made and messages sent, and nothing is left: no message is under way, lost
-/// or repeated, and no client is waiting or queued. That each client did its operations, and no writer was inside with
-/// another client, is proved of each run that settles.
+/// or repeated, and no client is waiting or queued. The steps and the marks, counted one by one, must match, and no
+/// writer may be inside with another client.
 pub fn is_done(settled: &Settled, requests: u128, sent: u128) -> bool {
     let report = &settled.report;
     report.requests == requests
@@ -19,6 +124,8 @@ pub fn is_done(settled: &Settled, requests: u128, sent: u128) -> bool {
         && report.repeated == 0
         && report.waiting == 0
         && report.queued == 0
+        && are_as_many(settled, requests, sent)
+        && exclude_each_other(report.marks.as_slice())
 }
 
 /// Returns whether threads, with a gate, bring the script of this many nodes with these clients to its end, with this

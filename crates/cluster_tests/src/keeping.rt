@@ -167,6 +167,21 @@ fn books_take_what_happens_and_keep_it(rt: HostRuntime) {
     assert_rows(&rt, TAKEN);
 }
 
+/// The REQUEST as if it were of version 3.
+const ASKS_3: [u8; 25] = [
+    3, 1, 0, 1, 0, 2, 1, 0, 0, 0, 0, 0, 0, 0, 1, 0, 0, 0, 0, 0, 0, 0, 1, 1, b'r',
+];
+
+/// The REQUEST to node 3.
+const ASKS_NODE_3: [u8; 25] = [
+    2, 1, 0, 1, 0, 3, 1, 0, 0, 0, 0, 0, 0, 0, 1, 0, 0, 0, 0, 0, 0, 0, 1, 1, b'r',
+];
+
+/// The REQUEST from node 5.
+const ASKS_AS_NODE_5: [u8; 25] = [
+    2, 1, 0, 5, 0, 2, 1, 0, 0, 0, 0, 0, 0, 0, 1, 0, 0, 0, 0, 0, 0, 0, 1, 1, b'r',
+];
+
 /// What books refuse, after which they are as before.
 const REFUSED: &[Row] = &[
     Row {
@@ -229,6 +244,9 @@ const REFUSED: &[Row] = &[
         start: 0,
         steps: &[
             Refuses(Receive(&[]), BookError::Frame(FrameError::Short)),
+            Refuses(Receive(&ASKS_3), BookError::Frame(FrameError::Version)),
+            Refuses(Receive(&ASKS_NODE_3), BookError::WrongNode),
+            Refuses(Receive(&ASKS_AS_NODE_5), BookError::Stranger),
             Has(0, 0, 0),
         ],
     },

@@ -1,14 +1,14 @@
 //! The run into which books settle.
 use crate::books::Call::{Ask, Leave, Receive};
-use crate::books::Step::{Has, Loses, Takes};
+use crate::books::Step::{Loses, Takes};
 use crate::books::{ASK, ASKS, LEAVE};
-use crate::helpers::{assert_prints, r, reply, request, settled};
+use crate::helpers::{assert_prints, r, reply, request};
 use crate::histories::Done::{At, Passes};
 use crate::histories::{Done, Granted, Made, ONE, TWO, books_after, grants_of};
 use Mode::{Exclusive, Shared};
 use Outcome::{Refused, Settles};
 use Seen::{Asked, Left, Lost, Replied, Requested};
-use ra_cluster::{Book, Grant, SettleError, Settled, is_cluster};
+use ra_cluster::{Book, Grant, SettleError, Settled, is_cluster, settle};
 use ra_stamp::{Mode, Name, NodeId};
 use ra_world::{Step, report_text};
 use std::alloc::Global;
@@ -58,17 +58,33 @@ fn step(name: Name, seen: Seen) -> Option<Step> {
     }
 }
 
+/// Returns whether this step is the one that was seen.
+fn is_step(found: &Step, name: Name, seen: Seen) -> bool {
+    match step(name, seen) {
+        Some(step) => *found == step,
+        None => false,
+    }
+}
+
+/// Returns how many of the steps are these, up to the first that differs, or `None` if more steps follow.
+fn steps_so(found: &[Step], all: &[Seen]) -> Option<usize> {
+    let (name, mut count) = (r()?, 0usize);
+    for (found, seen) in found.iter().zip(all.iter()) {
+        if !is_step(found, name, *seen) {
+            return Some(count);
+        }
+        count = count.saturating_add(1);
+    }
+    if found.len() > all.len() {
+        None
+    } else {
+        Some(count)
+    }
+}
+
 /// Returns whether the steps are these.
 fn are_steps(found: &[Step], all: &[Seen]) -> bool {
-    let Some(name) = r() else {
-        return false;
-    };
-    for place in 0..all.len() {
-        if found.get(place).copied() != step(name, all[place]) {
-            return false;
-        }
-    }
-    found.len() == all.len()
+    steps_so(found, all) == Some(all.len())
 }
 
 /// Returns whether the report prints as this text.
@@ -79,83 +95,52 @@ fn has_text(alloc: Global, settled: &Settled, text: &str) -> bool {
     }
 }
 
-/// Returns what is wrong with the run into which books settled, which is to have these steps and print as this text.
-fn wrong_with(
-    alloc: Global,
-    settled: &Settled,
-    steps: &[Seen],
-    text: &str,
-) -> Option<&'static str> {
-    if !are_steps(settled.steps.as_slice(), steps) {
-        return Some("the steps are others");
+/// Returns whether books are a cluster and have this outcome.
+pub fn comes(alloc: Global, books: &[Book], grants: &[Grant], outcome: Outcome) -> bool {
+    if !is_cluster(books) {
+        return false;
     }
-    if has_text(alloc, settled, text) {
-        None
-    } else {
-        Some("the report is another one")
+    match (settle(alloc, books, grants), outcome) {
+        (Ok(settled), Settles(steps, text)) => {
+            are_steps(settled.steps.as_slice(), steps) && has_text(alloc, &settled, text)
+        }
+        (Err(found), Refused(fault)) => found == fault,
+        _ => false,
     }
 }
 
-/// Returns what is wrong if books settled into this run.
-fn wrong_run(alloc: Global, settled: &Settled, outcome: Outcome) -> Option<&'static str> {
-    match outcome {
-        Settles(steps, text) => wrong_with(alloc, settled, steps, text),
-        Refused(_) => Some("they settle"),
-    }
-}
-
-/// Returns what is wrong if books were refused for this reason.
-fn wrong_refusal(found: SettleError, outcome: Outcome) -> Option<&'static str> {
-    match outcome {
-        Refused(fault) if found == fault => None,
-        _ => Some("they do not settle, or are refused for another reason"),
-    }
-}
-
-/// Returns what is wrong with books that are to be a cluster and to have this outcome.
-fn wrong_outcome(
-    alloc: Global,
+/// Ends the test unless the books are a cluster and have this outcome.
+fn assert_settles<R: Abort + AllocGlobal>(
+    rt: &R,
     books: &[Book],
     grants: &[Grant],
     outcome: Outcome,
-) -> Option<&'static str> {
-    match settled(alloc, books, grants) {
-        Some(Ok(settled)) => wrong_run(alloc, &settled, outcome),
-        Some(Err(found)) => wrong_refusal(found, outcome),
-        None => Some("they are not a cluster"),
-    }
-}
-
-/// Returns whether books are a cluster and have this outcome.
-pub fn comes(alloc: Global, books: &[Book], grants: &[Grant], outcome: Outcome) -> bool {
-    wrong_outcome(alloc, books, grants, outcome).is_none()
-}
-
-/// What is done to the books of two nodes, the grants with which they settle, and what comes of it.
-struct Case {
-    shows: &'static str,
-    done: &'static [Done],
-    granted: &'static [Granted],
-    outcome: Outcome,
-}
-
-/// Returns what is wrong with a case.
-fn wrong_with_case(alloc: Global, case: &Case) -> Option<&'static str> {
-    let Some(grants) = grants_of(alloc, case.granted) else {
-        return Some("there are no such grants");
-    };
-    match books_after(alloc, &[ONE, TWO], case.done) {
-        Ok(books) => wrong_outcome(alloc, &books, &grants, case.outcome),
-        Err(_) => Some("not all of it can be done"),
-    }
-}
-
-/// Ends the test if something is wrong with one of the cases.
-fn assert_settle<R: Abort + AllocGlobal>(rt: &R, cases: &[Case]) {
-    for case in cases {
-        if let Some(wrong) = wrong_with_case(rt.alloc(), case) {
-            panic!(rt; "{}: {wrong}", case.shows);
+) {
+    assert!(rt; is_cluster(books), "the books are a cluster");
+    match (settle(rt.alloc(), books, grants), outcome) {
+        (Ok(settled), Settles(steps, text)) => {
+            let so = steps_so(settled.steps.as_slice(), steps);
+            assert!(rt; so == Some(steps.len()), "the steps up to {so:?} are so");
+            assert!(rt; has_text(rt.alloc(), &settled, text), "the report is so");
         }
+        (Ok(_), Refused(fault)) => panic!(rt; "it settles, and is not refused: {fault}"),
+        (Err(found), Refused(fault)) => assert_eq!(rt; found, fault),
+        (Err(found), Settles(_, _)) => panic!(rt; "it does not settle: {found}"),
+    }
+}
+
+/// Does all of this to the books of two nodes. Ends the test if these and the grants have another outcome.
+fn assert_outcome<R: Abort + AllocGlobal>(
+    rt: &R,
+    done: &[Done],
+    granted: &[Granted],
+    outcome: Outcome,
+) {
+    let books = books_after(rt.alloc(), &[ONE, TWO], done);
+    match (books, grants_of(rt.alloc(), granted)) {
+        (Ok(books), Some(grants)) => assert_settles(rt, &books, &grants, outcome),
+        (Err(place), _) => panic!(rt; "what is done at place {place}, counted from 0, can't be"),
+        (Ok(_), None) => panic!(rt; "there are no such grants"),
     }
 }
 
@@ -179,11 +164,8 @@ const NO_CLUSTERS: &[&[Made]] = &[
 #[test]
 fn books_of_all_nodes_in_order_are_a_cluster(rt: HostRuntime) {
     assert!(rt; are_cluster(rt.alloc(), &[ONE, TWO]) == Some(true));
-    for place in 0..NO_CLUSTERS.len() {
-        assert!(rt;
-            are_cluster(rt.alloc(), NO_CLUSTERS[place]) == Some(false),
-            "at {place}"
-        );
+    for (place, made) in NO_CLUSTERS.iter().enumerate() {
+        assert!(rt; are_cluster(rt.alloc(), made) == Some(false), "at {place}");
     }
 }
 
@@ -199,24 +181,93 @@ const LOCKS_ONCE: &[Done] = &[
 const FIRST: Granted = Granted(1, 1, Exclusive, 1);
 
 /// The run into which this settles.
-const LOCKED_ONCE: Outcome = Settles(
-    &[
-        Asked(1, Exclusive),
-        Requested(1, 2, Exclusive),
-        Replied(2, 1),
-        Left(1),
-    ],
-    "request 1 1 r X 1\nenter 1 1 r X 1\nleave 1 1 r X 1\n\
-        requests 1\nmessages 2\nunder-way 0\nlost 0\nwaiting 0\nqueued 0\n",
-);
+const LOCKED_ONCE: &[Seen] = &[
+    Asked(1, Exclusive),
+    Requested(1, 2, Exclusive),
+    Replied(2, 1),
+    Left(1),
+];
+
+#[test]
+fn one_lock_settles_into_the_run_of_it(rt: HostRuntime) {
+    let text = "request 1 1 r X 1\nenter 1 1 r X 1\nleave 1 1 r X 1\n\
+        requests 1\nmessages 2\nunder-way 0\nlost 0\nwaiting 0\nqueued 0\n";
+    let outcome = Settles(LOCKED_ONCE, text);
+    assert_outcome(&rt, LOCKS_ONCE, &[FIRST], outcome);
+}
 
 /// The REQUEST of [`ASKS`] arrives at node 2.
 const HEARS: Done = At(2, Takes(Receive(&ASKS)));
+
+#[test]
+fn a_frame_that_was_not_sent_is_refused(rt: HostRuntime) {
+    let not_sent = Refused(SettleError::NotSent);
+    assert_outcome(&rt, &[HEARS], &[], not_sent);
+    // It takes precedence over a missing grant.
+    assert_outcome(&rt, &[HEARS], &[FIRST], not_sent);
+}
 
 /// The REQUEST of [`ASKS`] at clock 2.
 const ASKS_AT_2: [u8; 25] = [
     2, 1, 0, 1, 0, 2, 1, 0, 0, 0, 0, 0, 0, 0, 1, 0, 0, 0, 0, 0, 0, 0, 2, 1, b'r',
 ];
+
+#[test]
+fn a_frame_with_another_clock_was_not_sent(rt: HostRuntime) {
+    // It was sent at clock 1.
+    assert_outcome(
+        &rt,
+        &[At(1, Takes(ASK)), At(2, Takes(Receive(&ASKS_AT_2)))],
+        &[],
+        Refused(SettleError::NotSent),
+    );
+}
+
+#[test]
+fn a_message_that_came_twice_is_refused(rt: HostRuntime) {
+    assert_outcome(
+        &rt,
+        &[At(1, Takes(ASK)), Passes(1, 0), Passes(1, 0)],
+        &[],
+        Refused(SettleError::Twice),
+    );
+}
+
+#[test]
+fn a_request_that_waits_is_no_grant(rt: HostRuntime) {
+    let missing = Refused(SettleError::GrantMissing);
+    assert_outcome(&rt, &[At(1, Takes(ASK))], &[FIRST], missing);
+}
+
+#[test]
+fn each_grant_stands_once(rt: HostRuntime) {
+    let twice = Refused(SettleError::GrantTwice);
+    assert_outcome(&rt, LOCKS_ONCE, &[FIRST, FIRST], twice);
+    // A missing grant takes precedence over it.
+    let missing = Refused(SettleError::GrantMissing);
+    assert_outcome(
+        &rt,
+        LOCKS_ONCE,
+        &[FIRST, FIRST, Granted(1, 1, Shared, 1)],
+        missing,
+    );
+}
+
+#[test]
+fn a_lost_frame_did_not_come(rt: HostRuntime) {
+    assert_outcome(
+        &rt,
+        &[
+            At(1, Takes(ASK)),
+            Passes(1, 0),
+            Passes(2, 0),
+            At(1, Takes(LEAVE)),
+            At(1, Loses(1)),
+        ],
+        &[FIRST],
+        Refused(SettleError::NotSent),
+    );
+}
 
 /// The run in which client 1 of node 1 asks, and the REQUEST to node 2 is lost.
 pub const LOST_ONCE: Outcome = Settles(
@@ -224,9 +275,14 @@ pub const LOST_ONCE: Outcome = Settles(
     "request 1 1 r X 1\nrequests 1\nmessages 1\nunder-way 0\nlost 1\nwaiting 1\nqueued 0\n",
 );
 
+#[test]
+fn a_lost_frame_is_lost_at_the_end(rt: HostRuntime) {
+    assert_outcome(&rt, &[At(1, Takes(ASK)), At(1, Loses(1))], &[], LOST_ONCE);
+}
+
 /// The clients of two nodes ask for `r` shared, each at clock 1. The REQUESTs and the REPLYs arrive, and both clients
-/// leave. Each event of one node has the clock of an event of the other, 1 to 4. Each book sends the REQUEST first, and
-/// then the REPLY.
+/// leave. Each event of one node has the clock of an event of the other. Each book sends the REQUEST first, and then
+/// the REPLY.
 const READ_AT_ONCE: &[Done] = &[
     At(1, Takes(Ask(1, Shared))),
     At(2, Takes(Ask(2, Shared))),
@@ -236,115 +292,59 @@ const READ_AT_ONCE: &[Done] = &[
     Passes(1, 1),
     At(1, Takes(Leave(1))),
     At(2, Takes(Leave(2))),
-    At(1, Has(4, 2, 4)),
-    At(2, Has(4, 2, 4)),
 ];
 
 /// The run into which this settles.
-const READS_AT_ONCE: Outcome = Settles(
-    &[
-        Asked(1, Shared),
-        Asked(2, Shared),
-        Requested(2, 1, Shared),
-        Requested(1, 2, Shared),
-        Replied(2, 1),
-        Replied(1, 2),
-        Left(1),
-        Left(2),
-    ],
-    "request 1 1 r S 1\nrequest 2 2 r S 1\nenter 1 1 r S 1\nenter 2 2 r S 1\n\
-        leave 1 1 r S 1\nleave 2 2 r S 1\n\
-        requests 2\nmessages 4\nunder-way 0\nlost 0\nwaiting 0\nqueued 0\n",
-);
-
-/// What books settle into.
-const SETTLED: &[Case] = &[
-    Case {
-        shows: "one lock",
-        done: LOCKS_ONCE,
-        granted: &[FIRST],
-        outcome: LOCKED_ONCE,
-    },
-    Case {
-        shows: "a lost frame is lost at the end",
-        done: &[At(1, Takes(ASK)), At(1, Loses(1))],
-        granted: &[],
-        outcome: LOST_ONCE,
-    },
-    Case {
-        shows: "events of one clock are settled by node",
-        done: READ_AT_ONCE,
-        granted: &[Granted(1, 1, Shared, 1), Granted(2, 2, Shared, 1)],
-        outcome: READS_AT_ONCE,
-    },
+const READS_AT_ONCE: &[Seen] = &[
+    Asked(1, Shared),
+    Asked(2, Shared),
+    Requested(2, 1, Shared),
+    Requested(1, 2, Shared),
+    Replied(2, 1),
+    Replied(1, 2),
+    Left(1),
+    Left(2),
 ];
 
 #[test]
-fn books_settle_into_their_run(rt: HostRuntime) {
-    assert_settle(&rt, SETTLED);
+fn events_of_one_clock_are_settled_by_node(rt: HostRuntime) {
+    let text = "request 1 1 r S 1\nrequest 2 2 r S 1\nenter 1 1 r S 1\nenter 2 2 r S 1\n\
+        leave 1 1 r S 1\nleave 2 2 r S 1\n\
+        requests 2\nmessages 4\nunder-way 0\nlost 0\nwaiting 0\nqueued 0\n";
+    let outcome = Settles(READS_AT_ONCE, text);
+    assert_outcome(
+        &rt,
+        READ_AT_ONCE,
+        &[Granted(1, 1, Shared, 1), Granted(2, 2, Shared, 1)],
+        outcome,
+    );
 }
 
-/// Books that do not settle.
-const REFUSED: &[Case] = &[
-    Case {
-        shows: "a frame that was not sent",
-        done: &[HEARS],
-        granted: &[],
-        outcome: Refused(SettleError::NotSent),
-    },
-    Case {
-        shows: "it takes precedence over a missing grant",
-        done: &[HEARS],
-        granted: &[FIRST],
-        outcome: Refused(SettleError::NotSent),
-    },
-    Case {
-        shows: "a frame that was sent at another clock",
-        done: &[At(1, Takes(ASK)), At(2, Takes(Receive(&ASKS_AT_2)))],
-        granted: &[],
-        outcome: Refused(SettleError::NotSent),
-    },
-    Case {
-        shows: "a message that came twice",
-        done: &[At(1, Takes(ASK)), Passes(1, 0), Passes(1, 0)],
-        granted: &[],
-        outcome: Refused(SettleError::Twice),
-    },
-    Case {
-        shows: "the grant of a request that waits",
-        done: &[At(1, Takes(ASK))],
-        granted: &[FIRST],
-        outcome: Refused(SettleError::GrantMissing),
-    },
-    Case {
-        shows: "a grant twice",
-        done: LOCKS_ONCE,
-        granted: &[FIRST, FIRST],
-        outcome: Refused(SettleError::GrantTwice),
-    },
-    Case {
-        shows: "a missing grant takes precedence over it",
-        done: LOCKS_ONCE,
-        granted: &[FIRST, FIRST, Granted(1, 1, Shared, 1)],
-        outcome: Refused(SettleError::GrantMissing),
-    },
-    Case {
-        shows: "a lost frame that came",
-        done: &[
-            At(1, Takes(ASK)),
-            Passes(1, 0),
-            Passes(2, 0),
-            At(1, Takes(LEAVE)),
-            At(1, Loses(1)),
-        ],
-        granted: &[FIRST],
-        outcome: Refused(SettleError::NotSent),
-    },
-];
+/// Returns whether a book has four events, and the clock of each is its place plus one.
+fn has_four_clocks(book: &Book) -> bool {
+    for place in 0..4u64 {
+        match book.events().at(place) {
+            Some(event) if event.clock == place + 1 => {}
+            _ => return false,
+        }
+    }
+    book.events().len() == 4
+}
+
+/// Returns whether this is so for the book of each node when both read at once.
+fn both_have_four_clocks(alloc: Global) -> bool {
+    match books_after(alloc, &[ONE, TWO], READ_AT_ONCE) {
+        Ok(books) => match books.as_slice() {
+            [one, two] => has_four_clocks(one) && has_four_clocks(two),
+            _ => false,
+        },
+        Err(_) => false,
+    }
+}
 
 #[test]
-fn books_that_do_not_fit_are_refused(rt: HostRuntime) {
-    assert_settle(&rt, REFUSED);
+fn who_reads_at_once_has_the_same_clocks(rt: HostRuntime) {
+    assert!(rt; both_have_four_clocks(rt.alloc()));
 }
 
 /// Why books do not settle, and the word printed for it.

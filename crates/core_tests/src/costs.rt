@@ -70,10 +70,18 @@ fn asks_for_each_client(alloc: Global) -> bool {
 
 #[test]
 fn a_message_among_many_is_found_without_a_search(rt: HostRuntime) {
-    assert_so(&rt, moves_each_message(rt.alloc()));
+    assert_so(
+        &rt,
+        "each of 400,000 messages is found, taken and put again",
+        moves_each_message(rt.alloc()),
+    );
 }
 
 #[test]
 fn a_client_in_a_long_queue_is_found_without_a_search(rt: HostRuntime) {
-    assert_so(&rt, asks_for_each_client(rt.alloc()));
+    assert_so(
+        &rt,
+        "each of 1,000,000 clients asks once and is busy then",
+        asks_for_each_client(rt.alloc()),
+    );
 }

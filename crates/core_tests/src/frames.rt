@@ -288,6 +288,48 @@ fn the_longest_frames_are_read_in_both_versions_and_written_in_the_second(rt: Ho
     assert_rows(&rt, so, LONGEST.len());
 }
 
+/// Returns whether a REPLY from a node to node 2 fits, with this clock and number.
+fn fits(from: u16, clock: u64, seq: u64) -> bool {
+    match (NodeId::new(from), NodeId::new(2)) {
+        (Some(from), Some(to)) => {
+            let message = Message::Reply {
+                from,
+                to,
+                name: r(),
+                seq,
+            };
+            Frame { clock, message }.fits()
+        }
+        _ => false,
+    }
+}
+
+/// The node from which a frame is, its clock and its number, and whether it fits.
+const FITTING: &[(u16, u64, u64, bool)] = &[
+    (1, 1, 1, true),
+    (1, LAST, u64::MAX, true),
+    (1, 0, 1, false),
+    (1, LAST + 1, 1, false),
+    (1, 1, 0, false),
+    (2, 1, 1, false),
+];
+
+/// Returns how many of these fit or do not, as is said beside them, up to the first that does otherwise.
+fn fitting(rows: &[(u16, u64, u64, bool)]) -> usize {
+    for place in 0..rows.len() {
+        let (from, clock, seq, so) = rows[place];
+        if fits(from, clock, seq) != so {
+            return place;
+        }
+    }
+    rows.len()
+}
+
+#[test]
+fn a_frame_fits_by_its_ranges(rt: HostRuntime) {
+    assert_rows(&rt, fitting(FITTING), FITTING.len());
+}
+
 const FAULTS: &[(FrameError, &str)] = &[
     (FrameError::Short, "Short"),
     (FrameError::Version, "Version"),

@@ -71,5 +71,9 @@ fn is_handed_over(alloc: Global) -> bool {
 
 #[test]
 fn a_name_is_handed_over_among_sixty_four_nodes(rt: HostRuntime) {
-    assert_so(&rt, is_handed_over(rt.alloc()));
+    assert_so(
+        &rt,
+        "node 1 of 64 hands the name over as its steps say",
+        is_handed_over(rt.alloc()),
+    );
 }

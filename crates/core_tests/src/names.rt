@@ -98,5 +98,9 @@ fn are_found(alloc: Global) -> bool {
 
 #[test]
 fn each_of_a_thousand_names_is_found(rt: HostRuntime) {
-    assert_so(&rt, are_found(rt.alloc()));
+    assert_so(
+        &rt,
+        "each of a thousand names is found",
+        are_found(rt.alloc()),
+    );
 }

@@ -36,8 +36,13 @@ fn is_node(number: u16) -> bool {
 
 #[test]
 fn nodes_are_numbered_from_one_to_sixty_four(rt: HostRuntime) {
-    let so = is_node(1) && is_node(64) && !is_node(0) && !is_node(65);
-    assert_so(&rt, so);
+    assert_so(
+        &rt,
+        "1 and 64 are numbers of nodes",
+        is_node(1) && is_node(64),
+    );
+    let none = NodeId::new(0).is_none() && NodeId::new(65).is_none();
+    assert_so(&rt, "0 and 65 are none", none);
 }
 
 /// Returns whether the bytes are those of a name, or are refused for this reason.
@@ -92,13 +97,28 @@ fn are_ordered(a: &[u8], b: &[u8], order: Ordering) -> bool {
     }
 }
 
+/// Pairs of names, and how they are ordered.
+const NAMES: &[(&[u8], &[u8], Ordering)] = &[
+    (b"a", b"ab", Ordering::Less),
+    (b"ab", b"b", Ordering::Less),
+    (b"b", b"B", Ordering::Greater),
+    (b"a", b"a", Ordering::Equal),
+];
+
+/// Returns how many pairs of names are ordered as is said beside them, up to the first that is not.
+fn ordered(rows: &[(&[u8], &[u8], Ordering)]) -> usize {
+    for place in 0..rows.len() {
+        let (a, b, order) = rows[place];
+        if !are_ordered(a, b, order) {
+            return place;
+        }
+    }
+    rows.len()
+}
+
 #[test]
 fn names_are_ordered_by_their_bytes(rt: HostRuntime) {
-    let so = are_ordered(b"a", b"ab", Ordering::Less)
-        && are_ordered(b"ab", b"b", Ordering::Less)
-        && are_ordered(b"b", b"B", Ordering::Greater)
-        && are_ordered(b"a", b"a", Ordering::Equal);
-    assert_so(&rt, so);
+    assert_rows(&rt, ordered(NAMES), NAMES.len());
 }
 
 /// Returns how many pairs of modes go together or do not, as is said beside them, up to the first that does otherwise.
@@ -136,11 +156,13 @@ fn stamps_are_ordered(one: &Stamp, other: &Stamp, order: Ordering) -> bool {
 
 #[test]
 fn equal_numbers_go_to_the_lower_node(rt: HostRuntime) {
-    let so = stamps_are_ordered(&stamp(1, 1), &stamp(1, 2), Ordering::Less)
-        && stamps_are_ordered(&stamp(1, 64), &stamp(2, 1), Ordering::Less)
-        && stamps_are_ordered(&stamp(2, 1), &stamp(1, 64), Ordering::Greater)
-        && stamps_are_ordered(&stamp(7, 3), &stamp(7, 3), Ordering::Equal);
-    assert_so(&rt, so);
+    let by_node = stamps_are_ordered(&stamp(1, 1), &stamp(1, 2), Ordering::Less);
+    assert_so(&rt, "1 of node 1 comes before 1 of node 2", by_node);
+    let by_number = stamps_are_ordered(&stamp(1, 64), &stamp(2, 1), Ordering::Less)
+        && stamps_are_ordered(&stamp(2, 1), &stamp(1, 64), Ordering::Greater);
+    assert_so(&rt, "1 of node 64 comes before 2 of node 1", by_number);
+    let equal = stamps_are_ordered(&stamp(7, 3), &stamp(7, 3), Ordering::Equal);
+    assert_so(&rt, "7 of node 3 is equal to itself", equal);
 }
 
 /// Returns whether a message has these parts.
@@ -164,7 +186,11 @@ fn both_kinds_tell_their_parts(name: Name) -> bool {
 
 #[test]
 fn messages_of_both_kinds_tell_their_parts(rt: HostRuntime) {
-    assert_so(&rt, both_kinds_tell_their_parts(r()));
+    assert_so(
+        &rt,
+        "a REQUEST and a REPLY tell their nodes, name and number",
+        both_kinds_tell_their_parts(r()),
+    );
 }
 
 /// Returns whether a list takes a message.
@@ -195,7 +221,11 @@ fn messages_are_in_order(alloc: Global) -> bool {
 
 #[test]
 fn messages_are_listed_in_order(rt: HostRuntime) {
-    assert_so(&rt, messages_are_in_order(rt.alloc()));
+    assert_so(
+        &rt,
+        "three messages are listed in their order",
+        messages_are_in_order(rt.alloc()),
+    );
 }
 
 /// Returns whether a list takes a mark.
@@ -232,6 +262,7 @@ fn marks_are_in_order(alloc: Global, entry: &Entry) -> bool {
 fn marks_are_listed_in_order(rt: HostRuntime) {
     assert_so(
         &rt,
+        "three marks are listed in their order",
         marks_are_in_order(rt.alloc(), &entry(r(), Mode::Shared)),
     );
 }
@@ -252,7 +283,11 @@ fn room_is_refused(alloc: Global) -> bool {
 
 #[test]
 fn more_room_than_there_is_is_refused(rt: HostRuntime) {
-    assert_so(&rt, room_is_refused(rt.alloc()));
+    assert_so(
+        &rt,
+        "room for 2^64-1 messages is refused, and the list stays as it is",
+        room_is_refused(rt.alloc()),
+    );
 }
 
 const NAME_FAULTS: &[(NameError, &str)] = &[
@@ -263,7 +298,11 @@ const NAME_FAULTS: &[(NameError, &str)] = &[
 
 #[test]
 fn faults_print_their_names(rt: HostRuntime) {
-    assert_so(&rt, prints(rt.alloc(), &Memory, "Memory"));
+    assert_so(
+        &rt,
+        "Memory prints as its name",
+        prints(rt.alloc(), &Memory, "Memory"),
+    );
     assert_rows(&rt, printed(rt.alloc(), NAME_FAULTS), NAME_FAULTS.len());
 }
 
@@ -310,5 +349,5 @@ fn names_and_marks_print_as_text(rt: HostRuntime) {
         }
         Err(_) => false,
     };
-    assert_so(&rt, so);
+    assert_so(&rt, "the name disk-1 and its marks print as text", so);
 }

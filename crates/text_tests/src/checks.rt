@@ -136,9 +136,18 @@ fn traces_of_version_1_stay_valid(rt: HostRuntime) {
         requests: 2,
         messages: 8,
     };
-    let so = is_judged_in_both(alloc, ONE_LOCK, &one_lock)
-        && is_judged_in_both(alloc, TWO_LOCKS, &two_locks);
-    assert_so(&rt, so);
+    let one = is_judged_in_both(alloc, ONE_LOCK, &one_lock);
+    assert_so(
+        &rt,
+        "one lock is valid, with 1 request and its messages, in both versions",
+        one,
+    );
+    let two = is_judged_in_both(alloc, TWO_LOCKS, &two_locks);
+    assert_so(
+        &rt,
+        "two locks are valid, with 2 requests and 8 messages, in both versions",
+        two,
+    );
 }
 
 /// What a client asks for at the first of two nodes, so that its second line is right in version 2.
@@ -219,7 +228,11 @@ const REPEATS_IN_1: &[Judged] = &[
 #[test]
 fn version_1_has_no_repeats(rt: HostRuntime) {
     assert_judged(&rt, REPEATS_IN_1);
-    assert_so(&rt, is_newer(rt.alloc(), REPEATED_REQUEST, 4));
+    assert_so(
+        &rt,
+        "a repeat is read in version 2 and wrong at line 4 in version 1",
+        is_newer(rt.alloc(), REPEATED_REQUEST, 4),
+    );
 }
 
 /// Texts of version 2 that are wrong at a repeat, or after one.

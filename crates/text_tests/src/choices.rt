@@ -103,5 +103,9 @@ fn is_refused_by_some_seed(alloc: Global) -> bool {
 
 #[test]
 fn a_run_with_a_repeat_has_no_words(rt: HostRuntime) {
-    assert_so(&rt, is_refused_by_some_seed(rt.alloc()));
+    assert_so(
+        &rt,
+        "the choices of a run with a repeat are refused with Choice",
+        is_refused_by_some_seed(rt.alloc()),
+    );
 }

@@ -129,7 +129,11 @@ fn leaves_messages(alloc: Global) -> bool {
 
 #[test]
 fn messages_that_are_left_are_said(rt: HostRuntime) {
-    assert_so(&rt, leaves_messages(rt.alloc()));
+    assert_so(
+        &rt,
+        "the messages that a run leaves under way are said",
+        leaves_messages(rt.alloc()),
+    );
 }
 
 /// Choices that can't be made, and some that can.

@@ -193,9 +193,9 @@ pub fn assert_rows(rt: &impl Abort, so: usize, rows: usize) {
     assert!(rt; so == rows, "row {so}, counted from 0");
 }
 
-/// Asserts that something is so.
-pub fn assert_so(rt: &impl Abort, so: bool) {
-    assert!(rt; so);
+/// Asserts that what is expected is so.
+pub fn assert_so(rt: &impl Abort, expected: &str, so: bool) {
+    assert!(rt; so, "expected that {expected}, which is not so");
 }
 
 /// Asserts that calls of which a growth was refused had the right answer, and changed nothing.

@@ -179,10 +179,12 @@ fn is_written_byte_by_byte(alloc: Global, format: Format, length: usize) -> bool
 #[test]
 fn a_writer_that_takes_one_byte_at_a_time_gets_all(rt: HostRuntime) {
     let alloc = rt.alloc();
-    let so = is_written_byte_by_byte(alloc, Lines, ONE_LOCK_LINES_LENGTH)
-        && is_written_byte_by_byte(alloc, Trace, ONE_LOCK_LENGTH)
-        && is_written_byte_by_byte(alloc, Choices, ONE_LOCK_CHOICES_LENGTH);
-    assert_so(&rt, so);
+    let lines = is_written_byte_by_byte(alloc, Lines, ONE_LOCK_LINES_LENGTH);
+    assert_so(&rt, "all lines are written", lines);
+    let trace = is_written_byte_by_byte(alloc, Trace, ONE_LOCK_LENGTH);
+    assert_so(&rt, "the whole trace is written", trace);
+    let choices = is_written_byte_by_byte(alloc, Choices, ONE_LOCK_CHOICES_LENGTH);
+    assert_so(&rt, "all choices are written", choices);
 }
 
 /// Returns whether a script is driven to its end, from the oldest message on, and this is its trace.
@@ -199,5 +201,5 @@ fn is_traced(alloc: Global, script: &str, trace: &str) -> bool {
 fn a_run_is_written_as_its_trace(rt: HostRuntime) {
     let script = "nodes = 2\nclient = [{ node = 1, ops = [\"X r\", \"U r\"] }]\n";
     let so = is_traced(rt.alloc(), script, ONE_LOCK) && ONE_LOCK.len() == ONE_LOCK_LENGTH;
-    assert_so(&rt, so);
+    assert_so(&rt, "the trace of one lock is written, with its length", so);
 }

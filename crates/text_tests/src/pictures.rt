@@ -463,9 +463,14 @@ fn a_text_that_is_no_trace_is_refused_with_its_line(rt: HostRuntime) {
         cause: Cause::Marks,
     };
     // A line that is not drawn counts as well.
-    let so = drawn(alloc, wrong, Part::WHOLE) == (Ok(verdict), false)
-        && drawn(alloc, wrong, lines(1, 2)) == (Ok(verdict), false);
-    assert_so(&rt, so);
+    let whole = drawn(alloc, wrong, Part::WHOLE) == (Ok(verdict), false);
+    assert_so(&rt, "line 4 is wrong by Marks, and nothing is drawn", whole);
+    let part = drawn(alloc, wrong, lines(1, 2)) == (Ok(verdict), false);
+    assert_so(
+        &rt,
+        "line 4 is wrong by Marks if lines 1 and 2 are drawn",
+        part,
+    );
 }
 
 #[test]
@@ -479,11 +484,12 @@ fn no_more_than_4096_lines_are_drawn(rt: HostRuntime) {
         Some((Ok(verdict), true)),
         Some((Err(DrawError::TooLong), false)),
     );
-    let so = drawn_repeats(alloc, 4092, Part::WHOLE) == most
-        && drawn_repeats(alloc, 4093, Part::WHOLE) == more
-        && drawn_repeats(alloc, 4093, lines(2, 4097)) == most
+    let whole = drawn_repeats(alloc, 4092, Part::WHOLE) == most
+        && drawn_repeats(alloc, 4093, Part::WHOLE) == more;
+    assert_so(&rt, "4,096 lines are drawn, and 4,097 are TooLong", whole);
+    let part = drawn_repeats(alloc, 4093, lines(2, 4097)) == most
         && drawn_repeats(alloc, 4094, lines(2, 4098)) == more;
-    assert_so(&rt, so);
+    assert_so(&rt, "so it is for a part that begins at line 2", part);
 }
 
 /// Returns whether a reader that fails is a fault, and nothing is drawn.
@@ -511,7 +517,11 @@ fn fails_to_write(alloc: Global) -> bool {
 
 #[test]
 fn readers_and_writers_that_fail_are_faults(rt: HostRuntime) {
-    assert_so(&rt, fails_to_read(rt.alloc()) && fails_to_write(rt.alloc()));
+    assert_so(
+        &rt,
+        "a reader that fails is Read, and a writer that fails is Write",
+        fails_to_read(rt.alloc()) && fails_to_write(rt.alloc()),
+    );
 }
 
 /// Why no picture is drawn, and the word of it.

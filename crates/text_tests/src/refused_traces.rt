@@ -158,5 +158,5 @@ fn has_lines(alloc: Global, start: u64, lines: usize) -> bool {
 #[test]
 fn the_steps_before_have_their_lines(rt: HostRuntime) {
     let so = has_lines(rt.alloc(), 0, 72) && has_lines(rt.alloc(), TEN_LEFT, 72);
-    assert_so(&rt, so);
+    assert_so(&rt, "72 lines come before the step that is refused", so);
 }

@@ -76,7 +76,11 @@ fn example_is_read(alloc: Global) -> bool {
 
 #[test]
 fn an_example_gives_its_nodes_clients_and_operations(rt: HostRuntime) {
-    assert_so(&rt, example_is_read(rt.alloc()));
+    assert_so(
+        &rt,
+        "the example has its nodes, clients and operations",
+        example_is_read(rt.alloc()),
+    );
 }
 
 const WRONG_NODES: &[&str] = &[

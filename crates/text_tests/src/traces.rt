@@ -60,7 +60,11 @@ fn runs_have_their_traces(rt: HostRuntime) {
             Written(2, LOSES_REPLY, LOST_REPLY),
         ],
     );
-    assert_so(&rt, ONE_LOCK.len() == ONE_LOCK_LENGTH);
+    assert_so(
+        &rt,
+        "ONE_LOCK has ONE_LOCK_LENGTH bytes",
+        ONE_LOCK.len() == ONE_LOCK_LENGTH,
+    );
 }
 
 /// What can't happen.
@@ -145,9 +149,14 @@ fn is_not_tried_again(alloc: Global, fault: Option<io::ErrorKind>) -> bool {
 
 #[test]
 fn a_writer_that_failed_is_not_tried_again(rt: HostRuntime) {
-    let so = is_not_tried_again(rt.alloc(), Some(io::ErrorKind::Interrupted))
-        && is_not_tried_again(rt.alloc(), None);
-    assert_so(&rt, so);
+    let interrupted = is_not_tried_again(rt.alloc(), Some(io::ErrorKind::Interrupted));
+    assert_so(
+        &rt,
+        "a writer that was interrupted is not tried again",
+        interrupted,
+    );
+    let full = is_not_tried_again(rt.alloc(), None);
+    assert_so(&rt, "a writer that takes nothing is not tried again", full);
 }
 
 const FAULTS: &[(WriteTraceError, &str)] = &[

@@ -19,9 +19,9 @@ pub fn assert_done(rt: &impl Abort, label: &str, done: usize, steps: usize) {
     assert!(rt; done == steps, "{label}: step {done}, counted from 0");
 }
 
-/// Asserts that something is so.
-pub fn assert_so(rt: &impl Abort, so: bool) {
-    assert!(rt; so);
+/// Asserts that what is expected is so.
+pub fn assert_so(rt: &impl Abort, expected: &str, so: bool) {
+    assert!(rt; so, "expected that {expected}, which is not so");
 }
 
 /// Asserts that calls of which a growth was refused had the right answer, and changed nothing.

@@ -255,5 +255,9 @@ fn tell_each(alloc: Global) -> bool {
 
 #[test]
 fn surveys_and_searches_tell_what_came_of_each_seed(rt: HostRuntime) {
-    assert_so(&rt, tell_each(rt.alloc()));
+    assert_so(
+        &rt,
+        "surveys and searches tell what came of each seed",
+        tell_each(rt.alloc()),
+    );
 }

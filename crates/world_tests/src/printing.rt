@@ -100,7 +100,11 @@ fn greatest_mark_has_line(alloc: Global, name: &[u8], line: &str) -> bool {
 fn the_greatest_numbers_are_printed(rt: HostRuntime) {
     let line = "request 64 4294967295 abcdefghijklmnopqrstuvwxyzABCDEF SIX 18446744073709551615\n";
     let name = b"abcdefghijklmnopqrstuvwxyzABCDEF";
-    assert_so(&rt, greatest_mark_has_line(rt.alloc(), name, line));
+    assert_so(
+        &rt,
+        "the mark with the greatest numbers prints as its line",
+        greatest_mark_has_line(rt.alloc(), name, line),
+    );
 }
 
 const SCRIPT_FAULTS: &[(NewScriptError, &str)] = &[

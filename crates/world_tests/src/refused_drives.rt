@@ -164,5 +164,9 @@ fn ten_locks_take_forty_turns(alloc: Global) -> bool {
 
 #[test]
 fn each_policy_has_as_many_turns_as_there_may_be(rt: HostRuntime) {
-    assert_so(&rt, ten_locks_take_forty_turns(rt.alloc()));
+    assert_so(
+        &rt,
+        "ten locks take forty turns under each policy, and 39 are too few",
+        ten_locks_take_forty_turns(rt.alloc()),
+    );
 }

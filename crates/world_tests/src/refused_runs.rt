@@ -152,10 +152,10 @@ fn are_made(alloc: Global, start: u64) -> bool {
 
 #[test]
 fn the_steps_before_the_fortieth_are_made(rt: HostRuntime) {
-    assert_so(
-        &rt,
-        are_made(rt.alloc(), 0) && are_made(rt.alloc(), TEN_LEFT),
-    );
+    let all = are_made(rt.alloc(), 0);
+    assert_so(&rt, "the steps before the refused one are made", all);
+    let left = are_made(rt.alloc(), TEN_LEFT);
+    assert_so(&rt, "so they are with ten messages under way", left);
 }
 
 /// Returns the list of these steps, or `None` if there was no room.
@@ -201,7 +201,11 @@ lost 0
 waiting 0
 queued 0
 ";
-    assert_so(&rt, is_reported(rt.alloc(), STEPS, TEXT, 1));
+    assert_so(
+        &rt,
+        "the run is reported as its text",
+        is_reported(rt.alloc(), STEPS, TEXT, 1),
+    );
 }
 
 /// Returns whether a run of two nodes names a message at this place that is not under way.
@@ -229,7 +233,16 @@ fn a_run_repeats_only_what_is_under_way(rt: HostRuntime) {
         Delivers(Requests(2)),
         Delivers(Requests(2)),
     ];
-    let so = is_not_under_way_at(rt.alloc(), BOTH_LOST, 5)
-        && is_not_under_way_at(rt.alloc(), ONE_TOO_MANY, 5);
-    assert_so(&rt, so);
+    let lost = is_not_under_way_at(rt.alloc(), BOTH_LOST, 5);
+    assert_so(
+        &rt,
+        "step 5 is NotUnderWay after both copies were lost",
+        lost,
+    );
+    let taken = is_not_under_way_at(rt.alloc(), ONE_TOO_MANY, 5);
+    assert_so(
+        &rt,
+        "step 5 is NotUnderWay after both copies were delivered",
+        taken,
+    );
 }

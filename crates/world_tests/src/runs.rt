@@ -166,6 +166,7 @@ fn a_cluster_has_one_to_sixty_four_nodes(rt: HostRuntime) {
     assert_cases(&rt, CASES);
     assert_so(
         &rt,
+        "there is no world of 0 or 65 nodes",
         makes_no_world(rt.alloc(), 0) && makes_no_world(rt.alloc(), 65),
     );
 }

@@ -20,6 +20,7 @@ fn makes_no_script(alloc: Global, nodes: u16) -> bool {
 fn nodes_are_one_to_sixty_four(rt: HostRuntime) {
     assert_so(
         &rt,
+        "a script of 0 or 65 nodes is refused with Nodes",
         makes_no_script(rt.alloc(), 0) && makes_no_script(rt.alloc(), 65),
     );
 }

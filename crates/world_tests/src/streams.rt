@@ -49,10 +49,16 @@ fn is_not_read_again(alloc: Global, fault: io::ErrorKind) -> bool {
 #[test]
 fn a_reader_that_failed_is_not_tried_again(rt: HostRuntime) {
     let alloc = rt.alloc();
-    let so = is_not_read_again(alloc, io::ErrorKind::Interrupted)
-        && is_not_read_again(alloc, io::ErrorKind::WouldBlock)
-        && is_not_read_again(alloc, io::ErrorKind::BrokenPipe);
-    assert_so(&rt, so);
+    let interrupted = is_not_read_again(alloc, io::ErrorKind::Interrupted);
+    assert_so(
+        &rt,
+        "a reader that was interrupted is not asked again",
+        interrupted,
+    );
+    let blocked = is_not_read_again(alloc, io::ErrorKind::WouldBlock);
+    assert_so(&rt, "a reader that would block is not asked again", blocked);
+    let broken = is_not_read_again(alloc, io::ErrorKind::BrokenPipe);
+    assert_so(&rt, "a reader of a broken pipe is not asked again", broken);
 }
 
 /// Returns whether a limit is read and no more, where one more read would fail.
@@ -76,7 +82,11 @@ fn is_prefix(bytes: &[u8], taken: usize) -> bool {
 fn nothing_is_read_behind_the_limit(rt: HostRuntime) {
     let alloc = rt.alloc();
     let so = reads_to(alloc, 0) && reads_to(alloc, 1) && reads_to(alloc, 2) && reads_to(alloc, 3);
-    assert_so(&rt, so);
+    assert_so(
+        &rt,
+        "as many bytes are read as the limit, 0 to 3, and no more",
+        so,
+    );
 }
 
 /// Returns whether all of these bytes are read under the greatest limit.
@@ -90,7 +100,11 @@ fn reads_all(alloc: Global, bytes: &[u8]) -> bool {
 
 #[test]
 fn the_limit_may_be_more_than_there_is_room_for(rt: HostRuntime) {
-    assert_so(&rt, reads_all(rt.alloc(), &[b'a'; 10_000]));
+    assert_so(
+        &rt,
+        "all of 10,000 bytes are read under the greatest limit",
+        reads_all(rt.alloc(), &[b'a'; 10_000]),
+    );
 }
 
 /// Returns whether [`BYTES`] are written or not to a writer that fails after this many writes, and it has taken these then.
@@ -112,11 +126,18 @@ fn is_not_written_again(fault: Option<io::ErrorKind>) -> bool {
 /// Faults that other writers would try again, one that they would not, and a write that takes nothing.
 #[test]
 fn a_writer_that_failed_is_not_tried_again(rt: HostRuntime) {
-    let so = is_not_written_again(Some(io::ErrorKind::Interrupted))
-        && is_not_written_again(Some(io::ErrorKind::WouldBlock))
-        && is_not_written_again(Some(io::ErrorKind::BrokenPipe))
-        && is_not_written_again(None);
-    assert_so(&rt, so);
+    let interrupted = is_not_written_again(Some(io::ErrorKind::Interrupted));
+    assert_so(
+        &rt,
+        "a writer that was interrupted is not tried again",
+        interrupted,
+    );
+    let blocked = is_not_written_again(Some(io::ErrorKind::WouldBlock));
+    assert_so(&rt, "a writer that would block is not tried again", blocked);
+    let broken = is_not_written_again(Some(io::ErrorKind::BrokenPipe));
+    assert_so(&rt, "a writer to a broken pipe is not tried again", broken);
+    let full = is_not_written_again(None);
+    assert_so(&rt, "a writer that takes nothing is not tried again", full);
 }
 
 const READ_FAULTS: &[(ReadFault, &str)] = &[
@@ -127,5 +148,9 @@ const READ_FAULTS: &[(ReadFault, &str)] = &[
 #[test]
 fn faults_are_printed_as_their_words(rt: HostRuntime) {
     assert_rows(&rt, printed(rt.alloc(), READ_FAULTS), READ_FAULTS.len());
-    assert_so(&rt, prints(rt.alloc(), &WriteFault, "Write"));
+    assert_so(
+        &rt,
+        "WriteFault prints as Write",
+        prints(rt.alloc(), &WriteFault, "Write"),
+    );
 }
