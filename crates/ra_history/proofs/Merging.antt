@@ -13,7 +13,7 @@ use Rattle.ra_history.specs.declared.event.BookEvent.{BookEvent}
 use Rattle.ra_history.specs.declared.event_merge.Turn.{Turn}
 use Rattle.ra_history.specs.Book.{BookState, IsWhole, HasHistory}
 use Rattle.ra_history.specs.Settled.{IsCluster, IsSettledOrder, Placed, IsBefore, events_of, steps_of, step_at}
-use Rattle.ra_history.specs.EventMerge.{IsNext, IsNotAfter, IsEarliest}
+use Rattle.ra_history.specs.EventMerge.{IsNextOfBook, IsNotAfter, IsEarliest}
 use Rattle.ra_history.proofs.Taking.{clocks_rise}
 use Rattle.ra_history.proofs.Whole.{HasWholeHistory, whole_history}
 
@@ -26,7 +26,7 @@ pub record Merges (books : List BookState) (taken : List ℕ) (placed : List Pla
   pub each : (k : ℕ) (b : BookState) → slice_get books k ≡ Some b → events_of (k + 1) placed ≡ take (slice_index taken k) b.events
   pub no_others : All (λ p. (1 ≤ p.node) × (p.node ≤ length books)) placed
   pub sorted : AllPairs IsBefore placed
-  pub ahead : (k : ℕ) (e : BookEvent) → IsNext books taken k e → All (λ p. IsBefore p (at_place k e)) placed
+  pub ahead : (k : ℕ) (e : BookEvent) → IsNextOfBook books taken k e → All (λ p. IsBefore p (at_place k e)) placed
 
 pub nothing_merged : (books : List BookState) (taken : List ℕ) → taken ≡ replicate (length books) 0 → Merges books taken []
 nothing_merged books taken none =
@@ -55,7 +55,7 @@ one_event_of i p false e = ap (λ b. map (λ (p : Placed). p.event) (cond b (p �
 
 module _ (books : List BookState) (taken : List ℕ) (placed : List Placed) (turn : Turn) (book : BookState) (history : HasWholeHistory book)
     (at : slice_get books turn.place ≡ Some book) (here : slice_get book.events (slice_index taken turn.place) ≡ Some turn.event)
-    (least : (place : ℕ) (e : BookEvent) → place < length books → IsNext books taken place e → IsNotAfter turn place e)
+    (least : (place : ℕ) (e : BookEvent) → place < length books → IsNextOfBook books taken place e → IsNotAfter turn place e)
     (before : Merges books taken placed) where
   abbrev k : ℕ
   k = turn.place
@@ -78,14 +78,14 @@ module _ (books : List BookState) (taken : List ℕ) (placed : List Placed) (tur
   same_taken : (j : ℕ) → j ≢ k → slice_index new j ≡ slice_index taken j
   same_taken j apart = get_or-set_other taken k j (n + 1) 0 apart
 
-  is_this : IsNext books taken k turn.event
+  is_this : IsNextOfBook books taken k turn.event
   is_this = (book, at, here)
 
   -- what comes next at a place afterwards: it came next before, or it is the event after this one
-  next_then : (j : ℕ) (e : BookEvent) → j ≢ k → IsNext books new j e → IsNext books taken j e
+  next_then : (j : ℕ) (e : BookEvent) → j ≢ k → IsNextOfBook books new j e → IsNextOfBook books taken j e
   next_then j e apart is = (is.0, is.1, subst (λ (m : ℕ). slice_get is.0.events m ≡ Some e) (same_taken j apart) is.2)
 
-  rises : (e : BookEvent) → IsNext books new k e → turn.event.clock < e.clock
+  rises : (e : BookEvent) → IsNextOfBook books new k e → turn.event.clock < e.clock
   rises e is =
       let same : is.0 ≡ book = same_Some is.0 book (sym is.1 ∙ at) in
       let behind : slice_get book.events (suc n) ≡ Some e =
@@ -93,10 +93,10 @@ module _ (books : List BookState) (taken : List ℕ) (placed : List Placed) (tur
       in
       clocks_rise 0 book.events n turn.event e history.leads.clocked here behind
 
-  before_next : (j : ℕ) (e : BookEvent) → IsNext books new j e → IsBefore this (at_place j e)
+  before_next : (j : ℕ) (e : BookEvent) → IsNextOfBook books new j e → IsBefore this (at_place j e)
   before_next j e is =
       elim (cases_eq j k) [
-        | inl same ↦ inl (rises e (subst (λ (m : ℕ). IsNext books new m e) same is))
+        | inl same ↦ inl (rises e (subst (λ (m : ℕ). IsNextOfBook books new m e) same is))
         | inr apart ↦ past j e apart (least j e (slice_get_within books j is.0 is.1) (next_then j e apart is))
       ]
     where
@@ -104,11 +104,11 @@ module _ (books : List BookState) (taken : List ℕ) (placed : List Placed) (tur
       past j e apart (inl less) = inl less
       past j e apart (inr same) = inr (same.0, omega (arith, same.1, apart))
 
-  ahead_then : (j : ℕ) (e : BookEvent) → IsNext books new j e → All (λ p. IsBefore p (at_place j e)) placed
+  ahead_then : (j : ℕ) (e : BookEvent) → IsNextOfBook books new j e → All (λ p. IsBefore p (at_place j e)) placed
   ahead_then j e is =
       elim (cases_eq j k) [
         | inl same ↦
-            let is' = subst (λ (m : ℕ). IsNext books new m e) same is in
+            let is' = subst (λ (m : ℕ). IsNextOfBook books new m e) same is in
             subst (λ (m : ℕ). All (λ p. IsBefore p (at_place m e)) placed) (sym same)
             (All-weaker (λ p. IsBefore p this) (λ p. IsBefore p (at_place k e)) (λ p. earlier_still p k turn.event e (rises e is')) placed (before.ahead k turn.event is_this))
         | inr apart ↦ before.ahead j e (next_then j e apart is)
@@ -184,7 +184,7 @@ left [] taken = 0
 left (b ∷ books) [] = 0
 left (b ∷ books) (n ∷ taken) = (length b.events - n) + left books taken
 
-pub one_less : (books : List BookState) (taken : List ℕ) (k : ℕ) (e : BookEvent) → k < length taken → IsNext books taken k e → left books (set taken k (slice_index taken k + 1)) < left books taken
+pub one_less : (books : List BookState) (taken : List ℕ) (k : ℕ) (e : BookEvent) → k < length taken → IsNextOfBook books taken k e → left books (set taken k (slice_index taken k + 1)) < left books taken
 one_less [] taken k e low is = absurd (none-some is.0 is.1)
 one_less (b ∷ books) [] k e low is = absurd (omega (arith, low))
 one_less (b ∷ books) (n ∷ taken) zero e low is =

@@ -10,7 +10,7 @@ use Rattle.ra_stamp.specs.declared.entry.Mark.TheVariants.{Requested, Entered, L
 use Rattle.ra_schedule.specs.declared.script.Op.{Op}
 use Rattle.ra_schedule.specs.declared.script.Op.TheVariants.{Lock, Unlock}
 use Rattle.ra_schedule.specs.Script.{ScriptState, ScriptClient, client_at}
-use Rattle.ra_history.specs.Plan.{client_of_mark, marks_of_client, IsNext, FollowsOps, IsFollowed, MeetsPlanOf, MeetsPlan, is_request}
+use Rattle.ra_history.specs.Plan.{client_of_mark, marks_of_client, IsNextMark, FollowsOps, IsFollowed, MeetsPlanOf, MeetsPlan, is_request}
 
 -- ---- One mark
 
@@ -18,7 +18,7 @@ use Rattle.ra_history.specs.Plan.{client_of_mark, marks_of_client, IsNext, Follo
 abbrev pub FollowsFrom : ℕ → Bool → List Op → List Mark → Type 0
 FollowsFrom node false ops marks = FollowsOps node ops marks
 FollowsFrom node true (Lock name mode ∷ ops) (mark ∷ marks) =
-    IsNext node (Lock name mode) true mark × FollowsOps node ops marks
+    IsNextMark node (Lock name mode) true mark × FollowsOps node ops marks
 FollowsFrom node true ops marks = ⊥
 
 -- the operations that are left after a mark: a request leaves its operation
@@ -26,7 +26,7 @@ abbrev pub left_after : Bool → Op → List Op → List Op
 left_after true op ops = op ∷ ops
 left_after false op ops = ops
 
-pub next_on : (node : ℕ) (op : Op) (ops : List Op) (requested : Bool) (mark : Mark) (marks : List Mark) → IsNext node op requested mark
+pub next_on : (node : ℕ) (op : Op) (ops : List Op) (requested : Bool) (mark : Mark) (marks : List Mark) → IsNextMark node op requested mark
     → FollowsFrom node requested (op ∷ ops) (mark ∷ marks) ↔ FollowsFrom node (is_request mark) (left_after (is_request mark) op ops) marks
 next_on node (Lock name mode) ops false (Requested entry) [] next = (λ h. absurd h, λ h. absurd h)
 next_on node (Lock name mode) ops false (Requested entry) (second ∷ marks) next = (λ h. (h.1, h.2), λ h. (next, h.0, h.1))
@@ -41,7 +41,7 @@ next_on node (Unlock name) ops false (Left entry) marks next = (λ h. h.1, λ h.
 next_on node (Unlock name) ops true mark marks next = absurd next
 
 pub is_next : (node : ℕ) (op : Op) (ops : List Op) (requested : Bool) (mark : Mark) (marks : List Mark)
-    → FollowsFrom node requested (op ∷ ops) (mark ∷ marks) → IsNext node op requested mark
+    → FollowsFrom node requested (op ∷ ops) (mark ∷ marks) → IsNextMark node op requested mark
 is_next node (Lock name mode) ops false mark [] h = absurd h
 is_next node (Lock name mode) ops false mark (second ∷ marks) h = h.0
 is_next node (Lock name mode) ops true mark marks h = h.0
@@ -159,7 +159,7 @@ after_is o place op next false left moved =
 -- the mark is the next one of the client's operation
 pub take_mark : (node : ℕ) (o : Option ScriptClient) (client : ℕ) (marks : List Mark) (requested : Bool) (place i : ℕ) (mark : Mark) (op : Op) (next : ℕ)
     → i < length marks → mark ≡ get_or marks i mark → client_of_mark mark ≡ client
-    → Some op ≡ option_and_then (λ c. slice_get c.ops place) o → IsNext node op requested mark
+    → Some op ≡ option_and_then (λ c. slice_get c.ops place) o → IsNextMark node op requested mark
     → next ≡ cond (is_request mark) place (place + 1)
     → SameLeft node o client marks requested place i → SameLeft node o client marks (is_request mark) next (i + 1)
 take_mark node o client marks requested place i mark op next less is mine there step moved before =
@@ -184,7 +184,7 @@ no_operation node o client marks requested place i mark less is mine none before
 -- the mark is not the next one of the operation
 pub wrong_mark : (node : ℕ) (o : Option ScriptClient) (client : ℕ) (marks : List Mark) (requested : Bool) (place i : ℕ) (mark : Mark) (op : Op)
     → i < length marks → mark ≡ get_or marks i mark → client_of_mark mark ≡ client
-    → Some op ≡ option_and_then (λ c. slice_get c.ops place) o → (IsNext node op requested mark → ⊥)
+    → Some op ≡ option_and_then (λ c. slice_get c.ops place) o → (IsNextMark node op requested mark → ⊥)
     → SameLeft node o client marks requested place i → FollowsOps node (rest_of o 0) (marks_of_client client marks) → ⊥
 wrong_mark node o client marks requested place i mark op less is mine there not before h =
     let left : rest_of o place ≡ op ∷ rest_of o (suc place) = rest_at o place (suc place) op refl there in

@@ -10,7 +10,7 @@ use Rattle.ra_history.specs.declared.event_merge.Head.{Head}
 use Rattle.ra_history.specs.declared.event_merge.Turn.{Turn}
 use Rattle.ra_history.specs.History.{AreClocked, clock_after}
 use Rattle.ra_history.specs.Book.{BookState}
-use Rattle.ra_history.specs.EventMerge.{IsNext, IsNotAfter, IsEarliest, IsHeadOfEarliest, head_of, lesser_of}
+use Rattle.ra_history.specs.EventMerge.{IsNextOfBook, IsNotAfter, IsEarliest, IsHeadOfEarliest, head_of, lesser_of}
 
 -- ---- The clocks of one book
 
@@ -37,16 +37,16 @@ earlier_of None other = other
 earlier_of (Some turn) other = cond (leb turn.event.clock other.event.clock) turn other
 
 -- the next event of a book is one
-one_next : (books : List BookState) (taken : List ℕ) (k : ℕ) (a b : BookEvent) → IsNext books taken k a → IsNext books taken k b → a ≡ b
+one_next : (books : List BookState) (taken : List ℕ) (k : ℕ) (a b : BookEvent) → IsNextOfBook books taken k a → IsNextOfBook books taken k b → a ≡ b
 one_next books taken k a b x y =
     let book = same_Some x.0 y.0 (sym x.1 ∙ y.1) in
     same_Some a b (sym x.2 ∙ ap (λ (s : BookState). slice_get s.events (slice_index taken k)) book ∙ y.2)
 
-moved : (books : List BookState) (taken : List ℕ) (k j : ℕ) (e : BookEvent) → k ≡ j → IsNext books taken k e → IsNext books taken j e
-moved books taken k j e same is = subst (λ (n : ℕ). IsNext books taken n e) same is
+moved : (books : List BookState) (taken : List ℕ) (k j : ℕ) (e : BookEvent) → k ≡ j → IsNextOfBook books taken k e → IsNextOfBook books taken j e
+moved books taken k j e same is = subst (λ (n : ℕ). IsNextOfBook books taken n e) same is
 
 earliest_same : (books : List BookState) (taken : List ℕ) (count : ℕ) (first : Option Turn) → IsEarliest books taken count first
-    → ((e : BookEvent) → IsNext books taken count e → ⊥) → IsEarliest books taken (count + 1) first
+    → ((e : BookEvent) → IsNextOfBook books taken count e → ⊥) → IsEarliest books taken (count + 1) first
 earliest_same books taken count None before none =
     λ place event low is. elim (cases_lt place count) [
       | inl less ↦ before place event less is
@@ -61,11 +61,11 @@ earliest_same books taken count (Some turn) before none = (
   ],
 )
 
-module _ (books : List BookState) (taken : List ℕ) (count : ℕ) (event : BookEvent) (next : IsNext books taken count event) where
+module _ (books : List BookState) (taken : List ℕ) (count : ℕ) (event : BookEvent) (next : IsNextOfBook books taken count event) where
   abbrev here : Turn
   here = record { place = count; event = event }
 
-  itself : (e : BookEvent) (place : ℕ) → place ≡ count → IsNext books taken place e → IsNotAfter here place e
+  itself : (e : BookEvent) (place : ℕ) → place ≡ count → IsNextOfBook books taken place e → IsNotAfter here place e
   itself e place same is =
       inr (ap (λ (x : BookEvent). x.clock) (one_next books taken count event e next (moved books taken place count e same is)), omega (arith, same))
 
@@ -90,7 +90,7 @@ module _ (books : List BookState) (taken : List ℕ) (count : ℕ) (event : Book
         ],
       )
         where
-          behind : (f : BookEvent) (place : ℕ) → place ≡ count → turn.event.clock ≤ event.clock → IsNext books taken place f → IsNotAfter turn place f
+          behind : (f : BookEvent) (place : ℕ) → place ≡ count → turn.event.clock ≤ event.clock → IsNextOfBook books taken place f → IsNotAfter turn place f
           behind f place same no_more is =
               let one : event.clock ≡ f.clock = ap (λ (x : BookEvent). x.clock) (one_next books taken count event f next (moved books taken place count f same is)) in
               elim (cases_lt turn.event.clock event.clock) [
@@ -111,7 +111,7 @@ module _ (books : List BookState) (taken : List ℕ) (count : ℕ) (event : Book
           ahead f place less (inr same) = omega (arith, less, same.0)
 
 pub no_next : (books : List BookState) (taken : List ℕ) (k : ℕ) (book : BookState) → slice_get books k ≡ Some book → {o : Option BookEvent} → slice_get book.events (slice_index taken k) ≡ o
-    → ((e : BookEvent) → o ≡ Some e → ⊥) → (e : BookEvent) → IsNext books taken k e → ⊥
+    → ((e : BookEvent) → o ≡ Some e → ⊥) → (e : BookEvent) → IsNextOfBook books taken k e → ⊥
 no_next books taken k book at said none e is =
     let same = same_Some book is.0 (sym at ∙ is.1) in
     none e (sym said ∙ ap (λ (b : BookState). slice_get b.events (slice_index taken k)) same ∙ is.2)
@@ -128,7 +128,7 @@ lesser_head (Some turn) other = by_clock (leb turn.event.clock other.event.clock
     by_clock false = refl
 
 -- one more book has this event next
-pub head_more : (books : List BookState) (taken : List ℕ) (count : ℕ) (event : BookEvent) → IsNext books taken count event → (first : Option Head) → IsHeadOfEarliest books taken count first
+pub head_more : (books : List BookState) (taken : List ℕ) (count : ℕ) (event : BookEvent) → IsNextOfBook books taken count event → (first : Option Head) → IsHeadOfEarliest books taken count first
     → IsHeadOfEarliest books taken (count + 1) (Some (lesser_of first (record { place = count; clock = event.clock })))
 head_more books taken count event next first (turn, earliest, is) =
     let here : Turn = record { place = count; event = event } in (
@@ -139,12 +139,12 @@ head_more books taken count event next first (turn, earliest, is) =
 
 -- one more book has none
 pub head_same : (books : List BookState) (taken : List ℕ) (count : ℕ) (first : Option Head) → IsHeadOfEarliest books taken count first
-    → ((e : BookEvent) → IsNext books taken count e → ⊥) → IsHeadOfEarliest books taken (count + 1) first
+    → ((e : BookEvent) → IsNextOfBook books taken count e → ⊥) → IsHeadOfEarliest books taken (count + 1) first
 head_same books taken count first (turn, earliest, is) none = (turn, earliest_same books taken count turn earliest none, is)
 
 -- the event that stands there is the earliest
 pub turn_of_head : (books : List BookState) (taken : List ℕ) (count : ℕ) (head : Head) (turn : Turn) → IsHeadOfEarliest books taken count (Some head)
-    → turn.place ≡ head.place → IsNext books taken head.place turn.event → IsEarliest books taken count (Some turn)
+    → turn.place ≡ head.place → IsNextOfBook books taken head.place turn.event → IsEarliest books taken count (Some turn)
 turn_of_head books taken count head turn (None, earliest, is) at next = absurd (none-some head (sym is))
 turn_of_head books taken count head turn (Some t, earliest, is) at next =
     let here : head ≡ head_of t = same_Some head (head_of t) is in
@@ -163,7 +163,7 @@ head_within books taken count head (Some t, earliest, is) =
     omega (arith, earliest.0, ap (λ (h : Head). h.place) here)
 
 pub head_is_next : (books : List BookState) (taken : List ℕ) (count : ℕ) (head : Head) → IsHeadOfEarliest books taken count (Some head)
-    → ((e : BookEvent) → IsNext books taken head.place e → ⊥) → ⊥
+    → ((e : BookEvent) → IsNextOfBook books taken head.place e → ⊥) → ⊥
 head_is_next books taken count head (None, earliest, is) none = none-some head (sym is)
 head_is_next books taken count head (Some t, earliest, is) none =
     let here : head ≡ head_of t = same_Some head (head_of t) is in
@@ -175,16 +175,16 @@ no_head books taken count (Some t, earliest, is) = absurd (none-some (head_of t)
 
 -- the clock of the next event is that of one that is next
 pub clock_is_next : (books : List BookState) (taken : List ℕ) (k : ℕ) (book : BookState) (clock : ℕ) → slice_get books k ≡ Some book
-    → Some clock ≡ option_map (λ (e : BookEvent). e.clock) (slice_get book.events (slice_index taken k)) → (e : BookEvent) × IsNext books taken k e × (clock ≡ e.clock)
+    → Some clock ≡ option_map (λ (e : BookEvent). e.clock) (slice_get book.events (slice_index taken k)) → (e : BookEvent) × IsNextOfBook books taken k e × (clock ≡ e.clock)
 clock_is_next books taken k book clock at is = of (slice_get book.events (slice_index taken k)) refl is
   where
     of : (o : Option BookEvent) → slice_get book.events (slice_index taken k) ≡ o → Some clock ≡ option_map (λ (e : BookEvent). e.clock) o
-        → (e : BookEvent) × IsNext books taken k e × (clock ≡ e.clock)
+        → (e : BookEvent) × IsNextOfBook books taken k e × (clock ≡ e.clock)
     of None read is = absurd (none-some clock (sym is))
     of (Some e) read is = (e, (book, at, read), same_Some clock e.clock is)
 
 pub no_clock_no_next : (books : List BookState) (taken : List ℕ) (k : ℕ) (book : BookState) → slice_get books k ≡ Some book
-    → {o : Option ℕ} → o ≡ option_map (λ (e : BookEvent). e.clock) (slice_get book.events (slice_index taken k)) → ((clock : ℕ) → o ≡ Some clock → ⊥) → (e : BookEvent) → IsNext books taken k e → ⊥
+    → {o : Option ℕ} → o ≡ option_map (λ (e : BookEvent). e.clock) (slice_get book.events (slice_index taken k)) → ((clock : ℕ) → o ≡ Some clock → ⊥) → (e : BookEvent) → IsNextOfBook books taken k e → ⊥
 no_clock_no_next books taken k book at is none e next =
     let same = same_Some book next.0 (sym at ∙ next.1) in
     let read : slice_get book.events (slice_index taken k) ≡ Some e = ap (λ (b : BookState). slice_get b.events (slice_index taken k)) same ∙ next.2 in
@@ -193,9 +193,9 @@ no_clock_no_next books taken k book at is none e next =
 -- what is found where the head stands
 module _ (books : List BookState) (taken : List ℕ) (count : ℕ) (head : Head) where
   abbrev Found : Option Turn → Type 0
-  Found o = IfSome o (λ turn. (turn.place ≡ head.place) × IsNext books taken head.place turn.event × (slice_index taken head.place + 1 < 2 ^ 64))
+  Found o = IfSome o (λ turn. (turn.place ≡ head.place) × IsNextOfBook books taken head.place turn.event × (slice_index taken head.place + 1 < 2 ^ 64))
 
-  pub turn_found : IsHeadOfEarliest books taken count (Some head) → (o : Option Turn) → Found o → (IsNone o → (e : BookEvent) → IsNext books taken head.place e → ⊥) → IsEarliest books taken count o
+  pub turn_found : IsHeadOfEarliest books taken count (Some head) → (o : Option Turn) → Found o → (IsNone o → (e : BookEvent) → IsNextOfBook books taken head.place e → ⊥) → IsEarliest books taken count o
   turn_found heads None found none = absurd (head_is_next books taken count head heads (none refl))
   turn_found heads (Some turn) found none = turn_of_head books taken count head turn heads found.0 found.1
 

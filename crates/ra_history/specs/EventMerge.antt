@@ -6,8 +6,8 @@ use Rattle.ra_history.specs.declared.event_merge.Turn.{Turn}
 use Rattle.ra_history.specs.Book.{BookState}
 
 -- this event of the book at this place comes next
-abbrev pub IsNext : List BookState → List ℕ → ℕ → BookEvent → Type 0
-IsNext books taken place event =
+abbrev pub IsNextOfBook : List BookState → List ℕ → ℕ → BookEvent → Type 0
+IsNextOfBook books taken place event =
     (book : BookState) × (slice_get books place ≡ Some book)
     × (slice_get book.events (slice_index taken place) ≡ Some event)
 
@@ -18,10 +18,10 @@ IsNotAfter turn place event =
 
 -- the earliest of the next events of the first `count` books
 abbrev pub IsEarliest : List BookState → List ℕ → ℕ → Option Turn → Type 0
-IsEarliest books taken count None = (place : ℕ) (event : BookEvent) → place < count → IsNext books taken place event → ⊥
+IsEarliest books taken count None = (place : ℕ) (event : BookEvent) → place < count → IsNextOfBook books taken place event → ⊥
 IsEarliest books taken count (Some turn) =
-    (turn.place < count) × IsNext books taken turn.place turn.event
-    × ((place : ℕ) (event : BookEvent) → place < count → IsNext books taken place event → IsNotAfter turn place event)
+    (turn.place < count) × IsNextOfBook books taken turn.place turn.event
+    × ((place : ℕ) (event : BookEvent) → place < count → IsNextOfBook books taken place event → IsNotAfter turn place event)
 
 -- the place of an event's book, and its clock
 abbrev pub head_of : Turn → Head

@@ -25,23 +25,23 @@ abbrev pub marks_of_client : ℕ → List Mark → List Mark
 marks_of_client client marks = filter (λ mark. client_of_mark mark == client) marks
 
 -- a request is at this node, for this name
-abbrev pub IsAt : ℕ → List ℕ → Entry → Type 0
-IsAt node name entry = (entry.stamp.node ≡ node) × (entry.name ≡ name)
+abbrev pub IsRequestFor : ℕ → List ℕ → Entry → Type 0
+IsRequestFor node name entry = (entry.stamp.node ≡ node) × (entry.name ≡ name)
 
 -- A mark is the next one of an operation at a node: a lock is requested and then entered, and an unlock leaves.
 -- `requested` says whether it is requested already.
-abbrev pub IsNext : ℕ → Op → Bool → Mark → Type 0
-IsNext node (Lock name mode) false (Requested entry) = IsAt node name entry × (entry.mode ≡ mode)
-IsNext node (Lock name mode) true (Entered entry) = IsAt node name entry × (entry.mode ≡ mode)
-IsNext node (Unlock name) false (Left entry) = IsAt node name entry
-IsNext node op requested mark = ⊥
+abbrev pub IsNextMark : ℕ → Op → Bool → Mark → Type 0
+IsNextMark node (Lock name mode) false (Requested entry) = IsRequestFor node name entry × (entry.mode ≡ mode)
+IsNextMark node (Lock name mode) true (Entered entry) = IsRequestFor node name entry × (entry.mode ≡ mode)
+IsNextMark node (Unlock name) false (Left entry) = IsRequestFor node name entry
+IsNextMark node op requested mark = ⊥
 
 -- the marks are those of these operations at a node, in order
 abbrev pub FollowsOps : ℕ → List Op → List Mark → Type 0
 FollowsOps node [] [] = Unit {0}
 FollowsOps node (Lock name mode ∷ ops) (first ∷ second ∷ marks) =
-    IsNext node (Lock name mode) false first × IsNext node (Lock name mode) true second × FollowsOps node ops marks
-FollowsOps node (Unlock name ∷ ops) (first ∷ marks) = IsNext node (Unlock name) false first × FollowsOps node ops marks
+    IsNextMark node (Lock name mode) false first × IsNextMark node (Lock name mode) true second × FollowsOps node ops marks
+FollowsOps node (Unlock name ∷ ops) (first ∷ marks) = IsNextMark node (Unlock name) false first × FollowsOps node ops marks
 FollowsOps node ops marks = ⊥
 
 -- the client exists, and the marks that name it are those of its operations

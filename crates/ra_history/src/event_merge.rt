@@ -3,7 +3,7 @@ ghost use Rattle.std.specs.Prelude.{◌≡◌, ◌+◌, ◌<◌, ◌^◌, ℕ, L
 ghost use Rattle.ra_history.specs.declared.event.BookEvent.{BookEvent};
 ghost use Rattle.ra_history.specs.Book.{HasHistory};
 ghost use Rattle.ra_history.specs.Settled.{IsCluster, IsSettledOrder, Placed, steps_of, step_at};
-ghost use Rattle.ra_history.specs.EventMerge.{IsNext, IsEarliest, IsHeadOfEarliest};
+ghost use Rattle.ra_history.specs.EventMerge.{IsNextOfBook, IsEarliest, IsHeadOfEarliest};
 ghost use Rattle.ra_history.specs.EventMerge as spec;
 
 use crate::{Book, BookEvent, BookKind};
@@ -69,9 +69,9 @@ fn earliest(books: &[Book], taken: &[u64]) -> Option<Turn>
 fn turn_at(books: &[Book], taken: &[u64], place: usize) -> Option<Turn>
     requires within { place < length books.now }
     requires long { length taken.now ≡ length books.now }
-    ensures some { IfSome result (λ turn. (turn.place ≡ place) × IsNext books.now taken.now place turn.event
+    ensures some { IfSome result (λ turn. (turn.place ≡ place) × IsNextOfBook books.now taken.now place turn.event
         × (slice_index taken.now place + 1 < 2 ^ 64)) }
-    ensures none { IsNone result → (event : BookEvent) → IsNext books.now taken.now place event → ⊥ }
+    ensures none { IsNone result → (event : BookEvent) → IsNextOfBook books.now taken.now place event → ⊥ }
 {
     match next_of(&books[place], taken[place]) {
         Some(event) => Some(Turn { place, event }),

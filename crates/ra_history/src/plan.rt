@@ -1,7 +1,7 @@
 //! Whether the marks of a run are those of a script.
 ghost use Rattle.std.specs.Prelude.{◌≡◌, ◌↔◌, ◌≤◌, ℕ, All, IsTrue};
 ghost use Rattle.ra_history.specs.Plan as spec;
-ghost use Rattle.ra_history.specs.Plan.{MeetsPlan, IsFollowed, IsNext, IsAt, client_of_mark};
+ghost use Rattle.ra_history.specs.Plan.{MeetsPlan, IsFollowed, IsNextMark, IsRequestFor, client_of_mark};
 
 use ra_schedule::{Op, Script};
 use ra_stamp::{Entry, Mark, Name, NodeId};
@@ -96,7 +96,7 @@ fn follows_ops(script: &Script, client: u32, marks: &[Mark]) -> bool
 
 /// Returns whether a mark is the next one of an operation at a node, where `requested` says whether it is requested already.
 fn is_next(node: NodeId, op: &Op, requested: bool, mark: &Mark) -> bool
-    ensures { IsTrue result ↔ IsNext node op.now requested mark.now }
+    ensures { IsTrue result ↔ IsNextMark node op.now requested mark.now }
 {
     match op {
         Op::Lock(name, mode) => match mark {
@@ -115,7 +115,7 @@ fn is_next(node: NodeId, op: &Op, requested: bool, mark: &Mark) -> bool
 
 /// Returns whether a request was made at a node for a name.
 fn is_at(entry: &Entry, node: NodeId, name: &Name) -> bool
-    ensures { IsTrue result ↔ IsAt node name.now entry.now }
+    ensures { IsTrue result ↔ IsRequestFor node name.now entry.now }
 {
     entry.stamp.node == node && entry.name == *name
 }
