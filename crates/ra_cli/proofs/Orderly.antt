@@ -21,7 +21,6 @@ use Rattle.ra_script.specs.declared.error.ChoicesError.TheVariants.{Choice, Memo
 use Rattle.ra_script.specs.declared.error.PerformError.TheVariants.{Drive}
 use Rattle.ra_script.specs.declared.error.PerformError.TheVariants as perform
 use Rattle.ra_script.specs.declared.format.Format.{Format}
-use Rattle.ra_script.specs.declared.format.Format.TheVariants.{Lines, Trace, Choices}
 use Rattle.ra_script.specs.ChoicesText.{choices_of}
 use Rattle.ra_script.specs.declared.error.ScriptError.{ScriptError}
 use Rattle.ra_script.specs.Finding.{NoneEndsSo}
@@ -48,6 +47,7 @@ pub record FinishingLaws : Type 0 where
   pub scripts : (input : List ℕ) (script : ScriptState) → script_of input ≡ Ok script → IsScript script
   pub never_refused : (format : Format) (policy : Policy) (input : List ℕ) (cause : DriveError)
       → RepeatsNothing policy → ChoosesItself policy → RefusesAs format policy input (Drive cause) → ⊥
+  pub worded : (format : Format) (policy : Policy) (input : List ℕ) → RepeatsNothing policy → Unwritten format policy input → ⊥
   pub most : (script : ScriptState) → IsScript script → most_turns script ≤ 8323072
   pub outcomes : (script : ScriptState) (faults : Option FaultRates) (limit seed : ℕ) (outcome : SeedOutcome)
       → IsScript script → (IsOutOfOrder script → ⊥) → (IsUnreleased script → ⊥)
@@ -152,16 +152,12 @@ always_driven laws (task.Draw kind part) input cause faithful refuses = faithful
 always_driven laws (task.Cluster printed) input cause faithful refuses = faithful
 always_driven laws (task.Help text) input cause faithful refuses = faithful
 
--- choices that are not to be written have words
-written : (format : Format) (policy : Policy) (input : List ℕ) → format ≢ Choices → Unwritten format policy input → ⊥
-written Lines policy input not h = h
-written Trace policy input not h = h
-written Choices policy input not h = not refl
-
-none_wordless : (faults : Option FaultRates) (find : Option Search) (first last : ℕ) (input : List ℕ) → IfSome find (λ search. search.format ≢ Choices)
+-- what is looked for has words
+none_wordless : FinishingLaws → (faults : Option FaultRates) (find : Option Search) (first last : ℕ) (input : List ℕ) → NoneIsLost faults → NoneIsRepeated faults
     → FoundHasNoWords faults find first last input → ⊥
-none_wordless faults None first last input plain h = h
-none_wordless faults (Some search) first last input plain h = written search.format (chance faults h.seed) input plain h.unwritten
+none_wordless laws faults None first last input lost repeated h = h
+none_wordless laws faults (Some search) first last input lost repeated h =
+    laws.worded search.format (chance faults h.seed) input (by_chance faults h.seed lost repeated).unrepeated h.unwritten
 
 -- it is refused for want of memory only
 pub refused_for_memory : FinishingLaws → (asked : Task) (input : List ℕ) (why : Refusal) → IsOrderly input → RunsFaithfully asked → HasNoChoices asked
@@ -171,7 +167,7 @@ refused_for_memory laws (task.Sim name choices format) input why orderly faithfu
     ap word_of is ∙ of_choices fault cause
   where
     of_choices : (fault : ChoicesError) → (fault ≡ Choice → choices_of choices.now ≡ None) → choices_word fault ≡ codes "Memory"
-    of_choices Choice none = let bad : choices_of [] ≡ None = subst (λ (text : List ℕ). choices_of text ≡ None) plain.0 (none refl) in cc
+    of_choices Choice none = let bad : choices_of [] ≡ None = subst (λ (text : List ℕ). choices_of text ≡ None) plain (none refl) in cc
     of_choices Memory none = refl
 refused_for_memory laws (task.Sim name choices format) input why orderly faithful plain reader writer (inr (fault, is, policy, named, cause)) =
     ap word_of is ∙ of_run fault is cause
@@ -182,7 +178,7 @@ refused_for_memory laws (task.Sim name choices format) input why orderly faithfu
     of_run (perform.Drive cause) is h =
         let chosen = willing name choices.now policy faithful named in
         absurd (laws.never_refused format policy input cause chosen.unrepeated chosen.itself h)
-    of_run perform.Choice is h = absurd (written format policy input plain.1 h)
+    of_run perform.Choice is h = absurd (laws.worded format policy input (willing name choices.now policy faithful named).unrepeated h)
     of_run perform.Memory is h = refl
     of_run perform.Write is h = absurd (writer (inr (inl is)))
 refused_for_memory laws (task.Survey faults find first last) input why orderly faithful plain reader writer (fault, is, cause) =
@@ -192,7 +188,7 @@ refused_for_memory laws (task.Survey faults find first last) input why orderly f
     of_survey run.Read is h = absurd (reader (inr (inr (inr (inl is)))))
     of_survey (run.Script wrong) is h = let read = orderly.script_is in absurd cc
     of_survey (run.Cluster wrong) is h = absurd h
-    of_survey run.Choice is h = absurd (none_wordless faults find first last input plain h)
+    of_survey run.Choice is h = absurd (none_wordless laws faults find first last input faithful.0 faithful.1 h)
     of_survey run.Memory is h = refl
     of_survey run.Write is h = absurd (writer (inr (inr (inl is))))
 refused_for_memory laws task.Check input why orderly faithful plain reader writer cause = absurd faithful

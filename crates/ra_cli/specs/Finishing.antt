@@ -1,7 +1,6 @@
 -- Which tasks run every orderly script to its end.
-use Rattle.std.specs.Prelude.{◌≡◌, ◌≢◌, ⊤, ◌≤◌, [], IfSome}
+use Rattle.std.specs.Prelude.{◌≡◌, ⊤, ◌≤◌, []}
 use Rattle.ra_schedule.specs.Survey.{NoneIsLost, NoneIsRepeated}
-use Rattle.ra_script.specs.declared.format.Format.TheVariants.{Choices}
 use Rattle.ra_cli.specs.declared.command_line.PolicyName.{PolicyName}
 use Rattle.ra_cli.specs.declared.command_line.PolicyName.TheVariants.{Oldest, Newest, Seeded, Faulty, Listed}
 use Rattle.ra_cli.specs.declared.command_line.Task.{Task}
@@ -26,11 +25,11 @@ RunsFaithfully (task.Draw kind part) = ⊥
 RunsFaithfully (task.Cluster printed) = ⊥
 RunsFaithfully (task.Help text) = ⊥
 
--- no choices are given to the task, and it prints none
+-- no choices are given to the task
 abbrev pub HasNoChoices : Task → Type 0
 HasNoChoices (task.Answer node nodes) = ⊤
-HasNoChoices (task.Sim policy choices format) = (choices.now ≡ []) × (format ≢ Choices)
-HasNoChoices (task.Survey faults find first last) = IfSome find (λ search. search.format ≢ Choices)
+HasNoChoices (task.Sim policy choices format) = choices.now ≡ []
+HasNoChoices (task.Survey faults find first last) = ⊤
 HasNoChoices task.Check = ⊤
 HasNoChoices task.CheckMarks = ⊤
 HasNoChoices (task.Draw kind part) = ⊤

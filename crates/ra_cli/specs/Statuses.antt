@@ -9,7 +9,7 @@ use Rattle.ra_cli.specs.declared.cluster_output.ClusterOutput.{ClusterOutput}
 use Rattle.ra_cli.specs.declared.refusal.Refusal.{Refusal}
 use Rattle.ra_cli.specs.declared.search.Search.{Search}
 use Rattle.ra_cli.specs.Answer.{IsAnswered}
-use Rattle.ra_cli.specs.Words.{IsHelpWord, GivesNode, NamesNoChoices, PrintsBy, SimsFaithfully}
+use Rattle.ra_cli.specs.Words.{IsHelpWord, GivesNoChoices, GivesNode, PrintsBy, SimsFaithfully}
 use Rattle.ra_cli.specs.Performs.{Performs}
 use Rattle.ra_cli.specs.Checks.{Judges, IsJudged}
 use Rattle.ra_cli.specs.ClusterRun.{IsClusterRun, RunsBy}
@@ -90,9 +90,9 @@ pub record Serves (words : List (List ℕ)) (old new before after : Option (List
   -- It never comes of a script whose clients take names in ascending order and give them all back, if the words ask for
   -- `ra sim` by a policy that neither loses nor repeats a message.
   pub finished : SimsFaithfully words → IfSome old (λ input. IsOrderly input → status ≢ 3)
-  -- If the words also neither give choices nor ask for them, status 2 comes of such a script only with the line for want
-  -- of memory, or that for words that are no command line of `ra`.
-  pub only_memory : SimsFaithfully words → NamesNoChoices words → status ≡ 2 → IfSome old (λ input. IsOrderly input
+  -- If the words also give no choices, status 2 comes of such a script only with the line for want of memory, or that for
+  -- words that are no command line of `ra`.
+  pub only_memory : SimsFaithfully words → GivesNoChoices words → status ≡ 2 → IfSome old (λ input. IsOrderly input
       → Appends before after (refused_line (codes "Memory")) ⊎ Appends before after (refused_line (codes "Usage")))
   -- Status 2 comes only with the line of a refusal that is neither the reader's nor the writer's.
   pub refused : status ≡ 2 → IsRefused before after

@@ -71,7 +71,7 @@ abbrev pub IsTold : Option FaultRates → Option Search → (first last : ℕ) �
 IsTold faults None first last input output finished = IsSurveyed faults first last input output finished
 IsTold faults (Some search) first last input output finished = IsFound faults search first last input output finished
 
--- the choices of the run that is looked for are to be printed, and one of them cannot be
+-- the choices of the run that is looked for are to be printed, and no word stands for one of them
 abbrev pub FoundHasNoWords : Option FaultRates → Option Search → (first last : ℕ) → (input : List ℕ) → Type 0
 FoundHasNoWords faults None first last input = ⊥
 FoundHasNoWords faults (Some search) first last input = IsFirstUnwritten search.format faults search.ending first last input

@@ -44,10 +44,9 @@ pub record SimsFaithfully (words : List (List ℕ)) : Type 0 where
   pub no_help : Any IsHelpWord words → ⊥
   pub names : NamesFaithfully words
 
--- the words give no choices, and do not ask for those of the run
-pub record NamesNoChoices (words : List (List ℕ)) : Type 0 where
-  pub none_given : (text : List ℕ) → GivesText words (codes "--choices") text → ⊥
-  pub none_asked : Any (λ word. word ≡ codes "--as-choices") words → ⊥
+-- the words give no choices
+abbrev pub GivesNoChoices : (words : List (List ℕ)) → Type 0
+GivesNoChoices words = (text : List ℕ) → GivesText words (codes "--choices") text → ⊥
 
 -- a fact about the two numbers of the command `answer`; for any other command it says nothing
 abbrev pub OnAnswer : Task → (ℕ → ℕ → Type 0) → Type 0

@@ -1,7 +1,7 @@
 //! What the words of a command line ask for.
 ghost use Rattle.std.specs.Prelude.{◌≡◌, ◌≢◌, ◌⊎◌, [], ◌≤◌, ◌↔◌, ◌∷◌, ◌++◌, ℕ, List, Any, Some, map, codes, slice_get, IsTrue, IfOk, IfSome, string_bytes};
 ghost use Rattle.ra_schedule.specs.Survey.{NoneIsLost, NoneIsRepeated};
-ghost use Rattle.ra_cli.specs.Words.{ChecksBy, ReadsBy, Gives, GivesNode, GivesNothingBut, GivesText, IsHelpWord, NamesFaithfully, NamesNoChoices, OnAnswer, OnHelp, SimsFaithfully};
+ghost use Rattle.ra_cli.specs.Words.{ChecksBy, ReadsBy, Gives, GivesNoChoices, GivesNode, GivesNothingBut, GivesText, IsHelpWord, NamesFaithfully, OnAnswer, OnHelp, SimsFaithfully};
 ghost use Rattle.ra_cli.specs.Finishing.{HasNoChoices, IsFaithful, RunsFaithfully};
 
 use crate::cluster_output::ClusterOutput;
@@ -289,7 +289,7 @@ fn survey_task<'a>(
     ensures numbers { IfSome result (λ task. OnAnswer task (λ _ _. ⊥)) }
     ensures marks { IfSome result (λ task. (any : List (List ℕ)) → ChecksBy any task) }
     ensures faithful { IfSome result (λ task. IsFaithful policy → RunsFaithfully task) }
-    ensures choices { IfSome result (λ task. format ≢ Format.Choices → HasNoChoices task) }
+    ensures choices { IfSome result HasNoChoices }
 {
     let faults = chance_of(policy)?;
     let find = search_of(ending, format)?;
@@ -308,7 +308,7 @@ fn sim_task<'a>(words: &'a [String], sim: &ArgMatches<'a>) -> Option<Task<'a>>
     ensures numbers { IfSome result (λ task. OnAnswer task (λ _ _. ⊥)) }
     ensures marks { IfSome result (λ task. (any : List (List ℕ)) → ChecksBy any task) }
     ensures faithful { IfSome result (λ task. NamesFaithfully (map string_bytes words.now) → RunsFaithfully task) }
-    ensures choices { IfSome result (λ task. NamesNoChoices (map string_bytes words.now) → HasNoChoices task) }
+    ensures choices { IfSome result (λ task. GivesNoChoices (map string_bytes words.now) → HasNoChoices task) }
 {
     let policy = policy_name(words, sim)?;
     let choices = choices_word(words);
@@ -402,7 +402,7 @@ fn task_of<'a>(words: &'a [String], matches: &ArgMatches<'a>) -> Option<Task<'a>
     ensures numbers { IfSome result (λ task. OnAnswer task (GivesNode (map string_bytes words.now))) }
     ensures marks { IfSome result (ChecksBy (map string_bytes words.now)) }
     ensures faithful { IfSome result (λ task. SimsFaithfully (map string_bytes words.now) → RunsFaithfully task) }
-    ensures choices { IfSome result (λ task. NamesNoChoices (map string_bytes words.now) → HasNoChoices task) }
+    ensures choices { IfSome result (λ task. GivesNoChoices (map string_bytes words.now) → HasNoChoices task) }
 {
     let (_, given) = matches.subcommand()?;
     let word = command_word(words)?;
@@ -460,7 +460,7 @@ pub fn parse<'a>(alloc: Global, words: &'a [String]) -> Result<Task<'a>, Command
     ensures numbers { IfOk result (λ task. OnAnswer task (GivesNode (map string_bytes words.now))) }
     ensures marks { IfOk result (ChecksBy (map string_bytes words.now)) }
     ensures faithful { IfOk result (λ task. SimsFaithfully (map string_bytes words.now) → RunsFaithfully task) }
-    ensures choices { IfOk result (λ task. NamesNoChoices (map string_bytes words.now) → HasNoChoices task) }
+    ensures choices { IfOk result (λ task. GivesNoChoices (map string_bytes words.now) → HasNoChoices task) }
 {
     let Ok(command) = command(alloc, asks_for_summary(words)) else {
         return Err(CommandFault::Memory);
@@ -486,7 +486,7 @@ fn help_of<'a>(
     ensures numbers { IfOk result (λ task. OnAnswer task (λ _ _. ⊥)) }
     ensures marks { IfOk result (ChecksBy (map string_bytes words.now)) }
     ensures faithful { IfOk result (λ task. SimsFaithfully (map string_bytes words.now) → RunsFaithfully task) }
-    ensures choices { IfOk result (λ task. NamesNoChoices (map string_bytes words.now) → HasNoChoices task) }
+    ensures choices { IfOk result (λ task. GivesNoChoices (map string_bytes words.now) → HasNoChoices task) }
 {
     match error.kind() {
         // No contract of the parser's says that it gives these only to those who ask.

@@ -49,7 +49,7 @@ pub enum RunScriptError {
     Script(ScriptError),
     /// Threads may not run it, or did not bring it to its end. It is never that memory ran out.
     Cluster(ClusterError),
-    /// The choices of the run that was found are to be printed, and no word stands for one of them.
+    /// The choices of the run that was found are to be printed, and a message is repeated, for which there is no word.
     Choice,
     /// Memory ran out.
     Memory,

@@ -19,9 +19,8 @@ pub const NO_SPACE: &str = "cannot write to standard output: no space left on de
 /// What is said if a word of the command line is not a text.
 pub const NO_TEXT: &str = "a command-line argument is not valid UTF-8";
 
-/// What is said if `--choices` has no word for a choice of the run.
-pub const NO_WORD: &str =
-    "the choices of this run cannot be written: one repeats a message, or names a place of more than 9 digits";
+/// What is said if the choices of the run are to be printed, and a message is repeated.
+pub const NO_WORD: &str = "the choices of this run cannot be written: one repeats a message";
 
 /// What is said if a trace or a mark log is too long.
 pub const TOO_MANY_BYTES: &str = "standard input has more than 16777216 bytes";

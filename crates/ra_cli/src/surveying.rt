@@ -64,7 +64,7 @@ fn none_line(alloc: Global) -> Result<String, Memory>
 ///
 /// The first that holds, except that `Memory` may come before the other:
 ///
-/// 1. `Choice`: the choices are to be printed, and no word stands for one of them.
+/// 1. `Choice`: the choices are to be printed, and a message is repeated, for which there is no word.
 /// 2. `Memory`: memory ran out.
 fn found_of<O: Observer>(
     alloc: Global,
@@ -137,7 +137,7 @@ fn told_of<O: Observer>(
 ///
 /// 1. `Read`: the reader failed, before its end and before it gave 65,537 bytes.
 /// 2. `Script`: the input is no script.
-/// 3. `Choice`: choices are to be written, and no word stands for one of them.
+/// 3. `Choice`: choices are to be written, and a message is repeated, for which there is no word.
 /// 4. `Memory`: memory ran out.
 /// 5. `Write`: the writer failed or took nothing, with bytes left to write. A prefix of the text was written.
 ///

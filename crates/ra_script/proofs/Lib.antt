@@ -13,3 +13,4 @@ mod Inputs
 mod Words
 mod BroughtToEnd
 mod Performs
+mod Wording

@@ -25,7 +25,7 @@ pub record NoneEndsSo (faults : Option FaultRates) (ending : Ending) (first last
   pub none : IsFirstSeed script faults turn_limit ending first last None
 
 -- the choices of the run by the least of these seeds that brings the script of the input to this end are to be written,
--- and one of them cannot be
+-- and no word stands for one of them
 pub record IsFirstUnwritten (format : Format) (faults : Option FaultRates) (ending : Ending) (first last : ℕ) (input : List ℕ) : Type 0 where
   pub script : ScriptState
   pub script_is : script_of input ≡ Ok script

@@ -1,9 +1,9 @@
 -- What `perform`, `perform_as` and `perform_trace` make of their input.
-use Rattle.std.specs.Prelude.{◌≡◌, ◌≢◌, ℕ, ◌<◌, ◌≤◌, List, [], ◌++◌, length, Bool, All, Option, IfSome, Result, Ok, Err, IfOk, IfErr, IsErrOf, IsTrue, codes}
+use Rattle.std.specs.Prelude.{◌≡◌, ◌≢◌, ℕ, ◌<◌, ◌≤◌, List, [], ◌++◌, length, Bool, Option, IfSome, Result, Ok, Err, IfOk, IfErr, IsErrOf, IsTrue, codes}
 use Rattle.std.specs.Io.KnownBytes.{Consumes, Appends}
 use Rattle.ra_stamp.specs.Sequence.{Listed as Listing}
 use Rattle.ra_world.specs.declared.report.Report.{Report}
-use Rattle.ra_world.specs.Traffic.{Move}
+use Rattle.ra_world.specs.Traffic.{Move, repeated_by}
 use Rattle.ra_world.specs.Lines.{report_text}
 use Rattle.ra_schedule.specs.declared.choice.Choice.{Choice}
 use Rattle.ra_schedule.specs.declared.choice.Policy.{Policy}
@@ -18,7 +18,7 @@ use Rattle.ra_schedule.specs.Schedule.{Follows, Ends, Stops, RepeatsNothing}
 use Rattle.ra_trace.specs.TraceText.{IsTrace}
 use Rattle.ra_script.specs.declared.format.Format.{Format}
 use Rattle.ra_script.specs.declared.format.Format.TheVariants.{Lines, Trace, Choices}
-use Rattle.ra_script.specs.ChoicesText.{HasText, Lists}
+use Rattle.ra_script.specs.ChoicesText.{Lists}
 use Rattle.ra_script.specs.declared.error.ScriptError.TheVariants as script_fault
 use Rattle.ra_script.specs.declared.error.PerformError.{PerformError}
 use Rattle.ra_script.specs.declared.error.PerformError.TheVariants as fault
@@ -57,18 +57,16 @@ pub record IsPerformedAs (format : Format) (policy : Policy) (input output : Lis
 abbrev pub IsTraced : Policy → List ℕ → List ℕ → Bool → Type 0
 IsTraced policy input output finished = IsPerformedAs Trace policy input output finished
 
--- one of the choices of the policy's run cannot be written
+-- the policy's run repeats a message, and no word stands for a repeat
 pub record HasNoWords (policy : Policy) (input : List ℕ) : Type 0 where
   pub script : ScriptState
   pub script_is : script_of input ≡ Ok script
   pub moves : List Move
   pub follows : Follows script policy moves
   pub ends : Ends script policy moves
-  pub choices : List Choice
-  pub are : AreChoicesBy script policy choices moves
-  pub wordless : All HasText choices → ⊥
+  pub repeats : repeated_by moves ≢ []
 
--- choices are to be written, and one of them cannot be
+-- choices are to be written, and no word stands for one of them
 abbrev pub Unwritten : Format → Policy → List ℕ → Type 0
 Unwritten Lines policy input = ⊥
 Unwritten Trace policy input = ⊥

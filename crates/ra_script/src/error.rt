@@ -57,7 +57,7 @@ pub enum PerformError {
     /// The policy could not go on. It is never that memory ran out.
     #[error(transparent)]
     Drive(DriveError),
-    /// The choices of the run are to be written, and no word stands for one of them.
+    /// The choices of the run are to be written, and a message is repeated, for which there is no word.
     Choice,
     /// Memory ran out.
     Memory,

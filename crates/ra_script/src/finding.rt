@@ -21,8 +21,8 @@ use std::alloc::Global;
 ///
 /// The first that holds, except that `Memory` may come before the other:
 ///
-/// 1. `Choice`: the choices are to be written, and no word stands for one of them: a message is repeated, or the number of one has more
-///    than nine digits. The observer was told of each seed up to that of the run.
+/// 1. `Choice`: the choices are to be written, and a message is repeated, for which there is no word. The observer was told of each seed
+///    up to that of the run.
 /// 2. `Memory`: memory ran out at some seed, and the observer was told of those before it; or for the text, and the observer was told of
 ///    each seed up to that of the run.
 pub fn find_run<O: Observer>(

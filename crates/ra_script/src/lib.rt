@@ -20,7 +20,7 @@ pub use error::{ChoicesError, PerformError, ScriptError};
 pub use explaining::explain_script;
 pub use finding::find_run;
 pub use format::Format;
-pub use laws::read_scripts_come_to_rest;
+pub use laws::{choices_have_words_unless_messages_are_repeated, read_scripts_come_to_rest};
 pub use performing::{MAX_TURNS, Printed, perform, perform_as, perform_trace};
 pub use reading::read_script;
 pub use spelling::choices_text;

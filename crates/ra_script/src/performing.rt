@@ -5,7 +5,7 @@ ghost use Rattle.ra_script.specs.ScriptText.{script_of};
 ghost use Rattle.ra_script.specs.Performed.{IsPerformedAs, PerformsScript, RefusesAs};
 
 use crate::format::Format;
-use crate::laws::read_scripts_come_to_rest;
+use crate::laws::{choices_have_words_unless_messages_are_repeated, read_scripts_come_to_rest};
 use crate::{PerformError, choices_text, read_script};
 use ra_schedule::{Policy, Script, drive, summarize};
 use ra_stamp::Memory;
@@ -94,7 +94,7 @@ fn end_line(text: &mut String) -> Result<(), Memory>
 /// The first that holds, except that `Memory` may come before the others:
 ///
 /// 1. `Drive`: the policy can't go on.
-/// 2. `Choice`: no word stands for one of the choices.
+/// 2. `Choice`: a message is repeated, for which there is no word.
 /// 3. `Memory`: memory ran out.
 fn choices_of(alloc: Global, policy: &Policy, script: &Script) -> Result<Printed, PerformError>
     ensures ok { (input : List ℕ) → script_of input ≡ Ok script.now
@@ -103,6 +103,7 @@ fn choices_of(alloc: Global, policy: &Policy, script: &Script) -> Result<Printed
     ensures early { IfErr result (λ fault. fault ≢ PerformError.Write) }
     ensures unread { ¬ IsErrOf result PerformError.Read }
 {
+    choices_have_words_unless_messages_are_repeated();
     let recording = drive(alloc, script, policy, MAX_TURNS)?;
     let mut text = choices_text(alloc, &recording.choices)?;
     end_line(&mut text)?;
@@ -119,7 +120,7 @@ fn choices_of(alloc: Global, policy: &Policy, script: &Script) -> Result<Printed
 /// The first that holds, except that `Memory` may come before the others:
 ///
 /// 1. `Drive`: the policy can't go on.
-/// 2. `Choice`: the choices are to be written, and no word stands for one of them.
+/// 2. `Choice`: the choices are to be written, and a message is repeated, for which there is no word.
 /// 3. `Memory`: memory ran out.
 pub fn print_run(
     alloc: Global,
@@ -148,7 +149,7 @@ pub fn print_run(
 ///
 /// 1. `Script`: the input is no script.
 /// 2. `Drive`: the policy can't go on.
-/// 3. `Choice`: the choices are to be written, and no word stands for one of them.
+/// 3. `Choice`: the choices are to be written, and a message is repeated, for which there is no word.
 /// 4. `Memory`: memory ran out.
 fn make_printed(
     alloc: Global,
@@ -209,8 +210,7 @@ fn read_printed<R: Read>(
 /// 1. `Read`: the reader failed, before its end and before it gave 65,537 bytes.
 /// 2. `Script`: the input is no script.
 /// 3. `Drive`: a choice is left after the last turn, or can't be made.
-/// 4. `Choice`: the choices are to be written, and no word stands for one of them: a message is repeated, or the number of one has more
-///    than nine digits.
+/// 4. `Choice`: the choices are to be written, and a message is repeated, for which there is no word.
 /// 5. `Memory`: memory ran out.
 /// 6. `Write`: the writer failed or took nothing, with bytes left to write. A prefix of the text was written.
 ///

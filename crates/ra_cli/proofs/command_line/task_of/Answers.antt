@@ -1,6 +1,6 @@
 use Rattle.std.proofs.Common.{arith, map, string_bytes, codes}
 use Rattle.ra_cli.specs.Finishing.{RunsFaithfully}
-use Rattle.ra_cli.specs.Words.{NamesFaithfully, NamesNoChoices, SimsFaithfully}
+use Rattle.ra_cli.specs.Words.{GivesNoChoices, NamesFaithfully, SimsFaithfully}
 use Rattle.ra_cli.proofs.Faithful.{anyway, no_other, other, under}
 use Rattle.ra_cli.proofs.command_line.task_of.Goals as goal
 
@@ -30,7 +30,7 @@ returns-in-draw-clause-faithful c =
     other words (no_other words c.in_ok-word.word.now (codes "draw") c.in_ok-word.ensures c.in-draw.is (λ same. omega (arith, same))) c.draw_task.result
 
 pub returns-in-answer-clause-choices : goal.returns-in-answer-clause-choices
-returns-in-answer-clause-choices c = anyway (NamesNoChoices (map string_bytes c.args.words.now)) c.answer_task.result c.answer_task.ensures.choices
+returns-in-answer-clause-choices c = anyway (GivesNoChoices (map string_bytes c.args.words.now)) c.answer_task.result c.answer_task.ensures.choices
 
 pub returns-in-draw-clause-choices : goal.returns-in-draw-clause-choices
-returns-in-draw-clause-choices c = anyway (NamesNoChoices (map string_bytes c.args.words.now)) c.draw_task.result c.draw_task.ensures.choices
+returns-in-draw-clause-choices c = anyway (GivesNoChoices (map string_bytes c.args.words.now)) c.draw_task.result c.draw_task.ensures.choices

@@ -8,6 +8,7 @@ returns c =
     let laws : FinishingLaws = record {
       scripts = read.scripts;
       never_refused = read.never_refused;
+      worded = c.choices_have_words_unless_messages_are_repeated.ensures.never_refused;
       most = c.scripts_come_to_rest.ensures.most;
       outcomes = seeds.outcomes;
       surveys = seeds.surveys;

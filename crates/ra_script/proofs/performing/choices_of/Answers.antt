@@ -7,6 +7,7 @@ use Rattle.ra_script.specs.declared.format.Format.TheVariants.{Choices}
 use Rattle.ra_script.specs.ChoicesText.{HasText}
 use Rattle.ra_script.specs.Faults.{of_choices}
 use Rattle.ra_script.specs.Performed.{HasNoWords, RefusesAs}
+use Rattle.ra_script.proofs.ReadScripts.{read_scripts}
 use Rattle.ra_script.proofs.performing.choices_of.Goals as goal
 
 -- why choices are not written
@@ -45,8 +46,7 @@ returns-in_err-text-clause-err c input script_is =
       moves = recording.moves;
       follows = recording.run.follows;
       ends = recording.run.ends;
-      choices = items;
-      are = recording.choices;
-      wordless = none;
+      repeats = λ unrepeated. none (c.choices_have_words_unless_messages_are_repeated.ensures.have_text c.args.script.now c.args.policy.now items recording.moves
+          (read_scripts input c.args.script.now script_is) recording.run.follows recording.choices unrepeated);
     } in
     rw (p.1, p.2) (of_fault c.args.policy.now input c.in_err-text.field-0.0 (All HasText items → ⊥) _ wordless c.in_err-text.ensures.err)
