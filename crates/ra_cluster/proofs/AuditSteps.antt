@@ -32,7 +32,7 @@ use Rattle.ra_history.specs.declared.event.BookKind.{BookKind}
 use Rattle.ra_history.specs.declared.event.BookKind.TheVariants.{Got}
 use Rattle.ra_history.specs.History.{node_event, clock_of}
 use Rattle.ra_history.specs.Settled.{step_at}
-use Rattle.ra_cluster.specs.Audit.{ProgressState, IsAudited, HasSettled, IsForNumber, IsDue, IsReady, IsMisfit, Advances, AreNextAt, AtNumber, Takes, fresh_progress, taken_of, with_more}
+use Rattle.ra_cluster.specs.Audit.{ProgressState, IsAudited, HasSettled, IsForNumber, IsDue, IsReady, IsMisfit, Advances, AreNextAt, AtNumber, Takes, TakesHanded, fresh_progress, taken_of, with_more}
 use Rattle.ra_history.proofs.Projections.{events_by, lost_in_event, repeated_in_event, one_event}
 use Rattle.ra_cluster.proofs.SiteNumbers.{numbers_more}
 
@@ -67,7 +67,7 @@ lost_more (x ∷ moves) m = ap (λ (ms : List Message). lost_in x.step ++ ms) (l
 
 module _ (w : WorldState) (nodes : List ProgressState) (place : ℕ) (p q : ProgressState) (e : BookEvent) (sends : List Message) (marks : List Mark)
     (a : IsAudited w nodes) (within : place < length nodes) (at : p ≡ get_or nodes place p) (for_node : IsForNumber p.node e.kind)
-    (node_is : q.node ≡ p.node) (settled_is : q.settled ≡ p.settled ++ e ∷ []) (taken_is : taken_of q ≡ taken_of p)
+    (node_is : q.node ≡ p.node) (settled_is : q.settled ≡ p.settled ++ e ∷ []) (taken_is : taken_of q ≡ taken_of p) (kept_is : q.kept ≡ p.kept)
     (run : IsRun w.count w.start (with_move w (step_at p.node e.kind) sends marks).moves) where
   abbrev m : Move
   m = record { step = step_at p.node e.kind; sends = sends; marks = marks }
@@ -128,6 +128,7 @@ module _ (w : WorldState) (nodes : List ProgressState) (place : ℕ) (p q : Prog
     goes_on = refl;
     told_are = told_is ∙ ap (λ (ms : List Mark). told ++ ms) (sym (append-nil marks));
     taken = map-set_same taken_of nodes place q p (taken_is ∙ ap taken_of at);
+    kept = map-set_same (λ (p : ProgressState). p.kept) nodes place q p (kept_is ∙ ap (λ (p : ProgressState). p.kept) at);
   }
 
 pub advances_none : (w : WorldState) (nodes : List ProgressState) (told : List Mark) → IsAudited w nodes → Advances w nodes told w nodes told
@@ -139,6 +140,7 @@ advances_none w nodes told a = record {
   goes_on = sym (append-nil w.moves);
   told_are = sym (append-nil told);
   taken = refl;
+  kept = refl;
 }
 
 pub advances_then : (w v u : WorldState) (nodes nodes' nodes'' : List ProgressState) (told told' told'' : List Mark)
@@ -153,6 +155,7 @@ advances_then w v u nodes nodes' nodes'' told told' told'' a b = record {
       b.told_are ∙ ap (λ (ms : List Mark). ms ++ marks_of b.moves) a.told_are ∙ append_assoc told (marks_of a.moves) (marks_of b.moves)
       ∙ ap (λ (ms : List Mark). told ++ ms) (sym (marks_append a.moves b.moves));
   taken = b.taken ∙ a.taken;
+  kept = b.kept ∙ a.kept;
 }
 
 -- ---- Which events can be put
@@ -221,15 +224,15 @@ match_none P (Some x) f h = h
 
 pub advances_step : (w : WorldState) (nodes : List ProgressState) (place : ℕ) (p q : ProgressState) (e : BookEvent) (sends : List Message) (marks : List Mark) (step : Step) (node : ℕ) (new : WorldState)
     (told told' : List Mark) → IsAudited w nodes → place < length nodes → p ≡ get_or nodes place p → IsForNumber p.node e.kind
-    → q.node ≡ p.node → q.settled ≡ p.settled ++ e ∷ [] → taken_of q ≡ taken_of p
+    → q.node ≡ p.node → q.settled ≡ p.settled ++ e ∷ [] → taken_of q ≡ taken_of p → q.kept ≡ p.kept
     → node ≡ p.node → step ≡ step_at node e.kind → new ≡ with_move w step sends marks → IsRun new.count new.start new.moves → told' ≡ told ++ marks
     → Advances w nodes told new (set nodes place q) told'
-advances_step w nodes place p q e sends marks step node new told told' a within at for_node node_is settled_is taken_is number step_is new_is run told_is =
+advances_step w nodes place p q e sends marks step node new told told' a within at for_node node_is settled_is taken_is kept_is number step_is new_is run told_is =
     let is : new ≡ with_move w (step_at p.node e.kind) sends marks =
     new_is ∙ ap (λ (s : Step). with_move w s sends marks) (step_is ∙ ap (λ (i : ℕ). step_at i e.kind) number)
     in
     subst (λ (v : WorldState). Advances w nodes told v (set nodes place q) told') (sym is)
-    (advances_one w nodes place p q e sends marks a within at for_node node_is settled_is taken_is (subst (λ (v : WorldState). IsRun v.count v.start v.moves) is run) told told' told_is)
+    (advances_one w nodes place p q e sends marks a within at for_node node_is settled_is taken_is kept_is (subst (λ (v : WorldState). IsRun v.count v.start v.moves) is run) told told' told_is)
 
 pub advances_kept : (w new : WorldState) (nodes nodes' : List ProgressState) (told : List Mark) → IsAudited w nodes → new ≡ w → nodes' ≡ nodes → Advances w nodes told new nodes' told
 advances_kept w new nodes nodes' told a same same_nodes =
@@ -319,6 +322,30 @@ taken_audited w nodes nodes' node after events answer a takes = of answer takes.
           unrepeated = a.unrepeated;
           unlost = a.unlost;
         })
+
+pub handed_audited : (w : WorldState) (nodes nodes' : List ProgressState) (node : ℕ) (answer : Result (Unit {0}) TakeError) → IsAudited w nodes → TakesHanded nodes node answer nodes' → IsAudited w nodes'
+handed_audited w nodes nodes' node answer a (inl none) = subst (IsAudited w) (sym none.2) a
+handed_audited w nodes nodes' node answer a (inr some) =
+    let p = some.0 in
+    let found = some.1 in
+    let q = some.2.0 in
+    let from = some.2.1 in
+    let settled = some.2.2 in
+    let is = some.2.3 in
+    let within : node - 1 < length nodes = slice_get_within nodes (node - 1) p found in
+    let at : get_or nodes (node - 1) p ≡ p = get_or_from_slice_get nodes (node - 1) p p found in
+    let old : HasSettled w.moves p = subst (HasSettled w.moves) at (a.events (node - 1) p within) in
+    let new : HasSettled w.moves q =
+    ap (λ (i : ℕ). map (λ h. h.event) (happened_at i w.moves)) from.node ∙ old ∙ ap (map (λ (e : BookEvent). node_event e.kind)) (sym settled)
+    in
+    subst (IsAudited w) (sym is) (record {
+      count = a.count;
+      run = a.run;
+      numbers = map-set_same (λ (p : ProgressState). p.node) nodes (node - 1) q p (from.node ∙ ap (λ (x : ProgressState). x.node) (sym at)) ∙ a.numbers;
+      events = All-set (HasSettled w.moves) nodes (node - 1) q new a.events;
+      unrepeated = a.unrepeated;
+      unlost = a.unlost;
+    })
 
 -- ---- The first moment
 

@@ -24,20 +24,25 @@ use Rattle.ra_cluster.specs.Cluster.{ClusterState}
 
 -- ---- What an auditor knows
 
--- Of a node: its number, its events that are in the run, and the events after those that were taken from its book and
--- can't be put into the run yet.
+-- Of a node: its number, its events that are in the run, the events after those that were taken from its book and can't
+-- be put into the run yet, and the events after these that its book handed over and that are not taken yet.
 pub record ProgressState : Type 0 where
   pub node : ℕ
   pub settled : List BookEvent
   pub waiting : List BookEvent
+  pub kept : List BookEvent
 
 -- all events of the node that were taken, from its first one on
 abbrev pub taken_of : ProgressState → List BookEvent
 taken_of p = p.settled ++ p.waiting
 
+-- the same, and the events that are not taken yet
+abbrev pub handed_over : ProgressState → List BookEvent
+handed_over p = taken_of p ++ p.kept
+
 -- a node from which nothing was taken
 abbrev pub fresh_progress : ℕ → ProgressState
-fresh_progress node = record { node = node; settled = []; waiting = [] }
+fresh_progress node = record { node = node; settled = []; waiting = []; kept = [] }
 
 -- the run so far, as a world that made its steps; how far each node's events are in it; and what did not fit, if
 -- anything did not
@@ -117,7 +122,8 @@ pub record IsAuditorOf (cluster : ClusterState) (auditor : AuditState) : Type 0 
   pub count : auditor.world.count ≡ cluster.nodes
   pub start : auditor.world.start ≡ cluster.start
 
--- The run went on by some moves, whose marks were told in their order. Of each node the same events are taken as before.
+-- The run went on by some moves, whose marks were told in their order. Of each node the same events are taken and kept as
+-- before.
 pub record Advances (old : WorldState) (nodes : List ProgressState) (told : List Mark) (new : WorldState)
     (nodes' : List ProgressState) (told' : List Mark) : Type 0 where
   pub audited : IsAudited new nodes'
@@ -127,14 +133,25 @@ pub record Advances (old : WorldState) (nodes : List ProgressState) (told : List
   pub goes_on : new.moves ≡ old.moves ++ moves
   pub told_are : told' ≡ told ++ marks_of moves
   pub taken : map taken_of nodes' ≡ map taken_of nodes
+  pub kept : map (λ p. p.kept) nodes' ≡ map (λ p. p.kept) nodes
 
--- of each node, further events were taken after those that were taken before, or none
+-- The node is the same. Its book handed over the same events as before, and then further ones, or none; and so many more of
+-- them are taken, or none.
+pub record GoesOnFrom (old new : ProgressState) : Type 0 where
+  pub node : new.node ≡ old.node
+  pub taken : (more : List BookEvent) × (taken_of new ≡ taken_of old ++ more)
+  pub handed : (more : List BookEvent) × (handed_over new ≡ handed_over old ++ more)
+
+-- each node goes on from the one of before
 abbrev pub TakenGoOn : List ProgressState → List ProgressState → Type 0
 TakenGoOn [] [] = Unit {0}
 TakenGoOn [] (new ∷ news) = ⊥
 TakenGoOn (old ∷ olds) [] = ⊥
-TakenGoOn (old ∷ olds) (new ∷ news) =
-    (new.node ≡ old.node) × ((more : List BookEvent) × (taken_of new ≡ taken_of old ++ more)) × TakenGoOn olds news
+TakenGoOn (old ∷ olds) (new ∷ news) = GoesOnFrom old new × TakenGoOn olds news
+
+-- all that books have handed over is taken
+abbrev pub NoneIsKept : List ProgressState → Type 0
+NoneIsKept nodes = All (λ p. p.kept ≡ []) nodes
 
 -- Further events were taken of nodes, and nothing else has changed.
 pub record TakesMore (old new : AuditState) : Type 0 where
@@ -192,6 +209,19 @@ pub record Takes (nodes : List ProgressState) (node after : ℕ) (events : List 
   pub not_next : IsErrOf answer NotNext ↔ AtNumber nodes node (λ p. (after ≡ clock_of (taken_of p))
       × (AreNextAt p.node (clock_of (taken_of p)) events → ⊥))
   pub err : OnErr answer (nodes' ≡ nodes)
+
+-- What comes of taking what the site of a node hands over. If there is no such node, it says so, and nothing changes.
+-- Otherwise the node goes on from before, with the same events in the run, and the other nodes are as before. If it is Ok,
+-- nothing is kept of the node.
+abbrev pub TakesHanded : List ProgressState → ℕ → Result (Unit {0}) TakeError → List ProgressState → Type 0
+TakesHanded nodes node answer nodes' =
+    ((length nodes < node) × IsErrOf answer NoNode × (nodes' ≡ nodes))
+    ⊎ AtNumber nodes node (λ p. (q : ProgressState) × GoesOnFrom p q × (q.settled ≡ p.settled)
+    × (nodes' ≡ slice_set nodes (node - 1) q) × OnOk answer (q.kept ≡ []))
+
+-- nothing is kept of the node any more, and the other nodes are as before
+abbrev pub TakesAllAt : List ProgressState → ℕ → List ProgressState → Type 0
+TakesAllAt nodes node nodes' = (q : ProgressState) × (q.kept ≡ []) × (nodes' ≡ slice_set nodes (node - 1) q)
 
 -- ---- What is left at the end
 

@@ -13,7 +13,7 @@ use Rattle.ra_cluster.specs.Audit.{ProgressState, AreNextAt, NoneWaits, taken_of
 
 -- what the fields represent
 abbrev pub progress_of : Inside → ProgressState
-progress_of p = record { node = p.node; settled = p.settled.items; waiting = p.waiting.items }
+progress_of p = record { node = p.node; settled = p.settled.items; waiting = p.waiting.items; kept = p.kept.items }
 
 -- the events were taken one after the other, from the node's first one on, and the clocks are theirs
 pub record IsKeptProgress (p : Inside) : Type 0 where

@@ -6,11 +6,10 @@ ghost use Rattle.ra_world.specs.Quiet.{requests_in};
 ghost use Rattle.ra_world.specs.Run.{marks_of};
 ghost use Rattle.ra_cluster.specs.declared.audit_error.AuditFault as audit_fault;
 ghost use Rattle.ra_stamp.specs.declared.message.Message.{Message};
-ghost use Rattle.ra_cluster.specs.Audit.{Takes, NoneWaits, IsNeverSent, MayBePut, IsUnsent, clocks_taken, fresh_progress};
+ghost use Rattle.ra_cluster.specs.Audit.{Takes, TakesHanded, NoneWaits, IsNeverSent, MayBePut, IsUnsent, clocks_taken, fresh_progress};
 
 use crate::audit_laws::runs_meet_the_theorem;
 use crate::auditing::put_all;
-use crate::desk::Handed;
 use crate::never_sent::{clocks_of, first_unsent};
 use crate::progress::Progress;
 use crate::unsettled::{first_unsettled, waiting_at};
@@ -19,7 +18,6 @@ use ra_stamp::{Memory, NodeId};
 use ra_world::{MarklessWorld, NewError};
 use std::alloc::Global;
 use std::marker::Model;
-use std::mem;
 use std::sync::Wait;
 
 /// Puts what happens at the nodes of a cluster together into one run while the nodes go on. From time to time each node's
@@ -38,8 +36,6 @@ pub struct Auditor {
     /// By the nodes' numbers, from 1.
     nodes: Vec<Progress>,
     fault: Option<AuditFault>,
-    /// What the sites handed over and was not taken yet, by the nodes' numbers. It is taken at once, unless memory runs out.
-    handed: Vec<Handed>,
 }
 
 impl Model for Auditor {
@@ -54,7 +50,7 @@ impl Model for Auditor {
 }
 
 impl Auditor {
-    ghost use Rattle.ra_cluster.specs.Audit.{IsAudited, NoneIsReady, IsMisfit, Advances, RunTheorem, TakesMore};
+    ghost use Rattle.ra_cluster.specs.Audit.{IsAudited, NoneIsReady, IsMisfit, Advances, RunTheorem};
 
     /// Makes the auditor of a cluster of this many nodes, in which nothing has happened yet. The highest number of each
     /// resource begins at `start`, 0 to 2^64-1. The cost is linear in the number of nodes.
@@ -75,14 +71,12 @@ impl Auditor {
     {
         let world = MarklessWorld::new(alloc, nodes, start)?;
         let progress = none_taken(alloc, nodes)?;
-        let handed = none_handed(alloc, nodes)?;
         Ok(Auditor {
             world,
             count: nodes,
             start,
             nodes: progress,
             fault: None,
-            handed,
         })
     }
 
@@ -113,82 +107,22 @@ impl Auditor {
         self.count == nodes && self.start == start
     }
 
-    /// Has a site hand over what has happened since the last time, and takes it. What it handed over before and was not taken for
-    /// want of memory comes first.
+    /// Has a site hand over what has happened since the last time, and takes it, as [`Progress::take_handed`] does.
     ///
     /// # Errors
     ///
-    /// Those of `take`. After `Memory`, what was handed over is kept here, and what was not is kept at the node. After any other
-    /// error, the node has handed over nothing.
+    /// `NoNode` if the auditor has no such node, or those of [`Progress::take_handed`].
     pub(crate) fn take_handed<R: Wait>(
         &mut self,
         rt: &R,
         alloc: Global,
         site: &Site,
     ) -> Result<(), TakeError>
-        ensures { TakesMore self.old self.new }
+        ensures handed { TakesHanded self.old.nodes site.now result self.new.nodes }
+        ensures rest { self.new ≡ record self.old { nodes = self.new.nodes } }
+        ensures audited { IsAudited self.new.world self.new.nodes }
     {
-        let node = site.node();
-        self.take_kept(alloc, node)?;
-        let Some(after) = self.latest_of(node) else {
-            return Err(TakeError::NoNode);
-        };
-        let mut handed = site.hand_over(rt, alloc, after)?;
-        // The frames are of no use here, and let go without the node's lock.
-        handed.sent = Vec::new(alloc);
-        self.keep(node, handed);
-        self.take_kept(alloc, node)
-    }
-
-    /// Returns the clock of the last event that was taken from a node, 0 before the first, or `None` if there is no such node.
-    fn latest_of(&self, node: NodeId) -> Option<u64> {
-        // Nodes are counted from 1.
-        let progress = self.nodes.get(usize::from(node.get()) - 1)?;
-        Some(progress.latest())
-    }
-
-    /// Keeps what a node handed over, until it is taken.
-    fn keep(&mut self, node: NodeId, handed: Handed)
-        ensures { self.new ≡ self.old }
-    {
-        // Nodes are counted from 1.
-        if let Some(place) = self.handed.get_mut(usize::from(node.get()) - 1) {
-            *place = handed;
-        }
-    }
-
-    /// Takes what a node handed over and is kept here.
-    ///
-    /// # Errors
-    ///
-    /// Those of `take`, and it is still kept.
-    fn take_kept(&mut self, alloc: Global, node: NodeId) -> Result<(), TakeError>
-        ensures { TakesMore self.old self.new }
-    {
-        // Each reader tells what holds of every auditor.
-        let _fault = self.fault();
-        let Some(handed) = self.give(alloc, node) else {
-            return Err(TakeError::NoNode);
-        };
-        if handed.events.as_slice().is_empty() {
-            return Ok(());
-        }
-        match self.take(node, handed.after, handed.events.as_slice()) {
-            Ok(()) => Ok(()),
-            Err(cause) => {
-                self.keep(node, handed);
-                Err(cause)
-            }
-        }
-    }
-
-    /// Returns what a node handed over and is kept here, which is not kept any more, or `None` if there is no such node.
-    fn give(&mut self, alloc: Global, node: NodeId) -> Option<Handed>
-        ensures { self.new ≡ self.old }
-    {
-        // Nodes are counted from 1.
-        let place = self.handed.get_mut(usize::from(node.get()) - 1)?;
-        Some(mem::replace(place, Handed::nothing(alloc)))
+        take_handed_into(rt, alloc, self.nodes.as_mut_slice(), site)
     }
 
     /// Returns, of each node, the clock of the last event that was taken from it, or 0 before the first.
@@ -199,7 +133,8 @@ impl Auditor {
     }
 
     /// Looks for a frame that is the next event of its node and was never sent, and notes it as the fault. The nodes had these
-    /// clocks before their last events were taken. Returns `None` if each frame that waits may still be put.
+    /// clocks before their last events were taken. Returns `None` if each frame that waits as the next event of its node may still
+    /// be put.
     pub(crate) fn find_unsent(&mut self, clocks: &[u64]) -> Option<AuditFault>
         requires { NoneIsReady self.old.nodes }
         ensures none { IsNone result → (self.new ≡ self.old) × All (MayBePut clocks.now self.old.nodes) self.old.nodes }
@@ -267,7 +202,7 @@ impl Auditor {
     }
 
     /// Returns how many events were taken and are not in the run yet. After a round that is Ok, these are frames whose senders were
-    /// looked at too early in the round, and events behind them.
+    /// looked at too early in the round, and the events after them.
     pub fn waiting(&self) -> u128
         ensures value { result ≡ sum_by (λ p. length p.waiting) self.now.nodes }
         ensures audited { IsAudited self.now.world self.now.nodes }
@@ -346,6 +281,24 @@ fn take_into(
     progress.take(after, events)
 }
 
+/// Has a site hand over what has happened since the last time, and one of these takes it, as `take_handed` does.
+fn take_handed_into<R: Wait>(
+    rt: &R,
+    alloc: Global,
+    nodes: &mut [Progress],
+    site: &Site,
+) -> Result<(), TakeError>
+    ensures { TakesHanded nodes.old site.now result nodes.new }
+{
+    // Nodes are counted from 1.
+    let place = usize::from(site.node().get()) - 1;
+    if place >= nodes.len() {
+        return Err(TakeError::NoNode);
+    }
+    let progress = &mut nodes[place];
+    progress.take_handed(rt, alloc, site)
+}
+
 /// Returns, for each of this many nodes, that nothing was taken from it.
 fn none_taken(alloc: Global, nodes: u16) -> Result<Vec<Progress>, Memory>
     ensures { IfOk result (λ progress. progress.items ≡ map fresh_progress (range_with_len 1 nodes)) }
@@ -366,13 +319,4 @@ fn push_fresh(alloc: Global, progress: &mut Vec<Progress>, number: u16) -> Resul
     };
     progress.push(Progress::new(alloc, node))?;
     Ok(())
-}
-
-/// Returns, for each of this many nodes, that nothing was handed over.
-fn none_handed(alloc: Global, nodes: u16) -> Result<Vec<Handed>, Memory> {
-    let mut handed = Vec::new(alloc);
-    for _ in 0..nodes {
-        handed.push(Handed::nothing(alloc))?;
-    }
-    Ok(handed)
 }

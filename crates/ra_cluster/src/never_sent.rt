@@ -22,8 +22,9 @@ pub fn clocks_of(alloc: Global, nodes: &[Progress]) -> Result<Vec<u64>, Memory>
     Ok(clocks)
 }
 
-/// Returns a frame that is the next event of its node and was never sent, or `None` if each that waits may still be put. The
-/// nodes had these clocks before their last events were taken. The cost is linear in the number of nodes.
+/// Returns a frame that is the next event of its node and was never sent, or `None` if each frame that waits as the next event of
+/// its node may still be put. The nodes had these clocks before their last events were taken. The cost is linear in the number of
+/// nodes.
 pub fn first_unsent(nodes: &[Progress], clocks: &[u64]) -> Option<AuditFault>
     requires numbers { (count : ℕ) × (map (λ p. p.node) nodes.now ≡ range_with_len 1 count) }
     requires none_ready { NoneIsReady nodes.now }

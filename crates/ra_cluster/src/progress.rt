@@ -2,15 +2,19 @@
 ghost use Rattle.std.specs.Prelude.{◌≡◌, ◌≢◌, ◌↔◌, ◌<◌, ◌∷◌, ◌++◌, [], Some, length, slice_get, IsTrue, IsErrOf, IfSome, IfErr, OnOk, OnErr, MatchOption};
 ghost use Rattle.ra_history.specs.History.{clock_of, clock_from};
 ghost use Rattle.ra_history.specs.declared.event.BookEvent.{BookEvent};
-ghost use Rattle.ra_cluster.specs.Audit.{AreNextAt, IsNextAt, IsForNumber, fresh_progress, taken_of};
+ghost use Rattle.ra_cluster.specs.Audit.{AreNextAt, IsNextAt, IsForNumber, GoesOnFrom, fresh_progress, handed_over, taken_of};
 
-use crate::{BookEvent, BookKind, TakeError, clock_after};
+use crate::desk::Handed;
+use crate::{BookEvent, BookKind, Events, Site, TakeError, clock_after};
 use ra_stamp::{GhostList, NodeId};
 use std::alloc::Global;
 use std::collections::VecDeque;
 use std::marker::Model;
+use std::mem;
+use std::sync::Wait;
 
-/// A node's events that are in the run, which are not kept, and those after them that can't be put into it yet.
+/// A node's events that are in the run, of which only proofs know, those after them that can't be put into it yet, and those after
+/// these that its book handed over and that were not taken yet.
 #[derive(Drop)]
 pub struct Progress {
     node: NodeId,
@@ -19,6 +23,8 @@ pub struct Progress {
     /// The clock of the last event that is in the run, 0 before the first.
     clock: u64,
     waiting: VecDeque<BookEvent>,
+    /// None, unless memory ran out when they were to be taken.
+    kept: Events,
     /// The events that are in the run, for proofs alone.
     settled: GhostList<BookEvent>,
 }
@@ -44,6 +50,7 @@ impl Progress {
             latest: 0,
             clock: 0,
             waiting: VecDeque::new(alloc),
+            kept: Events::new(alloc),
             settled: GhostList::new(),
         }
     }
@@ -90,6 +97,7 @@ impl Progress {
         requires { 0 < length self.old.waiting }
         ensures taken { taken_of self.new ≡ taken_of self.old }
         ensures node { self.new.node ≡ self.old.node }
+        ensures kept { self.new.kept ≡ self.old.kept }
         ensures one_more { (event : BookEvent) → slice_get self.old.waiting 0 ≡ Some event
             → self.new.settled ≡ self.old.settled ++ event ∷ [] }
         ensures fewer { length self.new.waiting < length self.old.waiting }
@@ -128,6 +136,82 @@ impl Progress {
         append(&mut self.waiting, events)?;
         self.latest = latest;
         Ok(())
+    }
+}
+
+impl Progress {
+    /// Has the site of the node hand over what has happened since the last time, and takes it. What it handed over before and was
+    /// not taken for want of memory comes first.
+    ///
+    /// # Errors
+    ///
+    /// The first that holds:
+    ///
+    /// 1. `NotNext`: a clock does not follow the one before, or a frame is for another node. What was handed over is kept.
+    /// 2. `OutOfTurn`: the site has handed over its last events elsewhere. It still has those after them.
+    /// 3. `Memory`: what was handed over is kept, and the site still has what was not.
+    pub fn take_handed<R: Wait>(
+        &mut self,
+        rt: &R,
+        alloc: Global,
+        site: &Site,
+    ) -> Result<(), TakeError>
+        ensures goes_on { GoesOnFrom self.old self.new }
+        ensures settled { self.new.settled ≡ self.old.settled }
+        ensures ok { OnOk result (self.new.kept ≡ []) }
+    {
+        self.take_kept(alloc)?;
+        let handed = site.hand_over(rt, alloc, self.latest())?;
+        self.accept(alloc, handed)
+    }
+
+    /// Takes what the book of the node handed over.
+    ///
+    /// # Errors
+    ///
+    /// Those of `take_kept`.
+    fn accept(&mut self, alloc: Global, handed: Handed) -> Result<(), TakeError>
+        requires { self.old.kept ≡ [] }
+        ensures goes_on { GoesOnFrom self.old self.new }
+        ensures handed { handed_over self.new ≡ handed_over self.old ++ handed.events.items }
+        ensures settled { self.new.settled ≡ self.old.settled }
+        ensures ok { OnOk result (self.new.kept ≡ []) }
+    {
+        // The frames are of no use here: the run tells what each event sent.
+        let Handed {
+            after: _,
+            events,
+            sent: _,
+        } = handed;
+        self.keep(events);
+        self.take_kept(alloc)
+    }
+
+    /// Keeps what the book of the node handed over.
+    fn keep(&mut self, events: Events)
+        ensures { self.new ≡ record self.old { kept = events.items } }
+    {
+        self.kept = events;
+    }
+
+    /// Takes the events that are kept.
+    ///
+    /// # Errors
+    ///
+    /// `NotNext` or `Memory`, as `take` does, and they are still kept.
+    fn take_kept(&mut self, alloc: Global) -> Result<(), TakeError>
+        ensures ok { OnOk result (self.new ≡ record self.old { waiting = self.old.waiting ++ self.old.kept; kept = [] }) }
+        ensures err { OnErr result (self.new ≡ self.old) }
+    {
+        let latest = self.latest();
+        let kept = mem::replace(&mut self.kept, Events::new(alloc));
+        match self.take(latest, kept.as_slice()) {
+            Ok(()) => Ok(()),
+            Err(cause) => {
+                self.keep(kept);
+                Err(cause)
+            }
+        }
     }
 }
 

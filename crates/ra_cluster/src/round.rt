@@ -1,9 +1,10 @@
 //! A round of the audit of a cluster whose threads go on.
-ghost use Rattle.std.specs.Prelude.{◌≡◌, ◌↔◌, ◌⊎◌, true, false, ℕ, All, None, Some, IsOk, IsErrOf, OnOk};
+ghost use Rattle.std.specs.Prelude.{◌≡◌, ◌↔◌, ◌⊎◌, ◌≤◌, true, false, ℕ, All, None, Some, IsOk, IsErrOf, OnOk};
 ghost use Rattle.ra_cluster.specs.declared.audit_error.AuditFault as audit_fault;
 ghost use Rattle.ra_cluster.specs.declared.audit_error.TakeError.{TakeError};
 ghost use Rattle.ra_cluster.specs.declared.audit_error.RoundError as round_error;
-ghost use Rattle.ra_cluster.specs.Audit.{NoneIsReady, NoneWaits, IsNeverSent, IsMisfit, IsUnsent, MayBePut, IsAudited, IsAuditorOf, RunTheorem, Audits, TakesMore, clocks_taken};
+ghost use Rattle.ra_cluster.specs.Audit.{NoneIsReady, NoneWaits, IsNeverSent, IsMisfit, IsUnsent, MayBePut, IsAudited, IsAuditorOf, RunTheorem, Audits, TakesMore, TakesAllAt, NoneIsKept, clocks_taken};
+ghost use Rattle.ra_stamp.specs.NodeId.{IsNodeNumber};
 
 use crate::audit_laws::runs_meet_the_theorem;
 use crate::{AuditError, Auditor, Cluster, FinishError, Gate, MarkObserver, RoundError, TakeError};
@@ -29,7 +30,7 @@ impl<G: Gate + Drop> Cluster<G> {
     ///
     /// # Errors
     ///
-    /// The first that holds:
+    /// 1 and 2 come first, and then a `Fault` of an earlier round. `Memory` may come before any other.
     ///
     /// 1. `NotAudited`: the cluster was made by [`Cluster::new`], and is settled at its end. Nothing has changed.
     /// 2. `OtherCluster`: the auditor was made for another number of nodes, or with another start. Nothing has changed.
@@ -50,12 +51,13 @@ impl<G: Gate + Drop> Cluster<G> {
         ensures audits { Audits auditor.old (O.told observer.old) auditor.new (O.told observer.new) }
         ensures theorem { RunTheorem auditor.new.world.count auditor.new.world.moves }
         ensures ok { OnOk result (NoneIsReady auditor.new.nodes) }
+        ensures kept { OnOk result (NoneIsKept auditor.new.nodes) }
         ensures may_be_put { OnOk result (All (MayBePut (clocks_taken auditor.old.nodes) auditor.new.nodes) auditor.new.nodes) }
         ensures not_audited { IsErrOf result RoundError.NotAudited ↔ (self.now.audited ≡ false) }
         ensures other_cluster { IsErrOf result RoundError.OtherCluster
             ↔ ((self.now.audited ≡ true) × (IsAuditorOf self.now auditor.old → ⊥)) }
         ensures unchanged { (IsAuditorOf self.now auditor.old → ⊥) → auditor.new ≡ auditor.old }
-        ensures kept { (fault : audit_fault.AuditFault) → IsAuditorOf self.now auditor.old → auditor.old.fault ≡ Some fault
+        ensures known { (fault : audit_fault.AuditFault) → IsAuditorOf self.now auditor.old → auditor.old.fault ≡ Some fault
             → IsErrOf result (RoundError.Fault fault) × (auditor.new ≡ auditor.old) }
         ensures found { (fault : audit_fault.AuditFault) → auditor.old.fault ≡ None → IsErrOf result (RoundError.Fault fault)
             → IsMisfit auditor.new.world auditor.new.nodes fault
@@ -94,6 +96,7 @@ impl<G: Gate + Drop> Cluster<G> {
         ensures audits { Audits auditor.old (O.told observer.old) auditor.new (O.told observer.new) }
         ensures theorem { RunTheorem auditor.new.world.count auditor.new.world.moves }
         ensures ok { OnOk result (NoneWaits auditor.new.nodes) }
+        ensures kept { OnOk result (NoneIsKept auditor.new.nodes) }
         ensures not_audited { IsErrOf result (FinishError.Round RoundError.NotAudited) ↔ (self.old.audited ≡ false) }
         ensures other_cluster { IsErrOf result (FinishError.Round RoundError.OtherCluster)
             ↔ ((self.old.audited ≡ true) × (IsAuditorOf self.old auditor.old → ⊥)) }
@@ -169,9 +172,11 @@ fn go_round<R: Wait, G: Gate + Drop, O: MarkObserver>(
     auditor: &mut Auditor,
     observer: &mut O,
 ) -> Result<(), RoundError>
-    requires { IsAudited auditor.old.world auditor.old.nodes }
+    requires audited { IsAudited auditor.old.world auditor.old.nodes }
+    requires count { auditor.old.world.count ≡ cluster.now.nodes }
     ensures audits { Audits auditor.old (O.told observer.old) auditor.new (O.told observer.new) }
     ensures ok { OnOk result (NoneIsReady auditor.new.nodes) }
+    ensures kept { OnOk result (NoneIsKept auditor.new.nodes) }
     ensures may_be_put { OnOk result (All (MayBePut (clocks_taken auditor.old.nodes) auditor.new.nodes) auditor.new.nodes) }
     ensures not_audited { IsErrOf result RoundError.NotAudited → ⊥ }
     ensures other_cluster { IsErrOf result RoundError.OtherCluster → ⊥ }
@@ -229,7 +234,9 @@ fn take_all<R: Wait, G: Gate + Drop>(
     cluster: &Cluster<G>,
     auditor: &mut Auditor,
 ) -> Result<(), (NodeId, TakeError)>
-    ensures { TakesMore auditor.old auditor.new }
+    requires { auditor.old.world.count ≡ cluster.now.nodes }
+    ensures more { TakesMore auditor.old auditor.new }
+    ensures kept { OnOk result (NoneIsKept auditor.new.nodes) }
 {
     // Each reader tells what holds of every auditor.
     let _fault = auditor.fault();
@@ -252,14 +259,16 @@ fn take_from<R: Wait, G: Gate + Drop>(
     number: u16,
     auditor: &mut Auditor,
 ) -> Result<(), (NodeId, TakeError)>
-    ensures { TakesMore auditor.old auditor.new }
+    requires number { IsNodeNumber number }
+    requires member { number ≤ cluster.now.nodes }
+    ensures more { TakesMore auditor.old auditor.new }
+    ensures all { OnOk result (TakesAllAt auditor.old.nodes number auditor.new.nodes) }
 {
-    let _fault = auditor.fault();
     let Some(node) = NodeId::new(number) else {
-        return Ok(());
+        unreachable!()
     };
     let Some(site) = cluster.site(node) else {
-        return Ok(());
+        unreachable!()
     };
     match auditor.take_handed(rt, alloc, site) {
         Ok(()) => Ok(()),

@@ -1,8 +1,15 @@
-use Rattle.ra_cluster.proofs.AuditRounds.{took_nothing}
+use Rattle.std.proofs.Common.{◌∙◌}
+use Rattle.ra_cluster.proofs.AuditRounds.{took_by_handing, takes_all_at}
 use Rattle.ra_cluster.proofs.round.take_from.Goals as goal
 
-pub returns-in_default : goal.returns-in_default
-returns-in_default g c = took_nothing c.args.auditor.now c.fault-fault.ensures.audited
+pub returns-in-Ok-clause-more : goal.returns-in-Ok-clause-more
+returns-in-Ok-clause-more g c =
+    took_by_handing c.args.auditor.now c.take_handed.new.self _ _ c.take_handed.ensures.handed c.take_handed.ensures.rest c.take_handed.ensures.audited
 
-pub returns-in_default-site : goal.returns-in_default-site
-returns-in_default-site g c = took_nothing c.args.auditor.now c.fault-fault.ensures.audited
+pub returns-in-Err-clause-more : goal.returns-in-Err-clause-more
+returns-in-Err-clause-more g c =
+    took_by_handing c.args.auditor.now c.take_handed.new.self _ _ c.take_handed.ensures.handed c.take_handed.ensures.rest c.take_handed.ensures.audited
+
+pub returns-in-Ok-clause-all : goal.returns-in-Ok-clause-all
+returns-in-Ok-clause-all g c =
+    takes_all_at c.args.auditor.now.nodes c.take_handed.new.self.nodes _ c.args.number tt (c.in-Some-site.ensures.found ∙ c.in-Some.ensures.value) c.in-Ok.ensures.handed

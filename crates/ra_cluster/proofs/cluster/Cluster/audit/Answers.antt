@@ -18,8 +18,8 @@ returns-in-Err-clause-theorem g c =
     let audited = c.in-Err.ensures.audited in
     c.runs_meet_the_theorem.ensures _ _ _ audited.count audited.run
 
-pub returns-in-Err-clause-kept : goal.returns-in-Err-clause-kept
-returns-in-Err-clause-kept g c fault fits known = ((c.in-Err.ensures.fault fault).1 (fits, known), refl)
+pub returns-in-Err-clause-known : goal.returns-in-Err-clause-known
+returns-in-Err-clause-known g c fault fits known = ((c.in-Err.ensures.fault fault).1 (fits, known), refl)
 
 pub returns-in-Err-clause-found : goal.returns-in-Err-clause-found
 returns-in-Err-clause-found g c fault none is = absurd (none-some fault (sym none ∙ ((c.in-Err.ensures.fault fault).0 is).1))
