@@ -4,6 +4,7 @@ mod Endings
 mod SiteNumbers
 mod NextEvents
 mod AuditSteps
+mod BooksIn
 mod RunTheorems
 mod LeastWaiting
 mod UnsentFrames

@@ -19,6 +19,7 @@ use Rattle.ra_history.specs.declared.event.BookKind.{BookKind}
 use Rattle.ra_history.specs.declared.event.BookKind.TheVariants.{Asked, Gave, Got}
 use Rattle.ra_history.specs.declared.event.BookEvent.{BookEvent}
 use Rattle.ra_history.specs.History.{clock_after, clock_of, node_event}
+use Rattle.ra_history.specs.Book.{BookState, whole_events}
 use Rattle.ra_history.specs.Settled.{step_at}
 use Rattle.ra_cluster.specs.Cluster.{ClusterState}
 
@@ -273,3 +274,31 @@ pub record IsUnsent (clocks : List ℕ) (nodes : List ProgressState) (fault : Au
 -- no event that was taken waits
 abbrev pub NoneWaits : List ProgressState → Type 0
 NoneWaits nodes = All (λ p. p.waiting ≡ []) nodes
+
+-- ---- What the books say at the end
+
+-- All of the history of the book is in the run, by the clock: it is the book of the node, and its last event has the
+-- clock of the node's last event in the run.
+pub record IsAllIn (p : ProgressState) (book : BookState) : Type 0 where
+  pub me : book.me ≡ p.node
+  pub clock : clock_of (whole_events book) ≡ clock_of p.settled
+
+-- this holds of the node and the book at this place, if there are both
+abbrev pub IsAllInAt : List ProgressState → List BookState → ℕ → Type 0
+IsAllInAt nodes books place = (p : ProgressState) (book : BookState) → slice_get nodes place ≡ Some p
+    → slice_get books place ≡ Some book → IsAllIn p book
+
+-- there is a book for each node, in their order, and all of its history is in the run
+pub record AreAllIn (nodes : List ProgressState) (books : List BookState) : Type 0 where
+  pub count : length books ≡ length nodes
+  pub all : (place : ℕ) → IsAllInAt nodes books place
+
+-- at some place are the node with this number and a book of which not all is in the run
+pub record IsBehind (nodes : List ProgressState) (books : List BookState) (node : ℕ) : Type 0 where
+  pub place : ℕ
+  pub p : ProgressState
+  pub book : BookState
+  pub at : slice_get nodes place ≡ Some p
+  pub book_at : slice_get books place ≡ Some book
+  pub number : node ≡ p.node
+  pub behind : IsAllIn p book → ⊥

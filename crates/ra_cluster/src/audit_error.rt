@@ -72,6 +72,17 @@ pub enum FinishError {
     NeverSent(AuditFault),
 }
 
+/// Why not all that the books of a closed cluster say is in the run of an auditor.
+#[derive(Clone, Copy, Debug, PartialEq, Eq, Error)]
+#[error("{:?}", self)]
+pub enum BehindError {
+    /// There are more or fewer books than nodes in the run.
+    OtherCount,
+    /// The last event of this node's book has another clock than the node's last event in the run, or the book at its place is
+    /// that of another node.
+    Behind(NodeId),
+}
+
 impl From<Memory> for AuditError {
     ghost from_gives = { λ _ e. e ≡ audit.Memory };
 

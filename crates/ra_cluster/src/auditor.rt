@@ -1,4 +1,4 @@
-ghost use Rattle.std.specs.Prelude.{◌≡◌, ◌↔◌, ◌∷◌, ◌++◌, [], List, Some, None, All, length, map, sum_by, IsErrOf, IfOk, IfSome, IsNone, IsTrue, OnOk, MatchOption};
+ghost use Rattle.std.specs.Prelude.{◌≡◌, ◌≢◌, ◌↔◌, ◌∷◌, ◌++◌, [], ℕ, List, Some, None, All, length, map, sum_by, IsErrOf, IfOk, IfSome, IsNone, IsTrue, OnOk, MatchOption};
 ghost use Rattle.std.specs.List.{range_with_len};
 ghost use Rattle.ra_stamp.specs.NodeId.{IsNodeNumber};
 ghost use Rattle.ra_world.specs.Traffic.{LeavesUnderWay, sent_by};
@@ -6,14 +6,15 @@ ghost use Rattle.ra_world.specs.Quiet.{requests_in};
 ghost use Rattle.ra_world.specs.Run.{marks_of};
 ghost use Rattle.ra_cluster.specs.declared.audit_error.AuditFault as audit_fault;
 ghost use Rattle.ra_stamp.specs.declared.message.Message.{Message};
-ghost use Rattle.ra_cluster.specs.Audit.{Takes, TakesHanded, NoneWaits, IsNeverSent, MayBePut, IsUnsent, clocks_taken, fresh_progress};
+ghost use Rattle.ra_cluster.specs.Audit.{Takes, AreAllIn, IsBehind, TakesHanded, NoneWaits, IsNeverSent, MayBePut, IsUnsent, clocks_taken, fresh_progress};
 
 use crate::audit_laws::runs_meet_the_theorem;
 use crate::auditing::put_all;
+use crate::closing::check_all;
 use crate::never_sent::{clocks_of, first_unsent};
 use crate::progress::Progress;
 use crate::unsettled::{first_unsettled, waiting_at};
-use crate::{AuditError, AuditFault, BookEvent, MarkObserver, Site, TakeError};
+use crate::{AuditError, AuditFault, BehindError, Book, BookEvent, MarkObserver, Site, TakeError};
 use ra_stamp::{Memory, NodeId};
 use ra_world::{MarklessWorld, NewError};
 use std::alloc::Global;
@@ -191,6 +192,24 @@ impl Auditor {
         ensures audited { IsAudited self.now.world self.now.nodes }
     {
         first_unsettled(&self.nodes)
+    }
+
+    /// Tells whether all that happened at each node is in the run: the last event of its book has the clock of the node's last
+    /// event in the run. Give it the books of the nodes from 1 up, in their order, once all threads have ended; what was taken
+    /// from a book still counts in its clock. It does not allocate. The cost is linear in the number of nodes.
+    ///
+    /// # Errors
+    ///
+    /// The first that holds:
+    ///
+    /// 1. `OtherCount`: there are more or fewer books than nodes.
+    /// 2. `Behind`: the first node whose book ends with another clock, or is that of another node.
+    pub fn check_books(&self, books: &[Book]) -> Result<(), BehindError>
+        ensures ok { OnOk result (AreAllIn self.now.nodes books.now) }
+        ensures other_count { IsErrOf result BehindError.OtherCount ↔ (length books.now ≢ length self.now.nodes) }
+        ensures behind { (node : ℕ) → IsErrOf result (BehindError.Behind node) → IsBehind self.now.nodes books.now node }
+    {
+        check_all(&self.nodes, books)
     }
 
     /// Returns the event that did not fit, if one was found.

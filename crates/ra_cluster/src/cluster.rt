@@ -46,8 +46,8 @@ pub struct Held<T> {
 ///
 /// While clients lock and unlock names, each node needs a thread that carries its frames: [`Cluster::run`] starts and ends
 /// these threads. At the end [`Cluster::close`] returns the books, which [`settle`](crate::settle) takes as they are. A cluster
-/// that is made to be audited is not settled: [`Cluster::audit`] takes what has happened while it runs, and
-/// [`Cluster::finish`] what is left at the end.
+/// that is made to be audited is not settled: [`Cluster::audit`] takes what has happened while it runs, [`Cluster::finish`]
+/// what is left at the end, and [`Cluster::close_audited`] returns its books.
 #[derive(Drop)]
 pub struct Cluster<G> {
     start: u64,
@@ -374,7 +374,7 @@ impl<G: Gate + Drop> Cluster<G> {
     ///
     /// If a round of an audit has taken the events of a node, its history is not in its book any more. In place of that book
     /// there is an empty one, which is stopped: for the cause of that book, or with [`Stop::Refused`] if it has none. What no
-    /// round has taken is lost, so call [`Cluster::finish`] first.
+    /// round has taken is lost, so call [`Cluster::finish`] first. [`Cluster::close_audited`] returns the books as they are.
     pub fn close(self, alloc: Global) -> Vec<Book>
         ensures cluster { IsCluster result.items }
         ensures count { vec_len result ≡ self.nodes }
@@ -394,6 +394,31 @@ impl<G: Gate + Drop> Cluster<G> {
         let nodes = sites.len() as u16;
         for site in sites {
             books.push_reserved(site.close_as(alloc, nodes, start));
+        }
+        books
+    }
+
+    /// Consumes a cluster whose audit is ended, and returns the books of its nodes in their order, as they are: with the events
+    /// that no round has taken. [`Auditor::check_books`](crate::Auditor::check_books) tells whether all that they say is in the
+    /// run. It does not allocate. The cost is linear in the number of nodes.
+    pub fn close_audited(self) -> Vec<Book>
+        ensures count { vec_len result ≡ self.nodes }
+        ensures histories { All HasHistory result.items }
+    {
+        let Cluster {
+            start: _,
+            sites,
+            post: _,
+            inboxes: _,
+            room,
+            gate: _,
+            audited: _,
+        } = self;
+        let mut books = room.into_inner().into_books();
+        // Only proofs ask how many sites there are.
+        let _nodes = sites.len();
+        for site in sites {
+            books.push_reserved(site.close());
         }
         books
     }

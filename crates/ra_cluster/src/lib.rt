@@ -24,6 +24,7 @@ mod auditing;
 mod auditor;
 mod book_room;
 mod call;
+mod closing;
 mod cluster;
 mod cluster_run;
 mod desk;
@@ -42,7 +43,7 @@ mod threads;
 mod ticket;
 mod unsettled;
 
-pub use audit_error::{AuditError, AuditFault, FinishError, RoundError, TakeError};
+pub use audit_error::{AuditError, AuditFault, BehindError, FinishError, RoundError, TakeError};
 pub use auditor::Auditor;
 pub use cluster::{CallError, Cluster, Held};
 pub use cluster_run::{ClusterError, run_cluster};
