@@ -5,3 +5,4 @@ pub mod Taking
 pub mod Pieces
 pub mod Served
 pub mod Told
+pub mod WrittenLines

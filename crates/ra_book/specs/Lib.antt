@@ -8,3 +8,4 @@ pub mod Input
 pub mod NextLine
 pub mod Book
 pub mod Serving
+pub mod Written

@@ -17,6 +17,7 @@ mod refusal;
 mod serving;
 mod texts;
 mod timed_node;
+mod writing;
 
 pub use error::BookFault;
 pub use event_line::{MAX_LINE, event_of};
@@ -25,3 +26,4 @@ pub use laws::books_determine_nodes;
 pub use refusal::Refusal;
 pub use serving::answer_book;
 pub use timed_node::TimedNode;
+pub use writing::{WriteBookError, push_book};
