@@ -273,11 +273,11 @@ fn run_in<R: Threads + Wait + Sync>(
     }
 }
 
-/// Ends the audit, and returns what is in its run.
+/// Ends the audit, closes the cluster, and returns what is in the run.
 fn finish<R: Wait>(
     rt: &R,
     alloc: Global,
-    cluster: &mut Cluster<OpenGate>,
+    mut cluster: Cluster<OpenGate>,
     mut rounds: Rounds,
 ) -> Result<Figures> {
     let Rounds {
@@ -286,8 +286,17 @@ fn finish<R: Wait>(
         ..
     } = &mut rounds;
     match cluster.finish(rt, alloc, auditor, counts) {
-        Ok(()) => Ok(figures_of(&rounds)),
+        Ok(()) => close(cluster, &rounds),
         Err(fault) => Err(anyhow!("the audit did not end: {fault:?}")),
+    }
+}
+
+/// Closes the cluster, and returns what is in the run, if that is all that happened at its nodes.
+fn close(cluster: Cluster<OpenGate>, rounds: &Rounds) -> Result<Figures> {
+    let books = cluster.close_audited();
+    match rounds.auditor.check_books(books.as_slice()) {
+        Ok(()) => Ok(figures_of(rounds)),
+        Err(fault) => Err(anyhow!("not all is in the run: {fault:?}")),
     }
 }
 
@@ -306,9 +315,9 @@ fn figures_of(rounds: &Rounds) -> Figures {
 
 /// Makes the cluster and has the clients do the plan.
 fn serve<R: Threads + Wait + Sync>(rt: &R, alloc: Global, plan: Plan) -> Result<Figures> {
-    let mut cluster = Cluster::new_audited(alloc, plan.nodes, 0, OpenGate)?;
+    let cluster = Cluster::new_audited(alloc, plan.nodes, 0, OpenGate)?;
     let rounds = run_in(rt, alloc, plan, &cluster)?;
-    finish(rt, alloc, &mut cluster, rounds)
+    finish(rt, alloc, cluster, rounds)
 }
 
 fn main(rt: HostRuntime) -> Result<()> {
