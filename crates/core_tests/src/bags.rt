@@ -1,5 +1,6 @@
 //! The messages under way, as a bag keeps them: what it does or shows, one step after the other.
-use crate::helpers::{assert_done, reply, request};
+use crate::asserting::{At, assert_same};
+use crate::helpers::{reply, request};
 use Step::{
     Contains, Copies, CopiesAmong, CopiesNone, CopiesNumbers, Finds, FindsAt, Has, HasCount,
     HasNumbers, Lacks, MakesRoom, Misses, Puts, PutsNumbers, RefusesRoom, Takes, TakesEqual,
@@ -8,12 +9,11 @@ use Step::{
 use Wire::{Asks, Replies};
 use ra_bag::{Bag, Found};
 use ra_stamp::{Memory, Message, Messages};
-use std::alloc::Global;
 use std::process::Abort;
 
 /// A REQUEST of node 1 to node 2 with this number, or the REPLY to it.
 #[derive(Clone, Copy)]
-enum Wire {
+pub enum Wire {
     Asks(u64),
     Replies(u64),
 }
@@ -26,7 +26,7 @@ const REPLIED: Wire = Replies(1);
 
 /// What a bag does or shows.
 #[derive(Clone, Copy)]
-enum Step {
+pub enum Step {
     /// These messages are put into it.
     Puts(&'static [Wire]),
     /// As many requests as the second value are put into it, numbered from the first value up.
@@ -84,213 +84,215 @@ fn message(wire: Wire) -> Message {
     }
 }
 
-/// Returns whether the messages were added to a list.
-fn adds(list: &mut Messages, items: &[Wire]) -> bool {
+/// Adds the messages to a list.
+fn adds(rt: &impl Abort, at: At<'_>, list: &mut Messages, items: &[Wire]) {
     for item in items {
-        if list.push(message(*item)).is_err() {
-            return false;
-        }
+        assert_same(rt, at, &list.push(message(*item)), &Ok(()));
     }
-    true
 }
 
-/// Returns whether these messages were put into the bag.
-fn puts(alloc: Global, bag: &mut Bag, items: &[Wire]) -> bool {
-    let mut list = Messages::new(alloc);
-    adds(&mut list, items) && bag.put_all(&list).is_ok()
+/// Puts these messages into the bag.
+fn puts(rt: &(impl Abort + AllocGlobal), at: At<'_>, bag: &mut Bag, items: &[Wire]) {
+    let mut list = Messages::new(rt.alloc());
+    adds(rt, at, &mut list, items);
+    assert_same(rt, at, &bag.put_all(&list), &Ok(()));
 }
 
-/// Returns whether this many requests were put into the bag, one by one.
-fn puts_numbers(alloc: Global, bag: &mut Bag, first: u64, count: u64) -> bool {
+/// Puts this many requests into the bag, one by one.
+fn puts_numbers(
+    rt: &(impl Abort + AllocGlobal),
+    at: At<'_>,
+    bag: &mut Bag,
+    first: u64,
+    count: u64,
+) {
     let mut seq = first;
     for _ in 0..count {
-        if !puts(alloc, bag, &[Asks(seq)]) {
-            return false;
-        }
+        puts(rt, at, bag, &[Asks(seq)]);
         seq = seq.wrapping_add(1);
     }
-    true
 }
 
-/// Returns whether a copy of a message was put into the bag.
-fn copies(bag: &mut Bag, wire: Wire) -> bool {
-    bag.again(&message(wire)) == Ok(true)
+/// A message is copied, or there is none to copy.
+fn copies(rt: &impl Abort, at: At<'_>, bag: &mut Bag, wire: Wire, is_there: bool) {
+    assert_same(rt, at, &bag.again(&message(wire)), &Ok(is_there));
 }
 
-/// Returns whether this many requests were copied.
-fn copies_numbers(bag: &mut Bag, first: u64, count: u64) -> bool {
+/// Copies this many requests.
+fn copies_numbers(rt: &impl Abort, at: At<'_>, bag: &mut Bag, first: u64, count: u64) {
     let mut seq = first;
     for _ in 0..count {
-        if !copies(bag, Asks(seq)) {
-            return false;
-        }
+        copies(rt, at, bag, Asks(seq), true);
         seq = seq.wrapping_add(1);
     }
-    true
 }
 
-/// Returns whether a request was copied this many times, after nine others each time.
-fn copies_among(alloc: Global, bag: &mut Bag, copied: u64, first: u64, count: u64) -> bool {
+/// Copies a request this many times, after nine others each time.
+fn copies_among(
+    rt: &(impl Abort + AllocGlobal),
+    at: At<'_>,
+    bag: &mut Bag,
+    copied: u64,
+    first: u64,
+    count: u64,
+) {
     let mut seq = first;
     for _ in 0..count {
-        if !puts_numbers(alloc, bag, seq, 9) || !copies(bag, Asks(copied)) {
-            return false;
-        }
+        puts_numbers(rt, at, bag, seq, 9);
+        copies(rt, at, bag, Asks(copied), true);
         seq = seq.wrapping_add(9);
     }
-    true
 }
 
-/// Returns whether the first message that is equal to this one was taken.
-fn takes(bag: &mut Bag, wire: Wire) -> bool {
-    bag.take(&message(wire)) == Some(message(wire))
+/// Takes the first message that is equal to this one, or there is none to take.
+fn takes(rt: &impl Abort, at: At<'_>, bag: &mut Bag, wire: Wire, is_there: bool) {
+    let message = message(wire);
+    let expected = if is_there { Some(message) } else { None };
+    assert_same(rt, at, &bag.take(&message), &expected);
 }
 
-/// Returns whether this many messages that are equal to this one were taken.
-fn takes_equal(bag: &mut Bag, wire: Wire, count: u64) -> bool {
+/// Takes this many messages that are equal to this one.
+fn takes_equal(rt: &impl Abort, at: At<'_>, bag: &mut Bag, wire: Wire, count: u64) {
     for _ in 0..count {
-        if !takes(bag, wire) {
-            return false;
-        }
+        takes(rt, at, bag, wire, true);
     }
-    true
 }
 
-/// Returns whether this many requests were taken, each twice.
-fn takes_twice(bag: &mut Bag, first: u64, count: u64) -> bool {
+/// Takes this many requests, each twice.
+fn takes_twice(rt: &impl Abort, at: At<'_>, bag: &mut Bag, first: u64, count: u64) {
     let mut seq = first;
     for _ in 0..count {
-        if !takes_equal(bag, Asks(seq), 2) {
-            return false;
-        }
+        takes_equal(rt, at, bag, Asks(seq), 2);
         seq = seq.wrapping_add(1);
     }
-    true
 }
 
-/// Returns whether a message was found, near this place, and taken.
-fn takes_near(bag: &mut Bag, message: &Message, near: u64) -> bool {
-    let Some(found) = bag.find(message, near) else {
-        return false;
-    };
-    bag.take_from(found, message);
-    true
+/// Finds a message near this place.
+fn find(bag: &mut Bag, wire: Wire, near: u64) -> Option<Found> {
+    bag.find(&message(wire), near)
 }
 
-/// Returns whether this many requests were found, none near the place 0, and taken.
-fn takes_every_other(bag: &mut Bag, first: u64, count: u64) -> bool {
+/// Finds a message near this place, and takes it.
+fn takes_near(rt: &impl Abort, at: At<'_>, bag: &mut Bag, message: &Message, near: u64) {
+    match bag.find(message, near) {
+        Some(found) => bag.take_from(found, message),
+        None => assert_same(rt, at, &None, &Some(*message)),
+    }
+}
+
+/// Finds this many requests, none near the place 0, and takes them.
+fn takes_every_other(rt: &impl Abort, at: At<'_>, bag: &mut Bag, first: u64, count: u64) {
     let mut seq = first;
     for _ in 0..count {
-        if !takes_near(bag, &message(Asks(seq)), 0) {
-            return false;
-        }
+        takes_near(rt, at, bag, &message(Asks(seq)), 0);
         seq = seq.wrapping_add(2);
     }
-    true
 }
 
-/// Returns whether this message is at this place.
-fn is_at(bag: &Bag, place: u64, wire: Wire) -> bool {
-    bag.at(place) == Some(message(wire))
+/// Asserts that this message is at this place.
+fn assert_is_at(rt: &impl Abort, at: At<'_>, bag: &Bag, place: u64, wire: Wire) {
+    assert_same(rt, at, &bag.at(place), &Some(message(wire)));
 }
 
-/// Returns whether this many messages are in the bag.
-fn has_count(bag: &Bag, count: u64) -> bool {
-    bag.len() == count && bag.at(count).is_none()
+/// Asserts that this many messages are in the bag.
+fn has_count(rt: &impl Abort, at: At<'_>, bag: &Bag, count: u64) {
+    assert_same(rt, at, &bag.len(), &count);
+    assert_same(rt, at, &bag.at(count), &None);
 }
 
-/// Returns whether these messages, and no others, are in the bag in this order.
-fn has(bag: &Bag, expected: &[Wire]) -> bool {
+/// Asserts that these messages, and no others, are in the bag in this order.
+fn has(rt: &impl Abort, at: At<'_>, bag: &Bag, expected: &[Wire]) {
     for place in 0..expected.len() {
-        if !is_at(bag, place as u64, expected[place]) {
-            return false;
-        }
+        assert_is_at(rt, at, bag, place as u64, expected[place]);
     }
-    has_count(bag, expected.len() as u64)
+    has_count(rt, at, bag, expected.len() as u64);
 }
 
-/// Returns whether this many requests are in the bag from this place on, each with a number `apart` above the one
-/// before.
-fn has_numbers(bag: &Bag, from: u64, first: u64, apart: u64, count: u64) -> bool {
+/// Asserts that this many requests are in the bag from this place on, each with a number `apart` above the one before.
+fn has_numbers(
+    rt: &impl Abort,
+    at: At<'_>,
+    bag: &Bag,
+    from: u64,
+    first: u64,
+    apart: u64,
+    count: u64,
+) {
     let (mut place, mut seq) = (from, first);
     for _ in 0..count {
-        if !is_at(bag, place, Asks(seq)) {
-            return false;
-        }
+        assert_is_at(rt, at, bag, place, Asks(seq));
         place = place.wrapping_add(1);
         seq = seq.wrapping_add(apart);
     }
-    true
 }
 
-/// Returns whether a bag shows this, if the step is something to be shown.
-fn shows(bag: &mut Bag, step: Step) -> bool {
+/// Asserts that a bag shows this.
+fn shows(rt: &impl Abort, at: At<'_>, bag: &mut Bag, step: Step) {
     match step {
-        Finds(seq, slot) => bag.find(&message(Asks(seq)), 9) == Some(Found::In(slot)),
-        FindsAt(wire, place) => bag.find(&message(wire), place) == Some(Found::At(place)),
-        Misses(wire, near) => bag.find(&message(wire), near).is_none(),
-        Has(expected) => has(bag, expected),
-        HasCount(count) => has_count(bag, count),
-        HasNumbers(from, first, apart, count) => has_numbers(bag, from, first, apart, count),
-        Contains(wire) => bag.contains(&message(wire)),
-        Lacks(wire) => !bag.contains(&message(wire)),
-        _ => false,
-    }
-}
-
-/// Returns whether a bag does this, if the step is about copies, or shows it.
-fn repeats(alloc: Global, bag: &mut Bag, step: Step) -> bool {
-    match step {
-        Copies(wire) => copies(bag, wire),
-        CopiesNone(wire) => bag.again(&message(wire)) == Ok(false),
-        CopiesNumbers(first, count) => copies_numbers(bag, first, count),
-        CopiesAmong(copied, first, count) => copies_among(alloc, bag, copied, first, count),
-        TakesEqual(wire, count) => takes_equal(bag, wire, count),
-        TakesTwice(first, count) => takes_twice(bag, first, count),
-        _ => shows(bag, step),
-    }
-}
-
-/// Returns whether a bag does or shows this.
-fn does(alloc: Global, bag: &mut Bag, step: Step) -> bool {
-    match step {
-        Puts(items) => puts(alloc, bag, items),
-        PutsNumbers(first, count) => puts_numbers(alloc, bag, first, count),
-        Takes(wire) => takes(bag, wire),
-        TakesNone(wire) => bag.take(&message(wire)).is_none(),
-        TakesNear(wire, near) => takes_near(bag, &message(wire), near),
-        TakesEveryOther(first, count) => takes_every_other(bag, first, count),
-        MakesRoom(more) => bag.reserve(more).is_ok(),
-        RefusesRoom(more) => bag.reserve(more) == Err(Memory),
-        _ => repeats(alloc, bag, step),
-    }
-}
-
-/// Returns how many of these steps a bag does or shows, up to the first that it does not.
-fn done(alloc: Global, bag: &mut Bag, steps: &[Step]) -> usize {
-    for place in 0..steps.len() {
-        if !does(alloc, bag, steps[place]) {
-            return place;
+        Finds(seq, slot) => {
+            assert_same(rt, at, &find(bag, Asks(seq), 9), &Some(Found::In(slot)))
         }
+        FindsAt(wire, place) => {
+            assert_same(rt, at, &find(bag, wire, place), &Some(Found::At(place)))
+        }
+        Misses(wire, near) => assert_same(rt, at, &find(bag, wire, near), &None),
+        Has(expected) => has(rt, at, bag, expected),
+        HasCount(count) => has_count(rt, at, bag, count),
+        HasNumbers(from, first, apart, count) => {
+            has_numbers(rt, at, bag, from, first, apart, count)
+        }
+        Contains(wire) => assert_same(rt, at, &bag.contains(&message(wire)), &true),
+        Lacks(wire) => assert_same(rt, at, &bag.contains(&message(wire)), &false),
+        _ => panic!(rt; "this is nothing to be shown"),
     }
-    steps.len()
+}
+
+/// Asserts that a bag does this, which is about copies, or shows it.
+fn repeats(rt: &(impl Abort + AllocGlobal), at: At<'_>, bag: &mut Bag, step: Step) {
+    match step {
+        Copies(wire) => copies(rt, at, bag, wire, true),
+        CopiesNone(wire) => copies(rt, at, bag, wire, false),
+        CopiesNumbers(first, count) => copies_numbers(rt, at, bag, first, count),
+        CopiesAmong(copied, first, count) => copies_among(rt, at, bag, copied, first, count),
+        TakesEqual(wire, count) => takes_equal(rt, at, bag, wire, count),
+        TakesTwice(first, count) => takes_twice(rt, at, bag, first, count),
+        _ => shows(rt, at, bag, step),
+    }
+}
+
+/// Asserts that a bag does or shows this.
+fn does(rt: &(impl Abort + AllocGlobal), at: At<'_>, bag: &mut Bag, step: Step) {
+    match step {
+        Puts(items) => puts(rt, at, bag, items),
+        PutsNumbers(first, count) => puts_numbers(rt, at, bag, first, count),
+        Takes(wire) => takes(rt, at, bag, wire, true),
+        TakesNone(wire) => takes(rt, at, bag, wire, false),
+        TakesNear(wire, near) => takes_near(rt, at, bag, &message(wire), near),
+        TakesEveryOther(first, count) => takes_every_other(rt, at, bag, first, count),
+        MakesRoom(more) => assert_same(rt, at, &bag.reserve(more), &Ok(())),
+        RefusesRoom(more) => assert_same(rt, at, &bag.reserve(more), &Err(Memory)),
+        _ => repeats(rt, at, bag, step),
+    }
+}
+
+/// Makes a bag in which nothing is under way.
+fn empty(rt: &(impl Abort + AllocGlobal)) -> Bag {
+    match Bag::new(rt.alloc()) {
+        Ok(bag) => bag,
+        Err(_) => panic!(rt; "there is no bag"),
+    }
 }
 
 /// What it shows, and the steps of a bag.
-struct Scene(&'static str, &'static [Step]);
-
-/// Makes a bag, and returns how many of these steps it does or shows, up to the first that it does not.
-fn done_in(alloc: Global, steps: &[Step]) -> usize {
-    match Bag::new(alloc) {
-        Ok(mut bag) => done(alloc, &mut bag, steps),
-        Err(_) => 0,
-    }
-}
+pub struct Scene(pub &'static str, pub &'static [Step]);
 
 /// Tests the steps of each scene.
-fn follow(rt: &(impl Abort + AllocGlobal), scenes: &[Scene]) {
+pub fn follow(rt: &(impl Abort + AllocGlobal), scenes: &[Scene]) {
     for scene in scenes {
-        assert_done(rt, scene.0, done_in(rt.alloc(), scene.1), scene.1.len());
+        let mut bag = empty(rt);
+        for place in 0..scene.1.len() {
+            does(rt, At(scene.0, "step", place), &mut bag, scene.1[place]);
+        }
     }
 }
 

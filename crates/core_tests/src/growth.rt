@@ -1,5 +1,6 @@
 //! If a growth is refused, the call returns `Memory` and changes nothing, and it succeeds when it is made again.
-use crate::helpers::{assert_grown, id, r};
+use crate::asserting::assert_grown;
+use crate::helpers::{id, r};
 use crate::steps::{Wire, awaited_by, deferred_by, message, shows};
 use Call::{Ask, Leave, LeaveAndAsk, Reply, Request};
 use Tried::{Again, AtOnce, Wrong};

@@ -1,5 +1,6 @@
 //! If a growth is refused, the call returns `Memory` and changes nothing, and it succeeds when it is made again.
-use crate::helpers::{assert_grown, id, r, reply, request, writer};
+use crate::asserting::assert_grown;
+use crate::helpers::{id, r, reply, request, writer};
 use crate::names::numbered;
 use crate::node_steps::{fault_of_ask, fault_of_leave, fault_of_message, has_counts};
 use Call::{Ask, Leave, Reply, Request};

@@ -80,20 +80,6 @@ pub fn assert_done(rt: &impl Abort, label: &str, done: usize, steps: usize) {
     assert!(rt; done == steps, "{label}: step {done}, counted from 0");
 }
 
-/// Asserts that what is expected is so.
-pub fn assert_so(rt: &impl Abort, expected: &str, so: bool) {
-    assert!(rt; so, "expected that {expected}, which is not so");
-}
-
-/// Asserts that calls of which a growth was refused had the right answer, and changed nothing.
-pub fn assert_grown(rt: &impl Abort, tried: Tried) {
-    match tried {
-        Tried::AtOnce => {}
-        Tried::Again => panic!(rt; "a growth was refused, and the call made again"),
-        Tried::Wrong => panic!(rt; "a refused growth had another answer, or changed something"),
-    }
-}
-
 /// Two modes: their label, the one that is there, the one that is wanted, and whether both can be held at once.
 #[derive(Clone, Copy)]
 pub struct Modes(pub &'static str, pub Mode, pub Mode, pub bool);

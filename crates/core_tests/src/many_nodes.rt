@@ -1,11 +1,16 @@
-//! As many nodes as there may be, where one client hands a name over to the next.
+//! As many nodes as there may be: a client hands a name over to the next, and each automaton meets all others.
 ghost use Rattle.std.specs.Prelude.{◌≤◌};
 
-use crate::helpers::{assert_so, id, r, reply, request, writer};
+use crate::asserting::{At, assert_same, assert_so};
+use crate::helpers::{id, r, reply, request, writer};
 use crate::node_steps::takes_ask;
+use crate::steps::{Wire, assert_taken, leave, made, message, receive, request as ask};
+use Wire::{Replies, Requests};
+use ra_automaton::{Automaton, Reaction};
 use ra_node::{Node, Outcome};
-use ra_stamp::{Mark, Mode};
+use ra_stamp::{Mark, Mode, NodeId};
 use std::alloc::Global;
+use std::process::Abort;
 
 /// Returns whether a node lets nobody enter until each of the other 63 has sent its REPLY.
 fn takes_replies(alloc: Global, node: &mut Node) -> bool {
@@ -76,4 +81,130 @@ fn a_name_is_handed_over_among_sixty_four_nodes(rt: HostRuntime) {
         "node 1 of 64 hands the name over as its steps say",
         is_handed_over(rt.alloc()),
     );
+}
+
+/// An automaton and how many nodes there are.
+struct Member(u16, u16);
+
+/// The first and the last nodes, and some between them.
+const MEMBERS: &[Member] = &[
+    Member(1, 64),
+    Member(2, 64),
+    Member(33, 64),
+    Member(63, 64),
+    Member(64, 64),
+    Member(1, 63),
+    Member(62, 63),
+    Member(63, 63),
+    Member(1, 33),
+    Member(33, 33),
+    Member(1, 2),
+    Member(2, 2),
+    Member(1, 1),
+];
+
+/// Returns where a test of a member is that is about another node.
+fn about<'a>(label: &'a str, other: u16) -> At<'a> {
+    At(label, "the other node", usize::from(other))
+}
+
+/// Returns the message that a member has for another node: its REQUEST, or the REPLY to that of the other node.
+fn sent_to(member: &Member, other: u16, is_request: bool) -> Wire {
+    if is_request {
+        Requests(member.0, other, Mode::Exclusive, 1)
+    } else {
+        Replies(member.0, other, u64::from(other).wrapping_add(1))
+    }
+}
+
+/// Asserts that one message went out to each other node, in ascending order, and no other.
+fn assert_sent(
+    rt: &impl Abort,
+    label: &str,
+    reaction: &Reaction,
+    member: &Member,
+    is_request: bool,
+) {
+    let mut count = 0u64;
+    for other in 1..=64u16 {
+        if other != member.0 && other <= member.1 {
+            let expected = message(r(), sent_to(member, other, is_request));
+            let sent = reaction.sends.at(count);
+            assert_same(rt, about(label, other), &sent, &expected);
+            count = count.wrapping_add(1);
+        }
+    }
+    assert_same(rt, about(label, 0), &reaction.sends.len(), &count);
+}
+
+/// Asserts that a member awaits each other node that there is, and no other.
+fn assert_awaits(rt: &impl Abort, automaton: &Automaton, member: &Member) {
+    for other in 1..=64u16 {
+        if let Some(node) = NodeId::new(other) {
+            let is_other = other != member.0 && other <= member.1;
+            let at = about("awaits each", other);
+            assert_same(rt, at, &automaton.waits_for(node), &is_other);
+        }
+    }
+}
+
+/// A member takes the REPLY of each other node, and enters by the last.
+fn takes_replies_of_all(
+    rt: &(impl Abort + AllocGlobal),
+    automaton: &mut Automaton,
+    member: &Member,
+) {
+    let last = if member.0 == member.1 {
+        member.1.wrapping_sub(1)
+    } else {
+        member.1
+    };
+    for other in 1..=64u16 {
+        if other != member.0 && other <= member.1 {
+            let came = receive(rt, automaton, Replies(other, member.0, 1));
+            let at = about("takes the reply of each", other);
+            assert_taken(rt, at, came, r(), &[], other == last);
+        }
+    }
+}
+
+/// A member that is inside defers a REQUEST of each other node. These have different numbers.
+fn defers_all(rt: &(impl Abort + AllocGlobal), automaton: &mut Automaton, member: &Member) {
+    for other in 1..=64u16 {
+        if other != member.0 && other <= member.1 {
+            let seq = u64::from(other).wrapping_add(1);
+            let came = receive(
+                rt,
+                automaton,
+                Requests(other, member.0, Mode::Exclusive, seq),
+            );
+            assert_taken(rt, about("defers each", other), came, r(), &[], false);
+        }
+    }
+}
+
+/// A member asks each other node, enters, defers each and lets each go.
+fn meets_all(rt: &(impl Abort + AllocGlobal), member: &Member) {
+    let mut automaton = made(rt, about("is made", 0), member.0, member.1, 0);
+    match ask(rt.alloc(), &mut automaton, Mode::Exclusive) {
+        Ok(reaction) => {
+            assert_sent(rt, "asks each", &reaction, member, true);
+            assert_same(rt, about("enters", 0), &reaction.entered, &(member.1 == 1));
+        }
+        Err(fault) => assert_same(rt, about("asks", 0), &Some(fault), &None),
+    }
+    assert_awaits(rt, &automaton, member);
+    takes_replies_of_all(rt, &mut automaton, member);
+    defers_all(rt, &mut automaton, member);
+    match leave(rt.alloc(), &mut automaton) {
+        Ok(reaction) => assert_sent(rt, "lets each go", &reaction, member, false),
+        Err(fault) => assert_same(rt, about("leaves", 0), &Some(fault), &None),
+    }
+}
+
+#[test]
+fn up_to_sixty_four_nodes_ask_and_defer_each_other(rt: HostRuntime) {
+    for member in MEMBERS {
+        meets_all(&rt, member);
+    }
 }

@@ -1,5 +1,6 @@
 //! A thousand names at one node: each is found, and is apart from the others.
-use crate::helpers::{assert_so, entry, id};
+use crate::asserting::assert_so;
+use crate::helpers::{entry, id};
 use crate::node_steps::{fault_of_ask, fault_of_leave, has_counts};
 use ra_node::Node;
 use ra_stamp::{Entry, Mode, Name};

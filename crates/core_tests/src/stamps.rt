@@ -1,6 +1,7 @@
 ghost use Rattle.ra_stamp.specs.NodeId.{IsNodeNumber};
 
-use crate::helpers::{Modes, PAIRS, assert_rows, assert_so, id, r};
+use crate::asserting::assert_so;
+use crate::helpers::{Modes, PAIRS, assert_rows, id, r};
 use ra_stamp::{
     Entry, Mark, Marks, Memory, Message, Messages, Mode, Name, NameError, NodeId, Stamp, conflicts,
 };

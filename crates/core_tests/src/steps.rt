@@ -2,7 +2,8 @@
 ghost use Rattle.std.specs.Prelude.{◌≡◌, IfSome};
 ghost use Rattle.ra_stamp.specs.Message.{name_of};
 
-use crate::helpers::{assert_done, id, r};
+use crate::asserting::{At, assert_same};
+use crate::helpers::{id, r};
 use Answer::{Defer, Reply};
 use Mode::Shared;
 use Phase::{Idle, Inside, Waiting};
@@ -15,6 +16,7 @@ use Wire::{Replies, Requests};
 use ra_automaton::{Automaton, LeaveError, Phase, Reaction, ReceiveError, RequestError};
 use ra_stamp::{Message, Mode, Name, NodeId};
 use std::alloc::Global;
+use std::fmt::Debug;
 use std::process::Abort;
 
 /// A message about the one resource, with the numbers of its sender and its receiver.
@@ -112,154 +114,134 @@ pub fn message(name: Name, wire: Wire) -> Option<Message>
     }
 }
 
-/// Returns whether this message was sent at the place.
-pub fn has_sent(reaction: &Reaction, place: usize, name: Name, wire: Wire) -> bool {
-    match (reaction.sends.at(place as u64), message(name, wire)) {
-        (Some(sent), Some(message)) => sent == message,
-        _ => false,
-    }
-}
-
-/// Returns whether just these messages were sent, in this order, and whether the node entered as said.
-fn is_so(reaction: &Reaction, name: Name, sends: &[Wire], entered: bool) -> bool {
+/// Asserts that just these messages were sent, in this order, and that the node entered as said.
+fn assert_reaction(
+    rt: &impl Abort,
+    at: At<'_>,
+    reaction: &Reaction,
+    name: Name,
+    sends: &[Wire],
+    entered: bool,
+) {
     for place in 0..sends.len() {
-        if !has_sent(reaction, place, name, sends[place]) {
-            return false;
-        }
+        let (sent, expected) = (reaction.sends.at(place as u64), message(name, sends[place]));
+        assert_same(rt, at, &sent, &expected);
     }
-    reaction.sends.len() == sends.len() as u64 && reaction.entered == entered
+    assert_same(rt, at, &reaction.sends.len(), &(sends.len() as u64));
+    assert_same(rt, at, &reaction.entered, &entered);
 }
 
-/// Returns whether a node makes a request, and this comes of it.
-fn asks(
+/// Asserts that a call was taken, and that this came of it.
+pub fn assert_taken<E: Debug + PartialEq + Copy>(
+    rt: &impl Abort,
+    at: At<'_>,
+    came: Result<Reaction, E>,
+    name: Name,
+    sends: &[Wire],
+    entered: bool,
+) {
+    match came {
+        Ok(reaction) => assert_reaction(rt, at, &reaction, name, sends, entered),
+        Err(fault) => assert_same(rt, at, &Some(fault), &None),
+    }
+}
+
+/// A node makes a request. Returns what came of it.
+pub fn request(
     alloc: Global,
     automaton: &mut Automaton,
     mode: Mode,
-    sends: &[Wire],
-    entered: bool,
-) -> bool {
-    match automaton.request(alloc, mode) {
-        Ok(reaction) => is_so(&reaction, automaton.name(), sends, entered),
-        Err(_) => false,
-    }
+) -> Result<Reaction, RequestError> {
+    automaton.request(alloc, mode)
 }
 
-/// Returns whether a node takes a message, and this comes of it.
-pub fn takes(
-    alloc: Global,
+/// A node takes a message about its resource. Returns what came of it.
+pub fn receive(
+    rt: &(impl Abort + AllocGlobal),
     automaton: &mut Automaton,
     wire: Wire,
-    sends: &[Wire],
-    entered: bool,
-) -> bool {
-    let name = automaton.name();
-    match message(name, wire) {
-        Some(message) => match automaton.receive(alloc, &message) {
-            Ok(reaction) => is_so(&reaction, name, sends, entered),
-            Err(_) => false,
-        },
-        None => false,
+) -> Result<Reaction, ReceiveError> {
+    match message(automaton.name(), wire) {
+        Some(message) => automaton.receive(rt.alloc(), &message),
+        None => panic!(rt; "there is no such node"),
     }
 }
 
-/// Returns whether node 2 takes a REQUEST of a node, and answers it so.
+/// A node leaves. Returns what came of it.
+pub fn leave(alloc: Global, automaton: &mut Automaton) -> Result<Reaction, LeaveError> {
+    automaton.leave(alloc)
+}
+
+/// A node leaves and makes a request in one event. Returns what came of it.
+fn leave_and_ask(
+    rt: &(impl Abort + AllocGlobal),
+    automaton: &mut Automaton,
+    mode: Mode,
+) -> Result<Reaction, LeaveError> {
+    if automaton.highest() == u64::MAX {
+        panic!(rt; "no number is left");
+    }
+    automaton.leave_and_request(rt.alloc(), mode)
+}
+
+/// Node 2 takes a REQUEST of a node, and answers it so.
 fn takes_request(
-    alloc: Global,
+    rt: &(impl Abort + AllocGlobal),
+    at: At<'_>,
     automaton: &mut Automaton,
     from: u16,
     mode: Mode,
     seq: u64,
     answer: Answer,
-) -> bool {
-    let request = Requests(from, 2, mode, seq);
+) {
+    let came = receive(rt, automaton, Requests(from, 2, mode, seq));
+    let name = automaton.name();
     match answer {
-        Reply => takes(alloc, automaton, request, &[Replies(2, from, seq)], false),
-        Defer => takes(alloc, automaton, request, &[], false),
+        Reply => assert_taken(rt, at, came, name, &[Replies(2, from, seq)], false),
+        Defer => assert_taken(rt, at, came, name, &[], false),
     }
 }
 
-/// Returns whether node 2 takes a REPLY of a node and sends nothing, and enters or does not.
+/// Node 2 takes a REPLY of a node and sends nothing, and enters or does not.
 fn takes_reply(
-    alloc: Global,
+    rt: &(impl Abort + AllocGlobal),
+    at: At<'_>,
     automaton: &mut Automaton,
     from: u16,
     seq: u64,
     entered: bool,
-) -> bool {
-    takes(alloc, automaton, Replies(from, 2, seq), &[], entered)
+) {
+    let came = receive(rt, automaton, Replies(from, 2, seq));
+    assert_taken(rt, at, came, automaton.name(), &[], entered);
 }
 
-/// Returns whether a node leaves, and this comes of it.
-fn leaves(alloc: Global, automaton: &mut Automaton, sends: &[Wire]) -> bool {
-    match automaton.leave(alloc) {
-        Ok(reaction) => is_so(&reaction, automaton.name(), sends, false),
-        Err(_) => false,
-    }
+/// Asserts that a call was refused for this reason.
+fn assert_refused<E: Debug + PartialEq + Copy>(
+    rt: &impl Abort,
+    at: At<'_>,
+    came: Result<Reaction, E>,
+    fault: E,
+) {
+    assert_same(rt, at, &came.err(), &Some(fault));
 }
 
-/// Returns whether a node leaves and makes a request, and this comes of it.
-fn leaves_and_asks(
-    alloc: Global,
-    automaton: &mut Automaton,
-    mode: Mode,
-    sends: &[Wire],
-    entered: bool,
-) -> bool {
-    if automaton.highest() == u64::MAX {
-        return false;
-    }
-    match automaton.leave_and_request(alloc, mode) {
-        Ok(reaction) => is_so(&reaction, automaton.name(), sends, entered),
-        Err(_) => false,
-    }
-}
-
-/// Returns whether a node makes no request, for this reason.
-fn refuses_to_ask(alloc: Global, automaton: &mut Automaton, fault: RequestError) -> bool {
-    match automaton.request(alloc, Shared) {
-        Ok(_) => false,
-        Err(found) => found == fault,
-    }
-}
-
-/// Returns whether a node does not leave, since it is not inside.
-fn refuses_to_leave(alloc: Global, automaton: &mut Automaton) -> bool {
-    match automaton.leave(alloc) {
-        Ok(_) => false,
-        Err(found) => found == LeaveError::NotHeld,
-    }
-}
-
-/// Returns whether a node does not leave and make a request, since it is not inside.
-fn refuses_to_leave_and_ask(alloc: Global, automaton: &mut Automaton) -> bool {
-    if automaton.highest() == u64::MAX {
-        return false;
-    }
-    match automaton.leave_and_request(alloc, Shared) {
-        Ok(_) => false,
-        Err(found) => found == LeaveError::NotHeld,
-    }
-}
-
-/// Returns whether a node does not take a message, for this reason, and has met no number.
+/// A node does not take a message, for this reason, and has met no number.
 fn refuses_to_take(
-    alloc: Global,
+    rt: &(impl Abort + AllocGlobal),
+    at: At<'_>,
     automaton: &mut Automaton,
     wire: Wire,
     fault: ReceiveError,
-) -> bool {
-    match message(automaton.name(), wire) {
-        Some(message) => match automaton.receive(alloc, &message) {
-            Ok(_) => false,
-            Err(found) => found == fault && automaton.highest() == 0,
-        },
-        None => false,
-    }
+) {
+    let came = receive(rt, automaton, wire);
+    assert_refused(rt, at, came, fault);
+    assert_same(rt, at, &automaton.highest(), &0);
 }
 
-/// Returns whether a node has this number, and is about `r`.
-fn is(automaton: &Automaton, me: u16) -> bool {
-    automaton.me().get() == me && automaton.name() == r()
+/// Asserts that a node has this number, and is about `r`.
+fn assert_is(rt: &impl Abort, at: At<'_>, automaton: &Automaton, me: u16) {
+    assert_same(rt, at, &automaton.me().get(), &me);
+    assert_same(rt, at, &automaton.name(), &r());
 }
 
 /// Returns whether a node is doing this, and this is the highest number that it has met.
@@ -267,11 +249,17 @@ pub fn shows(automaton: &Automaton, phase: Phase, highest: u64) -> bool {
     automaton.phase() == phase && automaton.highest() == highest
 }
 
-/// Returns whether a node defers this one with this number, or does not defer it.
-fn defers_of(automaton: &Automaton, other: u16, deferred: Option<u64>) -> bool {
+/// Asserts that a node is doing this, and that this is the highest number that it has met.
+fn assert_shows(rt: &impl Abort, at: At<'_>, automaton: &Automaton, phase: Phase, highest: u64) {
+    let came = (automaton.phase(), automaton.highest());
+    assert_same(rt, at, &came, &(phase, highest));
+}
+
+/// Returns with which number a node defers this one, or `None` where it does not.
+fn deferral(rt: &impl Abort, automaton: &Automaton, other: u16) -> Option<u64> {
     match NodeId::new(other) {
-        Some(other) => automaton.deferred(other) == deferred,
-        None => false,
+        Some(other) => automaton.deferred(other),
+        None => panic!(rt; "there is no such node"),
     }
 }
 
@@ -293,75 +281,119 @@ pub fn deferred_by(automaton: &Automaton) -> [Option<u64>; 3] {
     ]
 }
 
-/// Returns whether node 2 takes a REPLY of a node, and nothing changes.
-fn ignores_reply(alloc: Global, automaton: &mut Automaton, from: u16, seq: u64) -> bool {
+/// Node 2 takes a REPLY of a node, and nothing changes.
+fn ignores_reply(
+    rt: &(impl Abort + AllocGlobal),
+    at: At<'_>,
+    automaton: &mut Automaton,
+    from: u16,
+    seq: u64,
+) {
     let (phase, highest) = (automaton.phase(), automaton.highest());
     let (awaited, deferred) = (awaited_by(automaton), deferred_by(automaton));
-    takes_reply(alloc, automaton, from, seq, false)
-        && shows(automaton, phase, highest)
-        && awaited_by(automaton) == awaited
-        && deferred_by(automaton) == deferred
+    takes_reply(rt, at, automaton, from, seq, false);
+    assert_shows(rt, at, automaton, phase, highest);
+    assert_same(rt, at, &awaited_by(automaton), &awaited);
+    assert_same(rt, at, &deferred_by(automaton), &deferred);
 }
 
-/// Returns whether a node shows this, where it is something to be shown.
-fn is_shown(automaton: &Automaton, step: Step) -> bool {
+/// Asserts that a node shows this.
+fn is_shown(rt: &impl Abort, at: At<'_>, automaton: &Automaton, step: Step) {
     match step {
-        Is(me) => is(automaton, me),
-        IsIdle(highest) => shows(automaton, Idle, highest),
-        Waits(mode, seq, highest) => shows(automaton, Waiting { seq, mode }, highest),
-        IsInside(mode, seq, highest) => shows(automaton, Inside { seq, mode }, highest),
-        Awaits(awaited) => awaited_by(automaton) == awaited,
-        Defers(deferred) => deferred_by(automaton) == deferred,
-        DefersOf(other, deferred) => defers_of(automaton, other, deferred),
-        _ => false,
+        Is(me) => assert_is(rt, at, automaton, me),
+        IsIdle(highest) => assert_shows(rt, at, automaton, Idle, highest),
+        Waits(mode, seq, highest) => {
+            assert_shows(rt, at, automaton, Waiting { seq, mode }, highest)
+        }
+        IsInside(mode, seq, highest) => {
+            assert_shows(rt, at, automaton, Inside { seq, mode }, highest)
+        }
+        Awaits(awaited) => assert_same(rt, at, &awaited_by(automaton), &awaited),
+        Defers(deferred) => assert_same(rt, at, &deferred_by(automaton), &deferred),
+        DefersOf(other, deferred) => {
+            assert_same(rt, at, &deferral(rt, automaton, other), &deferred)
+        }
+        _ => panic!(rt; "this is nothing to be shown"),
     }
 }
 
-/// Returns whether a node refuses this, or shows it.
-fn refuses_or_shows(alloc: Global, automaton: &mut Automaton, step: Step) -> bool {
+/// Asserts that a node refuses this, or shows it.
+fn refuses_or_shows(
+    rt: &(impl Abort + AllocGlobal),
+    at: At<'_>,
+    automaton: &mut Automaton,
+    step: Step,
+) {
     match step {
-        RefusesToAsk(fault) => refuses_to_ask(alloc, automaton, fault),
-        RefusesToLeave => refuses_to_leave(alloc, automaton),
-        RefusesToLeaveAndAsk => refuses_to_leave_and_ask(alloc, automaton),
-        RefusesToTake(wire, fault) => refuses_to_take(alloc, automaton, wire, fault),
-        _ => is_shown(automaton, step),
+        RefusesToAsk(fault) => {
+            assert_refused(rt, at, request(rt.alloc(), automaton, Shared), fault)
+        }
+        RefusesToLeave => {
+            assert_refused(rt, at, leave(rt.alloc(), automaton), LeaveError::NotHeld)
+        }
+        RefusesToLeaveAndAsk => {
+            let came = leave_and_ask(rt, automaton, Shared);
+            assert_refused(rt, at, came, LeaveError::NotHeld);
+        }
+        RefusesToTake(wire, fault) => refuses_to_take(rt, at, automaton, wire, fault),
+        _ => is_shown(rt, at, automaton, step),
     }
 }
 
-/// Returns whether a step of a node is so.
-fn does(alloc: Global, automaton: &mut Automaton, step: Step) -> bool {
+/// Asserts that a step of a node is so.
+fn does(rt: &(impl Abort + AllocGlobal), at: At<'_>, automaton: &mut Automaton, step: Step) {
     match step {
-        Asks(mode, sends, entered) => asks(alloc, automaton, mode, sends, entered),
-        Begins(mode) => automaton.request(alloc, mode).is_ok(),
+        Asks(mode, sends, entered) => {
+            let came = request(rt.alloc(), automaton, mode);
+            assert_taken(rt, at, came, automaton.name(), sends, entered);
+        }
+        Begins(mode) => { assert_same(rt, at, &request(rt.alloc(), automaton, mode).err(), &None) }
         TakesRequest(from, mode, seq, answer) => {
-            takes_request(alloc, automaton, from, mode, seq, answer)
+            takes_request(rt, at, automaton, from, mode, seq, answer)
         }
-        TakesReply(from, seq, entered) => takes_reply(alloc, automaton, from, seq, entered),
-        IgnoresReply(from, seq) => ignores_reply(alloc, automaton, from, seq),
-        Leaves(sends) => leaves(alloc, automaton, sends),
+        TakesReply(from, seq, entered) => takes_reply(rt, at, automaton, from, seq, entered),
+        IgnoresReply(from, seq) => ignores_reply(rt, at, automaton, from, seq),
+        Leaves(sends) => {
+            let came = leave(rt.alloc(), automaton);
+            assert_taken(rt, at, came, automaton.name(), sends, false);
+        }
         LeavesAndAsks(mode, sends, entered) => {
-            leaves_and_asks(alloc, automaton, mode, sends, entered)
+            let came = leave_and_ask(rt, automaton, mode);
+            assert_taken(rt, at, came, automaton.name(), sends, entered);
         }
-        _ => refuses_or_shows(alloc, automaton, step),
+        _ => refuses_or_shows(rt, at, automaton, step),
     }
 }
 
-/// Returns how many steps of a node are so, up to the first that is not.
-fn done(alloc: Global, automaton: &mut Automaton, steps: &[Step]) -> usize {
+/// Makes node `me` of `nodes`, which has met the number `start`.
+pub fn made(
+    rt: &(impl Abort + AllocGlobal),
+    at: At<'_>,
+    me: u16,
+    nodes: u16,
+    start: u64,
+) -> Automaton {
+    match NodeId::new(me) {
+        Some(me) => match Automaton::new(rt.alloc(), me, nodes, r(), start) {
+            Ok(automaton) => automaton,
+            Err(fault) => panic!(rt; "{}: there is no such node: {fault}", at.0),
+        },
+        None => panic!(rt; "{}: there is no such node", at.0),
+    }
+}
+
+/// Makes node `me` of `nodes`, which has met the number `start`, and tests its steps. `at` says what they show.
+pub fn goes(
+    rt: &(impl Abort + AllocGlobal),
+    at: At<'_>,
+    me: u16,
+    nodes: u16,
+    start: u64,
+    steps: &[Step],
+) {
+    let mut automaton = made(rt, at, me, nodes, start);
     for place in 0..steps.len() {
-        if !does(alloc, automaton, steps[place]) {
-            return place;
-        }
-    }
-    steps.len()
-}
-
-/// Makes node `me` of `nodes`, which has met the number `start`, and returns how many of its steps are so, up to the
-/// first that is not.
-pub fn done_by(alloc: Global, me: NodeId, nodes: u16, start: u64, steps: &[Step]) -> usize {
-    match Automaton::new(alloc, me, nodes, r(), start) {
-        Ok(mut automaton) => done(alloc, &mut automaton, steps),
-        Err(_) => 0,
+        does(rt, At(at.0, at.1, place), &mut automaton, steps[place]);
     }
 }
 
@@ -374,18 +406,11 @@ pub struct Scene(
     pub &'static [Step],
 );
 
-/// Returns how many steps of a scene are so, up to the first that is not.
-fn done_in(alloc: Global, scene: &Scene) -> usize {
-    match NodeId::new(scene.1) {
-        Some(me) => done_by(alloc, me, scene.2, scene.3, scene.4),
-        None => 0,
-    }
-}
-
 /// Tests the steps of each scene.
 pub fn follow(rt: &(impl Abort + AllocGlobal), scenes: &[Scene]) {
     for scene in scenes {
-        assert_done(rt, scene.0, done_in(rt.alloc(), scene), scene.4.len());
+        let at = At(scene.0, "step", 0);
+        goes(rt, at, scene.1, scene.2, scene.3, scene.4);
     }
 }
 

@@ -1,11 +1,11 @@
 //! The lock table: what it answers, one call after the other.
-use crate::helpers::{Modes, PAIRS, assert_done, assert_rows, r};
+use crate::asserting::{At, assert_same};
+use crate::helpers::{Modes, PAIRS, assert_rows, r};
 use Call::{Asks, CanEnter, Enters, Leaves};
 use Key::{In, On, Reader, Writer};
 use Mode::{Exclusive, Shared};
 use ra_stamp::{Entry, Mode, Name, NodeId, Stamp};
 use ra_table::{EnterError, LeaveError, RequestError, Table};
-use std::alloc::Global;
 use std::process::Abort;
 use test_support::printed;
 
@@ -54,40 +54,34 @@ fn entry(key: Key) -> Option<Entry> {
     }
 }
 
-/// Returns whether the table gives this answer about an entry.
-fn answers_about(table: &mut Table, entry: &Entry, call: Call) -> bool {
+/// Asserts that the table gives this answer about an entry.
+fn answers_about(rt: &impl Abort, at: At<'_>, table: &mut Table, entry: &Entry, call: Call) {
     match call {
-        Asks(_, answer) => table.request(*entry) == answer,
-        Enters(_, answer) => table.enter(entry) == answer,
-        Leaves(_, answer) => table.leave(entry) == answer,
-        CanEnter(_, answer) => table.can_enter(entry) == answer,
+        Asks(_, answer) => assert_same(rt, at, &table.request(*entry), &answer),
+        Enters(_, answer) => assert_same(rt, at, &table.enter(entry), &answer),
+        Leaves(_, answer) => assert_same(rt, at, &table.leave(entry), &answer),
+        CanEnter(_, answer) => assert_same(rt, at, &table.can_enter(entry), &answer),
     }
 }
 
-/// Returns whether the table gives this answer.
-fn answers(table: &mut Table, call: Call) -> bool {
+/// Asserts that the table gives this answer.
+fn answers(rt: &impl Abort, at: At<'_>, table: &mut Table, call: Call) {
     let (Asks(key, _) | Enters(key, _) | Leaves(key, _) | CanEnter(key, _)) = call;
     match entry(key) {
-        Some(entry) => answers_about(table, &entry, call),
-        None => false,
+        Some(entry) => answers_about(rt, at, table, &entry, call),
+        None => panic!(rt; "there is no such entry"),
     }
 }
 
-/// Returns how many of these answers the table gives, one call after the other, up to the first that it does not.
-fn answered(table: &mut Table, calls: &[Call]) -> usize {
-    for place in 0..calls.len() {
-        if !answers(table, calls[place]) {
-            return place;
+/// Asserts that a new table gives these answers, one call after the other.
+fn answered_by_new(rt: &(impl Abort + AllocGlobal), label: &str, calls: &[Call]) {
+    match Table::new(rt.alloc()) {
+        Ok(mut table) => {
+            for place in 0..calls.len() {
+                answers(rt, At(label, "call", place), &mut table, calls[place]);
+            }
         }
-    }
-    calls.len()
-}
-
-/// Makes a table, and returns how many of these answers it gives, up to the first that it does not.
-fn answered_by_new(alloc: Global, calls: &[Call]) -> usize {
-    match Table::new(alloc) {
-        Ok(mut table) => answered(&mut table, calls),
-        Err(_) => 0,
+        Err(_) => panic!(rt; "there is no table"),
     }
 }
 
@@ -97,8 +91,7 @@ struct Scene(&'static str, &'static [Call]);
 /// Asserts that a new table gives all answers of each scene.
 fn check(rt: &(impl Abort + AllocGlobal), scenes: &[Scene]) {
     for scene in scenes {
-        let done = answered_by_new(rt.alloc(), scene.1);
-        assert_done(rt, scene.0, done, scene.1.len());
+        answered_by_new(rt, scene.0, scene.1);
     }
 }
 
@@ -242,8 +235,8 @@ fn requests_are_granted_in_stamp_order(rt: HostRuntime) {
     check(&rt, SCENES);
 }
 
-/// Returns whether a later request goes beside an earlier one, waiting or held, or goes after it, as a pair says.
-fn goes_as_said(alloc: Global, pair: &Modes) -> bool {
+/// A later request goes beside an earlier one, waiting or held, or goes after it, as a pair says.
+fn goes_as_said(rt: &(impl Abort + AllocGlobal), pair: &Modes) {
     let (earlier, later) = (In(pair.1, 1, 1, 1), In(pair.2, 2, 2, 2));
     let held = if pair.3 {
         Ok(())
@@ -259,22 +252,14 @@ fn goes_as_said(alloc: Global, pair: &Modes) -> bool {
         Enters(later, held),
         Leaves(earlier, Ok(())),
     ];
-    answered_by_new(alloc, &calls) == calls.len()
-}
-
-/// Returns how many pairs go as they say, up to the first that does not.
-fn going(alloc: Global, pairs: &[Modes]) -> usize {
-    for place in 0..pairs.len() {
-        if !goes_as_said(alloc, &pairs[place]) {
-            return place;
-        }
-    }
-    pairs.len()
+    answered_by_new(rt, pair.0, &calls);
 }
 
 #[test]
 fn nine_pairs_of_modes_are_held_at_once(rt: HostRuntime) {
-    assert_rows(&rt, going(rt.alloc(), PAIRS), PAIRS.len());
+    for pair in PAIRS {
+        goes_as_said(&rt, pair);
+    }
 }
 
 const REQUEST_FAULTS: &[(RequestError, &str)] = &[

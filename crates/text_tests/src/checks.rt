@@ -1,7 +1,8 @@
 //! What `check` finds wrong in a text.
+use crate::asserting::assert_so;
 use crate::helpers::{
-    Judged, ONE_LOCK, REPEATED_REQUEST, TWO_LOCKS, assert_judged, assert_rows, assert_so,
-    in_version_1, is_judged,
+    Judged, ONE_LOCK, REPEATED_REQUEST, TWO_LOCKS, assert_judged, assert_rows, in_version_1,
+    is_judged,
 };
 use Judged::{Invalid, Valid};
 use ra_trace::{Cause, TraceError, Verdict};

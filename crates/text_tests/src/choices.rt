@@ -1,5 +1,6 @@
 //! How lists of choices are written, and which ones have no text.
-use crate::helpers::{ONE_LOCK_SCRIPT, assert_rows, assert_so, failing};
+use crate::asserting::assert_so;
+use crate::helpers::{ONE_LOCK_SCRIPT, assert_rows, failing};
 use crate::performing::{performed, reader_of};
 use Choice::{Client, Lost, Message, Repeated};
 use ra_schedule::{Choice, Choices, Faults, Policy};

@@ -1,5 +1,6 @@
 //! What `ra_explain` tells a person about scripts, about choices, and about runs and their ends.
-use crate::helpers::{ONE_LOCK_SCRIPT, assert_so};
+use crate::asserting::assert_so;
+use crate::helpers::ONE_LOCK_SCRIPT;
 use crate::notes::Asked::{Choice, Kept, Order, Unfinished};
 use crate::notes::{Note, assert_said, is_said, said_of_run};
 use ra_schedule::{Choices, Policy};

@@ -1,8 +1,9 @@
 //! If any growth is refused, the call answers `Memory`, writes nothing, and does what it should when it is made again.
 use crate::acts::{fault_of_steps, one_lock, text_of_steps};
+use crate::asserting::assert_grown;
 use crate::choice_words::choices_of;
 use crate::explained_runs::{A_DEADLOCK, A_KEEPER, DEADLOCK_NOTE};
-use crate::helpers::{ONE_LOCK, ONE_LOCK_SCRIPT, TWO_LOCKS, assert_grown, failing};
+use crate::helpers::{ONE_LOCK, ONE_LOCK_SCRIPT, TWO_LOCKS, failing};
 use crate::mark_logs::TWO_WRITERS;
 use crate::notes::Asked::{
     Choice, Digits, Field, Frame, Kept, Order, Script, Unanswered, Unfinished,

@@ -5,7 +5,7 @@ use ra_trace::{Cause, Verdict};
 use std::alloc::Global;
 use std::io;
 use std::process::Abort;
-use test_support::{FailingWriter, Tried, failing_writer};
+use test_support::{FailingWriter, failing_writer};
 
 /// The trace of one client that locks and unlocks, at the first of two nodes.
 pub const ONE_LOCK: &str = "trace 2 2 0
@@ -191,18 +191,4 @@ pub fn assert_judged(rt: &(impl Abort + AllocGlobal), rows: &[Judged<'_>]) {
 /// Asserts that each of so many rows is so, where so many are so up to the first that is not.
 pub fn assert_rows(rt: &impl Abort, so: usize, rows: usize) {
     assert!(rt; so == rows, "row {so}, counted from 0");
-}
-
-/// Asserts that what is expected is so.
-pub fn assert_so(rt: &impl Abort, expected: &str, so: bool) {
-    assert!(rt; so, "expected that {expected}, which is not so");
-}
-
-/// Asserts that calls of which a growth was refused had the right answer, and changed nothing.
-pub fn assert_grown(rt: &impl Abort, tried: Tried) {
-    match tried {
-        Tried::AtOnce => {}
-        Tried::Again => panic!(rt; "a growth was refused, and the call made again"),
-        Tried::Wrong => panic!(rt; "a refused growth had another answer, or changed something"),
-    }
 }

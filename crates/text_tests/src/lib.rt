@@ -4,6 +4,8 @@
 #[cfg(test)]
 mod acts;
 #[cfg(test)]
+mod asserting;
+#[cfg(test)]
 mod checks;
 #[cfg(test)]
 mod choice_words;

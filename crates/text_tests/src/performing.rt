@@ -1,5 +1,6 @@
 //! How a script is performed: as its trace, by readers that fail while it is read, and by writers that fail while its text is written.
-use crate::helpers::{ONE_LOCK, ONE_LOCK_LENGTH, ONE_LOCK_SCRIPT, assert_rows, assert_so, failing};
+use crate::asserting::assert_so;
+use crate::helpers::{ONE_LOCK, ONE_LOCK_LENGTH, ONE_LOCK_SCRIPT, assert_rows, failing};
 use Format::{Choices, Lines, Trace};
 use ra_schedule::Policy;
 use ra_script::{Format, PerformError, perform, perform_as, perform_trace};

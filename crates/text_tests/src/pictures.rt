@@ -1,6 +1,7 @@
 //! Pictures of traces: what stands in them, in words, and when there is none.
+use crate::asserting::assert_so;
 use crate::helpers::Part::{Text, Times};
-use crate::helpers::{ONE_LOCK, TWO_LOCKS, assert_rows, assert_so, failing, text_of};
+use crate::helpers::{ONE_LOCK, TWO_LOCKS, assert_rows, failing, text_of};
 use ra_draw::{DrawError, Part, draw, draw_marks};
 use ra_trace::{Cause, MarksVerdict, Verdict};
 use std::alloc::Global;

@@ -1,6 +1,7 @@
 //! Lists of steps that have no trace because one step is refused: the first, or one after many others.
 use crate::acts::{adds, ask, fault_of_steps, leave, reply, request, text_of_steps};
-use crate::helpers::{assert_rows, assert_so, failing, r};
+use crate::asserting::assert_so;
+use crate::helpers::{assert_rows, failing, r};
 use ra_stamp::{Message, Mode, NodeId};
 use ra_trace::WriteTraceError;
 use ra_world::{NodeRefusal, RunError, Step, StepError, Steps};

@@ -1,6 +1,7 @@
 //! The nodes, the clients and the operations of a script: what is read of them, and when they are refused.
+use crate::asserting::assert_so;
 use crate::helpers::Part::{Text, Times};
-use crate::helpers::{Part, all_kinds, assert_rows, assert_so, r};
+use crate::helpers::{Part, all_kinds, assert_rows, r};
 use crate::script_cases::Answer::{Accepted, Refused};
 use crate::script_cases::{
     Around, Case, assert_cases, assert_refused, assert_refused_in, script_of,

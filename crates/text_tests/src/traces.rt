@@ -2,7 +2,8 @@
 use crate::acts::{
     Act, LOSES_REPLY, LOST_REPLY, ONE_LOCKS, Wire, Written, assert_written, fault_of,
 };
-use crate::helpers::{ONE_LOCK, ONE_LOCK_LENGTH, TWO_LOCKS, assert_rows, assert_so, failing};
+use crate::asserting::assert_so;
+use crate::helpers::{ONE_LOCK, ONE_LOCK_LENGTH, TWO_LOCKS, assert_rows, failing};
 use Act::{Ask, Deliver, Leave, Lose, Repeat};
 use Wire::{Replies, Requests};
 use ra_trace::WriteTraceError;

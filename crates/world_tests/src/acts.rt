@@ -4,7 +4,7 @@ ghost use Rattle.ra_stamp.specs.NodeId.{IsNodeNumber};
 use crate::helpers::{assert_done, is_quiet_after, r};
 use Act::{
     Accepts, Ask, AskIn, Deliver, HasRepeats, HasSteps, IsQuiet, Leave, LeavesWith, Lock, Lose,
-    Makes, MakesNear, MakesNothing, Refuses, Rejects, Repeat, Reports, UnderWay,
+    Makes, MakesNear, MakesNothing, Often, Refuses, Rejects, Repeat, Reports, UnderWay,
 };
 use Wire::{Replies, Requests};
 use Wish::{Asks, Delivers, Leaves, Loses, Repeats};
@@ -56,6 +56,8 @@ pub enum Act {
     LeavesWith(Wire, &'static str),
     /// It accepts and makes this step.
     Makes(Wish),
+    /// So many times it accepts and makes this step.
+    Often(Wish, u32),
     /// It makes this step, whose message is looked for at this place first.
     MakesNear(Wish, u64),
     /// It accepts and makes this step, by which nothing is sent or marked.
@@ -210,6 +212,24 @@ fn makes(alloc: Global, world: &mut World, step: Option<Step>) -> bool {
 fn accepts_and_makes(alloc: Global, world: &mut World, step: Option<Step>) -> bool {
     match step {
         Some(step) => world.accepts(&step) && fault_of(alloc, world, &step).is_none(),
+        None => false,
+    }
+}
+
+/// Returns whether a world accepts and makes a step so many times.
+fn makes_each(alloc: Global, world: &mut World, step: &Step, times: u32) -> bool {
+    for _ in 0..times {
+        if !world.accepts(step) || fault_of(alloc, world, step).is_some() {
+            return false;
+        }
+    }
+    true
+}
+
+/// Returns whether there is a step, and a world accepts and makes it so many times.
+fn makes_often(alloc: Global, world: &mut World, step: Option<Step>, times: u32) -> bool {
+    match step {
+        Some(step) => makes_each(alloc, world, &step, times),
         None => false,
     }
 }
@@ -408,6 +428,7 @@ fn does(alloc: Global, world: &mut World, act: Act) -> bool {
         Lock(times, deliveries) => locks_often(alloc, world, times, deliveries),
         LeavesWith(wire, mark) => leaves_with(alloc, world, wire, mark),
         Makes(wish) => accepts_and_makes(alloc, world, step(wish)),
+        Often(wish, times) => makes_often(alloc, world, step(wish), times),
         MakesNear(wish, near) => makes_near(alloc, world, step(wish), near),
         MakesNothing(wish) => makes_nothing(alloc, world, step(wish)),
         Refuses(wish, cause) => refuses(alloc, world, step(wish), cause),
@@ -426,10 +447,11 @@ fn done(alloc: Global, world: &mut World, acts: &[Act]) -> usize {
 }
 
 /// What it shows, how many nodes a world has, the number with which its numbers begin, and what happens in it.
-pub struct Scene(pub &'static str, pub u16, pub u64, pub &'static [Act]);
+#[derive(Drop)]
+pub struct Scene<'a>(pub &'a str, pub u16, pub u64, pub &'a [Act]);
 
 /// Makes a world, and returns how much of a scene happens in it, up to the first that does not.
-fn done_in(alloc: Global, scene: &Scene) -> usize {
+fn done_in(alloc: Global, scene: &Scene<'_>) -> usize {
     match new_world(alloc, scene.1, scene.2) {
         Some(mut world) => done(alloc, &mut world, scene.3),
         None => 0,
@@ -437,7 +459,7 @@ fn done_in(alloc: Global, scene: &Scene) -> usize {
 }
 
 /// Asserts that all of each scene happens.
-pub fn follow(rt: &(impl Abort + AllocGlobal), scenes: &[Scene]) {
+pub fn follow(rt: &(impl Abort + AllocGlobal), scenes: &[Scene<'_>]) {
     for scene in scenes {
         assert_done(rt, scene.0, done_in(rt.alloc(), scene), scene.3.len());
     }

@@ -2,8 +2,9 @@
 //! again.
 use crate::acts::{ask, deliver, fault_of, leave, lose, new_world, node, repeat, report_of};
 use crate::alike::are_alike;
+use crate::asserting::assert_grown;
 use crate::drives::{driven, summed};
-use crate::helpers::{assert_grown, r};
+use crate::helpers::r;
 use crate::listing::{found, lockers};
 use crate::plans::{adds_client, fault_of_client, fault_of_op};
 use crate::runs::{adds, run_of};

@@ -2,7 +2,6 @@
 use ra_stamp::Name;
 use ra_world::Report;
 use std::process::Abort;
-use test_support::Tried;
 
 /// The name `r`.
 pub fn r() -> Name {
@@ -17,20 +16,6 @@ pub fn assert_rows(rt: &impl Abort, so: usize, rows: usize) {
 /// Asserts that each of so many steps is so, where so many are so up to the first that is not. The label says what they show.
 pub fn assert_done(rt: &impl Abort, label: &str, done: usize, steps: usize) {
     assert!(rt; done == steps, "{label}: step {done}, counted from 0");
-}
-
-/// Asserts that what is expected is so.
-pub fn assert_so(rt: &impl Abort, expected: &str, so: bool) {
-    assert!(rt; so, "expected that {expected}, which is not so");
-}
-
-/// Asserts that calls of which a growth was refused had the right answer, and changed nothing.
-pub fn assert_grown(rt: &impl Abort, tried: Tried) {
-    match tried {
-        Tried::AtOnce => {}
-        Tried::Again => panic!(rt; "a growth was refused, and the call made again"),
-        Tried::Wrong => panic!(rt; "a refused growth had another answer, or changed something"),
-    }
 }
 
 /// Returns whether so many requests and messages were made, and nothing is under way, was lost or repeated, waits or is queued.

@@ -6,6 +6,8 @@ mod acts;
 #[cfg(test)]
 mod alike;
 #[cfg(test)]
+mod asserting;
+#[cfg(test)]
 mod drives;
 #[cfg(test)]
 mod faults;

@@ -1,6 +1,7 @@
 //! The choices of a run, and the first seed that comes to an end.
+use crate::asserting::assert_so;
 use crate::drives::{Chooser, driven, policy};
-use crate::helpers::{assert_rows, assert_so};
+use crate::helpers::assert_rows;
 use crate::plans::adds_locker;
 use Chooser::{Faulty, Newest, Oldest, Seeded};
 use Ending::{Finished, Stuck};

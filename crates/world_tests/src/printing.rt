@@ -1,6 +1,7 @@
 //! What is printed of worlds and of schedules: refusals, reports and faults.
 use crate::acts::{Act, Scene, follow, is_text, node};
-use crate::helpers::{assert_rows, assert_so};
+use crate::asserting::assert_so;
+use crate::helpers::assert_rows;
 use Act::{Ask, Deliver, Leave, Reports};
 use ra_schedule::{AddClientError, AddOpError, DriveError, NewScriptError};
 use ra_stamp::{Entry, Mark, Mode, Name, Stamp};

@@ -1,6 +1,7 @@
 //! Which choice `drive` and `summarize` refuse, and why: the first choice, and one after many others.
+use crate::asserting::assert_so;
 use crate::drives::{driven, has_ended, summed};
-use crate::helpers::{assert_rows, assert_so};
+use crate::helpers::assert_rows;
 use crate::plans::{adds_client, adds_locks};
 use ra_schedule::{Choice, Choices, DriveError, Policy, Script};
 use std::alloc::Global;

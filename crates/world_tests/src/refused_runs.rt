@@ -1,6 +1,7 @@
 //! Which step of a list `run` refuses, and why: the first step, and one after many others.
 use crate::acts::{Wire, Wish, is_text, node, step};
-use crate::helpers::{assert_rows, assert_so, r};
+use crate::asserting::assert_so;
+use crate::helpers::{assert_rows, r};
 use crate::runs::{adds, adds_all, run_of};
 use Wire::{Replies, Requests};
 use Wish::{Asks, Delivers, Leaves, Loses, Repeats};

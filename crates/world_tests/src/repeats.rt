@@ -2,7 +2,7 @@
 use crate::acts::{Act, Scene, Wire, Wish, follow};
 use Act::{
     Accepts, Ask, Deliver, HasRepeats, HasSteps, IsQuiet, Leave, Lose, Makes, MakesNear,
-    MakesNothing, Refuses, Rejects, Repeat, Reports, UnderWay,
+    MakesNothing, Often, Refuses, Rejects, Repeat, Reports, UnderWay,
 };
 use Wire::{Replies, Requests};
 use Wish::{Delivers, Loses, Repeats};
@@ -263,4 +263,47 @@ queued 0
 #[test]
 fn copies_go_like_messages_that_were_sent(rt: HostRuntime) {
     follow(&rt, COPIES);
+}
+
+/// Ten thousand messages and one are under way, in two kinds that are looked for among each other. Of the copies that are taken,
+/// some are delivered and some lost. Each REQUEST that is delivered, also again, is answered.
+const MANY: &[Scene] = &[Scene(
+    "thousands of equal messages among ten thousand are taken",
+    3,
+    0,
+    &[
+        Ask(1, 1, b'r'),
+        Often(Repeats(Requests(3)), 5_000),
+        Often(Repeats(Requests(2)), 4_999),
+        Often(Delivers(Requests(3)), 2_000),
+        Often(Loses(Requests(2)), 500),
+        Often(Loses(Requests(3)), 1_000),
+        Often(Delivers(Replies(3, 1, 1)), 2_000),
+        Often(Delivers(Requests(2)), 4_500),
+        Often(Delivers(Requests(3)), 2_001),
+        Refuses(Delivers(Requests(2)), StepError::NotUnderWay),
+        Refuses(Delivers(Requests(3)), StepError::NotUnderWay),
+        Deliver(6_501),
+        UnderWay(&[]),
+        Leave(1, 1, b'r'),
+        HasSteps(28_503),
+        HasRepeats(9_999),
+        Reports(
+            "request 1 1 r X 1
+enter 1 1 r X 1
+leave 1 1 r X 1
+requests 1
+messages 8503
+under-way 0
+lost 1500
+waiting 0
+queued 0
+",
+        ),
+    ],
+)];
+
+#[test]
+fn thousands_of_equal_messages_among_ten_thousand_are_taken(rt: HostRuntime) {
+    follow(&rt, MANY);
 }

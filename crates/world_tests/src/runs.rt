@@ -1,6 +1,7 @@
 //! Runs of a list of steps: what is reported about them, and where they are refused.
 use crate::acts::{Wire, Wish, is_text, step};
-use crate::helpers::{assert_rows, assert_so};
+use crate::asserting::assert_so;
+use crate::helpers::assert_rows;
 use Answer::{Refused, Reported};
 use Wire::Requests;
 use Wish::{Asks, Leaves, Loses};

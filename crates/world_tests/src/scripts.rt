@@ -1,5 +1,5 @@
 //! Scripts: how many nodes, clients and operations they take, and how they are read.
-use crate::helpers::assert_so;
+use crate::asserting::assert_so;
 use crate::plans::{Doing, Plan, Scene, carry_out};
 use Doing::{Locks, Unlocks};
 use Mode::Exclusive;

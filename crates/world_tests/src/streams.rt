@@ -1,5 +1,6 @@
 //! How bytes are read up to a limit and written, also where a reader or a writer fails.
-use crate::helpers::{assert_rows, assert_so};
+use crate::asserting::assert_so;
+use crate::helpers::assert_rows;
 use ra_world::{ReadFault, WriteFault, read_up_to, write_out};
 use std::alloc::Global;
 use std::io;

@@ -1,0 +1,17 @@
+//! How a test ends that finds something else than it should. It prints what was expected and what came.
+use std::process::Abort;
+use test_support::Tried;
+
+/// Asserts that what is expected is so.
+pub fn assert_so(rt: &impl Abort, expected: &str, so: bool) {
+    assert!(rt; so, "expected that {expected}, which is not so");
+}
+
+/// Asserts that calls of which a growth was refused had the right answer, and changed nothing.
+pub fn assert_grown(rt: &impl Abort, tried: Tried) {
+    match tried {
+        Tried::AtOnce => {}
+        Tried::Again => panic!(rt; "a growth was refused, and the call made again"),
+        Tried::Wrong => panic!(rt; "a refused growth had another answer, or changed something"),
+    }
+}
