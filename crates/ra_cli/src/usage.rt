@@ -1,7 +1,7 @@
 //! What the parser says about words that are not a command line, on one line.
 use crate::command_line::{PolicyName, format_of, policy_name, text_of};
 use crate::command_rows::command;
-use crate::hints::is_given;
+use crate::hints::{is_given, reads_input};
 use crate::notes::is_choice;
 use crate::said::Said;
 use clap::error::ErrorKind;
@@ -37,7 +37,6 @@ const NODE_TEXT: &str = "node takes no arguments; see ra node --help";
 const SETTLE_TEXT: &str = "settle takes no arguments but --trace; see ra settle --help";
 
 /// An option that takes a number, and which ones it takes.
-#[derive(Clone, Copy)]
 struct Range {
     option: &'static str,
     text: &'static str,
@@ -104,11 +103,22 @@ fn negative_in(words: &[String]) -> Option<(&str, &str)> {
     None
 }
 
+/// Returns what comes before the first occurrence of a mark in a text, and what follows it, or `None`. A call of it is cheaper
+/// to prove than one of `split_once`, which promises more.
+fn cut_at<'a>(text: &'a str, mark: &str) -> Option<(&'a str, &'a str)> {
+    text.split_once(mark)
+}
+
+/// Returns what the parser says between two marks, and what follows the second, or `None`.
+fn between<'a>(said: &'a str, first: &str, second: &str) -> Option<(&'a str, &'a str)> {
+    let (_, rest) = cut_at(said, first)?;
+    cut_at(rest, second)
+}
+
 /// Returns the option of which the parser says that its value is wrong, and that value, or `None`.
 fn wrong_value_in(said: &str) -> Option<(&str, &str)> {
-    let (_, rest) = said.split_once("invalid value '")?;
-    let (value, rest) = rest.split_once("' for '")?;
-    let (option, _) = rest.split_once(" <")?;
+    let (value, rest) = between(said, "invalid value '", "' for '")?;
+    let (option, _) = cut_at(rest, " <")?;
     Some((option, value))
 }
 
@@ -132,24 +142,15 @@ fn push_number(note: &mut Note, words: &[String], said: &str) -> bool {
     true
 }
 
-/// Returns whether a word is a command, each of which reads standard input.
-fn is_command(word: &str) -> bool {
-    matches!(
-        word,
-        "answer" | "sim" | "cluster" | "check" | "draw" | "node" | "settle"
-    )
-}
-
 /// Returns the command that the words name, or `None`.
 fn command_named(words: &[String]) -> Option<&str> {
     let name = words.get(1)?.as_str();
-    if is_command(name) { Some(name) } else { None }
+    if reads_input(name) { Some(name) } else { None }
 }
 
 /// Returns the word that the parser did not expect, if it is not an option.
 fn unexpected_in(said: &str) -> Option<&str> {
-    let (_, rest) = said.split_once("unexpected argument '")?;
-    let (word, _) = rest.split_once("' found")?;
+    let (word, _) = between(said, "unexpected argument '", "' found")?;
     if word.starts_with('-') {
         None
     } else {
@@ -168,11 +169,16 @@ fn push_line(note: &mut Note, line: &str) {
     note.shown(shown);
 }
 
+/// Returns whether a line of what the parser says begins the usage, or what follows it.
+fn is_usage(line: &str) -> bool {
+    line.starts_with("Usage:") || line.starts_with("For more information")
+}
+
 /// Adds what the parser says, without the lines of the usage and what follows them.
 fn push_said(note: &mut Note, said: &str) {
     let said = said.strip_prefix("error: ").unwrap_or(said);
     for line in said.lines() {
-        if line.starts_with("Usage:") || line.starts_with("For more information") {
+        if is_usage(line) {
             return;
         }
         push_line(note, line.trim());
@@ -252,7 +258,7 @@ fn push_seeds(note: &mut Note, seeds: &str) {
 
 /// Returns whether a text is two seeds with two dots between them.
 fn is_range(seeds: &str) -> bool {
-    match seeds.split_once("..") {
+    match cut_at(seeds, "..") {
         Some((first, last)) => is_seed(first) && is_seed(last),
         None => false,
     }
@@ -280,28 +286,48 @@ fn push_survey(note: &mut Note, words: &[String], policy: &PolicyName, sim: &Arg
     }
 }
 
+/// Adds what is wrong with words of the command `sim` that name this policy, the next cause after the policy.
+fn push_under(note: &mut Note, words: &[String], policy: &PolicyName, sim: &ArgMatches) {
+    if format_of(policy, words, sim).is_none() {
+        note.push(AS_CHOICES_TEXT);
+    } else if is_given(words, "--seeds") {
+        push_survey(note, words, policy, sim);
+    } else {
+        note.push(FIND_TEXT);
+    }
+}
+
 /// Adds what is wrong with words of the command `sim` in which the parser finds nothing wrong. The causes are tried in
 /// the order in which a task is made from the words.
 fn push_unseen(note: &mut Note, words: &[String], sim: &ArgMatches) {
     match policy_name(words, sim) {
+        Some(policy) => push_under(note, words, &policy, sim),
         None => note.push(FAULTS_TEXT),
-        Some(policy) if format_of(&policy, words, sim).is_none() => note.push(AS_CHOICES_TEXT),
-        Some(policy) if is_given(words, "--seeds") => push_survey(note, words, &policy, sim),
-        Some(_) => note.push(FIND_TEXT),
+    }
+}
+
+/// Adds what is wrong with words of a command in which the parser finds nothing wrong.
+fn push_unseen_of(note: &mut Note, words: &[String], command: &str, given: &ArgMatches) {
+    match command {
+        "draw" => note.push(PART_TEXT),
+        "node" => note.push(NODE_TEXT),
+        "settle" => note.push(SETTLE_TEXT),
+        _ => push_unseen(note, words, given),
+    }
+}
+
+/// Adds what is wrong with words in which the parser finds nothing wrong, so the cause is something that it does not check.
+fn push_unchecked(note: &mut Note, words: &[String], matches: &ArgMatches) {
+    match matches.subcommand() {
+        Some((command, given)) => push_unseen_of(note, words, command, given),
+        None => push_help(note, words),
     }
 }
 
 /// Adds what is wrong with the words.
 fn push_usage<'a>(alloc: Global, note: &mut Note, words: &'a [String], command: Command<'a>) {
     match command.try_get_matches_from(words) {
-        // The parser finds nothing wrong with the words, so the cause is something that it does not check.
-        Ok(matches) => match matches.subcommand() {
-            Some(("draw", _)) => note.push(PART_TEXT),
-            Some(("node", _)) => note.push(NODE_TEXT),
-            Some(("settle", _)) => note.push(SETTLE_TEXT),
-            Some((_, given)) => push_unseen(note, words, given),
-            None => push_help(note, words),
-        },
+        Ok(matches) => push_unchecked(note, words, &matches),
         Err(error) => push_error(alloc, note, words, &error),
     }
 }
