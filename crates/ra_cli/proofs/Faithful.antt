@@ -2,8 +2,9 @@
 use Rattle.std.proofs.Common.{◌≡◌, ◌≢◌, ℕ, List, length, Option, Some, None, codes, slice_get, sym, ap, ◌∙◌}
 use Rattle.std.specs.Prelude.{IfSome}
 use Rattle.ra_cli.specs.Finishing.{HasNoChoices, RunsFaithfully}
-use Rattle.ra_cli.specs.Words.{SimsFaithfully}
+use Rattle.ra_cli.specs.Words.{OnHelp, SimsFaithfully}
 use Rattle.ra_cli.specs.declared.command_line.Task.{Task}
+use Rattle.ra_cli.specs.declared.command_line.Task.TheVariants as task
 
 -- a premise that another one follows from may take its place
 pub under : (Holds : Task → Type 0) (P Q : Type 0) → (P → Q) → (result : Option Task) → IfSome result (λ task. Q → Holds task)
@@ -28,3 +29,14 @@ other words never (Some task) = λ sims. absurd (never sims)
 pub anyway : (P : Type 0) (result : Option Task) → IfSome result HasNoChoices → IfSome result (λ task. P → HasNoChoices task)
 anyway P None h = tt
 anyway P (Some task) h = λ p. h
+
+-- where no text of help is printed, it does not matter what asks for one
+pub no_help : (asked : Task) (P : Type 0) → OnHelp asked ⊥ → OnHelp asked P
+no_help (task.Answer node nodes) P none = tt
+no_help (task.Sim policy choices format) P none = tt
+no_help (task.Survey faults find first last) P none = tt
+no_help task.Check P none = tt
+no_help task.CheckMarks P none = tt
+no_help (task.Draw kind part) P none = tt
+no_help (task.Cluster printed) P none = tt
+no_help (task.Help text) P none = absurd none

@@ -466,7 +466,10 @@ pub fn parse<'a>(alloc: Global, words: &'a [String]) -> Result<Task<'a>, Command
         return Err(CommandFault::Memory);
     };
     match command.try_get_matches_from(words) {
-        Ok(matches) => task_of(words, &matches).ok_or(CommandFault::Usage),
+        Ok(matches) => match task_of(words, &matches) {
+            Some(task) => Ok(task),
+            None => Err(CommandFault::Usage),
+        },
         Err(error) => help_of(alloc, words, &error),
     }
 }

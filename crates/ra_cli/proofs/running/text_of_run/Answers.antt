@@ -11,6 +11,11 @@ returns-in_err-settled-clause-err g c =
     let refused = c.in_err-settled.ensures in
     rw (p.1, p.2) (λ input is. refuses_cluster input c.args.script.now c.in_err-settled.field-0.0 is refused.out_of_order refused.unreleased)
 
+pub returns-in_err-text-clause-err : goal.returns-in_err-text-clause-err
+returns-in_err-text-clause-err g c =
+    let p = err_from_is_err_and c.from_residual-in_err-text.result c.from_residual-in_err-text.ensures.1 in
+    rw (p.1, p.2) (λ input is. tt)
+
 pub returns-clause-ok : goal.returns-clause-ok
 returns-clause-ok g c =
     let script = c.args.script.now in
