@@ -9,10 +9,11 @@ use crate::cluster_output::ClusterOutput;
 use crate::outcome::{Outcome, Remark, UNFINISHED};
 use crate::refusal::Refusal;
 use crate::serving::{DONE, refuse, written};
+use crate::verdict::push_invalid;
 use ra_settle::{SettleTextError, SettledText, TextCause, settle_text};
 use ra_stamp::Memory;
 use ra_trace::{TraceError, trace_text};
-use ra_world::{ReadFault, push_field, push_number, read_up_to, report_text};
+use ra_world::{ReadFault, read_up_to, report_text};
 use std::alloc::Global;
 use std::io::{Read, Write};
 
@@ -73,10 +74,7 @@ fn unsettled_text(alloc: Global, line: u64, cause: TextCause) -> Result<String, 
     ensures { IfOk result (λ text. string_bytes text ≡ unsettled_line line cause) }
 {
     let mut text = String::new(alloc);
-    text.push_str("invalid")?;
-    push_number(&mut text, line)?;
-    push_field(&mut text, word_of(cause))?;
-    text.push_str("\n")?;
+    push_invalid(&mut text, line, word_of(cause))?;
     Ok(text)
 }
 

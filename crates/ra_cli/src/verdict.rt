@@ -1,7 +1,6 @@
 //! The lines of a verdict.
-ghost use Rattle.std.specs.Prelude.{◌≡◌, ◌++◌, string_bytes, IfOk, OnOk};
-ghost use Rattle.ra_world.specs.Lines.{total_line};
-ghost use Rattle.ra_trace.specs.declared.verdict.Verdict.{Verdict};
+ghost use Rattle.std.specs.Prelude.{◌≡◌, ◌++◌, codes, decimal, string_bytes, IfOk, OnOk};
+ghost use Rattle.ra_world.specs.Lines.{field, total_line};
 ghost use Rattle.ra_cli.specs.Checks as spec;
 
 use ra_stamp::Memory;
@@ -36,32 +35,32 @@ pub fn push_total(text: &mut String, word: &str, total: u128) -> Result<(), Memo
     Ok(())
 }
 
-/// Adds the lines of a text that is a trace, of this many requests and messages.
+/// Adds the lines of a text that is valid: the number of its requests, and a second total with its word.
 ///
 /// # Errors
 ///
 /// `Memory`: there is none for them. A prefix of them may have been added.
-fn push_valid(text: &mut String, requests: u128, messages: u128) -> Result<(), Memory>
-    ensures { OnOk result
-        (string_bytes text.new ≡ string_bytes text.old ++ spec.verdict_text (Verdict.Valid requests messages)) }
+pub fn push_valid(text: &mut String, requests: u128, word: &str, total: u128) -> Result<(), Memory>
+    ensures { OnOk result (string_bytes text.new ≡ string_bytes text.old
+        ++ (codes "valid\n" ++ total_line (codes "requests") requests ++ total_line word.now total)) }
 {
     text.push_str("valid\n")?;
     push_total(text, "requests", requests)?;
-    push_total(text, "messages", messages)
+    push_total(text, word, total)
 }
 
-/// Adds the line of a text that is not one, with its first wrong line and why.
+/// Adds the line of a text that is invalid, with its first wrong line and the word for the cause.
 ///
 /// # Errors
 ///
 /// `Memory`: there is none for it. A prefix of it may have been added.
-fn push_invalid(text: &mut String, line: u64, cause: Cause) -> Result<(), Memory>
-    ensures { OnOk result
-        (string_bytes text.new ≡ string_bytes text.old ++ spec.verdict_text (Verdict.Invalid line cause)) }
+pub fn push_invalid(text: &mut String, line: u64, word: &str) -> Result<(), Memory>
+    ensures { OnOk result (string_bytes text.new ≡ string_bytes text.old
+        ++ (codes "invalid" ++ field (decimal line) ++ field word.now ++ codes "\n")) }
 {
     text.push_str("invalid")?;
     push_number(text, line)?;
-    push_field(text, word_of(cause))?;
+    push_field(text, word)?;
     text.push_str("\n")?;
     Ok(())
 }
@@ -75,8 +74,8 @@ fn push_verdict(text: &mut String, verdict: &Verdict) -> Result<(), Memory>
     ensures { OnOk result (string_bytes text.new ≡ string_bytes text.old ++ spec.verdict_text verdict.now) }
 {
     match *verdict {
-        Verdict::Valid { requests, messages } => push_valid(text, requests, messages),
-        Verdict::Invalid { line, cause } => push_invalid(text, line, cause),
+        Verdict::Valid { requests, messages } => push_valid(text, requests, "messages", messages),
+        Verdict::Invalid { line, cause } => push_invalid(text, line, word_of(cause)),
     }
 }
 
