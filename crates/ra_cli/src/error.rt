@@ -9,11 +9,11 @@ use ra_frame::FrameError;
 use ra_script::{ChoicesError, ScriptError};
 use ra_stamp::Memory;
 use ra_world::{ReadFault, WriteFault};
+use std::fmt;
 use thiserror::Error;
 
 /// Why `answer` gave no answer, in the order in which the causes are looked for.
 #[derive(Clone, Copy, Debug, PartialEq, Eq, Error)]
-#[error("{:?}", self)]
 pub enum AnswerError {
     /// The number of nodes is not 1 to 64.
     BadCount,
@@ -26,7 +26,6 @@ pub enum AnswerError {
     /// The line is no even number of hexadecimal digits.
     Hex,
     /// The bytes are no frame.
-    #[error(transparent)]
     Frame(FrameError),
     /// The message is for another node.
     WrongNode,
@@ -55,6 +54,17 @@ pub enum RunScriptError {
     Memory,
     /// The writer failed.
     Write,
+}
+
+// By hand, since a derived one takes ten times as long to prove.
+impl fmt::Display for AnswerError {
+    /// Prints one word: that of the frame's fault, or the name of the variant.
+    fn fmt<W: fmt::Write>(&self, f: &mut fmt::Formatter<W>) -> fmt::Result {
+        match self {
+            AnswerError::Frame(fault) => fmt::Display::fmt(fault, f),
+            _ => fmt::Debug::fmt(self, f),
+        }
+    }
 }
 
 impl From<FrameError> for AnswerError {
