@@ -1,5 +1,7 @@
 //! The choices of a run, printed by `ra sim --as-choices`, and the same run made again from them.
-use crate::helpers::{Answered, Case, Refused, assert_meets, assert_refuses, run};
+use crate::helpers::{
+    Answered, Case, Refused, are_the_same, assert_meets, assert_refuses, assert_so_with_seed, run,
+};
 use crate::scripts::{A_QUEUE, A_WRITER, ONE_CLIENT, TWO_CLIENTS};
 use std::process::Abort;
 use std::sync::Wait;
@@ -183,9 +185,32 @@ fn words_in(output: &[u8]) -> Option<&str> {
     str::from_utf8(line).ok()
 }
 
-/// Returns whether two answers are the same.
-fn are_the_same(one: &Answered, other: &Answered) -> bool {
-    one.status == other.status && one.output.as_slice() == other.output.as_slice()
+/// Returns what `ra sim` makes of a script by a policy and one more option, or `None` if there is no memory for the words.
+fn run_by<T: AllocGlobal + Threads + Wait + Abort + Sync>(
+    rt: &T,
+    policy: &str,
+    option: &str,
+    script: &str,
+) -> Option<Answered> {
+    match format!(in rt.alloc(); "ra sim {policy} {option}") {
+        Ok(line) => Some(run(rt, line.as_str(), None, script)),
+        Err(_) => None,
+    }
+}
+
+/// Returns whether policy `listed`, given the choices that were printed, yields the same trace and status.
+fn makes_the_same<T: AllocGlobal + Threads + Wait + Abort + Sync>(
+    rt: &T,
+    printed: &Answered,
+    trace: &Answered,
+    script: &str,
+) -> bool {
+    let Some(choices) = words_in(printed.output.as_slice()) else {
+        return false;
+    };
+    let line = "ra sim --trace --policy listed --choices";
+    let again = run(rt, line, Some(choices), script);
+    printed.status == trace.status && are_the_same(&again, trace)
 }
 
 /// Returns whether policy `listed`, given the choices of a policy's run, yields the same trace and status.
@@ -194,20 +219,26 @@ fn makes_again<T: AllocGlobal + Threads + Wait + Abort + Sync>(
     policy: &str,
     script: &str,
 ) -> bool {
-    let (Ok(asked), Ok(traced)) = (
-        format!(in rt.alloc(); "ra sim {policy} --as-choices"),
-        format!(in rt.alloc(); "ra sim {policy} --trace"),
-    ) else {
+    let Some(printed) = run_by(rt, policy, "--as-choices", script) else {
         return false;
     };
-    let printed = run(rt, asked.as_str(), None, script);
-    let trace = run(rt, traced.as_str(), None, script);
-    let Some(choices) = words_in(printed.output.as_slice()) else {
-        return false;
-    };
-    let line = "ra sim --trace --policy listed --choices";
-    let again = run(rt, line, Some(choices), script);
-    printed.status == trace.status && are_the_same(&again, &trace)
+    match run_by(rt, policy, "--trace", script) {
+        Some(trace) => makes_the_same(rt, &printed, &trace, script),
+        None => false,
+    }
+}
+
+/// Returns whether that holds for a policy with this seed.
+fn makes_again_with<T: AllocGlobal + Threads + Wait + Abort + Sync>(
+    rt: &T,
+    policy: &str,
+    seed: u64,
+    script: &str,
+) -> bool {
+    match format!(in rt.alloc(); "{policy} --seed {seed}") {
+        Ok(seeded) => makes_again(rt, seeded.as_str(), script),
+        Err(_) => false,
+    }
 }
 
 /// Returns whether that holds for random choices from a seed, both without lost messages and with them.
@@ -216,13 +247,8 @@ fn makes_seed_again<T: AllocGlobal + Threads + Wait + Abort + Sync>(
     seed: u64,
     script: &str,
 ) -> bool {
-    let (Ok(seeded), Ok(faulty)) = (
-        format!(in rt.alloc(); "--policy seeded --seed {seed}"),
-        format!(in rt.alloc(); "--policy faulty --lose 200 --seed {seed}"),
-    ) else {
-        return false;
-    };
-    makes_again(rt, seeded.as_str(), script) && makes_again(rt, faulty.as_str(), script)
+    makes_again_with(rt, "--policy seeded", seed, script)
+        && makes_again_with(rt, "--policy faulty --lose 200", seed, script)
 }
 
 #[test]
@@ -231,7 +257,7 @@ fn the_choices_of_a_run_make_it_again(rt: HostRuntime) {
         assert!(rt; makes_again(&rt, "--policy oldest", script));
         assert!(rt; makes_again(&rt, "--policy newest", script));
         for seed in 0..10u64 {
-            assert!(rt; makes_seed_again(&rt, seed, script), "seed {seed}");
+            assert_so_with_seed(&rt, makes_seed_again(&rt, seed, script), seed);
         }
     }
 }

@@ -1,7 +1,8 @@
 //! The command `check`, and the traces that `sim` prints.
 use crate::helpers::{
     Answered, Case, Refused, assert_answers, assert_fails_at_each_byte, assert_fails_in_prefixes,
-    assert_meets, assert_refuses, assert_written, is_answer, is_refusal, prints, run, status_alone,
+    assert_meets, assert_refuses, assert_so, assert_so_of, assert_written, is_answer, is_refusal,
+    prints, run, status_alone,
 };
 use crate::scripts::{A_DEADLOCK, A_QUEUE, A_TABLE, A_WRITER, ONE_CLIENT, ONE_ORDER, TWO_CLIENTS};
 use std::alloc::Global;
@@ -181,7 +182,7 @@ fn is_valid_behind<T: AllocGlobal + Threads + Wait + Abort + Sync>(
 #[test]
 fn the_same_traces_are_valid_in_version_1(rt: HostRuntime) {
     for row in OLDER {
-        assert!(rt; is_valid_behind(&rt, row.0, row.1, row.2), "{}", row.1);
+        assert_so(&rt, is_valid_behind(&rt, row.0, row.1, row.2), row.1);
     }
 }
 
@@ -239,7 +240,7 @@ const EDITS: &[Edit] = &[
 #[test]
 fn the_first_wrong_line_is_named_in_both_versions(rt: HostRuntime) {
     for edit in EDITS {
-        assert!(rt; is_invalid_in_both(&rt, edit), "{}", edit.verdict);
+        assert_so(&rt, is_invalid_in_both(&rt, edit), edit.verdict);
     }
 }
 
@@ -313,7 +314,7 @@ fn assert_valid<T: AllocGlobal + Threads + Wait + Abort + Sync>(
     verdict: &str,
 ) {
     for line in POLICIES {
-        assert!(rt; is_valid(rt, line, script, 0, verdict), "{line}: {script}");
+        assert_so_of(rt, is_valid(rt, line, script, 0, verdict), line, script);
     }
 }
 

@@ -1,5 +1,5 @@
 //! The policy `listed`: choices that are made one after the other, and those that cannot be made.
-use crate::helpers::{assert_answers, is_answer, refuses_input, run};
+use crate::helpers::{assert_answers, assert_so, is_answer, refuses_input, run};
 use crate::scripts::{A_QUEUE, NOTHING, ONE_CLIENT, ONE_CLIENT_PRINTED, TWO_INTENTS, TWO_READERS};
 use std::process::Abort;
 use std::sync::Wait;
@@ -29,7 +29,7 @@ fn is_made<T: AllocGlobal + Threads + Wait + Abort + Sync>(rt: &T, case: &Listed
 /// Ends the test where it makes something else of one of the scripts.
 fn assert_made<T: AllocGlobal + Threads + Wait + Abort + Sync>(rt: &T, cases: &[Listed]) {
     for case in cases {
-        assert!(rt; is_made(rt, case), "{}", case.choices);
+        assert_so(rt, is_made(rt, case), case.choices);
     }
 }
 

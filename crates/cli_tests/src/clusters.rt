@@ -1,7 +1,7 @@
 //! The command `cluster`.
 use crate::helpers::{
     Case, Refused, assert_answers, assert_fails_in_prefixes, assert_meets, assert_prints,
-    assert_refuses, assert_written, is_answer, is_read_fault, prints, run,
+    assert_refuses, assert_so, assert_written, is_answer, is_read_fault, prints, run,
 };
 use crate::scripts::{
     A_DEADLOCK, A_KEEPER, A_QUEUE, A_QUEUE_PRINTED, A_TABLE, A_WRITER, ALONE, ALONE_PRINTED, APART,
@@ -258,7 +258,7 @@ const IN_ORDER: &[Run] = &[
 fn each_client_does_its_operations_in_order(rt: HostRuntime) {
     for row in IN_ORDER {
         for _ in 0..RUNS {
-            assert!(rt; runs(&rt, row), "{}", row.shows);
+            assert_so(&rt, runs(&rt, row), row.shows);
         }
     }
 }
@@ -279,7 +279,7 @@ const WRITERS: &[&str] = &[TWO_CLIENTS, A_WRITER, A_QUEUE];
 fn no_two_conflicting_clients_are_inside_together(rt: HostRuntime) {
     for script in WRITERS {
         for _ in 0..RUNS {
-            assert!(rt; has_writers_alone(&rt, script), "{script}");
+            assert_so(&rt, has_writers_alone(&rt, script), script);
         }
     }
 }
@@ -335,7 +335,7 @@ fn has_trace<T: AllocGlobal + Threads + Wait + Abort + Sync>(
 #[test]
 fn the_trace_of_threads_is_valid(rt: HostRuntime) {
     for &(script, verdict) in TRACED {
-        assert!(rt; has_trace(&rt, script, verdict), "{script}");
+        assert_so(&rt, has_trace(&rt, script, verdict), script);
     }
 }
 
@@ -444,10 +444,8 @@ fn what_is_no_document_of_a_script_is_refused(rt: HostRuntime) {
 /// Ends the test unless the fault of a reader that fails after the last byte of a script is printed.
 fn assert_fails_at_the_end<T: AllocGlobal + Threads + Wait + Abort + Sync>(rt: &T, script: &str) {
     let (bytes, fault) = (script.as_bytes(), io::ErrorKind::Interrupted);
-    assert!(rt;
-        is_read_fault(rt, "ra cluster", bytes, script.len(), fault),
-        "{script}"
-    );
+    let is_fault = is_read_fault(rt, "ra cluster", bytes, script.len(), fault);
+    assert_so(rt, is_fault, script);
 }
 
 #[test]

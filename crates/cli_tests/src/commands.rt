@@ -1,6 +1,8 @@
 //! Words that are no command, and the help that lists the commands.
 use crate::frames::REQUEST;
-use crate::helpers::{Refused, assert_answers, assert_prints, assert_refuses, run};
+use crate::helpers::{
+    Refused, assert_answers, assert_prints, assert_refuses, assert_so, is_text, run,
+};
 use ra_cli::{CommandFault, refuse_words};
 use std::alloc::Global;
 
@@ -158,10 +160,8 @@ fn is_narrow(text: &[u8]) -> bool {
 fn each_help_keeps_within_80_columns(rt: HostRuntime) {
     for words in HELPS {
         let answered = run(&rt, words, None, "");
-        assert!(rt;
-            answered.status == 0 && is_narrow(answered.output.as_slice()),
-            "{words}"
-        );
+        let is_so = answered.status == 0 && is_narrow(answered.output.as_slice());
+        assert_so(&rt, is_so, words);
     }
 }
 
@@ -178,7 +178,7 @@ fn the_version_says_what_is_read(rt: HostRuntime) {
 fn is_fault(alloc: Global, fault: CommandFault, printed: &str) -> bool {
     let mut output = Vec::new(alloc);
     let status = refuse_words(&mut output, fault);
-    status == 2 && output.as_slice() == printed.as_bytes()
+    status == 2 && is_text(output.as_slice(), printed)
 }
 
 /// Why there are no words, and the word of it.

@@ -1,5 +1,5 @@
 //! The end of the input is met once, as by one Ctrl-D at a terminal.
-use crate::helpers::status_alone;
+use crate::helpers::{assert_so_of, is_text, status_alone};
 use ra_cli::EndReader;
 use std::io;
 use std::io::{BufReader, Read};
@@ -45,7 +45,7 @@ fn is_typed<T: AllocGlobal + Threads + Wait + Sync>(
         Ok(reader) => {
             let mut reader = reader;
             status_alone(rt, line, None, &mut reader, &mut output) == status
-                && output.as_slice() == printed.as_bytes()
+                && is_text(output.as_slice(), printed)
         }
         Err(_) => false,
     }
@@ -73,9 +73,6 @@ const TYPED: &[(&str, &str, u8, &str)] = &[
 #[test]
 fn the_end_is_asked_for_once(rt: HostRuntime) {
     for &(line, text, status, printed) in TYPED {
-        assert!(rt;
-            is_typed(&rt, line, text, status, printed),
-            "{line}: {text}"
-        );
+        assert_so_of(&rt, is_typed(&rt, line, text, status, printed), line, text);
     }
 }

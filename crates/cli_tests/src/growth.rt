@@ -1,8 +1,8 @@
 //! If any growth is refused, `ra` prints `refused Memory` and nothing else, with status 2, and does what it should when it is
 //! run again.
 use crate::frames::{ANSWER, REPLY, REQUEST};
-use crate::helpers::words_of;
-use ra_cli::{AnswerError, answer, serve};
+use crate::helpers::{answer_as_2_of_3, assert_so, is_text, status_of_words, words_of};
+use ra_cli::AnswerError;
 use std::alloc::Global;
 use std::io;
 use std::io::Write;
@@ -13,13 +13,15 @@ use test_support::{Tried, again};
 
 /// Ends a test.
 pub fn end(rt: &(impl Abort), tried: Tried) {
-    assert!(rt;
+    assert_so(
+        rt,
         tried != Tried::Wrong,
-        "a refused growth had another answer, or changed something"
+        "a refused growth had another answer, or changed something",
     );
-    assert!(rt;
+    assert_so(
+        rt,
         tried != Tried::Again,
-        "a growth was refused, and the call made again"
+        "a growth was refused, and the call made again",
     );
 }
 
@@ -45,7 +47,7 @@ impl Page {
     /// Returns whether this text was taken, and nothing else.
     pub fn has(&self, text: &str) -> bool {
         match self.bytes.get(..self.taken) {
-            Some(bytes) => bytes == text.as_bytes(),
+            Some(bytes) => is_text(bytes, text),
             None => false,
         }
     }
@@ -77,7 +79,7 @@ impl Write for Page {
 /// Answers a frame. Where that is refused, returns whether memory ran out and nothing was written.
 fn try_answer(alloc: Global) -> Result<Tried, bool> {
     let (mut reader, mut page) = (REQUEST.as_bytes(), Page::new());
-    match answer(alloc, 2, 3, &mut reader, &mut page) {
+    match answer_as_2_of_3(alloc, &mut reader, &mut page) {
         Ok(()) if page.has(REPLY) => Ok(Tried::AtOnce),
         Ok(()) => Ok(Tried::Wrong),
         Err(fault) => Err(fault == AnswerError::Memory && page.has("")),
@@ -106,11 +108,22 @@ fn try_line<T: AllocGlobal + Threads + Wait + Sync>(
         return Err(true);
     };
     let (mut reader, mut page) = (input.as_bytes(), Page::new());
-    match serve(rt, rt.alloc(), words.as_slice(), &mut reader, &mut page) {
+    match status_of_words(rt, words.as_slice(), &mut reader, &mut page) {
         0 if page.has(output) => Ok(Tried::AtOnce),
         2 => Err(is_refused(line, &page)),
         _ => Ok(Tried::Wrong),
     }
+}
+
+/// Ends a test of a line that prints this text.
+fn end_line<T: AllocGlobal + Threads + Wait + Sync + Abort>(
+    rt: &T,
+    line: &str,
+    input: &str,
+    output: &str,
+) {
+    let first = try_line(rt, line, input, output);
+    end(rt, again(first, try_line(rt, line, input, output)));
 }
 
 /// A script of one client at the first of two nodes.
@@ -142,33 +155,23 @@ end
 
 #[test]
 fn growth_of_the_command_answer(rt: HostRuntime) {
-    let first = try_line(&rt, ANSWER, REQUEST, REPLY);
-    end(&rt, again(first, try_line(&rt, ANSWER, REQUEST, REPLY)));
+    end_line(&rt, ANSWER, REQUEST, REPLY);
 }
 
 #[test]
 fn growth_of_the_command_sim(rt: HostRuntime) {
-    let first = try_line(&rt, "ra sim", SCRIPT, LINES);
-    end(&rt, again(first, try_line(&rt, "ra sim", SCRIPT, LINES)));
+    end_line(&rt, "ra sim", SCRIPT, LINES);
 }
 
 #[test]
 fn growth_of_the_command_sim_with_a_trace(rt: HostRuntime) {
-    let first = try_line(&rt, "ra sim --trace", SCRIPT, TRACE);
-    end(
-        &rt,
-        again(first, try_line(&rt, "ra sim --trace", SCRIPT, TRACE)),
-    );
+    end_line(&rt, "ra sim --trace", SCRIPT, TRACE);
 }
 
 #[test]
 fn growth_of_the_command_sim_with_the_choices(rt: HostRuntime) {
     let line = "ra sim --as-choices";
-    let first = try_line(&rt, line, SCRIPT, "c1 m0 m0 c1\n");
-    end(
-        &rt,
-        again(first, try_line(&rt, line, SCRIPT, "c1 m0 m0 c1\n")),
-    );
+    end_line(&rt, line, SCRIPT, "c1 m0 m0 c1\n");
 }
 
 /// The client asks, has its answer and leaves, whatever the seed.
@@ -176,35 +179,25 @@ fn growth_of_the_command_sim_with_the_choices(rt: HostRuntime) {
 fn growth_of_the_command_sim_with_many_seeds(rt: HostRuntime) {
     let line = "ra sim --policy seeded --seeds 5..7";
     let counted = "finished 3 first 5\nturns 4 4\nmessages 2 2\n";
-    let first = try_line(&rt, line, SCRIPT, counted);
-    end(&rt, again(first, try_line(&rt, line, SCRIPT, counted)));
+    end_line(&rt, line, SCRIPT, counted);
 }
 
 #[test]
 fn growth_of_the_command_sim_with_the_first_finished_seed(rt: HostRuntime) {
     let line = "ra sim --policy seeded --seeds 5..7 --find finished";
-    let first = try_line(&rt, line, SCRIPT, TRACE);
-    end(&rt, again(first, try_line(&rt, line, SCRIPT, TRACE)));
+    end_line(&rt, line, SCRIPT, TRACE);
 }
 
 #[test]
 fn growth_of_the_command_sim_with_the_choices_of_the_first_finished_seed(rt: HostRuntime) {
     let line = "ra sim --policy seeded --seeds 5..7 --find finished --as-choices";
-    let first = try_line(&rt, line, SCRIPT, "c1 m0 m0 c1\n");
-    end(
-        &rt,
-        again(first, try_line(&rt, line, SCRIPT, "c1 m0 m0 c1\n")),
-    );
+    end_line(&rt, line, SCRIPT, "c1 m0 m0 c1\n");
 }
 
 #[test]
 fn growth_of_the_version(rt: HostRuntime) {
     let version = "ra 0.2.0-dev (frames 1 and 2, traces 1 and 2)\n";
-    let first = try_line(&rt, "ra --version", "", version);
-    end(
-        &rt,
-        again(first, try_line(&rt, "ra --version", "", version)),
-    );
+    end_line(&rt, "ra --version", "", version);
 }
 
 /// Draws the trace. A picture of which the writer has no room for the end has its beginning.
@@ -213,7 +206,7 @@ fn try_drawing<T: AllocGlobal + Threads + Wait + Sync>(rt: &T) -> Result<Tried, 
         return Err(true);
     };
     let (mut reader, mut page) = (TRACE.as_bytes(), Page::new());
-    match serve(rt, rt.alloc(), words.as_slice(), &mut reader, &mut page) {
+    match status_of_words(rt, words.as_slice(), &mut reader, &mut page) {
         1 if page.begins_with("<svg xmlns=\"http://www.w3.org/2000/svg\"") => Ok(Tried::AtOnce),
         2 => Err(page.has("refused Memory\n")),
         _ => Ok(Tried::Wrong),
@@ -229,8 +222,7 @@ fn growth_of_the_command_draw(rt: HostRuntime) {
 #[test]
 fn growth_of_the_command_check(rt: HostRuntime) {
     let verdict = "valid\nrequests 1\nmessages 2\n";
-    let first = try_line(&rt, "ra check", TRACE, verdict);
-    end(&rt, again(first, try_line(&rt, "ra check", TRACE, verdict)));
+    end_line(&rt, "ra check", TRACE, verdict);
 }
 
 /// The marks of the one client.
@@ -242,28 +234,16 @@ leave 1 1 r X 1
 #[test]
 fn growth_of_the_command_check_of_marks(rt: HostRuntime) {
     let verdict = "valid\nrequests 1\ngrants 1\n";
-    let first = try_line(&rt, "ra check --marks", MARKS, verdict);
-    end(
-        &rt,
-        again(first, try_line(&rt, "ra check --marks", MARKS, verdict)),
-    );
+    end_line(&rt, "ra check --marks", MARKS, verdict);
 }
 
 /// The one client that threads do: its marks have one order.
 #[test]
 fn growth_of_the_command_cluster(rt: HostRuntime) {
-    let first = try_line(&rt, "ra cluster", SCRIPT, LINES);
-    end(
-        &rt,
-        again(first, try_line(&rt, "ra cluster", SCRIPT, LINES)),
-    );
+    end_line(&rt, "ra cluster", SCRIPT, LINES);
 }
 
 #[test]
 fn growth_of_the_command_cluster_with_a_trace(rt: HostRuntime) {
-    let first = try_line(&rt, "ra cluster --trace", SCRIPT, TRACE);
-    end(
-        &rt,
-        again(first, try_line(&rt, "ra cluster --trace", SCRIPT, TRACE)),
-    );
+    end_line(&rt, "ra cluster --trace", SCRIPT, TRACE);
 }

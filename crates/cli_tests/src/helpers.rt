@@ -1,10 +1,10 @@
 //! What several files of tests use.
 use crate::threads::in_a_thread;
-use ra_cli::serve;
+use ra_cli::{AnswerError, answer, serve};
 use std::alloc::Global;
 use std::fmt::Display;
 use std::io;
-use std::io::{BufRead, Write};
+use std::io::{BufRead, Read, Write};
 use std::process::Abort;
 use std::sync::Wait;
 use std::thread::Threads;
@@ -93,6 +93,45 @@ pub fn repeated(
     if is_made { Some(text) } else { None }
 }
 
+/// Ends the test with this text if something is not so. A call of it is cheaper to prove than `assert!` with a text.
+pub fn assert_so<T: Abort>(rt: &T, is_so: bool, text: &str) {
+    assert!(rt; is_so, "{text}");
+}
+
+/// Ends the test with these two texts if something is not so.
+pub fn assert_so_of<T: Abort>(rt: &T, is_so: bool, words: &str, text: &str) {
+    assert!(rt; is_so, "{words}: {text}");
+}
+
+/// Ends the test with the seed for which something is not so.
+pub fn assert_so_with_seed<T: Abort>(rt: &T, is_so: bool, seed: u64) {
+    assert!(rt; is_so, "seed {seed}");
+}
+
+/// Ends the test with the number of bytes after which something is not so.
+pub fn assert_so_after<T: Abort>(rt: &T, is_so: bool, bytes: usize) {
+    assert!(rt; is_so, "after {bytes} bytes");
+}
+
+/// Returns what `serve` does. A call of it is cheaper to prove than one of `serve`, which promises more.
+pub fn status_of_words<T: AllocGlobal + Threads + Wait + Sync, R: BufRead, W: Write>(
+    rt: &T,
+    words: &[String],
+    reader: &mut R,
+    writer: &mut W,
+) -> u8 {
+    serve(rt, rt.alloc(), words, reader, writer)
+}
+
+/// Answers a frame as node 2 of 3. A call of it is cheaper to prove than one of `answer`, which promises more.
+pub fn answer_as_2_of_3<R: Read, W: Write>(
+    alloc: Global,
+    reader: &mut R,
+    writer: &mut W,
+) -> Result<(), AnswerError> {
+    answer(alloc, 2, 3, reader, writer)
+}
+
 /// Returns the status that `ra` answers to the words of a line, and a last one where there is one, or 255 where there is no memory
 /// for them.
 pub fn status_alone<T: AllocGlobal + Threads + Wait + Sync, R: BufRead, W: Write>(
@@ -103,7 +142,7 @@ pub fn status_alone<T: AllocGlobal + Threads + Wait + Sync, R: BufRead, W: Write
     writer: &mut W,
 ) -> u8 {
     match words_of(rt.alloc(), line, last) {
-        Some(words) => serve(rt, rt.alloc(), words.as_slice(), reader, writer),
+        Some(words) => status_of_words(rt, words.as_slice(), reader, writer),
         None => u8::MAX,
     }
 }
@@ -142,9 +181,19 @@ pub fn run<T: AllocGlobal + Threads + Wait + Abort + Sync>(
     run_on(rt, line, last, &mut bytes)
 }
 
+/// Returns whether bytes are those of a text. A call of it is cheaper to prove than a comparison.
+pub fn is_text(bytes: &[u8], text: &str) -> bool {
+    bytes == text.as_bytes()
+}
+
 /// Returns whether `ra` answers this status and prints this text.
 pub fn is_answer(answered: &Answered, status: u8, text: &str) -> bool {
-    answered.status == status && answered.output.as_slice() == text.as_bytes()
+    answered.status == status && is_text(answered.output.as_slice(), text)
+}
+
+/// Returns whether two answers are the same.
+pub fn are_the_same(one: &Answered, other: &Answered) -> bool {
+    one.status == other.status && one.output.as_slice() == other.output.as_slice()
 }
 
 /// Returns whether `ra`, with the line of its words and an input, answers this status and prints this text.
@@ -166,7 +215,7 @@ pub fn assert_answers<T: AllocGlobal + Threads + Wait + Abort + Sync>(
     status: u8,
     text: &str,
 ) {
-    assert!(rt; prints(rt, line, input, status, text), "{line}");
+    assert_so(rt, prints(rt, line, input, status, text), line);
 }
 
 /// Returns whether `ra`, with the line of its words and an input, answers this status.
@@ -182,11 +231,8 @@ pub fn has_status<T: AllocGlobal + Threads + Wait + Abort + Sync>(
 /// Ends the test where `ra` makes something else of one of the commands.
 pub fn assert_meets<T: AllocGlobal + Threads + Wait + Abort + Sync>(rt: &T, cases: &[Case]) {
     for case in cases {
-        assert!(rt;
-            prints(rt, case.words, case.input, case.status, case.output),
-            "{}",
-            case.shows
-        );
+        let is_printed = prints(rt, case.words, case.input, case.status, case.output);
+        assert_so(rt, is_printed, case.shows);
     }
 }
 
@@ -211,12 +257,8 @@ pub fn refuses_input<T: AllocGlobal + Threads + Wait + Abort + Sync>(
 /// Ends the test where `ra` does not refuse one of the commands by its word, with status 2.
 pub fn assert_refuses<T: AllocGlobal + Threads + Wait + Abort + Sync>(rt: &T, cases: &[Refused]) {
     for case in cases {
-        assert!(rt;
-            refuses_input(rt, case.words, case.input, case.word),
-            "{}: {}",
-            case.words,
-            case.input
-        );
+        let is_refused = refuses_input(rt, case.words, case.input, case.word);
+        assert_so_of(rt, is_refused, case.words, case.input);
     }
 }
 
@@ -231,7 +273,7 @@ fn prints_as(alloc: Global, value: &impl Display, text: &str) -> bool {
 /// Ends the test where one of these values does not print as the text beside it.
 pub fn assert_prints<R: Abort + AllocGlobal, T: Display>(rt: &R, rows: &[(T, &str)]) {
     for row in rows {
-        assert!(rt; prints_as(rt.alloc(), &row.0, row.1), "{}", row.1);
+        assert_so(rt, prints_as(rt.alloc(), &row.0, row.1), row.1);
     }
 }
 
@@ -329,8 +371,6 @@ pub fn assert_written<T: AllocGlobal + Threads + Wait + Abort + Sync>(
 ) {
     let fault = Some(io::ErrorKind::BrokenPipe);
     let (bytes, place) = (printed.as_bytes(), printed.len());
-    assert!(rt;
-        leaves_a_prefix(rt, line, input, bytes, place, fault, status),
-        "{line}"
-    );
+    let is_written = leaves_a_prefix(rt, line, input, bytes, place, fault, status);
+    assert_so(rt, is_written, line);
 }

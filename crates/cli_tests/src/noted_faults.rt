@@ -1,7 +1,7 @@
 //! The notes for a reader or a writer that fails, and what becomes of a command whose notes cannot be written.
 use crate::checks::ALONE;
 use crate::frames::{ANSWER, REPLY, REQUEST};
-use crate::helpers::WRITER_FAULTS;
+use crate::helpers::{WRITER_FAULTS, assert_so_after, assert_so_of, is_text};
 use crate::notes::run_noted;
 use crate::scripts::{ONE_CLIENT, ONE_CLIENT_PRINTED};
 use ra_cli::{CommandFault, SeenWriter, refuse_words_with_note};
@@ -186,7 +186,7 @@ fn assert_said<T: AllocGlobal + Threads + Wait + Abort + Sync>(
     said: &str,
 ) {
     for case in BROKEN {
-        assert!(rt; breaks_off(rt, case, fault, said), "{}: {said}", case.words);
+        assert_so_of(rt, breaks_off(rt, case, fault, said), case.words, said);
     }
 }
 
@@ -209,7 +209,7 @@ fn says_both<T: AllocGlobal + Threads + Wait + Abort + Sync>(rt: &T) -> bool {
     let mut notes = Vec::new(rt.alloc());
     let status = run_noted(rt, "ra sim", None, &mut reader, &mut writer, &mut notes);
     let said = "ra: cannot read standard input\nra: cannot write to standard output\n";
-    status == 1 && notes.as_slice() == said.as_bytes()
+    status == 1 && is_text(notes.as_slice(), said)
 }
 
 #[test]
@@ -258,7 +258,7 @@ fn changes_nothing<T: AllocGlobal + Threads + Wait + Abort + Sync>(
         &mut output,
         &mut notes,
     );
-    let is_same = status == 3 && output.as_slice() == b"invalid 1 Line\n".as_slice();
+    let is_same = status == 3 && is_text(output.as_slice(), "invalid 1 Line\n");
     is_same && notes.has_taken(NO_MARK.as_bytes(), place)
 }
 
@@ -266,7 +266,7 @@ fn changes_nothing<T: AllocGlobal + Threads + Wait + Abort + Sync>(
 fn a_fault_of_the_notes_changes_nothing_else(rt: HostRuntime) {
     for fault in WRITER_FAULTS {
         for place in 0..NO_MARK.len() {
-            assert!(rt; changes_nothing(&rt, place, fault), "after {place} bytes");
+            assert_so_after(&rt, changes_nothing(&rt, place, fault), place);
         }
     }
 }

@@ -1,5 +1,6 @@
 //! The notes for choices that are invalid or cannot be made, for many seeds, and for the end of a run.
-use crate::notes::{Noted, assert_says, run_noted, says};
+use crate::helpers::{assert_so, is_text};
+use crate::notes::{Heard, Noted, assert_says, hear, says};
 use crate::scripts::{A_DEADLOCK, A_KEEPER, ONE_CLIENT};
 
 /// A client that is alone, whose run takes two turns.
@@ -100,18 +101,14 @@ const CHOICES: &[(&str, &str, &str)] = &[
 #[test]
 fn the_choice_that_can_not_be_made_is_said(rt: HostRuntime) {
     for &(choices, printed, said) in CHOICES {
-        let (mut output, mut notes) = (Vec::new(rt.alloc()), Vec::new(rt.alloc()));
-        let mut input = ONE_CLIENT.as_bytes();
-        let status = run_noted(
-            &rt,
-            "ra sim --policy listed --choices",
-            Some(choices),
-            &mut input,
-            &mut output,
-            &mut notes,
-        );
+        let line = "ra sim --policy listed --choices";
+        let Heard {
+            status,
+            output,
+            notes,
+        } = hear(&rt, line, Some(choices), ONE_CLIENT.as_bytes());
         assert!(rt; status == 2 && output.as_slice() == printed.as_bytes());
-        assert!(rt; notes.as_slice() == said.as_bytes(), "{choices}");
+        assert_so(&rt, is_text(notes.as_slice(), said), choices);
     }
 }
 
@@ -143,9 +140,11 @@ fn a_name_that_stays_locked_is_said(rt: HostRuntime) {
 
 #[test]
 fn a_run_that_leaves_something_to_do_is_said(rt: HostRuntime) {
-    let mut input = A_DEADLOCK.as_bytes();
-    let (mut output, mut notes) = (Vec::new(rt.alloc()), Vec::new(rt.alloc()));
-    let status = run_noted(&rt, "ra sim", None, &mut input, &mut output, &mut notes);
+    let Heard {
+        status,
+        output: _output,
+        notes,
+    } = hear(&rt, "ra sim", None, A_DEADLOCK.as_bytes());
     let note =
         "ra: the run did not finish: client 1 at node 1 waits for 'b' (X): client 2 holds it (X); client 2 at node 2 waits for 'a' (X): client 1 holds it (X)\n";
     assert!(rt; status == 3 && notes.as_slice() == note.as_bytes());

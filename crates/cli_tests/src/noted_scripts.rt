@@ -1,6 +1,6 @@
 //! The notes for texts that are not a script, and for scripts that threads may not run.
-use crate::helpers::repeated;
-use crate::notes::{Noted, assert_says, run_noted};
+use crate::helpers::{assert_so, is_text, repeated};
+use crate::notes::{Heard, Noted, assert_says, hear};
 use crate::scripts::{A_DEADLOCK, A_KEEPER};
 use std::process::Abort;
 use std::sync::Wait;
@@ -155,10 +155,12 @@ fn is_no_document<T: AllocGlobal + Threads + Wait + Abort + Sync>(
     prefix: &str,
     end: &str,
 ) -> bool {
-    let mut input = text;
-    let (mut output, mut notes) = (Vec::new(rt.alloc()), Vec::new(rt.alloc()));
-    let status = run_noted(rt, "ra sim", None, &mut input, &mut output, &mut notes);
-    let is_refused = status == 2 && output.as_slice() == b"refused Toml\n".as_slice();
+    let Heard {
+        status,
+        output,
+        notes,
+    } = hear(rt, "ra sim", None, text);
+    let is_refused = status == 2 && is_text(output.as_slice(), "refused Toml\n");
     is_refused && notes.starts_with(prefix.as_bytes()) && notes.ends_with(end.as_bytes())
 }
 
@@ -189,11 +191,7 @@ fn says_after_spaces<T: AllocGlobal + Threads + Wait + Abort + Sync>(
     let Some(script) = repeated(rt.alloc(), "", " ", spaces, text) else {
         return false;
     };
-    let mut input = script.as_bytes();
-    let (mut output, mut notes) = (Vec::new(rt.alloc()), Vec::new(rt.alloc()));
-    let status = run_noted(rt, "ra sim", None, &mut input, &mut output, &mut notes);
-    let is_refused = status == 2 && output.as_slice() == printed.as_bytes();
-    is_refused && notes.as_slice() == said.as_bytes()
+    hear(rt, "ra sim", None, script.as_bytes()).is(2, printed, said)
 }
 
 /// As much of a script is remembered as may be read of it, so that its last line can be explained too.
@@ -203,13 +201,9 @@ fn what_is_wrong_at_the_end_of_the_longest_script_is_said(rt: HostRuntime) {
         "nodes = 0\nclient = []\n",
         "ra: nodes is 0: must be 1 to 64\n",
     );
-    assert!(rt;
-        says_after_spaces(&rt, 65_514, text, "refused Nodes\n", said),
-        "{said}"
-    );
+    let is_said = says_after_spaces(&rt, 65_514, text, "refused Nodes\n", said);
+    assert_so(&rt, is_said, said);
     let said = "ra: the script has more than 65536 bytes\n";
-    assert!(rt;
-        says_after_spaces(&rt, 65_537, "", "refused Limit\n", said),
-        "{said}"
-    );
+    let is_said = says_after_spaces(&rt, 65_537, "", "refused Limit\n", said);
+    assert_so(&rt, is_said, said);
 }

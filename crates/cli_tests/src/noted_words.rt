@@ -1,7 +1,7 @@
 //! The notes about arguments: invalid command lines, options without effect, and, on a terminal, what a command waits
 //! for.
 use crate::frames::REQUEST;
-use crate::helpers::words_of;
+use crate::helpers::{is_text, words_of};
 use crate::notes::{Noted, assert_says};
 use crate::scripts::{ONE_CLIENT, ONE_CLIENT_PRINTED};
 use ra_cli::{CommandFault, SeenWriter, refuse_words_with_note, write_waiting_note};
@@ -166,7 +166,7 @@ fn waits_for(alloc: Global, line: &str, said: &str) -> bool {
         return false;
     };
     write_waiting_note(words.as_slice(), &mut notes);
-    notes.as_slice() == said.as_bytes()
+    is_text(notes.as_slice(), said)
 }
 
 #[test]
@@ -192,8 +192,7 @@ fn is_said(alloc: Global, fault: CommandFault, printed: &str, note: &str) -> boo
     let (mut output, mut notes) = (Vec::new(alloc), Vec::new(alloc));
     let mut writer = SeenWriter::new(&mut output);
     let status = refuse_words_with_note(&mut writer, fault, &mut notes);
-    let is_printed = status == 2 && output.as_slice() == printed.as_bytes();
-    is_printed && notes.as_slice() == note.as_bytes()
+    status == 2 && is_text(output.as_slice(), printed) && is_text(notes.as_slice(), note)
 }
 
 #[test]

@@ -2,7 +2,7 @@
 //! nothing is said.
 use crate::checks::ALONE;
 use crate::frames::{ANSWER, REPLY, REQUEST};
-use crate::helpers::words_of;
+use crate::helpers::{assert_so_of, is_text, words_of};
 use crate::scripts::{ONE_CLIENT, ONE_CLIENT_PRINTED};
 use crate::threads::in_a_thread;
 use ra_cli::{SeenReader, SeenWriter, serve_with_notes};
@@ -61,24 +61,54 @@ pub fn run_noted<
     )
 }
 
+/// What `ra` answered, what it printed, and what it said.
+#[derive(Drop)]
+pub struct Heard {
+    pub status: u8,
+    pub output: Vec<u8>,
+    pub notes: Vec<u8>,
+}
+
+impl Heard {
+    /// Returns whether it answered, printed and said this.
+    pub fn is(&self, status: u8, output: &str, note: &str) -> bool {
+        self.status == status
+            && is_text(self.output.as_slice(), output)
+            && is_text(self.notes.as_slice(), note)
+    }
+}
+
+/// Returns what `ra` answers, prints and says to the words of a line, and a last one where there is one, and an input.
+pub fn hear<T: AllocGlobal + Threads + Wait + Abort + Sync>(
+    rt: &T,
+    line: &str,
+    last: Option<&str>,
+    input: &[u8],
+) -> Heard {
+    let mut input = input;
+    let (mut output, mut notes) = (Vec::new(rt.alloc()), Vec::new(rt.alloc()));
+    let status = run_noted(rt, line, last, &mut input, &mut output, &mut notes);
+    Heard {
+        status,
+        output,
+        notes,
+    }
+}
+
 /// Returns whether `ra` answers, prints and says this.
 pub fn says<T: AllocGlobal + Threads + Wait + Abort + Sync>(
     rt: &T,
     case: &Noted,
     last: Option<&str>,
 ) -> bool {
-    let (mut output, mut notes) = (Vec::new(rt.alloc()), Vec::new(rt.alloc()));
-    let mut input = case.input.as_bytes();
-    let status = run_noted(rt, case.words, last, &mut input, &mut output, &mut notes);
-    status == case.status
-        && output.as_slice() == case.output.as_bytes()
-        && notes.as_slice() == case.note.as_bytes()
+    let heard = hear(rt, case.words, last, case.input.as_bytes());
+    heard.is(case.status, case.output, case.note)
 }
 
 /// Ends the test where it does something else with one of the commands.
 pub fn assert_says<T: AllocGlobal + Threads + Wait + Abort + Sync>(rt: &T, cases: &[Noted]) {
     for case in cases {
-        assert!(rt; says(rt, case, None), "{}: {}", case.words, case.note);
+        assert_so_of(rt, says(rt, case, None), case.words, case.note);
     }
 }
 

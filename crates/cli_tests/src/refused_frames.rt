@@ -1,6 +1,6 @@
 //! What `answer` refuses: lines that are no frame, frames for others and from strangers, and numbers of no node.
 use crate::frames::{ANSWER, ANSWER_64, FED_TWICE, FOLLOWED, REQUEST};
-use crate::helpers::{Refused, assert_prints, assert_refuses, refuses_input, repeated};
+use crate::helpers::{Refused, assert_prints, assert_refuses, assert_so, refuses_input, repeated};
 use ra_cli::AnswerError;
 use ra_frame::FrameError;
 use std::process::Abort;
@@ -263,7 +263,7 @@ fn assert_refuses_digits<T: AllocGlobal + Threads + Wait + Abort + Sync>(
     behind: &str,
     word: &str,
 ) {
-    assert!(rt; refuses_digits(rt, behind, word), "{behind}");
+    assert_so(rt, refuses_digits(rt, behind, word), behind);
 }
 
 /// Returns whether 256 digits are refused with 256 more after a line feed.

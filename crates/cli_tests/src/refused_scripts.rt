@@ -1,6 +1,7 @@
 //! What `sim` refuses: texts that are no script, and words that are no simulation.
 use crate::helpers::{
-    Refused, assert_prints, assert_refuses, has_status, is_refusal, refuses_input, repeated, run_on,
+    Refused, assert_prints, assert_refuses, assert_so, has_status, is_refusal, refuses_input,
+    repeated, run_on,
 };
 use crate::scripts::ONE_CLIENT;
 use ra_schedule::DriveError;
@@ -26,7 +27,7 @@ fn assert_refuses_unread<T: AllocGlobal + Threads + Wait + Abort + Sync>(
     };
     let is_refused = is_refusal(&run_on(rt, line, None, &mut reader), word);
     let is_unread = reader.bytes == ONE_CLIENT.as_bytes() && matches!(reader.before_fault, Some(0));
-    assert!(rt; is_refused && is_unread, "{line}");
+    assert_so(rt, is_refused && is_unread, line);
 }
 
 #[test]
@@ -66,7 +67,7 @@ const READERS: &[&str] = &["ra sim", "ra sim --trace", "ra cluster"];
 #[test]
 fn a_text_that_is_too_long_is_refused_before_a_fault_behind_it(rt: HostRuntime) {
     for line in READERS {
-        assert!(rt; stops_at_the_limit(&rt, line), "{line}");
+        assert_so(&rt, stops_at_the_limit(&rt, line), line);
     }
 }
 

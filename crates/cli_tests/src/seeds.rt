@@ -1,5 +1,5 @@
 //! The policy `seeded`.
-use crate::helpers::{Answered, Case, assert_meets, run};
+use crate::helpers::{Case, are_the_same, assert_meets, assert_so_with_seed, run};
 use crate::scripts::{A_WRITER, TWO_CLIENTS};
 use std::process::Abort;
 use std::sync::Wait;
@@ -11,11 +11,6 @@ const TWO_CLIENTS_TOTALS: &str =
 
 /// The last six lines of a run of the writer and the readers to its end.
 const A_WRITER_TOTALS: &str = "requests 3\nmessages 12\nunder-way 0\nlost 0\nwaiting 0\nqueued 0\n";
-
-/// Returns whether two answers are the same.
-fn are_the_same(one: &Answered, other: &Answered) -> bool {
-    one.status == other.status && one.output.as_slice() == other.output.as_slice()
-}
 
 /// Returns whether a command line, run twice on a script, prints the same text, with this end and status 0.
 fn leads_to<T: AllocGlobal + Threads + Wait + Abort + Sync>(
@@ -45,14 +40,10 @@ fn seed_leads_to<T: AllocGlobal + Threads + Wait + Abort + Sync>(
 #[test]
 fn each_seed_leads_to_the_end(rt: HostRuntime) {
     for seed in 0..100u64 {
-        assert!(rt;
-            seed_leads_to(&rt, seed, TWO_CLIENTS, TWO_CLIENTS_TOTALS),
-            "seed {seed}"
-        );
-        assert!(rt;
-            seed_leads_to(&rt, seed, A_WRITER, A_WRITER_TOTALS),
-            "seed {seed}"
-        );
+        let is_led = seed_leads_to(&rt, seed, TWO_CLIENTS, TWO_CLIENTS_TOTALS);
+        assert_so_with_seed(&rt, is_led, seed);
+        let is_led = seed_leads_to(&rt, seed, A_WRITER, A_WRITER_TOTALS);
+        assert_so_with_seed(&rt, is_led, seed);
     }
 }
 

@@ -2,11 +2,11 @@
 use crate::checks;
 use crate::frames::{ANSWER, FED_TWICE, FOLLOWED, REPLY, REQUEST, REQUEST_LINE};
 use crate::helpers::{
-    FAULTS, WRITER_FAULTS, assert_fails_at_each_byte, assert_fails_in_prefixes, assert_written,
-    is_read_fault, repeated,
+    FAULTS, WRITER_FAULTS, answer_as_2_of_3, assert_fails_at_each_byte, assert_fails_in_prefixes,
+    assert_so, assert_so_after, assert_written, is_read_fault, repeated,
 };
 use crate::scripts::{ONE_CLIENT, ONE_CLIENT_PRINTED};
-use ra_cli::{AnswerError, answer};
+use ra_cli::AnswerError;
 use std::alloc::Global;
 use std::io;
 use std::process::Abort;
@@ -24,7 +24,7 @@ fn fails_to_read(alloc: Global, bytes: &[u8], before_fault: usize, fault: io::Er
         fault,
     };
     let mut output = Vec::new(alloc);
-    let answered = answer(alloc, 2, 3, &mut reader, &mut output);
+    let answered = answer_as_2_of_3(alloc, &mut reader, &mut output);
     matches!(answered, Err(AnswerError::Read))
         && bytes.get(before_fault..) == Some(reader.bytes)
         && output.is_empty()
@@ -50,10 +50,7 @@ fn are_faults<T: AllocGlobal + Threads + Wait + Abort + Sync>(
 fn a_reader_that_fails_once_at_any_byte_is_a_fault(rt: HostRuntime) {
     let bytes = REQUEST_LINE.as_bytes();
     for before_fault in 0..=bytes.len() {
-        assert!(rt;
-            are_faults(&rt, bytes, before_fault),
-            "after {before_fault} bytes"
-        );
+        assert_so_after(&rt, are_faults(&rt, bytes, before_fault), before_fault);
     }
 }
 
@@ -66,7 +63,7 @@ fn reads_to_the_end(alloc: Global) -> bool {
         fault: io::ErrorKind::Interrupted,
     };
     let mut output = Vec::new(alloc);
-    answer(alloc, 2, 3, &mut reader, &mut output).is_ok()
+    answer_as_2_of_3(alloc, &mut reader, &mut output).is_ok()
 }
 
 #[test]
@@ -89,7 +86,7 @@ const WRONG_LINES: &[&str] = &[FOLLOWED, FED_TWICE, "zz\nzz", "zz"];
 fn a_fault_of_the_reader_comes_before_what_is_wrong_with_the_line(rt: HostRuntime) {
     assert!(rt; are_faults_behind_digits(&rt));
     for line in WRONG_LINES {
-        assert!(rt; are_faults(&rt, line.as_bytes(), line.len()), "{line}");
+        assert_so(&rt, are_faults(&rt, line.as_bytes(), line.len()), line);
     }
 }
 
@@ -98,7 +95,7 @@ fn a_fault_of_the_reader_comes_before_what_is_wrong_with_the_line(rt: HostRuntim
 fn fails_to_write(alloc: Global, before_fault: usize, fault: Option<io::ErrorKind>) -> bool {
     let mut reader = REQUEST.as_bytes();
     let mut writer = failing_writer(REPLY.as_bytes(), before_fault, fault);
-    let answered = answer(alloc, 2, 3, &mut reader, &mut writer);
+    let answered = answer_as_2_of_3(alloc, &mut reader, &mut writer);
     matches!(answered, Err(AnswerError::Write)) && writer.has_taken(REPLY.as_bytes(), before_fault)
 }
 
@@ -106,10 +103,8 @@ fn fails_to_write(alloc: Global, before_fault: usize, fault: Option<io::ErrorKin
 fn a_writer_that_fails_once_has_the_bytes_before_and_no_more(rt: HostRuntime) {
     for fault in WRITER_FAULTS {
         for before_fault in 0..REPLY.len() {
-            assert!(rt;
-                fails_to_write(rt.alloc(), before_fault, fault),
-                "after {before_fault} bytes"
-            );
+            let is_fault = fails_to_write(rt.alloc(), before_fault, fault);
+            assert_so_after(&rt, is_fault, before_fault);
         }
     }
 }
