@@ -9,7 +9,6 @@ use ra_node::{Node, Outcome};
 use ra_stamp::{Mode, Name, NodeId};
 use std::alloc::Global;
 use std::cmp::max;
-use std::collections::VecDeque;
 
 /// What happens at a node.
 #[derive(Clone, Copy, Debug)]
@@ -66,7 +65,7 @@ impl Site {
 #[derive(Drop)]
 struct Host {
     sites: [Site; 2],
-    under_way: VecDeque<(NodeId, Vec<u8>)>,
+    under_way: Vec<(NodeId, Vec<u8>)>,
 }
 
 impl Host {
@@ -86,7 +85,7 @@ impl Host {
             let bytes = encode(alloc, &frame)?;
             let digits = hex::encode(alloc, &bytes)?;
             println!(rt; "frame {} to {}: {digits}", message.from(), message.to())?;
-            self.under_way.push_back((message.to(), bytes))?;
+            self.under_way.push((message.to(), bytes))?;
         }
         Ok(())
     }
@@ -95,9 +94,10 @@ impl Host {
     /// once, and none that was not sent.
     fn deliver_all(&mut self, rt: &impl Print, alloc: Global) -> Result<()> {
         for _turn in 0..u64::MAX {
-            let Some((node, bytes)) = self.under_way.pop_front() else {
+            if self.under_way.is_empty() {
                 break;
-            };
+            }
+            let (node, bytes) = self.under_way.remove(0);
             let frame = decode(&bytes)?;
             self.step(rt, alloc, node, Event::Receive(frame))?;
         }
@@ -112,7 +112,7 @@ fn main(rt: HostRuntime) -> Result<()> {
     let name = Name::new(b"disk")?;
     let mut host = Host {
         sites: [Site::new(alloc, one)?, Site::new(alloc, two)?],
-        under_way: VecDeque::new(alloc),
+        under_way: Vec::new(alloc),
     };
 
     // Both ask before a frame came, so both requests have the number 1. Then the lower node goes first: node 1 defers its
