@@ -5,9 +5,8 @@
 #![tactic(auto)]
 
 use anyhow::{Context, Result, anyhow, ensure};
-use ra_cluster::{
-    Auditor, CallError, Cluster, Grant, MarkObserver, OpenGate, RoundError, SiteError, Stop, Told,
-};
+use ra_audit::{Auditor, MarkObserver, RoundError, Told};
+use ra_cluster::{CallError, Cluster, Grant, OpenGate, SiteError, Stop};
 use ra_stamp::{Mark, Mode, Name, NodeId};
 use std::alloc::Global;
 use std::sync::atomic::{AtomicU64, Ordering};
@@ -114,7 +113,7 @@ fn audit<R: Wait>(rt: &R, alloc: Global, service: &Service<'_>) -> Result<(), Fa
         counts,
         ..
     } = &mut *audit;
-    match service.cluster.audit(rt, alloc, auditor, counts) {
+    match auditor.audit(rt, alloc, service.cluster, counts) {
         Ok(()) => Ok(()),
         Err(refused) => Err(Failure::Round(refused)),
     }
@@ -285,7 +284,7 @@ fn finish<R: Wait>(
         counts,
         ..
     } = &mut rounds;
-    match cluster.finish(rt, alloc, auditor, counts) {
+    match auditor.finish(rt, alloc, &mut cluster, counts) {
         Ok(()) => close(cluster, &rounds),
         Err(fault) => Err(anyhow!("the audit did not end: {fault:?}")),
     }

@@ -2,10 +2,3 @@ mod Holding
 mod LockOrderLemmas
 mod Endings
 mod SiteNumbers
-mod NextEvents
-mod AuditSteps
-mod BooksIn
-mod RunTheorems
-mod LeastWaiting
-mod UnsentFrames
-mod AuditRounds

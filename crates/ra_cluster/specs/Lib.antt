@@ -1,5 +1,3 @@
-pub mod Audit
-pub mod AuditKeeping
 pub mod StopCauses
 pub mod Sites
 pub mod ClientGrant

@@ -46,8 +46,8 @@ pub struct Held<T> {
 ///
 /// While clients lock and unlock names, each node needs a thread that carries its frames: [`Cluster::run`] starts and ends
 /// these threads. At the end [`Cluster::close`] returns the books, which [`settle`](crate::settle) takes as they are. A cluster
-/// that is made to be audited is not settled: [`Cluster::audit`] takes what has happened while it runs, [`Cluster::finish`]
-/// what is left at the end, and [`Cluster::close_audited`] returns its books.
+/// that is made to be audited is not settled: the rounds of an audit (crate `ra_audit`) take what has happened while it runs, and
+/// what is left at the end. Then [`Cluster::close_audited`] returns its books.
 #[derive(Drop)]
 pub struct Cluster<G> {
     start: u64,
@@ -95,8 +95,8 @@ impl<G: Gate + Drop> Cluster<G> {
         Cluster::make(alloc, nodes, start, gate, false)
     }
 
-    /// Makes a cluster as `new` does, whose books hand over what has happened to [`Cluster::audit`] while it runs, so that they
-    /// don't grow with what happened before. It is audited as it goes, and not settled at the end.
+    /// Makes a cluster as `new` does, whose books hand over what has happened to an auditor (crate `ra_audit`) while it runs, so
+    /// that they don't grow with what happened before. It is audited as it goes, and not settled at the end.
     ///
     /// # Errors
     ///
@@ -161,14 +161,14 @@ impl<G: Gate + Drop> Cluster<G> {
     }
 
     /// Returns the start, beyond which the numbers of requests begin. It does not allocate.
-    pub(crate) fn start(&self) -> u64
+    pub fn start(&self) -> u64
         ensures { result ≡ self.now.start }
     {
         self.start
     }
 
     /// Returns whether the cluster is audited while it runs. It does not allocate.
-    pub(crate) fn is_audited(&self) -> bool
+    pub fn is_audited(&self) -> bool
         ensures { result ≡ self.now.audited }
     {
         self.audited
@@ -374,7 +374,7 @@ impl<G: Gate + Drop> Cluster<G> {
     ///
     /// If a round of an audit has taken the events of a node, its history is not in its book any more. In place of that book
     /// there is an empty one, which is stopped: for the cause of that book, or with [`Stop::Refused`] if it has none. What no
-    /// round has taken is lost, so call [`Cluster::finish`] first. [`Cluster::close_audited`] returns the books as they are.
+    /// round has taken is lost, so end the audit first. [`Cluster::close_audited`] returns the books as they are.
     pub fn close(self, alloc: Global) -> Vec<Book>
         ensures cluster { IsCluster result.items }
         ensures count { vec_len result ≡ self.nodes }
@@ -399,7 +399,7 @@ impl<G: Gate + Drop> Cluster<G> {
     }
 
     /// Consumes a cluster whose audit is ended, and returns the books of its nodes in their order, as they are: with the events
-    /// that no round has taken. [`Auditor::check_books`](crate::Auditor::check_books) tells whether all that they say is in the
+    /// that no round has taken. `Auditor::check_books` of `ra_audit` tells whether all that they say is in the
     /// run. It does not allocate. The cost is linear in the number of nodes.
     pub fn close_audited(self) -> Vec<Book>
         ensures count { vec_len result ≡ self.nodes }

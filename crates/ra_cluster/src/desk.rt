@@ -40,7 +40,7 @@ pub struct Desk {
     audited: bool,
 }
 
-/// What a node hands over in a round of an audit.
+/// What a node hands over in a round of an audit. It has left the node's book.
 #[derive(Drop)]
 pub struct Handed {
     /// The clock of the event before the first one, or 0 before the node's first event.
@@ -54,7 +54,7 @@ pub struct Handed {
 
 impl Handed {
     /// Makes that of a node at which nothing has happened.
-    pub fn nothing(alloc: Global) -> Handed {
+    pub(crate) fn nothing(alloc: Global) -> Handed {
         Handed {
             after: 0,
             events: Events::new(alloc),

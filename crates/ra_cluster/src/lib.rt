@@ -11,44 +11,33 @@
 //! - The clients lock and unlock names with [`Cluster::with_lock`], or with [`Cluster::lock`] and [`Cluster::unlock`],
 //!   and end if a node is stopped.
 //! - At the end it closes the cluster, and [`settle`] shows the run. A service that runs for long makes its cluster by
-//!   [`Cluster::new_audited`] instead, and calls [`Cluster::audit`] from time to time.
+//!   [`Cluster::new_audited`] instead, and has an auditor of the crate `ra_audit` take what has happened from time to time.
 //!
 //! docs/EMBEDDING.md explains the shortest such program line by line, and also how to start the threads of the nodes
 //! yourself, and how to use a [`Site`] for each node and the [`Post`] by themselves. [`run_cluster`] does all of it for
 //! a script; [`run_threads`] and [`settle_script`] are its two halves, for a caller that makes the cluster.
 #![tactic(auto)]
 
-mod audit_error;
-mod audit_laws;
-mod auditing;
-mod auditor;
 mod book_room;
 mod call;
-mod closing;
 mod cluster;
 mod cluster_run;
 mod desk;
 mod gate;
 mod lock_order;
-mod mark_observer;
-mod never_sent;
 mod outcome;
 mod post;
-mod progress;
-mod round;
 mod site;
 mod sites;
 mod stop_causes;
+mod take_error;
 mod threads;
 mod ticket;
-mod unsettled;
 
-pub use audit_error::{AuditError, AuditFault, BehindError, FinishError, RoundError, TakeError};
-pub use auditor::Auditor;
 pub use cluster::{CallError, Cluster, Held};
 pub use cluster_run::{ClusterError, run_cluster};
+pub use desk::Handed;
 pub use gate::{Gate, OpenGate};
-pub use mark_observer::{MarkObserver, Told};
 pub use outcome::settle_script;
 pub use post::{Inbox, NewPostError, Post, SendError};
 pub use ra_history::{
@@ -58,4 +47,5 @@ pub use ra_history::{
 };
 pub use site::{Site, SiteError};
 pub use sites::is_site_of;
+pub use take_error::TakeError;
 pub use threads::{ScriptRun, run_threads};

@@ -281,8 +281,9 @@ impl Site {
         self.desk.lock(rt).book.clock()
     }
 
-    /// Hands over the events after one with the clock `after`, as a round of an audit does. It waits for the lock, and has it
-    /// for a time that does not grow with the history.
+    /// Hands over the events after one with the clock `after`, or from the first one on if it is 0. It is for an auditor alone,
+    /// which takes them: they leave the book. A node that is not audited hands over nothing. It waits for the lock, and has it for
+    /// a time that does not grow with the history.
     ///
     /// # Errors
     ///
@@ -290,7 +291,7 @@ impl Site {
     ///
     /// 1. `OutOfTurn`: `after` is not the clock of the last event that was handed over, or 0 before the first.
     /// 2. `Memory`: memory ran out.
-    pub(crate) fn hand_over<R: Wait>(
+    pub fn hand_over<R: Wait>(
         &self,
         rt: &R,
         alloc: Global,

@@ -1,0 +1,7 @@
+mod NextEvents
+mod AuditSteps
+mod BooksIn
+mod RunTheorems
+mod LeastWaiting
+mod UnsentFrames
+mod AuditRounds

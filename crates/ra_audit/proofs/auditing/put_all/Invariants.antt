@@ -1,0 +1,13 @@
+use Rattle.std.proofs.Common.{length}
+use Rattle.std.specs.Prelude.{sum_by}
+use Rattle.ra_audit.specs.Audit.{Advances}
+use Rattle.ra_audit.proofs.auditing.put_all.Given as goal
+
+-- the run went on
+abbrev pub invariant-loop-place : goal.invariant-loop-place
+invariant-loop-place g l =
+    Advances l.fn.world l.fn.nodes (g.O.MarkObserver.told l.fn.observer) l.world l.nodes (g.O.MarkObserver.told l.observer)
+
+-- how many events wait
+abbrev pub decreases-loop-place : goal.decreases-loop-place
+decreases-loop-place g l = sum_by (λ p. length p.waiting) l.nodes

@@ -1,0 +1,38 @@
+use Rattle.std.proofs.Common.{◌≡◌, List, ◌++◌, Err, get_or, refl, ap, sym, ◌∙◌}
+use Rattle.std.proofs.lemmas.List.{get_or_default, set-get_or}
+use Rattle.std.proofs.lemmas.Option.{none-some}
+use Rattle.ra_stamp.specs.declared.entry.Mark.{Mark}
+use Rattle.ra_audit.proofs.AuditSteps.{advances_step, advances_kept, misfit_of}
+use Rattle.ra_audit.proofs.auditing.put_next.Goals as goal
+
+pub unreachable-requires : goal.unreachable-requires
+unreachable-requires g c =
+    let ready = c.requires.ready c.index-nodes-place.result in
+    none-some ready.0 (sym c.in_default.is ∙ c.next.ensures.value ∙ ready.1)
+
+pub returns-in-Ok-clause-advances : goal.returns-in-Ok-clause-advances
+returns-in-Ok-clause-advances g c =
+    let nodes = c.args.nodes.now in
+    let place = c.args.place in
+    let p = get_or nodes place c.index-nodes-place.result in
+    let at : p ≡ get_or nodes place p = get_or_default nodes place c.index-nodes-place.result p c.requires.within in
+    let told = g.O.MarkObserver.told c.args.observer.now in
+    advances_step c.args.world.now nodes place p c.put.new.self c.in-Some.event c.in-Ok.outcome.sends.items c.in-Ok.outcome.marks.items c.step_of-step.result c.node-node.result c.step.new.self
+    told (g.O.MarkObserver.told c.tell_all.new.observer)
+    c.requires.audited c.requires.within at c.in-Some.ensures.for_node c.put.ensures.node (c.put.ensures.one_more c.in-Some.event (sym c.in-Some.ensures.value)) c.put.ensures.taken c.put.ensures.kept
+    c.node-node.ensures c.step_of-step.ensures c.in-Ok.ensures.ok c.step.ensures.run (c.tell_all.ensures ∙ ap (λ (ms : List Mark). told ++ ms) c.as_slice.ensures)
+
+pub returns-in-Err-clause-advances : goal.returns-in-Err-clause-advances
+returns-in-Err-clause-advances g c =
+    advances_kept c.args.world.now c.step.new.self c.args.nodes.now _ (g.O.MarkObserver.told c.args.observer.now) c.requires.audited c.in-Err.ensures.err
+    (set-get_or c.args.nodes.now c.args.place c.index-nodes-place.result)
+
+pub returns-in-Err-clause-fault : goal.returns-in-Err-clause-fault
+returns-in-Err-clause-fault g c =
+    let nodes = c.args.nodes.now in
+    let place = c.args.place in
+    let p = get_or nodes place c.index-nodes-place.result in
+    let at : p ≡ get_or nodes place p = get_or_default nodes place c.index-nodes-place.result p c.requires.within in
+    misfit_of c.args.world.now c.step.new.self nodes _ place p c.node-node.result c.in-Some.event c.in-Err.refused c.error_of.result (Err c.error_of.result) c.step_of-step.result refl
+    c.in-Err.ensures.err (set-get_or nodes place c.index-nodes-place.result) c.requires.within at c.node-node.ensures (sym c.in-Some.ensures.value) (c.requires.ready c.index-nodes-place.result)
+    c.step_of-step.ensures c.in-Err.ensures.allowed.1 c.error_of.ensures.memory c.error_of.ensures.fault

@@ -1,0 +1,46 @@
+use Rattle.std.proofs.Common.{refl, ◌∙◌}
+use Rattle.ra_audit.proofs.AuditRounds.{took_nothing, audits_nothing, audits_all, audits_as, audits_noted, none_ready_as, none_kept_as, none_kept_after, may_be_put_as, if_done, if_taken}
+use Rattle.ra_audit.proofs.round.go_round.Goals as goal
+
+pub returns-in_default-clause-audits : goal.returns-in_default-clause-audits
+returns-in_default-clause-audits g c =
+    audits_nothing c.args.auditor.now c.args.auditor.now (g.O.MarkObserver.told c.args.observer.now) (took_nothing c.args.auditor.now c.requires.audited)
+
+pub find_unsent-requires : goal.find_unsent-requires
+find_unsent-requires g c = if_done _ c.advance-advanced.result c.in-Ok-answer_of.ensures.ok.0 c.advance-advanced.ensures.ok
+
+pub returns-in-Some-clause-audits : goal.returns-in-Some-clause-audits
+returns-in-Some-clause-audits g c =
+    audits_noted c.args.auditor.now c.advance-advanced.new.self c.find_unsent.new.self _ _ c.in-Some.fault c.in-Some.ensures.found.0
+    (audits_all c.args.auditor.now c.take_all-taken.new.auditor c.advance-advanced.new.self _ _ c.take_all-taken.ensures.more c.advance-advanced.ensures.advances)
+
+pub returns-in-Ok-answer_of-clause-audits : goal.returns-in-Ok-answer_of-clause-audits
+returns-in-Ok-answer_of-clause-audits g c =
+    audits_as c.args.auditor.now c.advance-advanced.new.self c.find_unsent.new.self _ _ (c.in-None.ensures.none refl).0
+    (audits_all c.args.auditor.now c.take_all-taken.new.auditor c.advance-advanced.new.self _ _ c.take_all-taken.ensures.more c.advance-advanced.ensures.advances)
+
+pub returns-in-Ok-answer_of-clause-ok : goal.returns-in-Ok-answer_of-clause-ok
+returns-in-Ok-answer_of-clause-ok g c =
+    none_ready_as c.advance-advanced.new.self c.find_unsent.new.self (c.in-None.ensures.none refl).0
+    (if_done _ c.advance-advanced.result c.in-Ok-answer_of.ensures.ok.0 c.advance-advanced.ensures.ok)
+
+pub returns-in-Ok-answer_of-clause-kept : goal.returns-in-Ok-answer_of-clause-kept
+returns-in-Ok-answer_of-clause-kept g c =
+    none_kept_as c.advance-advanced.new.self c.find_unsent.new.self (c.in-None.ensures.none refl).0
+    (none_kept_after c.take_all-taken.new.auditor.nodes c.advance-advanced.new.self.nodes c.advance-advanced.ensures.advances.kept
+    (if_taken _ c.take_all-taken.result c.in-Ok-answer_of.ensures.ok.1 c.take_all-taken.ensures.kept))
+
+pub returns-in-Ok-answer_of-clause-may_be_put : goal.returns-in-Ok-answer_of-clause-may_be_put
+returns-in-Ok-answer_of-clause-may_be_put g c =
+    let none = c.in-None.ensures.none refl in
+    may_be_put_as _ _ c.advance-advanced.new.self c.find_unsent.new.self (c.deref.ensures.value ∙ c.in-Ok.ensures) none.0 none.1
+
+pub returns-clause-audits : goal.returns-clause-audits
+returns-clause-audits g c =
+    audits_all c.args.auditor.now c.take_all-taken.new.auditor c.advance-advanced.new.self _ _ c.take_all-taken.ensures.more c.advance-advanced.ensures.advances
+
+pub returns-clause-fault : goal.returns-clause-fault
+returns-clause-fault g c fault is = (c.advance-advanced.ensures.fault fault).0 (c.in-Err.ensures.fault fault is)
+
+pub returns-clause-not_taken : goal.returns-clause-not_taken
+returns-clause-not_taken g c node cause is = if_done _ c.advance-advanced.result (c.in-Err.ensures.not_taken node cause is) c.advance-advanced.ensures.ok

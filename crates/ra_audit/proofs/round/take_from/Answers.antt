@@ -1,0 +1,15 @@
+use Rattle.std.proofs.Common.{◌∙◌}
+use Rattle.ra_audit.proofs.AuditRounds.{took_by_handing, takes_all_at}
+use Rattle.ra_audit.proofs.round.take_from.Goals as goal
+
+pub returns-in-Ok-clause-more : goal.returns-in-Ok-clause-more
+returns-in-Ok-clause-more g c =
+    took_by_handing c.args.auditor.now c.take_handed.new.self _ _ c.take_handed.ensures.handed c.take_handed.ensures.rest c.take_handed.ensures.audited
+
+pub returns-in-Err-clause-more : goal.returns-in-Err-clause-more
+returns-in-Err-clause-more g c =
+    took_by_handing c.args.auditor.now c.take_handed.new.self _ _ c.take_handed.ensures.handed c.take_handed.ensures.rest c.take_handed.ensures.audited
+
+pub returns-in-Ok-clause-all : goal.returns-in-Ok-clause-all
+returns-in-Ok-clause-all g c =
+    takes_all_at c.args.auditor.now.nodes c.take_handed.new.self.nodes _ c.args.number tt (c.in-Some-site.ensures.found ∙ c.in-Some.ensures.value) c.in-Ok.ensures.handed

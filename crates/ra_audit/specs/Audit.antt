@@ -1,0 +1,304 @@
+-- An auditor as contracts see it: what has happened so far at running nodes, put into one run of the cluster.
+use Rattle.std.specs.Prelude.{◌≡◌, ◌≢◌, ◌↔◌, ◌⊎◌, ℕ, true, ◌-◌, ◌<◌, ◌≤◌, ◌^◌, Option, Some, Result, IsErrOf, OnOk, OnErr, List, [], ◌∷◌, ◌++◌, length, map, All, slice_get, slice_index_or, slice_set}
+use Rattle.std.specs.List.{Any, range_with_len}
+use Rattle.ra_stamp.specs.declared.entry.Mark.{Mark}
+use Rattle.ra_stamp.specs.NodeId.{IsNodeNumber}
+use Rattle.ra_stamp.specs.Message.{from_of, to_of}
+use Rattle.ra_table.specs.Table.{LockTable, TableRun, MayEnter}
+use Rattle.ra_table.specs.Laws.{IsConflictFree}
+use Rattle.ra_world.specs.Traffic.{Move, lost_by, repeated_by}
+use Rattle.ra_world.specs.Run.{IsRun, GoesOn, happened_at, marks_of}
+use Rattle.ra_world.specs.Quiet.{IsQuiet, IsBlocked, MeetsMessageCount}
+use Rattle.ra_world.specs.World.{WorldState}
+use Rattle.ra_world.specs.MainTheorem.{AreGrantedInOrder}
+use Rattle.ra_frame.specs.declared.frame.Frame.{Frame}
+use Rattle.ra_audit.specs.declared.audit_error.AuditFault.{AuditFault}
+use Rattle.ra_cluster.specs.declared.take_error.TakeError.{TakeError}
+use Rattle.ra_cluster.specs.declared.take_error.TakeError.TheVariants.{NoNode, OutOfTurn, NotNext}
+use Rattle.ra_history.specs.declared.event.BookKind.{BookKind}
+use Rattle.ra_history.specs.declared.event.BookKind.TheVariants.{Asked, Gave, Got}
+use Rattle.ra_history.specs.declared.event.BookEvent.{BookEvent}
+use Rattle.ra_history.specs.History.{clock_after, clock_of, node_event}
+use Rattle.ra_history.specs.Book.{BookState, whole_events}
+use Rattle.ra_history.specs.Settled.{step_at}
+use Rattle.ra_cluster.specs.Cluster.{ClusterState}
+
+-- ---- What an auditor knows
+
+-- Of a node: its number, its events that are in the run, the events after those that were taken from its book and can't
+-- be put into the run yet, and the events after these that its book handed over and that are not taken yet.
+pub record ProgressState : Type 0 where
+  pub node : ℕ
+  pub settled : List BookEvent
+  pub waiting : List BookEvent
+  pub kept : List BookEvent
+
+-- all events of the node that were taken, from its first one on
+abbrev pub taken_of : ProgressState → List BookEvent
+taken_of p = p.settled ++ p.waiting
+
+-- the same, and the events that are not taken yet
+abbrev pub handed_over : ProgressState → List BookEvent
+handed_over p = taken_of p ++ p.kept
+
+-- a node from which nothing was taken
+abbrev pub fresh_progress : ℕ → ProgressState
+fresh_progress node = record { node = node; settled = []; waiting = []; kept = [] }
+
+-- the run so far, as a world that made its steps; how far each node's events are in it; and what did not fit, if
+-- anything did not
+pub record AuditState : Type 0 where
+  pub world : WorldState
+  pub nodes : List ProgressState
+  pub fault : Option AuditFault
+
+-- ---- What was taken
+
+-- a frame that came is for this node
+abbrev pub IsForNumber : ℕ → BookKind → Type 0
+IsForNumber node (Asked client name mode) = Unit {0}
+IsForNumber node (Gave client name) = Unit {0}
+IsForNumber node (Got frame) = to_of frame.message ≡ node
+
+-- after an event with this clock, this can be the next event of the node: it has the clock that follows, at most 2^62,
+-- and a frame that came is for the node
+pub record IsNextAt (node clock : ℕ) (event : BookEvent) : Type 0 where
+  pub clock_is : event.clock ≡ clock_after clock event.kind
+  pub within : event.clock ≤ 2 ^ 62
+  pub for_node : IsForNumber node event.kind
+
+-- these can be the next events of the node, one after the other
+abbrev pub AreNextAt : ℕ → ℕ → List BookEvent → Type 0
+AreNextAt node clock [] = Unit {0}
+AreNextAt node clock (event ∷ events) = IsNextAt node clock event × AreNextAt node event.clock events
+
+-- ---- What holds of every auditor
+
+-- what happened at the node in these moves are its settled events, in order
+abbrev pub HasSettled : List Move → ProgressState → Type 0
+HasSettled moves p = map (λ h. h.event) (happened_at p.node moves) ≡ map (λ e. node_event e.kind) p.settled
+
+-- The moves are a run of these nodes in which nothing was repeated or lost. What happened in it at each node are the
+-- settled events, which are the first of those that were taken from the node.
+pub record IsAudited (world : WorldState) (nodes : List ProgressState) : Type 0 where
+  pub count : IsNodeNumber world.count
+  pub run : IsRun world.count world.start world.moves
+  pub numbers : map (λ p. p.node) nodes ≡ range_with_len 1 world.count
+  pub events : All (HasSettled world.moves) nodes
+  pub unrepeated : repeated_by world.moves ≡ []
+  pub unlost : lost_by world.moves ≡ []
+
+-- ---- Which event can be put into the run
+
+-- An ask or a leave can be put at once. A frame that came can be put once all events of its sender up to its clock are
+-- in the run.
+abbrev pub IsDue : List ProgressState → BookKind → Type 0
+IsDue nodes (Asked client name mode) = Unit {0}
+IsDue nodes (Gave client name) = Unit {0}
+IsDue nodes (Got frame) =
+    All (λ p. p.node ≡ from_of frame.message → frame.clock ≤ clock_of p.settled) nodes
+
+-- the next event of the node, after those in the run, can be put into it
+abbrev pub IsReady : List ProgressState → ProgressState → Type 0
+IsReady nodes p = (event : BookEvent) × (slice_get p.waiting 0 ≡ Some event) × IsDue nodes event.kind
+
+-- all that can be put into the run is in it: of each node nothing waits, or a frame waits whose sender's events up to
+-- its clock are not all in the run
+abbrev pub NoneIsReady : List ProgressState → Type 0
+NoneIsReady nodes = All (λ p. IsReady nodes p → ⊥) nodes
+
+-- The event is the next one of its node, and could be put, but the run does not go on with it. If it is a frame, all
+-- that its sender sent up to the frame's clock is in the run, and the message is not under way: it was never sent, or
+-- it came before.
+pub record IsMisfit (world : WorldState) (nodes : List ProgressState) (fault : AuditFault) : Type 0 where
+  pub at_node : Any (λ p. (p.node ≡ fault.node) × (slice_get p.waiting 0 ≡ Some fault.event)) nodes
+  pub due : IsDue nodes fault.event.kind
+  pub no_step : GoesOn world.count world.start world.moves (step_at fault.node fault.event.kind) → ⊥
+
+-- ---- What a round does
+
+-- the cluster is audited, and the auditor was made for as many nodes and the same start
+pub record IsAuditorOf (cluster : ClusterState) (auditor : AuditState) : Type 0 where
+  pub audited : cluster.audited ≡ true
+  pub count : auditor.world.count ≡ cluster.nodes
+  pub start : auditor.world.start ≡ cluster.start
+
+-- The run went on by some moves, whose marks were told in their order. Of each node the same events are taken and kept as
+-- before.
+pub record Advances (old : WorldState) (nodes : List ProgressState) (told : List Mark) (new : WorldState)
+    (nodes' : List ProgressState) (told' : List Mark) : Type 0 where
+  pub audited : IsAudited new nodes'
+  pub count : new.count ≡ old.count
+  pub start : new.start ≡ old.start
+  pub moves : List Move
+  pub goes_on : new.moves ≡ old.moves ++ moves
+  pub told_are : told' ≡ told ++ marks_of moves
+  pub taken : map taken_of nodes' ≡ map taken_of nodes
+  pub kept : map (λ p. p.kept) nodes' ≡ map (λ p. p.kept) nodes
+
+-- The node is the same. Its book handed over the same events as before, and then further ones, or none; and so many more of
+-- them are taken, or none.
+pub record GoesOnFrom (old new : ProgressState) : Type 0 where
+  pub node : new.node ≡ old.node
+  pub taken : (more : List BookEvent) × (taken_of new ≡ taken_of old ++ more)
+  pub handed : (more : List BookEvent) × (handed_over new ≡ handed_over old ++ more)
+
+-- each node goes on from the one of before
+abbrev pub TakenGoOn : List ProgressState → List ProgressState → Type 0
+TakenGoOn [] [] = Unit {0}
+TakenGoOn [] (new ∷ news) = ⊥
+TakenGoOn (old ∷ olds) [] = ⊥
+TakenGoOn (old ∷ olds) (new ∷ news) = GoesOnFrom old new × TakenGoOn olds news
+
+-- all that books have handed over is taken
+abbrev pub NoneIsKept : List ProgressState → Type 0
+NoneIsKept nodes = All (λ p. p.kept ≡ []) nodes
+
+-- Further events were taken of nodes, and nothing else has changed.
+pub record TakesMore (old new : AuditState) : Type 0 where
+  pub taken : TakenGoOn old.nodes new.nodes
+  pub rest : new ≡ record old { nodes = new.nodes }
+  pub audited : IsAudited new.world new.nodes
+
+-- A round of the audit of a cluster: further events were taken of its nodes, and the run went on by some moves, whose marks
+-- were told in their order.
+pub record Audits (old : AuditState) (told : List Mark) (new : AuditState) (told' : List Mark) : Type 0 where
+  pub audited : IsAudited new.world new.nodes
+  pub count : new.world.count ≡ old.world.count
+  pub start : new.world.start ≡ old.world.start
+  pub moves : List Move
+  pub goes_on : new.world.moves ≡ old.world.moves ++ moves
+  pub told_are : told' ≡ told ++ marks_of moves
+  pub taken : TakenGoOn old.nodes new.nodes
+
+-- ---- What holds of the run
+
+-- What the main theorem says of a run of n nodes. A table is any table to which the marks of the run lead.
+pub record RunTheorem (n : ℕ) (moves : List Move) : Type 0 where
+  -- the marks are a run of the lock table
+  pub table_run : (table : LockTable) × TableRun (marks_of moves) table
+  -- no two conflicting entries on one name hold at once
+  pub exclusive : (table : LockTable) → TableRun (marks_of moves) table → IsConflictFree table.holding
+  -- conflicting ones are granted in the order of their stamps
+  pub in_order : AreGrantedInOrder (marks_of moves)
+  -- if nothing was lost and nothing is under way, each waiting request is blocked, so that none could enter
+  pub blocked : (table : LockTable) → TableRun (marks_of moves) table → IsQuiet moves
+      → All (IsBlocked table) table.waiting
+  pub none_may_enter : (table : LockTable) → TableRun (marks_of moves) table → IsQuiet moves
+      → All (λ e. MayEnter table e → ⊥) table.waiting
+  -- and if none waits and nothing was repeated, exactly two messages were sent for each request and other node
+  pub count : (table : LockTable) → TableRun (marks_of moves) table → IsQuiet moves → repeated_by moves ≡ []
+      → table.waiting ≡ [] → MeetsMessageCount n moves
+
+-- ---- Taking events
+
+-- this holds of what is known of the node with this number, if there is one
+abbrev pub AtNumber : List ProgressState → ℕ → (ProgressState → Type 0) → Type 0
+AtNumber nodes node P = (p : ProgressState) × (slice_get nodes (node - 1) ≡ Some p) × P p
+
+-- the same, with these events after those that wait
+abbrev pub with_more : ProgressState → List BookEvent → ProgressState
+with_more p events = record p { waiting = p.waiting ++ events }
+
+-- What comes of taking events of a node that come after one with this clock: they come after those that were taken, or
+-- nothing changes. `Memory` is the only other error.
+pub record Takes (nodes : List ProgressState) (node after : ℕ) (events : List BookEvent)
+    (answer : Result (Unit {0}) TakeError) (nodes' : List ProgressState) : Type 0 where
+  pub ok : OnOk answer (AtNumber nodes node (λ p. nodes' ≡ slice_set nodes (node - 1) (with_more p events)))
+  pub no_node : IsErrOf answer NoNode ↔ (length nodes < node)
+  pub out_of_turn : IsErrOf answer OutOfTurn ↔ AtNumber nodes node (λ p. after ≢ clock_of (taken_of p))
+  pub not_next : IsErrOf answer NotNext ↔ AtNumber nodes node (λ p. (after ≡ clock_of (taken_of p))
+      × (AreNextAt p.node (clock_of (taken_of p)) events → ⊥))
+  pub err : OnErr answer (nodes' ≡ nodes)
+
+-- What comes of taking what the site of a node hands over. If there is no such node, it says so, and nothing changes.
+-- Otherwise the node goes on from before, with the same events in the run, and the other nodes are as before. If it is Ok,
+-- nothing is kept of the node.
+abbrev pub TakesHanded : List ProgressState → ℕ → Result (Unit {0}) TakeError → List ProgressState → Type 0
+TakesHanded nodes node answer nodes' =
+    ((length nodes < node) × IsErrOf answer NoNode × (nodes' ≡ nodes))
+    ⊎ AtNumber nodes node (λ p. (q : ProgressState) × GoesOnFrom p q × (q.settled ≡ p.settled)
+    × (nodes' ≡ slice_set nodes (node - 1) q) × OnOk answer (q.kept ≡ []))
+
+-- nothing is kept of the node any more, and the other nodes are as before
+abbrev pub TakesAllAt : List ProgressState → ℕ → List ProgressState → Type 0
+TakesAllAt nodes node nodes' = (q : ProgressState) × (q.kept ≡ []) × (nodes' ≡ slice_set nodes (node - 1) q)
+
+-- ---- What is left at the end
+
+-- The next event of the node is a frame that came, and none of the events that were taken from the frame's sender has
+-- its clock. If all events of the sender were taken, the frame was never sent.
+pub record IsNeverSent (nodes : List ProgressState) (fault : AuditFault) : Type 0 where
+  pub at_node : Any (λ p. (p.node ≡ fault.node) × (slice_get p.waiting 0 ≡ Some fault.event)) nodes
+  pub frame : Frame
+  pub came : fault.event.kind ≡ Got frame
+  pub no_event : All (λ p. p.node ≡ from_of frame.message → All (λ e. e.clock ≢ frame.clock) (taken_of p)) nodes
+
+-- ---- What waits after a round
+
+-- of each node, the clock of the last event that was taken from it, or 0 before the first
+abbrev pub clocks_taken : List ProgressState → List ℕ
+clocks_taken nodes = map (λ p. clock_of (taken_of p)) nodes
+
+-- among these clocks that of the node with this number, or 0
+abbrev pub clock_at : List ℕ → ℕ → ℕ
+clock_at clocks node = slice_index_or clocks (node - 1) 0
+
+-- The event that sent the frame may still be put into the run: the sender's events that were taken come to the frame's
+-- clock, and one waits that is not after it; or they do not, and the frame is new, so that the event may yet be taken.
+abbrev pub MayComeFrom : ℕ → Type 0 → ProgressState → Type 0
+MayComeFrom clock IsNew s =
+    ((clock ≤ clock_of (taken_of s)) × (first : BookEvent) × (slice_get s.waiting 0 ≡ Some first) × (first.clock ≤ clock))
+    ⊎ ((clock_of (taken_of s) < clock) × IsNew)
+
+-- of a frame that came, this holds of its sender
+abbrev pub MayCome : List ProgressState → Type 0 → BookKind → Type 0
+MayCome nodes IsNew (Asked client name mode) = Unit {0}
+MayCome nodes IsNew (Gave client name) = Unit {0}
+MayCome nodes IsNew (Got frame) = All (λ s. s.node ≡ from_of frame.message → MayComeFrom frame.clock IsNew s) nodes
+
+-- The node's next event, if one waits, may still be put into the run. A frame is new if it was taken after the nodes had
+-- these clocks.
+abbrev pub MayBePut : List ℕ → List ProgressState → ProgressState → Type 0
+MayBePut clocks nodes p = (event : BookEvent) → slice_get p.waiting 0 ≡ Some event
+    → MayCome nodes (clock_at clocks p.node < event.clock) event.kind
+
+-- The next event of the node is a frame that came, and no event of its sender has its clock: none that was taken has it,
+-- and they go beyond it, or the frame was taken by the time at which the nodes had these clocks. In the second case it is
+-- so if all events of the sender up to that time were taken since.
+pub record IsUnsent (clocks : List ℕ) (nodes : List ProgressState) (fault : AuditFault) : Type 0 where
+  pub never_sent : IsNeverSent nodes fault
+  pub sure : All (λ s. s.node ≡ from_of never_sent.frame.message
+      → (never_sent.frame.clock < clock_of (taken_of s)) ⊎ (fault.event.clock ≤ clock_at clocks fault.node)) nodes
+
+-- no event that was taken waits
+abbrev pub NoneWaits : List ProgressState → Type 0
+NoneWaits nodes = All (λ p. p.waiting ≡ []) nodes
+
+-- ---- What the books say at the end
+
+-- All of the history of the book is in the run, by the clock: it is the book of the node, and its last event has the
+-- clock of the node's last event in the run.
+pub record IsAllIn (p : ProgressState) (book : BookState) : Type 0 where
+  pub me : book.me ≡ p.node
+  pub clock : clock_of (whole_events book) ≡ clock_of p.settled
+
+-- this holds of the node and the book at this place, if there are both
+abbrev pub IsAllInAt : List ProgressState → List BookState → ℕ → Type 0
+IsAllInAt nodes books place = (p : ProgressState) (book : BookState) → slice_get nodes place ≡ Some p
+    → slice_get books place ≡ Some book → IsAllIn p book
+
+-- there is a book for each node, in their order, and all of its history is in the run
+pub record AreAllIn (nodes : List ProgressState) (books : List BookState) : Type 0 where
+  pub count : length books ≡ length nodes
+  pub all : (place : ℕ) → IsAllInAt nodes books place
+
+-- at some place are the node with this number and a book of which not all is in the run
+pub record IsBehind (nodes : List ProgressState) (books : List BookState) (node : ℕ) : Type 0 where
+  pub place : ℕ
+  pub p : ProgressState
+  pub book : BookState
+  pub at : slice_get nodes place ≡ Some p
+  pub book_at : slice_get books place ≡ Some book
+  pub number : node ≡ p.node
+  pub behind : IsAllIn p book → ⊥

@@ -1,0 +1,75 @@
+ghost use Rattle.std.specs.Prelude.{◌≡◌};
+ghost use Rattle.ra_audit.specs.declared.audit_error.AuditError.TheVariants as audit;
+
+use ra_cluster::{BookEvent, TakeError};
+use ra_stamp::{Memory, NodeId};
+use thiserror::Error;
+
+/// The first event found that does not fit the run of the cluster.
+#[derive(Clone, Copy, Debug, PartialEq, Eq)]
+pub struct AuditFault {
+    /// At which node.
+    pub node: NodeId,
+    /// The event. If a frame came, it was never sent, or its message came before.
+    pub event: BookEvent,
+}
+
+/// Why an auditor did not put all that it can into the run.
+#[derive(Clone, Copy, Debug, PartialEq, Eq, Error)]
+#[error("{:?}", self)]
+pub enum AuditError {
+    /// An event does not fit, now or in an earlier round.
+    Fault(AuditFault),
+    /// Memory ran out.
+    Memory,
+}
+
+/// Why a round of the audit of a cluster did not put all that it can into the run.
+#[derive(Clone, Copy, Debug, PartialEq, Eq, Error)]
+#[error("{:?}", self)]
+pub enum RoundError {
+    /// The cluster was not made to be audited.
+    NotAudited,
+    /// The auditor was made for another number of nodes, or with another start.
+    OtherCluster,
+    /// An event does not fit, or a frame was never sent. This or an earlier round found it.
+    Fault(AuditFault),
+    /// Memory ran out before events were taken, or while they were put into the run.
+    Memory,
+    /// The events of a node were not taken.
+    NotTaken {
+        /// Of which node.
+        node: NodeId,
+        /// Why.
+        cause: TakeError,
+    },
+}
+
+/// Why the audit of a cluster did not end with all that happened in the run.
+#[derive(Clone, Copy, Debug, PartialEq, Eq, Error)]
+#[error("{:?}", self)]
+pub enum FinishError {
+    /// The last round failed.
+    Round(RoundError),
+    /// A frame came that was never sent.
+    NeverSent(AuditFault),
+}
+
+/// Why not all that the books of a closed cluster say is in the run of an auditor.
+#[derive(Clone, Copy, Debug, PartialEq, Eq, Error)]
+#[error("{:?}", self)]
+pub enum BehindError {
+    /// There are more or fewer books than nodes in the run.
+    OtherCount,
+    /// The last event of this node's book has another clock than the node's last event in the run, or the book at its place is
+    /// that of another node.
+    Behind(NodeId),
+}
+
+impl From<Memory> for AuditError {
+    ghost from_gives = { λ _ e. e ≡ audit.Memory };
+
+    fn from(_refused: Memory) -> AuditError {
+        AuditError::Memory
+    }
+}

@@ -1,0 +1,342 @@
+ghost use Rattle.std.specs.Prelude.{◌≡◌, ◌≢◌, ◌↔◌, ◌∷◌, ◌++◌, [], ℕ, List, Some, None, All, length, map, sum_by, IsErrOf, IfOk, IfSome, IsNone, IsTrue, OnOk, MatchOption};
+ghost use Rattle.std.specs.List.{range_with_len};
+ghost use Rattle.ra_stamp.specs.NodeId.{IsNodeNumber};
+ghost use Rattle.ra_world.specs.Traffic.{LeavesUnderWay, sent_by};
+ghost use Rattle.ra_world.specs.Quiet.{requests_in};
+ghost use Rattle.ra_world.specs.Run.{marks_of};
+ghost use Rattle.ra_audit.specs.declared.audit_error.AuditFault as audit_fault;
+ghost use Rattle.ra_stamp.specs.declared.message.Message.{Message};
+ghost use Rattle.ra_audit.specs.Audit.{Takes, AreAllIn, IsBehind, TakesHanded, NoneWaits, IsNeverSent, MayBePut, IsUnsent, clocks_taken, fresh_progress};
+
+use crate::audit_laws::runs_meet_the_theorem;
+use crate::auditing::put_all;
+use crate::closing::check_all;
+use crate::never_sent::{clocks_of, first_unsent};
+use crate::progress::Progress;
+use crate::unsettled::{first_unsettled, waiting_at};
+use crate::{AuditError, AuditFault, BehindError, MarkObserver};
+use ra_cluster::{Book, BookEvent, Site, TakeError};
+use ra_stamp::{Memory, NodeId};
+use ra_world::{MarklessWorld, NewError};
+use std::alloc::Global;
+use std::marker::Model;
+use std::sync::Wait;
+
+/// Puts what happens at the nodes of a cluster together into one run while the nodes go on. From time to time each node's
+/// book hands over the events since the last time, which [`take`](Auditor::take) takes, and then
+/// [`advance`](Auditor::advance) puts all that it can into the run. So a cluster can run for long: an auditor keeps the nodes at the end
+/// of the run, the messages under way, and the events that can't be put yet, and nothing of the others.
+///
+/// Contracts see the run so far, and of each node the events that were taken from it: first those that are in the run,
+/// then those that are not yet.
+#[derive(Drop)]
+pub struct Auditor {
+    world: MarklessWorld,
+    /// Of how many nodes the run is, and the start beyond which the numbers of requests begin.
+    count: u16,
+    start: u64,
+    /// By the nodes' numbers, from 1.
+    nodes: Vec<Progress>,
+    fault: Option<AuditFault>,
+}
+
+impl Model for Auditor {
+    ghost use Rattle.std.specs.Prelude.{◌≡◌};
+    ghost use Rattle.ra_audit.specs.Audit.{AuditState, IsAudited};
+
+    ghost Value = { AuditState };
+
+    ghost view = { λ a. record { world = a.world; nodes = a.nodes.items; fault = a.fault } };
+
+    ghost invariant = { λ a. IsAudited a.world a.nodes.items × (a.count ≡ a.world.count) × (a.start ≡ a.world.start) };
+}
+
+impl Auditor {
+    ghost use Rattle.ra_audit.specs.Audit.{IsAudited, NoneIsReady, IsMisfit, Advances, RunTheorem};
+
+    /// Makes the auditor of a cluster of this many nodes, in which nothing has happened yet. The highest number of each
+    /// resource begins at `start`, 0 to 2^64-1. The cost is linear in the number of nodes.
+    ///
+    /// # Errors
+    ///
+    /// The first that holds:
+    ///
+    /// 1. `BadCount`: the number of nodes is not 1 to 64.
+    /// 2. `Memory`: there is no room for the nodes.
+    pub fn new(alloc: Global, nodes: u16, start: u64) -> Result<Auditor, NewError>
+        ensures world { IfOk result (λ auditor.
+            auditor.world ≡ record { count = nodes; start = start; moves = [] }) }
+        ensures nodes { IfOk result (λ auditor. auditor.nodes ≡ map fresh_progress (range_with_len 1 nodes)) }
+        ensures fault { IfOk result (λ auditor. auditor.fault ≡ None) }
+        ensures audited { IfOk result (λ auditor. IsAudited auditor.world auditor.nodes) }
+        ensures bad_count { IsErrOf result NewError.BadCount ↔ (IsNodeNumber nodes → ⊥) }
+    {
+        let world = MarklessWorld::new(alloc, nodes, start)?;
+        let progress = none_taken(alloc, nodes)?;
+        Ok(Auditor {
+            world,
+            count: nodes,
+            start,
+            nodes: progress,
+            fault: None,
+        })
+    }
+
+    /// Takes the next events of a node, which come after an event with the clock `after`, or are its first ones if `after` is
+    /// 0. `advance` puts them into the run. The cost is linear in their number.
+    ///
+    /// # Errors
+    ///
+    /// The first that holds, and the auditor is as before:
+    ///
+    /// 1. `NoNode`: the cluster has no such node.
+    /// 2. `OutOfTurn`: `after` is not the clock of the last event of the node that was taken, or 0 before the first.
+    /// 3. `NotNext`: the clock of an event is not the one that follows, or a frame is for another node.
+    /// 4. `Memory`: memory ran out.
+    pub fn take(&mut self, node: NodeId, after: u64, events: &[BookEvent]) -> Result<(), TakeError>
+        ensures taken { Takes self.old.nodes node after events.now result self.new.nodes }
+        ensures rest { self.new ≡ record self.old { nodes = self.new.nodes } }
+        ensures audited { IsAudited self.new.world self.new.nodes }
+    {
+        take_into(self.nodes.as_mut_slice(), node, after, events)
+    }
+
+    /// Returns whether the auditor was made for this many nodes and this start.
+    pub(crate) fn is_for(&self, nodes: u16, start: u64) -> bool
+        ensures value { IsTrue result ↔ ((self.now.world.count ≡ nodes) × (self.now.world.start ≡ start)) }
+        ensures audited { IsAudited self.now.world self.now.nodes }
+    {
+        self.count == nodes && self.start == start
+    }
+
+    /// Has a site hand over what has happened since the last time, and takes it, as [`Progress::take_handed`] does.
+    ///
+    /// # Errors
+    ///
+    /// `NoNode` if the auditor has no such node, or those of [`Progress::take_handed`].
+    pub(crate) fn take_handed<R: Wait>(
+        &mut self,
+        rt: &R,
+        alloc: Global,
+        site: &Site,
+    ) -> Result<(), TakeError>
+        ensures handed { TakesHanded self.old.nodes site.now result self.new.nodes }
+        ensures rest { self.new ≡ record self.old { nodes = self.new.nodes } }
+        ensures audited { IsAudited self.new.world self.new.nodes }
+    {
+        take_handed_into(rt, alloc, self.nodes.as_mut_slice(), site)
+    }
+
+    /// Returns, of each node, the clock of the last event that was taken from it, or 0 before the first.
+    pub(crate) fn clocks(&self, alloc: Global) -> Result<Vec<u64>, Memory>
+        ensures { IfOk result (λ clocks. clocks.items ≡ clocks_taken self.now.nodes) }
+    {
+        clocks_of(alloc, &self.nodes)
+    }
+
+    /// Looks for a frame that is the next event of its node and was never sent, and notes it as the fault. The nodes had these
+    /// clocks before their last events were taken. Returns `None` if each frame that waits as the next event of its node may still
+    /// be put.
+    pub(crate) fn find_unsent(&mut self, clocks: &[u64]) -> Option<AuditFault>
+        requires { NoneIsReady self.old.nodes }
+        ensures none { IsNone result → (self.new ≡ self.old) × All (MayBePut clocks.now self.old.nodes) self.old.nodes }
+        ensures found { IfSome result (λ fault. (self.new ≡ record self.old { fault = Some fault })
+            × IsUnsent clocks.now self.old.nodes fault) }
+    {
+        let unsent = first_unsent(&self.nodes, clocks);
+        note_unsent(&unsent, &mut self.fault);
+        unsent
+    }
+
+    /// Puts each event that can be put into the run, and tells the observer its marks: an ask or a leave at once after
+    /// the node's earlier events, and a frame that came once all events of its sender up to the frame's clock are in the run.
+    ///
+    /// The cost of each event is that of a step of a [`MarklessWorld`]. In a round each event is looked at once; and each
+    /// time a node can't go on, each node is looked at once.
+    ///
+    /// # Errors
+    ///
+    /// 1. `Fault`: an event does not fit, which was found by this call or an earlier one. The node would have
+    ///    refused it; or it is a frame whose message is not under way, though all that its sender sent up to the frame's
+    ///    clock is in the run. Or a round found a frame that was never sent. From then on nothing is put.
+    /// 2. `Memory`: memory ran out. The events before are in the run, and the call can be made again.
+    pub fn advance<O: MarkObserver>(
+        &mut self,
+        alloc: Global,
+        observer: &mut O,
+    ) -> Result<(), AuditError>
+        ensures advances { Advances self.old.world self.old.nodes (O.told observer.old)
+            self.new.world self.new.nodes (O.told observer.new) }
+        ensures theorem { RunTheorem self.new.world.count self.new.world.moves }
+        ensures ok { OnOk result (NoneIsReady self.new.nodes) }
+        ensures found { (fault : audit_fault.AuditFault) → self.old.fault ≡ None → IsErrOf result (AuditError.Fault fault)
+            → IsMisfit self.new.world self.new.nodes fault }
+        ensures kept { (fault : audit_fault.AuditFault) → self.old.fault ≡ Some fault
+            → IsErrOf result (AuditError.Fault fault) × (self.new ≡ self.old) }
+        ensures fault { (fault : audit_fault.AuditFault) → IsErrOf result (AuditError.Fault fault) ↔ (self.new.fault ≡ Some fault) }
+    {
+        runs_meet_the_theorem();
+        if let Some(fault) = self.fault {
+            return Err(AuditError::Fault(fault));
+        }
+        let answer = put_all(alloc, &mut self.world, self.nodes.as_mut_slice(), observer);
+        note_fault(&answer, &mut self.fault);
+        answer
+    }
+
+    /// Returns the event with the least clock of those that were taken and are not in the run, or `None` if all are in it.
+    /// Call it once the last events of all nodes were taken, and `advance` has answered `Ok`. Then the event is a frame
+    /// that came and was never sent. It does not allocate. The cost is linear in the number of nodes.
+    pub fn unsettled(&self) -> Option<AuditFault>
+        requires { NoneIsReady self.now.nodes }
+        ensures left { MatchOption result (NoneWaits self.now.nodes) (IsNeverSent self.now.nodes) }
+        ensures audited { IsAudited self.now.world self.now.nodes }
+    {
+        first_unsettled(&self.nodes)
+    }
+
+    /// Tells whether all that happened at each node is in the run: the last event of its book has the clock of the node's last
+    /// event in the run. Give it the books of the nodes from 1 up, in their order, once all threads have ended; what was taken
+    /// from a book still counts in its clock. It does not allocate. The cost is linear in the number of nodes.
+    ///
+    /// # Errors
+    ///
+    /// The first that holds:
+    ///
+    /// 1. `OtherCount`: there are more or fewer books than nodes.
+    /// 2. `Behind`: the first node whose book ends with another clock, or is that of another node.
+    pub fn check_books(&self, books: &[Book]) -> Result<(), BehindError>
+        ensures ok { OnOk result (AreAllIn self.now.nodes books.now) }
+        ensures other_count { IsErrOf result BehindError.OtherCount ↔ (length books.now ≢ length self.now.nodes) }
+        ensures behind { (node : ℕ) → IsErrOf result (BehindError.Behind node) → IsBehind self.now.nodes books.now node }
+    {
+        check_all(&self.nodes, books)
+    }
+
+    /// Returns the event that did not fit, if one was found.
+    pub fn fault(&self) -> Option<AuditFault>
+        ensures value { result ≡ self.now.fault }
+        ensures audited { IsAudited self.now.world self.now.nodes }
+    {
+        self.fault
+    }
+
+    /// Returns how many events were taken and are not in the run yet. After a round that is Ok, these are frames whose senders were
+    /// looked at too early in the round, and the events after them.
+    pub fn waiting(&self) -> u128
+        ensures value { result ≡ sum_by (λ p. length p.waiting) self.now.nodes }
+        ensures audited { IsAudited self.now.world self.now.nodes }
+    {
+        waiting_at(&self.nodes)
+    }
+
+    /// Returns how many steps the run has.
+    pub fn steps(&self) -> u64
+        ensures value { result ≡ length self.now.world.moves }
+        ensures audited { IsAudited self.now.world self.now.nodes }
+    {
+        self.world.steps()
+    }
+
+    /// Returns how many requests were made in the run.
+    pub fn requests(&self) -> u128
+        ensures value { result ≡ requests_in (marks_of self.now.world.moves) }
+        ensures audited { IsAudited self.now.world self.now.nodes }
+    {
+        self.world.requests()
+    }
+
+    /// Returns how many messages were sent in the run.
+    pub fn sent(&self) -> u128
+        ensures value { result ≡ length (sent_by self.now.world.moves) }
+        ensures audited { IsAudited self.now.world self.now.nodes }
+    {
+        self.world.sent()
+    }
+
+    /// Returns how many messages are under way after the run.
+    pub fn under_way(&self) -> u64
+        ensures value { (left : List Message) × LeavesUnderWay self.now.world.moves left × (result ≡ length left) }
+        ensures audited { IsAudited self.now.world self.now.nodes }
+    {
+        self.world.under_way()
+    }
+}
+
+/// Notes the event that did not fit, if this answer says so.
+fn note_fault(answer: &Result<(), AuditError>, fault: &mut Option<AuditFault>)
+    requires { fault.old ≡ None }
+    ensures { (found : audit_fault.AuditFault) → IsErrOf answer.now (AuditError.Fault found) ↔ (fault.new ≡ Some found) }
+{
+    if let Err(AuditError::Fault(found)) = answer {
+        *fault = Some(*found);
+    }
+}
+
+/// Notes a frame that was never sent, if this is one.
+fn note_unsent(unsent: &Option<AuditFault>, fault: &mut Option<AuditFault>)
+    ensures none { IsNone unsent.now → fault.new ≡ fault.old }
+    ensures found { IfSome unsent.now (λ found. fault.new ≡ Some found) }
+{
+    if let Some(found) = unsent {
+        *fault = Some(*found);
+    }
+}
+
+/// Takes the next events of a node, one of these, as `take` does.
+fn take_into(
+    nodes: &mut [Progress],
+    node: NodeId,
+    after: u64,
+    events: &[BookEvent],
+) -> Result<(), TakeError>
+    ensures { Takes nodes.old node after events.now result nodes.new }
+{
+    // Nodes are counted from 1.
+    let place = usize::from(node.get()) - 1;
+    if place >= nodes.len() {
+        return Err(TakeError::NoNode);
+    }
+    let progress = &mut nodes[place];
+    progress.take(after, events)
+}
+
+/// Has a site hand over what has happened since the last time, and one of these takes it, as `take_handed` does.
+fn take_handed_into<R: Wait>(
+    rt: &R,
+    alloc: Global,
+    nodes: &mut [Progress],
+    site: &Site,
+) -> Result<(), TakeError>
+    ensures { TakesHanded nodes.old site.now result nodes.new }
+{
+    // Nodes are counted from 1.
+    let place = usize::from(site.node().get()) - 1;
+    if place >= nodes.len() {
+        return Err(TakeError::NoNode);
+    }
+    let progress = &mut nodes[place];
+    progress.take_handed(rt, alloc, site)
+}
+
+/// Returns, for each of this many nodes, that nothing was taken from it.
+fn none_taken(alloc: Global, nodes: u16) -> Result<Vec<Progress>, Memory>
+    ensures { IfOk result (λ progress. progress.items ≡ map fresh_progress (range_with_len 1 nodes)) }
+{
+    let mut progress = Vec::new(alloc);
+    for place in 0..nodes {
+        push_fresh(alloc, &mut progress, place + 1)?;
+    }
+    Ok(progress)
+}
+
+/// Puts the node with this number, from which nothing was taken, after the others.
+fn push_fresh(alloc: Global, progress: &mut Vec<Progress>, number: u16) -> Result<(), Memory>
+    ensures { OnOk result (progress.new.items ≡ progress.old.items ++ fresh_progress number ∷ []) }
+{
+    let Some(node) = NodeId::new(number) else {
+        return Err(Memory);
+    };
+    progress.push(Progress::new(alloc, node))?;
+    Ok(())
+}

@@ -1,0 +1,31 @@
+//! The audit of a cluster of threads while it runs: what happens at the nodes is put into one run, round after round, and
+//! leaves the books.
+//!
+//! # What a service does
+//!
+//! - It makes its cluster by [`Cluster::new_audited`](ra_cluster::Cluster::new_audited), and an [`Auditor`] for as many nodes
+//!   and the same start.
+//! - From time to time it calls [`Auditor::audit`], which takes what has happened at each node, puts it into the run, and tells
+//!   a [`MarkObserver`] each mark.
+//! - At the end it calls [`Auditor::finish`], closes the cluster by
+//!   [`Cluster::close_audited`](ra_cluster::Cluster::close_audited), and has [`Auditor::check_books`] look whether all that the
+//!   books say is in the run.
+//!
+//! docs/EMBEDDING.md has an example.
+#![tactic(auto)]
+
+mod audit_error;
+mod audit_laws;
+mod auditing;
+mod auditor;
+mod closing;
+mod mark_observer;
+mod never_sent;
+mod progress;
+mod round;
+mod unsettled;
+
+pub use audit_error::{AuditError, AuditFault, BehindError, FinishError, RoundError};
+pub use auditor::Auditor;
+pub use mark_observer::{MarkObserver, Told};
+pub use ra_cluster::TakeError;

@@ -1,0 +1,278 @@
+//! A round of the audit of a cluster whose threads go on.
+ghost use Rattle.std.specs.Prelude.{◌≡◌, ◌↔◌, ◌⊎◌, ◌≤◌, true, false, ℕ, All, None, Some, IsOk, IsErrOf, OnOk};
+ghost use Rattle.ra_audit.specs.declared.audit_error.AuditFault as audit_fault;
+ghost use Rattle.ra_cluster.specs.declared.take_error.TakeError.{TakeError};
+ghost use Rattle.ra_audit.specs.declared.audit_error.RoundError as round_error;
+ghost use Rattle.ra_audit.specs.Audit.{NoneIsReady, NoneWaits, IsNeverSent, IsMisfit, IsUnsent, MayBePut, IsAudited, IsAuditorOf, RunTheorem, Audits, TakesMore, TakesAllAt, NoneIsKept, clocks_taken};
+ghost use Rattle.ra_stamp.specs.NodeId.{IsNodeNumber};
+
+use crate::audit_laws::runs_meet_the_theorem;
+use crate::{AuditError, Auditor, FinishError, MarkObserver, RoundError};
+use ra_cluster::{Cluster, Gate, TakeError};
+use ra_stamp::NodeId;
+use std::alloc::Global;
+use std::sync::Wait;
+
+impl Auditor {
+    /// Takes what has happened at each node since the round before, from node 1 up, and then puts all that it can into the run
+    /// of the auditor, and tells the observer its marks, as [`Auditor::advance`] does. The cluster goes on meanwhile: a round
+    /// has one node's lock at a time, for a time that does not grow with the history, and puts with no lock held. A frame whose
+    /// sender was looked at too early in the round is put in the next one.
+    ///
+    /// A frame that waits was never sent if an earlier round took it and its sender's events don't come to its clock yet, or if
+    /// they go beyond it and none has it. So a frame can't hold up the audit by a clock that is ahead of its sender's: the second
+    /// round after the one that took it finds it at the latest, if no other frame is at fault and no round is refused.
+    ///
+    /// Each round is to have the auditor of the one before. Once the threads of the cluster have ended, a round takes all that is
+    /// left, and [`Auditor::unsettled`] says whether all of it is in the run.
+    ///
+    /// The cost is that of [`Auditor::take`] and [`Auditor::advance`] for the events since the round before. A list of a clock for
+    /// each node is allocated.
+    ///
+    /// # Errors
+    ///
+    /// 1 and 2 come first, and then a `Fault` of an earlier round. `Memory` may come before any other.
+    ///
+    /// 1. `NotAudited`: the cluster was made by [`Cluster::new`], and is settled at its end. Nothing has changed.
+    /// 2. `OtherCluster`: the auditor was made for another number of nodes, or with another start. Nothing has changed.
+    /// 3. `Fault`: an event does not fit, as [`Auditor::advance`] says. If it was found by an earlier round, nothing has
+    ///    changed.
+    /// 4. `Memory`: memory ran out before events were taken, or while they were put. The next round goes on.
+    /// 5. `NotTaken`: the events of a node were not taken, nor those of the nodes after it. What was taken is in the run, as far
+    ///    as it can be. If the cause is `Memory`, the next round takes them. Any other cause says that the auditor is not that of
+    ///    the round before; the node still has its events.
+    /// 6. `Fault`: a frame that waits as the next event of its node was never sent.
+    pub fn audit<R: Wait, G: Gate + Drop, O: MarkObserver>(
+        &mut self,
+        rt: &R,
+        alloc: Global,
+        cluster: &Cluster<G>,
+        observer: &mut O,
+    ) -> Result<(), RoundError>
+        ensures audits { Audits self.old (O.told observer.old) self.new (O.told observer.new) }
+        ensures theorem { RunTheorem self.new.world.count self.new.world.moves }
+        ensures ok { OnOk result (NoneIsReady self.new.nodes) }
+        ensures kept { OnOk result (NoneIsKept self.new.nodes) }
+        ensures may_be_put { OnOk result (All (MayBePut (clocks_taken self.old.nodes) self.new.nodes) self.new.nodes) }
+        ensures not_audited { IsErrOf result RoundError.NotAudited ↔ (cluster.now.audited ≡ false) }
+        ensures other_cluster { IsErrOf result RoundError.OtherCluster
+            ↔ ((cluster.now.audited ≡ true) × (IsAuditorOf cluster.now self.old → ⊥)) }
+        ensures unchanged { (IsAuditorOf cluster.now self.old → ⊥) → self.new ≡ self.old }
+        ensures known { (fault : audit_fault.AuditFault) → IsAuditorOf cluster.now self.old → self.old.fault ≡ Some fault
+            → IsErrOf result (RoundError.Fault fault) × (self.new ≡ self.old) }
+        ensures found { (fault : audit_fault.AuditFault) → self.old.fault ≡ None → IsErrOf result (RoundError.Fault fault)
+            → IsMisfit self.new.world self.new.nodes fault
+            ⊎ IsUnsent (clocks_taken self.old.nodes) self.new.nodes fault }
+        ensures fault { (fault : audit_fault.AuditFault) → IsErrOf result (RoundError.Fault fault)
+            → self.new.fault ≡ Some fault }
+        ensures not_taken { (node : ℕ) (cause : TakeError) → IsErrOf result (RoundError.NotTaken node cause)
+            → NoneIsReady self.new.nodes }
+    {
+        runs_meet_the_theorem();
+        match check_round(cluster, self) {
+            Ok(()) => go_round(rt, alloc, cluster, self, observer),
+            Err(refused) => Err(refused),
+        }
+    }
+
+    /// Ends the audit of a cluster that its caller alone has, so that all threads have ended: takes what is left at the nodes, as
+    /// a round does. If it is Ok, all that was taken is in the run. After `NotTaken` for `Memory`, and after `Memory`, it can be
+    /// called again.
+    ///
+    /// The cost is that of a round, and then linear in the number of nodes.
+    ///
+    /// # Errors
+    ///
+    /// The first that comes:
+    ///
+    /// 1. `Round`: the round failed, as [`Auditor::audit`] says.
+    /// 2. `NeverSent`: a frame that came was never sent.
+    pub fn finish<R: Wait, G: Gate + Drop, O: MarkObserver>(
+        &mut self,
+        rt: &R,
+        alloc: Global,
+        cluster: &mut Cluster<G>,
+        observer: &mut O,
+    ) -> Result<(), FinishError>
+        ensures audits { Audits self.old (O.told observer.old) self.new (O.told observer.new) }
+        ensures theorem { RunTheorem self.new.world.count self.new.world.moves }
+        ensures ok { OnOk result (NoneWaits self.new.nodes) }
+        ensures kept { OnOk result (NoneIsKept self.new.nodes) }
+        ensures not_audited { IsErrOf result (FinishError.Round RoundError.NotAudited) ↔ (cluster.old.audited ≡ false) }
+        ensures other_cluster { IsErrOf result (FinishError.Round RoundError.OtherCluster)
+            ↔ ((cluster.old.audited ≡ true) × (IsAuditorOf cluster.old self.old → ⊥)) }
+        ensures never_sent { (fault : audit_fault.AuditFault) → IsErrOf result (FinishError.NeverSent fault)
+            → IsNeverSent self.new.nodes fault }
+    {
+        match self.audit(rt, alloc, cluster, observer) {
+            Ok(()) => all_settled(self),
+            Err(refused) => Err(FinishError::Round(refused)),
+        }
+    }
+}
+
+/// Tells whether all that was taken is in the run.
+///
+/// # Errors
+///
+/// `NeverSent`: a frame that came was never sent.
+fn all_settled(auditor: &Auditor) -> Result<(), FinishError>
+    requires { NoneIsReady auditor.now.nodes }
+    ensures ok { OnOk result (NoneWaits auditor.now.nodes) }
+    ensures never_sent { (fault : audit_fault.AuditFault) → IsErrOf result (FinishError.NeverSent fault)
+        → IsNeverSent auditor.now.nodes fault }
+    ensures no_round { (refused : round_error.RoundError) → IsErrOf result (FinishError.Round refused) → ⊥ }
+{
+    match auditor.unsettled() {
+        None => Ok(()),
+        Some(fault) => Err(FinishError::NeverSent(fault)),
+    }
+}
+
+/// Tells whether a round of this cluster can have this auditor.
+///
+/// # Errors
+///
+/// The first that holds:
+///
+/// 1. `NotAudited`: the cluster is settled at its end.
+/// 2. `OtherCluster`: the auditor was made for another number of nodes, or with another start.
+/// 3. `Fault`: the auditor has a fault.
+fn check_round<G: Gate + Drop>(cluster: &Cluster<G>, auditor: &Auditor) -> Result<(), RoundError>
+    ensures ok { OnOk result (IsAuditorOf cluster.now auditor.now × (auditor.now.fault ≡ None)) }
+    ensures not_audited { IsErrOf result RoundError.NotAudited ↔ (cluster.now.audited ≡ false) }
+    ensures other_cluster { IsErrOf result RoundError.OtherCluster
+        ↔ ((cluster.now.audited ≡ true) × (IsAuditorOf cluster.now auditor.now → ⊥)) }
+    ensures fault { (fault : audit_fault.AuditFault) → IsErrOf result (RoundError.Fault fault)
+        ↔ (IsAuditorOf cluster.now auditor.now × (auditor.now.fault ≡ Some fault)) }
+    ensures taken { (node : ℕ) (cause : TakeError) → IsErrOf result (RoundError.NotTaken node cause) → ⊥ }
+    ensures audited { IsAudited auditor.now.world auditor.now.nodes }
+{
+    let known = auditor.fault();
+    if !cluster.is_audited() {
+        return Err(RoundError::NotAudited);
+    }
+    if !auditor.is_for(cluster.nodes(), cluster.start()) {
+        return Err(RoundError::OtherCluster);
+    }
+    match known {
+        Some(fault) => Err(RoundError::Fault(fault)),
+        None => Ok(()),
+    }
+}
+
+/// Has a round of a cluster, whose auditor this is and has no fault.
+///
+/// # Errors
+///
+/// Those of [`Auditor::audit`] from `Memory` on, and `Fault`.
+fn go_round<R: Wait, G: Gate + Drop, O: MarkObserver>(
+    rt: &R,
+    alloc: Global,
+    cluster: &Cluster<G>,
+    auditor: &mut Auditor,
+    observer: &mut O,
+) -> Result<(), RoundError>
+    requires audited { IsAudited auditor.old.world auditor.old.nodes }
+    requires count { auditor.old.world.count ≡ cluster.now.nodes }
+    ensures audits { Audits auditor.old (O.told observer.old) auditor.new (O.told observer.new) }
+    ensures ok { OnOk result (NoneIsReady auditor.new.nodes) }
+    ensures kept { OnOk result (NoneIsKept auditor.new.nodes) }
+    ensures may_be_put { OnOk result (All (MayBePut (clocks_taken auditor.old.nodes) auditor.new.nodes) auditor.new.nodes) }
+    ensures not_audited { IsErrOf result RoundError.NotAudited → ⊥ }
+    ensures other_cluster { IsErrOf result RoundError.OtherCluster → ⊥ }
+    ensures found { (fault : audit_fault.AuditFault) → auditor.old.fault ≡ None → IsErrOf result (RoundError.Fault fault)
+        → IsMisfit auditor.new.world auditor.new.nodes fault
+        ⊎ IsUnsent (clocks_taken auditor.old.nodes) auditor.new.nodes fault }
+    ensures fault { (fault : audit_fault.AuditFault) → IsErrOf result (RoundError.Fault fault)
+        → auditor.new.fault ≡ Some fault }
+    ensures not_taken { (node : ℕ) (cause : TakeError) → IsErrOf result (RoundError.NotTaken node cause)
+        → NoneIsReady auditor.new.nodes }
+{
+    // A frame that was taken by now came before this round takes its sender's events.
+    let Ok(clocks) = auditor.clocks(alloc) else {
+        return Err(RoundError::Memory);
+    };
+    let taken = take_all(rt, alloc, cluster, auditor);
+    let advanced = auditor.advance(alloc, observer);
+    match answer_of(taken, advanced) {
+        Ok(()) => match auditor.find_unsent(&clocks) {
+            Some(fault) => Err(RoundError::Fault(fault)),
+            None => Ok(()),
+        },
+        Err(refused) => Err(refused),
+    }
+}
+
+/// Returns what a round answers, by what came of taking events, if not all were taken, and of putting them into the run.
+fn answer_of(
+    taken: Result<(), (NodeId, TakeError)>,
+    advanced: Result<(), AuditError>,
+) -> Result<(), RoundError>
+    ensures ok { OnOk result (IsOk advanced × IsOk taken) }
+    ensures not_audited { IsErrOf result RoundError.NotAudited → ⊥ }
+    ensures other_cluster { IsErrOf result RoundError.OtherCluster → ⊥ }
+    ensures fault { (fault : audit_fault.AuditFault) → IsErrOf result (RoundError.Fault fault)
+        → IsErrOf advanced (AuditError.Fault fault) }
+    ensures not_taken { (node : ℕ) (cause : TakeError) → IsErrOf result (RoundError.NotTaken node cause) → IsOk advanced }
+{
+    match (advanced, taken) {
+        (Err(AuditError::Fault(fault)), _) => Err(RoundError::Fault(fault)),
+        (Err(AuditError::Memory), _) => Err(RoundError::Memory),
+        (Ok(()), Err((node, cause))) => Err(RoundError::NotTaken { node, cause }),
+        (Ok(()), Ok(())) => Ok(()),
+    }
+}
+
+/// Takes what has happened at each node since the round before.
+///
+/// # Errors
+///
+/// The first node whose events were not taken, and why. Those of the nodes after it were not taken either.
+fn take_all<R: Wait, G: Gate + Drop>(
+    rt: &R,
+    alloc: Global,
+    cluster: &Cluster<G>,
+    auditor: &mut Auditor,
+) -> Result<(), (NodeId, TakeError)>
+    requires { auditor.old.world.count ≡ cluster.now.nodes }
+    ensures more { TakesMore auditor.old auditor.new }
+    ensures kept { OnOk result (NoneIsKept auditor.new.nodes) }
+{
+    // Each reader tells what holds of every auditor.
+    let _fault = auditor.fault();
+    for place in 0..cluster.nodes() {
+        // Nodes are counted from 1.
+        take_from(rt, alloc, cluster, place + 1, auditor)?;
+    }
+    Ok(())
+}
+
+/// Takes what has happened at the node with this number since the round before.
+///
+/// # Errors
+///
+/// The node, and why its events were not taken.
+fn take_from<R: Wait, G: Gate + Drop>(
+    rt: &R,
+    alloc: Global,
+    cluster: &Cluster<G>,
+    number: u16,
+    auditor: &mut Auditor,
+) -> Result<(), (NodeId, TakeError)>
+    requires number { IsNodeNumber number }
+    requires member { number ≤ cluster.now.nodes }
+    ensures more { TakesMore auditor.old auditor.new }
+    ensures all { OnOk result (TakesAllAt auditor.old.nodes number auditor.new.nodes) }
+{
+    let Some(node) = NodeId::new(number) else {
+        unreachable!()
+    };
+    let Some(site) = cluster.site(node) else {
+        unreachable!()
+    };
+    match auditor.take_handed(rt, alloc, site) {
+        Ok(()) => Ok(()),
+        Err(cause) => Err((node, cause)),
+    }
+}
