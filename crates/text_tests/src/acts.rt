@@ -1,5 +1,6 @@
 //! What happens in a run, as its steps and its trace.
-use crate::helpers::{all_kinds, assert_rows, failing, r};
+use crate::asserting::assert_row;
+use crate::helpers::{all_kinds, failing, r};
 use Act::{Ask, AskForAllKinds, AskIn, Deliver, Leave, Lose, Repeat};
 use Wire::{Replies, RepliesNext, Requests, RequestsNext};
 use ra_stamp::{Message, Mode, Name, NodeId};
@@ -219,28 +220,21 @@ pub fn fault_of(
     }
 }
 
+/// Asserts that the whole text of a row was written, and nothing else.
+pub fn assert_whole(rt: &impl Abort, row: usize, writer: &FailingWriter<'_>) {
+    assert_row(rt, row, &writer.left.len(), &0);
+    assert_row(rt, row, &writer.differs, &false);
+}
+
 /// What happens among this many nodes, and its trace.
 pub struct Written(pub u16, pub &'static [Act], pub &'static str);
 
-/// Returns whether what happens has its trace.
-fn is_written(alloc: Global, row: &Written) -> bool {
-    let mut writer = failing(row.2, 1000, None);
-    fault_of(alloc, row.0, row.1, &mut writer).is_none()
-        && writer.left.is_empty()
-        && !writer.differs
-}
-
-/// Returns how many of these have their traces, up to the first that does not.
-fn written_so(alloc: Global, rows: &[Written]) -> usize {
-    for place in 0..rows.len() {
-        if !is_written(alloc, &rows[place]) {
-            return place;
-        }
-    }
-    rows.len()
-}
-
 /// Asserts that each of these has its trace.
 pub fn assert_written(rt: &(impl Abort + AllocGlobal), rows: &[Written]) {
-    assert_rows(rt, written_so(rt.alloc(), rows), rows.len());
+    for row in 0..rows.len() {
+        let mut writer = failing(rows[row].2, 1000, None);
+        let fault = fault_of(rt.alloc(), rows[row].0, rows[row].1, &mut writer);
+        assert_row(rt, row, &fault, &None);
+        assert_whole(rt, row, &writer);
+    }
 }

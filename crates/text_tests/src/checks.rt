@@ -1,12 +1,12 @@
 //! What `check` finds wrong in a text.
-use crate::asserting::assert_so;
+use crate::asserting::assert_row;
+use crate::helpers::Part::Text;
 use crate::helpers::{
-    Judged, ONE_LOCK, REPEATED_REQUEST, TWO_LOCKS, assert_judged, assert_rows, in_version_1,
-    is_judged,
+    Judged, ONE_LOCK, REPEATED_REQUEST, TWO_LOCKS, adds_parts, assert_judged, assert_rows,
+    in_version_1, verdict_on,
 };
 use Judged::{Invalid, Valid};
 use ra_trace::{Cause, TraceError, Verdict};
-use std::alloc::Global;
 use std::process::Abort;
 use test_support::printed;
 
@@ -40,28 +40,15 @@ fn text_of(base: Base) -> &'static str {
 /// A trace, a change of it, and which line is the first wrong one then.
 struct Case(Base, Edit, u64);
 
-/// Adds a text. Returns whether there was room.
-fn adds(new: &mut String, text: &str) -> bool {
-    new.push_str(text).is_ok()
-}
-
-/// Adds these lines, and a line after them where it is to stay. Returns whether there was room.
-fn adds_lines(new: &mut String, lines: &str, line: &str, stays: bool) -> bool {
-    adds(new, lines) && (!stays || adds(new, line))
-}
-
-/// Adds the lines of a text, with these in front of the line with this number, which is left out where it is not to stay. Returns
+/// Adds the lines of a text, with these in front of the line with this number, which is left out if it is not to stay. Returns
 /// whether there was room.
-fn adds_edited(new: &mut String, text: &str, number: usize, lines: &str, stays: bool) -> bool {
+fn adds_edited(new: &mut Vec<u8>, text: &str, number: usize, lines: &str, stays: bool) -> bool {
     let mut last = 0usize;
     for line in text.split_inclusive('\n') {
         last = last.wrapping_add(1);
-        let added = if last == number {
-            adds_lines(new, lines, line, stays)
-        } else {
-            adds(new, line)
-        };
-        if !added {
+        let before = if last == number { lines } else { "" };
+        let kept = if last == number && !stays { "" } else { line };
+        if !adds_parts(new, &[Text(before), Text(kept)]) {
             return false;
         }
     }
@@ -69,7 +56,7 @@ fn adds_edited(new: &mut String, text: &str, number: usize, lines: &str, stays: 
 }
 
 /// Adds the changed text of a case. Returns whether there was room.
-fn adds_case(new: &mut String, case: &Case) -> bool {
+fn adds_case(new: &mut Vec<u8>, case: &Case) -> bool {
     let text = text_of(case.0);
     match case.1 {
         PutIn(number, lines) => adds_edited(new, text, number, lines, true),
@@ -77,37 +64,30 @@ fn adds_case(new: &mut String, case: &Case) -> bool {
     }
 }
 
-/// Returns whether a text has this verdict in version 2, in which it is written, and in version 1.
-fn is_judged_in_both(alloc: Global, text: &str, wanted: &Verdict) -> bool {
-    match in_version_1(alloc, text) {
+/// Asserts that the text of this row has this verdict in version 2, in which it is written, and in version 1.
+fn assert_in_both(rt: &(impl Abort + AllocGlobal), row: usize, text: &[u8], verdict: Verdict) {
+    match in_version_1(rt.alloc(), text) {
         Some(old) => {
-            is_judged(alloc, text.as_bytes(), *wanted) && is_judged(alloc, &old, *wanted)
+            assert_row(rt, row, &verdict_on(rt.alloc(), text), &Ok(verdict));
+            assert_row(rt, row, &verdict_on(rt.alloc(), &old), &Ok(verdict));
         }
-        None => false,
+        None => panic!(rt; "there is no memory for the text"),
     }
 }
 
-/// Returns whether a changed text is wrong where the case says, and for this cause, in each version.
-fn is_wrong(alloc: Global, case: &Case, cause: Cause) -> bool {
+/// Asserts that the changed text of this row is wrong at the line that its case says, for this cause, in each version.
+fn assert_wrong_case(rt: &(impl Abort + AllocGlobal), row: usize, case: &Case, cause: Cause) {
     let line = case.2;
-    let mut text = String::new(alloc);
-    adds_case(&mut text, case)
-        && is_judged_in_both(alloc, text.as_str(), &Verdict::Invalid { line, cause })
+    let mut text = Vec::new(rt.alloc());
+    assert_row(rt, row, &adds_case(&mut text, case), &true);
+    assert_in_both(rt, row, &text, Verdict::Invalid { line, cause });
 }
 
-/// Returns how many of these changed texts are wrong where their cases say, and for this cause, up to the first that is not.
-fn wrong(alloc: Global, cases: &[Case], cause: Cause) -> usize {
-    for place in 0..cases.len() {
-        if !is_wrong(alloc, &cases[place], cause) {
-            return place;
-        }
-    }
-    cases.len()
-}
-
-/// Asserts that each of these changed texts is wrong where its case says, and for this cause.
+/// Asserts that each of these changed texts is wrong at the line that its case says, and for this cause.
 fn assert_wrong(rt: &(impl Abort + AllocGlobal), cases: &[Case], cause: Cause) {
-    assert_rows(rt, wrong(rt.alloc(), cases, cause), cases.len());
+    for row in 0..cases.len() {
+        assert_wrong_case(rt, row, &cases[row], cause);
+    }
 }
 
 #[test]
@@ -128,7 +108,6 @@ fn traces_of_runs_are_valid(rt: HostRuntime) {
 
 #[test]
 fn traces_of_version_1_stay_valid(rt: HostRuntime) {
-    let alloc = rt.alloc();
     let one_lock = Verdict::Valid {
         requests: 1,
         messages: 2,
@@ -137,18 +116,8 @@ fn traces_of_version_1_stay_valid(rt: HostRuntime) {
         requests: 2,
         messages: 8,
     };
-    let one = is_judged_in_both(alloc, ONE_LOCK, &one_lock);
-    assert_so(
-        &rt,
-        "one lock is valid, with 1 request and its messages, in both versions",
-        one,
-    );
-    let two = is_judged_in_both(alloc, TWO_LOCKS, &two_locks);
-    assert_so(
-        &rt,
-        "two locks are valid, with 2 requests and 8 messages, in both versions",
-        two,
-    );
+    assert_in_both(&rt, 0, ONE_LOCK.as_bytes(), one_lock);
+    assert_in_both(&rt, 1, TWO_LOCKS.as_bytes(), two_locks);
 }
 
 /// What a client asks for at the first of two nodes, so that its second line is right in version 2.
@@ -194,18 +163,6 @@ fn each_line_is_judged_by_the_version_of_the_first(rt: HostRuntime) {
     assert_judged(&rt, ROWS);
 }
 
-/// Returns whether a trace of version 2 is wrong at this line in version 1, as that has no such line.
-fn is_newer(alloc: Global, text: &str, line: u64) -> bool {
-    let wanted = Verdict::Invalid {
-        line,
-        cause: Cause::Line,
-    };
-    match in_version_1(alloc, text) {
-        Some(old) => is_judged(alloc, &old, wanted),
-        None => false,
-    }
-}
-
 /// Texts of version 1 up to a line by which a message is repeated, also where it is not under way or a mark is due.
 const REPEATS_IN_1: &[Judged] = &[
     Invalid(
@@ -229,11 +186,20 @@ const REPEATS_IN_1: &[Judged] = &[
 #[test]
 fn version_1_has_no_repeats(rt: HostRuntime) {
     assert_judged(&rt, REPEATS_IN_1);
-    assert_so(
-        &rt,
-        "a repeat is read in version 2 and wrong at line 4 in version 1",
-        is_newer(rt.alloc(), REPEATED_REQUEST, 4),
-    );
+    // A trace of version 2 is wrong in version 1 at its first repeat.
+    let wrong = Verdict::Invalid {
+        line: 4,
+        cause: Cause::Line,
+    };
+    match in_version_1(rt.alloc(), REPEATED_REQUEST.as_bytes()) {
+        Some(old) => assert_row(
+            &rt,
+            REPEATS_IN_1.len(),
+            &verdict_on(rt.alloc(), &old),
+            &Ok(wrong),
+        ),
+        None => panic!(rt; "there is no memory for the text"),
+    }
 }
 
 /// Texts of version 2 that are wrong at a repeat, or after one.
@@ -373,27 +339,23 @@ const NOT_UNDER_WAY: &[Case] = &[
     Case(One, PutIn(5, "lose request 1 3 r X 1\n"), 5),
 ];
 
-/// Returns how many lengths have prefixes of a trace that are wrong at the line that is not whole, from 0 up to the first that is not so,
-/// or to that of the trace.
-fn wrong_prefixes(alloc: Global, text: &[u8]) -> usize {
+/// Asserts that each prefix of a trace, from 0 bytes up, is wrong at the line that is not whole.
+fn assert_prefixes_wrong(rt: &(impl Abort + AllocGlobal), text: &[u8]) {
     let mut line = 1u64;
     for length in 0..text.len() {
         let cause = Cause::Line;
-        if !is_judged(alloc, &text[..length], Verdict::Invalid { line, cause }) {
-            return length;
-        }
+        let verdict = verdict_on(rt.alloc(), &text[..length]);
+        assert_row(rt, length, &verdict, &Ok(Verdict::Invalid { line, cause }));
         if text[length] == b'\n' {
             line = line.wrapping_add(1);
         }
     }
-    text.len()
 }
 
 #[test]
 fn no_prefix_of_a_trace_is_valid(rt: HostRuntime) {
-    for text in [ONE_LOCK, REPEATED_REQUEST] {
-        assert_rows(&rt, wrong_prefixes(rt.alloc(), text.as_bytes()), text.len());
-    }
+    assert_prefixes_wrong(&rt, ONE_LOCK.as_bytes());
+    assert_prefixes_wrong(&rt, REPEATED_REQUEST.as_bytes());
 }
 
 const NO_LINES: &[Case] = &[

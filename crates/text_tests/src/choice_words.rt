@@ -1,30 +1,21 @@
 //! How lists of choices are read, and which words are no choices.
-use crate::helpers::assert_rows;
+use crate::asserting::assert_row;
 use ra_schedule::{Choice, Choices};
 use ra_script::{ChoicesError, read_choices};
 use std::alloc::Global;
+use std::process::Abort;
 
 /// Returns what `read_choices` answers.
 pub fn choices_of(alloc: Global, text: &str) -> Result<Choices, ChoicesError> {
     read_choices(alloc, text)
 }
 
-/// Returns whether a text is read as these choices.
-fn is_read(alloc: Global, text: &str, wanted: &[Choice]) -> bool {
-    match choices_of(alloc, text) {
-        Ok(choices) => choices.as_slice() == wanted,
-        Err(_) => false,
+/// Asserts that a text is read as these choices, in the row with this number.
+fn assert_read(rt: &(impl Abort + AllocGlobal), row: usize, text: &str, expected: &[Choice]) {
+    match choices_of(rt.alloc(), text) {
+        Ok(choices) => assert_row(rt, row, &choices.as_slice(), &expected),
+        Err(fault) => assert_row(rt, row, &Some(fault), &None),
     }
-}
-
-/// Returns how many texts are read as the choices beside them, up to the first that is not.
-fn are_read(alloc: Global, rows: &[(&str, &[Choice])]) -> usize {
-    for place in 0..rows.len() {
-        if !is_read(alloc, rows[place].0, rows[place].1) {
-            return place;
-        }
-    }
-    rows.len()
 }
 
 #[test]
@@ -41,7 +32,9 @@ fn choices_are_read_in_order(rt: HostRuntime) {
             ],
         ),
     ];
-    assert_rows(&rt, are_read(rt.alloc(), ROWS), ROWS.len());
+    for row in 0..ROWS.len() {
+        assert_read(&rt, row, ROWS[row].0, ROWS[row].1);
+    }
 }
 
 const NO_CHOICES: &[&str] = &[
@@ -69,22 +62,10 @@ const NO_CHOICES: &[&str] = &[
     "c١",
 ];
 
-/// Returns whether a text is refused as no list of choices.
-fn is_no_choice(alloc: Global, text: &str) -> bool {
-    choices_of(alloc, text).err() == Some(ChoicesError::Choice)
-}
-
-/// Returns how many of these texts are no lists of choices, up to the first that is one.
-fn no_choices(alloc: Global, texts: &[&str]) -> usize {
-    for place in 0..texts.len() {
-        if !is_no_choice(alloc, texts[place]) {
-            return place;
-        }
-    }
-    texts.len()
-}
-
 #[test]
 fn other_words_are_no_choices(rt: HostRuntime) {
-    assert_rows(&rt, no_choices(rt.alloc(), NO_CHOICES), NO_CHOICES.len());
+    for row in 0..NO_CHOICES.len() {
+        let fault = choices_of(rt.alloc(), NO_CHOICES[row]).err();
+        assert_row(&rt, row, &fault, &Some(ChoicesError::Choice));
+    }
 }

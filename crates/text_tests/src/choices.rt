@@ -1,11 +1,12 @@
 //! How lists of choices are written, and which ones have no text.
-use crate::asserting::assert_so;
-use crate::helpers::{ONE_LOCK_SCRIPT, assert_rows, failing};
+use crate::asserting::{assert_row, assert_so};
+use crate::helpers::{ONE_LOCK_SCRIPT, failing};
 use crate::performing::{performed, reader_of};
 use Choice::{Client, Lost, Message, Repeated};
 use ra_schedule::{Choice, Choices, Faults, Policy};
 use ra_script::{ChoicesError, Format, PerformError, choices_text};
 use std::alloc::Global;
+use std::process::Abort;
 use test_support::FailingWriter;
 
 /// Makes a list of choices, or `None` where there is no memory for it.
@@ -17,25 +18,20 @@ fn listed(alloc: Global, choices: &[Choice]) -> Option<Choices> {
     Some(list)
 }
 
-/// Returns whether this is how choices are written.
-fn is_written(alloc: Global, choices: &[Choice], text: &str) -> bool {
-    let Some(list) = listed(alloc, choices) else {
-        return false;
-    };
-    match choices_text(alloc, &list) {
-        Ok(written) => written.as_str() == text,
-        Err(_) => false,
+/// Returns how choices are written.
+fn written(alloc: Global, choices: &[Choice]) -> Result<String, ChoicesError> {
+    match listed(alloc, choices) {
+        Some(list) => choices_text(alloc, &list),
+        None => Err(ChoicesError::Memory),
     }
 }
 
-/// Returns how many lists are written as is said beside them, up to the first that is not.
-fn are_written(alloc: Global, rows: &[(&[Choice], &str)]) -> usize {
-    for place in 0..rows.len() {
-        if !is_written(alloc, rows[place].0, rows[place].1) {
-            return place;
-        }
+/// Asserts that this is how choices are written, in the row with this number.
+fn assert_written(rt: &(impl Abort + AllocGlobal), row: usize, choices: &[Choice], text: &str) {
+    match written(rt.alloc(), choices) {
+        Ok(written) => assert_row(rt, row, &written.as_str(), &text),
+        Err(fault) => assert_row(rt, row, &Some(fault), &None),
     }
-    rows.len()
 }
 
 #[test]
@@ -49,25 +45,9 @@ fn choices_are_written_in_order(rt: HostRuntime) {
             "c1 m0 l12 c999999999",
         ),
     ];
-    assert_rows(&rt, are_written(rt.alloc(), ROWS), ROWS.len());
-}
-
-/// Returns whether choices have no text.
-fn is_wordless(alloc: Global, choices: &[Choice]) -> bool {
-    match listed(alloc, choices) {
-        Some(list) => matches!(choices_text(alloc, &list), Err(ChoicesError::Choice)),
-        None => false,
+    for row in 0..ROWS.len() {
+        assert_written(&rt, row, ROWS[row].0, ROWS[row].1);
     }
-}
-
-/// Returns how many of these lists have no text, up to the first that has one.
-fn are_wordless(alloc: Global, rows: &[&[Choice]]) -> usize {
-    for place in 0..rows.len() {
-        if !is_wordless(alloc, rows[place]) {
-            return place;
-        }
-    }
-    rows.len()
 }
 
 #[test]
@@ -79,7 +59,10 @@ fn repeats_and_ten_digits_have_no_text(rt: HostRuntime) {
         &[Message(1_000_000_000), Client(1)],
         &[Lost(18_446_744_073_709_551_615)],
     ];
-    assert_rows(&rt, are_wordless(rt.alloc(), ROWS), ROWS.len());
+    for row in 0..ROWS.len() {
+        let fault = written(rt.alloc(), ROWS[row]).err();
+        assert_row(&rt, row, &fault, &Some(ChoicesError::Choice));
+    }
 }
 
 /// Performs a script by chance that repeats 400 of 1,000 messages, by a seed, and returns why its choices are not written, or `None` where

@@ -1,10 +1,10 @@
 //! What `ra_explain` tells a person about scripts, about choices, and about runs and their ends.
-use crate::asserting::assert_so;
 use crate::helpers::ONE_LOCK_SCRIPT;
 use crate::notes::Asked::{Choice, Kept, Order, Unfinished};
-use crate::notes::{Note, assert_said, is_said, said_of_run};
+use crate::notes::{Note, assert_said, assert_told, said_of_run};
 use ra_schedule::{Choices, Policy};
 use std::alloc::Global;
+use std::process::Abort;
 
 /// Two clients at two nodes that lock two names in opposite orders.
 pub const A_DEADLOCK: &str = r#"nodes = 2
@@ -119,22 +119,20 @@ fn copied(alloc: Global) -> Option<Policy> {
     Some(Policy::Listed(choices))
 }
 
-/// Returns whether it is said that only messages are left.
-fn leaves_messages(alloc: Global) -> bool {
-    let text = "the run did not finish: all operations are done, but messages are under way";
-    match copied(alloc) {
-        Some(policy) => { is_said(said_of_run(alloc, ONE_LOCK_SCRIPT, &policy), text) }
-        None => false,
-    }
-}
-
 #[test]
 fn messages_that_are_left_are_said(rt: HostRuntime) {
-    assert_so(
-        &rt,
-        "the messages that a run leaves under way are said",
-        leaves_messages(rt.alloc()),
-    );
+    let text = "the run did not finish: all operations are done, but messages are under way";
+    match copied(rt.alloc()) {
+        Some(policy) => {
+            assert_told(
+                &rt,
+                0,
+                said_of_run(rt.alloc(), ONE_LOCK_SCRIPT, &policy),
+                text,
+            )
+        }
+        None => panic!(rt; "there is no memory for the choices"),
+    }
 }
 
 /// Choices that can't be made, and some that can.

@@ -11,6 +11,7 @@ use crate::notes::Asked::{
 use crate::notes::{Note, Told, said};
 use crate::performing::{performed, reader_of, text_of};
 use crate::pictures::{drawn_marks_to, drawn_to};
+use crate::readers::Way;
 use crate::script_cases::script_of;
 use crate::{log_readers, readers};
 use ra_draw::{DrawError, Part};
@@ -32,7 +33,7 @@ fn tried_if(good: bool) -> Tried {
 }
 
 /// Checks a trace. If that is refused, returns whether memory ran out.
-fn try_check(alloc: Global, way: readers::Way) -> Result<Tried, bool> {
+fn try_check(alloc: Global, way: Way) -> Result<Tried, bool> {
     let valid = Verdict::Valid {
         requests: 1,
         messages: 2,
@@ -44,7 +45,7 @@ fn try_check(alloc: Global, way: readers::Way) -> Result<Tried, bool> {
 }
 
 /// Checks a mark log. If that is refused, returns whether memory ran out.
-fn try_log(alloc: Global, way: log_readers::Way) -> Result<Tried, bool> {
+fn try_log(alloc: Global, way: Way) -> Result<Tried, bool> {
     let valid = MarksVerdict::Valid {
         requests: 2,
         grants: 2,
@@ -57,15 +58,12 @@ fn try_log(alloc: Global, way: log_readers::Way) -> Result<Tried, bool> {
 
 /// Checks a trace and a mark log, with a limit and without.
 fn try_checks(alloc: Global) -> Tried {
-    let (whole, limited) = (readers::Way::InPieces(64), readers::Way::Within(140));
+    let (whole, limited) = (Way::InPieces(64), Way::Within(140));
     let traces = both(
         again(try_check(alloc, whole), try_check(alloc, whole)),
         again(try_check(alloc, limited), try_check(alloc, limited)),
     );
-    let (whole, limited) = (
-        log_readers::Way::InPieces(64),
-        log_readers::Way::Within(100),
-    );
+    let limited = Way::Within(100);
     let logs = both(
         again(try_log(alloc, whole), try_log(alloc, whole)),
         again(try_log(alloc, limited), try_log(alloc, limited)),

@@ -1,5 +1,6 @@
 //! What several files of tests use.
-use crate::readers::{Way, checked_text};
+use crate::asserting::assert_row;
+use crate::readers::{Checked, Way, checked_text};
 use ra_stamp::Name;
 use ra_trace::{Cause, Verdict};
 use std::alloc::Global;
@@ -69,10 +70,10 @@ end
 ";
 
 /// Returns a trace of version 2 as one of version 1, and any other text as it is.
-pub fn in_version_1(alloc: Global, text: &str) -> Option<Vec<u8>> {
-    match text.strip_prefix("trace 2 ") {
-        Some(rest) => text_of(alloc, &[Part::Text("trace 1 "), Part::Text(rest)]),
-        None => text_of(alloc, &[Part::Text(text)]),
+pub fn in_version_1(alloc: Global, text: &[u8]) -> Option<Vec<u8>> {
+    match text.strip_prefix(b"trace 2 ") {
+        Some(rest) => text_of(alloc, &[Part::Text("trace 1 "), Part::Times(rest, 1)]),
+        None => text_of(alloc, &[Part::Times(text, 1)]),
     }
 }
 
@@ -118,7 +119,7 @@ fn adds_part(text: &mut Vec<u8>, part: Part<'_>) -> bool {
 }
 
 /// Adds these parts to a text. Returns whether there was room.
-fn adds_parts(text: &mut Vec<u8>, parts: &[Part<'_>]) -> bool {
+pub fn adds_parts(text: &mut Vec<u8>, parts: &[Part<'_>]) -> bool {
     for part in parts {
         if !adds_part(text, *part) {
             return false;
@@ -137,21 +138,9 @@ pub fn text_of(alloc: Global, parts: &[Part<'_>]) -> Option<Vec<u8>> {
     }
 }
 
-/// Returns whether a text has this verdict.
-pub fn is_judged(alloc: Global, text: &[u8], wanted: Verdict) -> bool {
-    match checked_text(alloc, text, Way::InPieces(64)) {
-        Ok(verdict) => verdict == wanted,
-        Err(_) => false,
-    }
-}
-
-/// Returns whether a text is a trace, with so many requests and messages.
-pub fn is_valid(alloc: Global, text: &str, requests: u128, messages: u128) -> bool {
-    is_judged(
-        alloc,
-        text.as_bytes(),
-        Verdict::Valid { requests, messages },
-    )
+/// Returns the verdict on a text.
+pub fn verdict_on(alloc: Global, text: &[u8]) -> Checked {
+    checked_text(alloc, text, Way::InPieces(64))
 }
 
 /// A text and its verdict.
@@ -163,29 +152,25 @@ pub enum Judged<'a> {
     Invalid(&'a str, u64, Cause),
 }
 
-/// Returns whether a text has its verdict.
-fn is_so(alloc: Global, row: Judged<'_>) -> bool {
+/// Returns the text of a row, and its verdict.
+fn verdict_of(row: Judged<'_>) -> (&str, Verdict) {
     match row {
-        Judged::Valid(text, requests, messages) => is_valid(alloc, text, requests, messages),
-        Judged::Invalid(text, line, cause) => {
-            is_judged(alloc, text.as_bytes(), Verdict::Invalid { line, cause })
-        }
+        Judged::Valid(text, requests, messages) => (text, Verdict::Valid { requests, messages }),
+        Judged::Invalid(text, line, cause) => (text, Verdict::Invalid { line, cause }),
     }
-}
-
-/// Returns how many texts have their verdicts, up to the first that has not.
-fn judged_so(alloc: Global, rows: &[Judged<'_>]) -> usize {
-    for place in 0..rows.len() {
-        if !is_so(alloc, rows[place]) {
-            return place;
-        }
-    }
-    rows.len()
 }
 
 /// Asserts that each of these texts has its verdict.
 pub fn assert_judged(rt: &(impl Abort + AllocGlobal), rows: &[Judged<'_>]) {
-    assert_rows(rt, judged_so(rt.alloc(), rows), rows.len());
+    for row in 0..rows.len() {
+        let (text, verdict) = verdict_of(rows[row]);
+        assert_row(
+            rt,
+            row,
+            &verdict_on(rt.alloc(), text.as_bytes()),
+            &Ok(verdict),
+        );
+    }
 }
 
 /// Asserts that each of so many rows is so, where so many are so up to the first that is not.

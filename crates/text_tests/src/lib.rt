@@ -1,10 +1,20 @@
-//! Tests of `ra_trace`, `ra_draw`, `ra_script` and `ra_explain` through their public calls.
+//! Tests of `ra_text`, `ra_trace`, `ra_draw`, `ra_script`, `ra_explain`, `ra_book` and `ra_settle` through their public calls.
 #![tactic(auto)]
 
 #[cfg(test)]
 mod acts;
 #[cfg(test)]
 mod asserting;
+#[cfg(test)]
+mod book_answers;
+#[cfg(test)]
+mod book_prefixes;
+#[cfg(test)]
+mod book_refusals;
+#[cfg(test)]
+mod book_streams;
+#[cfg(test)]
+mod books;
 #[cfg(test)]
 mod checks;
 #[cfg(test)]
@@ -20,6 +30,8 @@ mod explained_runs;
 #[cfg(test)]
 mod growth;
 #[cfg(test)]
+mod growth_of_books;
+#[cfg(test)]
 mod hand_overs;
 #[cfg(test)]
 mod helpers;
@@ -27,6 +39,8 @@ mod helpers;
 mod lines;
 #[cfg(test)]
 mod log_readers;
+#[cfg(test)]
+mod long_books;
 #[cfg(test)]
 mod mark_logs;
 #[cfg(test)]
@@ -51,6 +65,10 @@ mod script_cases;
 mod script_clients;
 #[cfg(test)]
 mod scripts;
+#[cfg(test)]
+mod settled_books;
+#[cfg(test)]
+mod settled_nodes;
 #[cfg(test)]
 mod traces;
 #[cfg(test)]

@@ -1,18 +1,11 @@
 //! Texts that begin with no line of a trace.
+use crate::asserting::assert_row;
 use crate::helpers::Part::{Text, Times};
-use crate::helpers::{assert_rows, is_judged, text_of};
-use ra_trace::{Cause, Verdict};
+use crate::helpers::{text_of, verdict_on};
+use crate::readers::Checked;
+use ra_trace::{Cause, TraceError, Verdict};
 use std::alloc::Global;
 use std::process::Abort;
-
-/// Returns whether no line that may stand there begins this text.
-fn is_wrong_at(alloc: Global, text: &[u8], line: u64) -> bool {
-    let wanted = Verdict::Invalid {
-        line,
-        cause: Cause::Line,
-    };
-    is_judged(alloc, text, wanted)
-}
 
 /// The line feed is missing, or comes too early.
 const TORN: &[&[u8]] = &[b"", b"end", b"\n", b"\nend\n", b"ask 1 1 r\n X\n"];
@@ -135,55 +128,60 @@ const NEWER: &[&[u8]] = &[
     b"leave 1 1 r IX 1\n",
 ];
 
-/// Returns whether no line begins this text after this one, the first.
-fn is_none_behind(alloc: Global, first: &str, text: &[u8]) -> bool {
-    match text_of(alloc, &[Text(first), Times(text, 1)]) {
-        Some(behind) => is_wrong_at(alloc, &behind, 2),
-        None => false,
-    }
-}
-
 /// The first line of a trace of each version, with as many nodes as there may be.
 const FIRST: &str = "trace 1 16 0\n";
 
 const SECOND: &str = "trace 2 64 0\n";
 
-/// Returns whether no line begins this text, neither as the first one nor after the first one of each version.
-fn is_no_line(alloc: Global, text: &[u8]) -> bool {
-    is_wrong_at(alloc, text, 1)
-        && is_none_behind(alloc, FIRST, text)
-        && is_none_behind(alloc, SECOND, text)
+/// The verdict on a text of which this line is none.
+const fn wrong_at(line: u64) -> Checked {
+    Ok(Verdict::Invalid {
+        line,
+        cause: Cause::Line,
+    })
 }
 
-/// Returns how many of these texts begin with a line of version 2 and with none of version 1, up to the first that does not.
-fn newer_lines(alloc: Global, texts: &[&[u8]]) -> usize {
-    for place in 0..texts.len() {
-        let text = texts[place];
-        if !is_none_behind(alloc, FIRST, text) || is_none_behind(alloc, SECOND, text) {
-            return place;
-        }
+/// Returns the verdict on a text after this line, the first.
+fn verdict_behind(alloc: Global, first: &str, text: &[u8]) -> Checked {
+    match text_of(alloc, &[Text(first), Times(text, 1)]) {
+        Some(behind) => verdict_on(alloc, &behind),
+        None => Err(TraceError::Memory),
     }
-    texts.len()
 }
 
+/// Asserts that no line begins the text of this row, neither as the first one nor after the first one of each version.
+fn assert_no_line(rt: &(impl Abort + AllocGlobal), row: usize, text: &[u8]) {
+    assert_row(rt, row, &verdict_on(rt.alloc(), text), &wrong_at(1));
+    assert_row(
+        rt,
+        row,
+        &verdict_behind(rt.alloc(), FIRST, text),
+        &wrong_at(2),
+    );
+    assert_row(
+        rt,
+        row,
+        &verdict_behind(rt.alloc(), SECOND, text),
+        &wrong_at(2),
+    );
+}
+
+/// Each begins with a line of version 2 and with none of version 1.
 #[test]
 fn version_1_has_fewer_nodes_and_modes_and_no_repeats(rt: HostRuntime) {
-    assert_rows(&rt, newer_lines(rt.alloc(), NEWER), NEWER.len());
-}
-
-/// Returns how many of these texts begin with no line, up to the first that does.
-fn no_lines(alloc: Global, texts: &[&[u8]]) -> usize {
-    for place in 0..texts.len() {
-        if !is_no_line(alloc, texts[place]) {
-            return place;
-        }
+    for row in 0..NEWER.len() {
+        let old = verdict_behind(rt.alloc(), FIRST, NEWER[row]);
+        assert_row(&rt, row, &old, &wrong_at(2));
+        let is_wrong = verdict_behind(rt.alloc(), SECOND, NEWER[row]) == wrong_at(2);
+        assert_row(&rt, row, &is_wrong, &false);
     }
-    texts.len()
 }
 
 /// Asserts that none of the texts begins with a line.
 fn assert_no_lines(rt: &(impl Abort + AllocGlobal), texts: &[&[u8]]) {
-    assert_rows(rt, no_lines(rt.alloc(), texts), texts.len());
+    for row in 0..texts.len() {
+        assert_no_line(rt, row, texts[row]);
+    }
 }
 
 #[test]
@@ -199,28 +197,28 @@ fn numbers_names_and_modes_are_as_they_are_written(rt: HostRuntime) {
     assert_no_lines(&rt, NAMES);
 }
 
-/// Returns whether these words and 100,000 times this byte are no line.
-fn long_line_is_none(alloc: Global, words: &'static [u8], byte: &'static [u8]) -> bool {
-    match text_of(alloc, &[Times(words, 1), Times(byte, 100_000), Text("\n")]) {
-        Some(line) => is_no_line(alloc, &line),
-        None => false,
+/// Asserts that the words of this row and 100,000 times this byte are no line.
+fn assert_no_long_line<'a>(
+    rt: &(impl Abort + AllocGlobal),
+    row: usize,
+    words: &'a [u8],
+    byte: &'a [u8],
+) {
+    match text_of(
+        rt.alloc(),
+        &[Times(words, 1), Times(byte, 100_000), Text("\n")],
+    ) {
+        Some(line) => assert_no_line(rt, row, &line),
+        None => panic!(rt; "there is no memory for the line"),
     }
-}
-
-/// Returns after how many of these words 100,000 times this byte are no line, up to the first where they are one.
-fn no_long_lines(alloc: Global, words: &[&'static [u8]], byte: &'static [u8]) -> usize {
-    for place in 0..words.len() {
-        if !long_line_is_none(alloc, words[place], byte) {
-            return place;
-        }
-    }
-    words.len()
 }
 
 #[test]
 fn a_long_line_is_refused(rt: HostRuntime) {
     const WORDS: &[&[u8]] = &[b"", b"ask ", b"trace 1 2 ", b"ask 1 1 "];
-    assert_rows(&rt, no_long_lines(rt.alloc(), WORDS, b"1"), WORDS.len());
-    assert_rows(&rt, no_long_lines(rt.alloc(), WORDS, b" "), WORDS.len());
-    assert_rows(&rt, no_long_lines(rt.alloc(), WORDS, b"a"), WORDS.len());
+    for row in 0..WORDS.len() {
+        assert_no_long_line(&rt, row, WORDS[row], b"1");
+        assert_no_long_line(&rt, row, WORDS[row], b" ");
+        assert_no_long_line(&rt, row, WORDS[row], b"a");
+    }
 }

@@ -1,6 +1,8 @@
 //! How far `check_marks` and `check_marks_buffered` read, and how they treat readers that fail or give a log in pieces.
-use crate::helpers::{Part, assert_rows, text_of};
+use crate::asserting::assert_row;
+use crate::helpers::{Part, text_of};
 use crate::mark_logs::{BOTH_INSIDE, TWO_WRITERS, TWO_WRITERS_LENGTH};
+use crate::readers::{Way, reader};
 use ErrorKind::{BrokenPipe, Interrupted, WouldBlock};
 use Part::{Text, Times};
 use Way::{Failing, InPieces, Within};
@@ -15,34 +17,8 @@ use test_support::FailingReader;
 /// The result of checking a log.
 pub type Checked = Result<MarksVerdict, TraceError>;
 
-/// How a log is read.
-#[derive(Clone, Copy)]
-pub enum Way {
-    /// In pieces of this many bytes.
-    InPieces(usize),
-    /// Byte by byte, from a reader that fails with this error after this many bytes.
-    Failing(usize, ErrorKind),
-    /// Within this limit.
-    Within(u8),
-}
-
 /// The parts of a log, how it is read, the result, and how many of its bytes are taken.
 struct Case(&'static [Part<'static>], Way, Checked, usize);
-
-/// Returns a reader of a log.
-fn reader(log: &[u8], way: Way) -> FailingReader<'_> {
-    let (size, before_fault, fault) = match way {
-        InPieces(size) => (size, None, Interrupted),
-        Failing(before_fault, fault) => (1, Some(before_fault), fault),
-        Within(_) => (64, None, Interrupted),
-    };
-    FailingReader {
-        bytes: log,
-        size,
-        before_fault,
-        fault,
-    }
-}
 
 /// Returns the result of checking what a reader gives.
 fn checked(alloc: Global, reader: &mut FailingReader<'_>, way: Way) -> Checked {
@@ -65,36 +41,32 @@ fn checked_shown(alloc: Global, reader: &mut FailingReader<'_>, way: Way) -> Che
     }
 }
 
-/// Returns whether checking a log has this result and takes this many of its bytes, both by reads and from a buffer.
-fn comes(alloc: Global, log: &[u8], way: Way, wanted: &Checked, taken: usize) -> bool {
+/// Asserts that checking the log of this row has this result and takes this many of its bytes, both by reads and from a buffer.
+fn assert_comes(
+    rt: &(impl Abort + AllocGlobal),
+    row: usize,
+    log: &[u8],
+    way: Way,
+    wanted: &Checked,
+    taken: usize,
+) {
     let (mut given, mut shown) = (reader(log, way), reader(log, way));
-    checked(alloc, &mut given, way) == *wanted
-        && checked_shown(alloc, &mut shown, way) == *wanted
-        && log.len().checked_sub(given.bytes.len()) == Some(taken)
-        && shown.bytes == given.bytes
-}
-
-/// Returns whether a case holds.
-fn is_so(alloc: Global, case: &Case) -> bool {
-    match text_of(alloc, case.0) {
-        Some(log) => comes(alloc, &log, case.1, &case.2, case.3),
-        None => false,
-    }
-}
-
-/// Returns how many cases hold, up to the first that does not.
-fn are_so(alloc: Global, cases: &[Case]) -> usize {
-    for place in 0..cases.len() {
-        if !is_so(alloc, &cases[place]) {
-            return place;
-        }
-    }
-    cases.len()
+    assert_row(rt, row, &checked(rt.alloc(), &mut given, way), wanted);
+    assert_row(rt, row, &checked_shown(rt.alloc(), &mut shown, way), wanted);
+    let left = log.len().checked_sub(taken);
+    assert_row(rt, row, &Some(given.bytes.len()), &left);
+    assert_row(rt, row, &Some(shown.bytes.len()), &left);
 }
 
 /// Asserts that each case holds.
 fn assert_cases(rt: &(impl Abort + AllocGlobal), cases: &[Case]) {
-    assert_rows(rt, are_so(rt.alloc(), cases), cases.len());
+    for row in 0..cases.len() {
+        let case = &cases[row];
+        match text_of(rt.alloc(), case.0) {
+            Some(log) => assert_comes(rt, row, &log, case.1, &case.2, case.3),
+            None => panic!(rt; "there is no memory for the text"),
+        }
+    }
 }
 
 /// The result for two writers, one after the other.
@@ -114,25 +86,21 @@ fn the_pieces_of_a_log_do_not_matter(rt: HostRuntime) {
     assert_cases(&rt, CASES);
 }
 
-/// Returns at how many byte positions of a log, from 0 up to the first exception, a reader's fault is reported and the
-/// reader is not tried again.
-fn not_tried_again(alloc: Global, fault: ErrorKind) -> usize {
+/// Asserts that a reader's fault is reported at each byte of a log, from 0 up, and that the reader is not tried again.
+fn assert_not_tried_again(rt: &(impl Abort + AllocGlobal), fault: ErrorKind) {
     for taken in 0..=TWO_WRITERS_LENGTH {
         let (log, way) = (TWO_WRITERS.as_bytes(), Failing(taken, fault));
-        if !comes(alloc, log, way, &Err(TraceError::Read), taken) {
-            return taken;
-        }
+        assert_comes(rt, taken, log, way, &Err(TraceError::Read), taken);
     }
-    TWO_WRITERS_LENGTH + 1
 }
 
 /// Faults after which other readers would try again, and one after which they would not.
 #[test]
 fn a_reader_of_a_log_that_failed_is_not_tried_again(rt: HostRuntime) {
-    let (alloc, count) = (rt.alloc(), TWO_WRITERS.len() + 1);
-    assert_rows(&rt, not_tried_again(alloc, Interrupted), count);
-    assert_rows(&rt, not_tried_again(alloc, WouldBlock), count);
-    assert_rows(&rt, not_tried_again(alloc, BrokenPipe), count);
+    assert_row(&rt, 0, &TWO_WRITERS.len(), &TWO_WRITERS_LENGTH);
+    assert_not_tried_again(&rt, Interrupted);
+    assert_not_tried_again(&rt, WouldBlock);
+    assert_not_tried_again(&rt, BrokenPipe);
 }
 
 #[test]

@@ -1,9 +1,10 @@
 //! What `check_marks` says of the log of a lock service.
+use crate::asserting::assert_row;
 use crate::helpers::assert_rows;
-use crate::log_readers::{Way, checked_text};
+use crate::log_readers::checked_text;
+use crate::readers::Way;
 use Judged::{Invalid, Valid};
 use ra_trace::{MarkCause, MarksVerdict};
-use std::alloc::Global;
 use std::process::Abort;
 use test_support::printed;
 
@@ -16,37 +17,21 @@ enum Judged {
     Invalid(&'static str, u64, MarkCause),
 }
 
-/// Returns whether a log has this verdict.
-fn is_judged(alloc: Global, log: &str, wanted: MarksVerdict) -> bool {
-    match checked_text(alloc, log.as_bytes(), Way::InPieces(64)) {
-        Ok(verdict) => verdict == wanted,
-        Err(_) => false,
-    }
-}
-
-/// Returns whether a log has its verdict.
-fn is_so(alloc: Global, row: Judged) -> bool {
+/// Returns the log of a row, and its verdict.
+fn verdict_of(row: Judged) -> (&'static str, MarksVerdict) {
     match row {
-        Valid(log, requests, grants) => {
-            is_judged(alloc, log, MarksVerdict::Valid { requests, grants })
-        }
-        Invalid(log, line, cause) => is_judged(alloc, log, MarksVerdict::Invalid { line, cause }),
+        Valid(log, requests, grants) => (log, MarksVerdict::Valid { requests, grants }),
+        Invalid(log, line, cause) => (log, MarksVerdict::Invalid { line, cause }),
     }
-}
-
-/// Returns how many logs have their verdicts, up to the first that has not.
-fn judged_so(alloc: Global, rows: &[Judged]) -> usize {
-    for place in 0..rows.len() {
-        if !is_so(alloc, rows[place]) {
-            return place;
-        }
-    }
-    rows.len()
 }
 
 /// Asserts that each of these logs has its verdict.
 fn assert_judged(rt: &(impl Abort + AllocGlobal), rows: &[Judged]) {
-    assert_rows(rt, judged_so(rt.alloc(), rows), rows.len());
+    for row in 0..rows.len() {
+        let (log, verdict) = verdict_of(rows[row]);
+        let came = checked_text(rt.alloc(), log.as_bytes(), Way::InPieces(64));
+        assert_row(rt, row, &came, &Ok(verdict));
+    }
 }
 
 /// One writer after the other.

@@ -1,6 +1,6 @@
 //! What `ra_explain` and `ra_script` tell a person: what is asked of them, and what is to be said.
+use crate::asserting::assert_row;
 use crate::choice_words::choices_of;
-use crate::helpers::assert_rows;
 use Asked::{Choice, Digits, Field, Frame, Kept, Line, Order, Script, Unanswered, Unfinished};
 use ra_explain::{
     LineCause, choices_note, digits_note, frame_note, line_note, order_note, script_end_note,
@@ -122,29 +122,21 @@ pub fn said(alloc: Global, asked: Asked) -> Told {
     }
 }
 
-/// Returns whether this text is said, or nothing if the text is empty.
-pub fn is_said(said: Told, text: &str) -> bool {
+/// Asserts that this text is said, or nothing if the text is empty, of the row with this number, from 0 up.
+pub fn assert_told(rt: &impl Abort, row: usize, said: Told, text: &str) {
     match said {
-        Ok(Some(note)) => note.as_str() == text,
-        Ok(None) => text.is_empty(),
-        Err(Memory) => false,
+        Ok(Some(note)) => assert_row(rt, row, &note.as_str(), &text),
+        Ok(None) => assert_row(rt, row, &"", &text),
+        Err(Memory) => assert_row(rt, row, &"no memory", &text),
     }
 }
 
 /// What is asked about, and what is to be said, or nothing if the text is empty.
 pub struct Note(pub Asked, pub &'static str);
 
-/// Returns of how many rows the right text is said, up to the first of which it is not.
-fn said_so(alloc: Global, notes: &[Note]) -> usize {
-    for place in 0..notes.len() {
-        if !is_said(said(alloc, notes[place].0), notes[place].1) {
-            return place;
-        }
-    }
-    notes.len()
-}
-
 /// Asserts that the right text is said of each row.
 pub fn assert_said(rt: &(impl Abort + AllocGlobal), notes: &[Note]) {
-    assert_rows(rt, said_so(rt.alloc(), notes), notes.len());
+    for row in 0..notes.len() {
+        assert_told(rt, row, said(rt.alloc(), notes[row].0), notes[row].1);
+    }
 }

@@ -1,11 +1,13 @@
 //! How a script is performed: as its trace, by readers that fail while it is read, and by writers that fail while its text is written.
-use crate::asserting::assert_so;
-use crate::helpers::{ONE_LOCK, ONE_LOCK_LENGTH, ONE_LOCK_SCRIPT, assert_rows, failing};
+use crate::acts::assert_whole;
+use crate::asserting::assert_row;
+use crate::helpers::{ONE_LOCK, ONE_LOCK_LENGTH, ONE_LOCK_SCRIPT, failing};
 use Format::{Choices, Lines, Trace};
 use ra_schedule::Policy;
 use ra_script::{Format, PerformError, perform, perform_as, perform_trace};
 use std::alloc::Global;
 use std::io;
+use std::process::Abort;
 use test_support::{FailingReader, FailingWriter};
 
 /// The lines of the run of which the trace is [`ONE_LOCK`].
@@ -83,124 +85,75 @@ fn fault_of(
     performed(alloc, reader, writer, format, &Policy::Oldest).err()
 }
 
-/// Returns whether the fault of a reader after this many bytes is named, and no byte is read after it and none written.
-fn fails_to_read(alloc: Global, format: Format, before_fault: usize) -> bool {
-    let mut reader = script_reader(Some(before_fault));
-    let mut writer = failing("", 1000, None);
-    fault_of(alloc, &mut reader, &mut writer, format) == Some(PerformError::Read)
-        && ONE_LOCK_SCRIPT.len().checked_sub(reader.bytes.len()) == Some(before_fault)
-        && !writer.differs
-}
-
-/// Returns after how many bytes of the script the fault of a reader is named, from 0 up to the first where it is not.
-fn named_when_read(alloc: Global, format: Format) -> usize {
+/// Asserts that the fault of a reader after each number of bytes is named, and no byte is read after it and none written.
+fn assert_unread(rt: &(impl Abort + AllocGlobal), format: Format) {
     for before_fault in 0..=ONE_LOCK_SCRIPT.len() {
-        if !fails_to_read(alloc, format, before_fault) {
-            return before_fault;
-        }
+        let mut reader = script_reader(Some(before_fault));
+        let mut writer = failing("", 1000, None);
+        let fault = fault_of(rt.alloc(), &mut reader, &mut writer, format);
+        assert_row(rt, before_fault, &fault, &Some(PerformError::Read));
+        let taken = ONE_LOCK_SCRIPT.len().checked_sub(reader.bytes.len());
+        assert_row(rt, before_fault, &taken, &Some(before_fault));
+        assert_row(rt, before_fault, &writer.differs, &false);
     }
-    ONE_LOCK_SCRIPT.len().wrapping_add(1)
 }
 
+/// A row is here the number of bytes before the fault.
 #[test]
 fn a_reader_that_fails_behind_any_byte_is_a_fault(rt: HostRuntime) {
-    assert_rows(
-        &rt,
-        named_when_read(rt.alloc(), Lines),
-        ONE_LOCK_SCRIPT.len() + 1,
-    );
-    assert_rows(
-        &rt,
-        named_when_read(rt.alloc(), Trace),
-        ONE_LOCK_SCRIPT.len() + 1,
-    );
-    assert_rows(
-        &rt,
-        named_when_read(rt.alloc(), Choices),
-        ONE_LOCK_SCRIPT.len() + 1,
-    );
+    assert_unread(&rt, Lines);
+    assert_unread(&rt, Trace);
+    assert_unread(&rt, Choices);
 }
 
-/// Returns whether the fault of a writer after this many bytes is named, and just these are written.
-fn fails_to_write(
-    alloc: Global,
+/// Asserts that the fault of a writer after this many bytes is named, and just these are written.
+fn assert_prefix(
+    rt: &(impl Abort + AllocGlobal),
     format: Format,
     before_fault: usize,
     fault: Option<io::ErrorKind>,
-) -> bool {
+) {
     let text = text_of(format);
     let mut reader = script_reader(None);
     let mut writer = failing(text, before_fault, fault);
-    fault_of(alloc, &mut reader, &mut writer, format) == Some(PerformError::Write)
-        && text.len().checked_sub(writer.left.len()) == Some(before_fault)
-        && !writer.differs
+    let came = fault_of(rt.alloc(), &mut reader, &mut writer, format);
+    assert_row(rt, before_fault, &came, &Some(PerformError::Write));
+    let taken = text.len().checked_sub(writer.left.len());
+    assert_row(rt, before_fault, &taken, &Some(before_fault));
+    assert_row(rt, before_fault, &writer.differs, &false);
 }
 
-/// Returns whether it is so for a fault that other writers would try again, and for a write that takes nothing.
-fn fails_to_write_each(alloc: Global, format: Format, before_fault: usize) -> bool {
-    fails_to_write(
-        alloc,
-        format,
-        before_fault,
-        Some(io::ErrorKind::Interrupted),
-    ) && fails_to_write(alloc, format, before_fault, None)
-}
-
-/// Returns after how many of this many bytes the fault of a writer is named, from 0 up to the first where it is not.
-fn named_when_written(alloc: Global, format: Format, length: usize) -> usize {
-    for before_fault in 0..length {
-        if !fails_to_write_each(alloc, format, before_fault) {
-            return before_fault;
-        }
-    }
-    length
-}
-
-#[test]
-fn a_writer_that_fails_behind_any_byte_has_those_before(rt: HostRuntime) {
-    let lines = named_when_written(rt.alloc(), Lines, ONE_LOCK_LINES_LENGTH);
-    assert_rows(&rt, lines, ONE_LOCK_LINES_LENGTH);
-    let trace = named_when_written(rt.alloc(), Trace, ONE_LOCK_LENGTH);
-    assert_rows(&rt, trace, ONE_LOCK_LENGTH);
-    let choices = named_when_written(rt.alloc(), Choices, ONE_LOCK_CHOICES_LENGTH);
-    assert_rows(&rt, choices, ONE_LOCK_CHOICES_LENGTH);
-}
-
-/// Returns whether all is written byte by byte, to a writer that would fail after it.
-fn is_written_byte_by_byte(alloc: Global, format: Format, length: usize) -> bool {
+/// Asserts that it is so after each number of bytes, for a fault after which other writers would try again, and for a write that
+/// takes nothing; and that all is written byte by byte to a writer that would fail after it.
+fn assert_unwritten(rt: &(impl Abort + AllocGlobal), format: Format, length: usize) {
     let text = text_of(format);
+    assert_row(rt, length, &text.len(), &length);
+    for before_fault in 0..length {
+        assert_prefix(rt, format, before_fault, Some(io::ErrorKind::Interrupted));
+        assert_prefix(rt, format, before_fault, None);
+    }
     let mut reader = script_reader(None);
     let mut writer = failing(text, length, None);
-    fault_of(alloc, &mut reader, &mut writer, format).is_none()
-        && text.len() == length
-        && writer.left.is_empty()
-        && !writer.differs
+    let came = fault_of(rt.alloc(), &mut reader, &mut writer, format);
+    assert_row(rt, length, &came, &None);
+    assert_whole(rt, length, &writer);
 }
 
+/// A row is here the number of bytes before the fault.
 #[test]
-fn a_writer_that_takes_one_byte_at_a_time_gets_all(rt: HostRuntime) {
-    let alloc = rt.alloc();
-    let lines = is_written_byte_by_byte(alloc, Lines, ONE_LOCK_LINES_LENGTH);
-    assert_so(&rt, "all lines are written", lines);
-    let trace = is_written_byte_by_byte(alloc, Trace, ONE_LOCK_LENGTH);
-    assert_so(&rt, "the whole trace is written", trace);
-    let choices = is_written_byte_by_byte(alloc, Choices, ONE_LOCK_CHOICES_LENGTH);
-    assert_so(&rt, "all choices are written", choices);
+fn a_writer_that_fails_behind_any_byte_has_those_before(rt: HostRuntime) {
+    assert_unwritten(&rt, Lines, ONE_LOCK_LINES_LENGTH);
+    assert_unwritten(&rt, Trace, ONE_LOCK_LENGTH);
+    assert_unwritten(&rt, Choices, ONE_LOCK_CHOICES_LENGTH);
 }
 
-/// Returns whether a script is driven to its end, from the oldest message on, and this is its trace.
-fn is_traced(alloc: Global, script: &str, trace: &str) -> bool {
-    let mut reader = reader_of(script.as_bytes());
-    let mut writer = failing(trace, 1_000, None);
-    match performed(alloc, &mut reader, &mut writer, Trace, &Policy::Oldest) {
-        Ok(finished) => finished && writer.left.is_empty() && !writer.differs,
-        Err(_) => false,
-    }
-}
-
+/// The script of one client is driven to its end, from the oldest message on, and this is its trace.
 #[test]
 fn a_run_is_written_as_its_trace(rt: HostRuntime) {
-    let script = "nodes = 2\nclient = [{ node = 1, ops = [\"X r\", \"U r\"] }]\n";
-    let so = is_traced(rt.alloc(), script, ONE_LOCK) && ONE_LOCK.len() == ONE_LOCK_LENGTH;
-    assert_so(&rt, "the trace of one lock is written, with its length", so);
+    let script = b"nodes = 2\nclient = [{ node = 1, ops = [\"X r\", \"U r\"] }]\n";
+    let mut reader = reader_of(script);
+    let mut writer = failing(ONE_LOCK, 1_000, None);
+    let came = performed(rt.alloc(), &mut reader, &mut writer, Trace, &Policy::Oldest);
+    assert_row(&rt, 0, &came, &Ok(true));
+    assert_whole(&rt, 0, &writer);
 }

@@ -1,5 +1,5 @@
 //! Pictures of traces: what stands in them, in words, and when there is none.
-use crate::asserting::assert_so;
+use crate::asserting::{assert_row, assert_same};
 use crate::helpers::Part::{Text, Times};
 use crate::helpers::{ONE_LOCK, TWO_LOCKS, assert_rows, failing, text_of};
 use ra_draw::{DrawError, Part, draw, draw_marks};
@@ -7,6 +7,7 @@ use ra_trace::{Cause, MarksVerdict, Verdict};
 use std::alloc::Global;
 use std::io;
 use std::io::{Read, Write};
+use std::process::Abort;
 use test_support::{FailingReader, printed};
 
 /// The trace of a request that is repeated, of which one is lost and the other is under way at the end.
@@ -73,14 +74,11 @@ fn picture_of(alloc: Global, trace: &[u8], part: Part) -> Option<String> {
     }
 }
 
-/// Returns whether these words stand in a picture so often.
-fn have(picture: &str, words: &[(&str, u64)]) -> bool {
+/// Asserts that these words stand in a picture so often.
+fn assert_has(rt: &impl Abort, picture: &str, words: &[(&str, u64)]) {
     for row in words {
-        if count_in(picture, row.0) != row.1 {
-            return false;
-        }
+        assert_same(rt, row.0, &count_in(picture, row.0), &row.1);
     }
-    true
 }
 
 /// Returns the picture of a part of a mark log.
@@ -93,43 +91,34 @@ fn log_picture_of(alloc: Global, log: &[u8], part: Part) -> Option<String> {
     }
 }
 
-/// Returns whether a row of a trace is so.
-fn is_so(alloc: Global, row: &Row) -> bool {
-    has_row(picture_of(alloc, row.0.as_bytes(), row.1), row)
+/// What stands in each picture, which is one element without a script or another file.
+const IN_EACH: &[(&str, u64)] = &[
+    ("<svg", 1),
+    ("</svg>", 1),
+    ("<script", 0),
+    ("href", 0),
+    ("url(http", 0),
+];
+
+/// Asserts that a picture is as a row says, and is one element without a script or another file.
+fn assert_picture(rt: &impl Abort, picture: Option<String>, row: &Row) {
+    let Some(picture) = picture else {
+        return assert_same(rt, row.0, &"no picture", &"a picture");
+    };
+    let text = picture.as_str();
+    let begins = text.starts_with("<svg xmlns=\"http://www.w3.org/2000/svg\" ");
+    assert_same(rt, row.0, &begins, &true);
+    assert_same(rt, row.0, &text.ends_with("</svg>\n"), &true);
+    assert_has(rt, text, IN_EACH);
+    assert_has(rt, text, row.2);
 }
 
-/// Returns whether a picture is as a row says, and is one element without a script or another file.
-fn has_row(picture: Option<String>, row: &Row) -> bool {
-    match picture {
-        Some(picture) => {
-            picture
-                .as_str()
-                .starts_with("<svg xmlns=\"http://www.w3.org/2000/svg\" ")
-                && picture.as_str().ends_with("</svg>\n")
-                && have(
-                    picture.as_str(),
-                    &[
-                        ("<svg", 1),
-                        ("</svg>", 1),
-                        ("<script", 0),
-                        ("href", 0),
-                        ("url(http", 0),
-                    ],
-                )
-                && have(picture.as_str(), row.2)
-        }
-        None => false,
+/// Asserts that each row of a trace is so.
+fn assert_pictures(rt: &(impl Abort + AllocGlobal), rows: &[Row]) {
+    for row in rows {
+        let picture = picture_of(rt.alloc(), row.0.as_bytes(), row.1);
+        assert_picture(rt, picture, row);
     }
-}
-
-/// Returns how many rows are so, up to the first that is not.
-fn are_so(alloc: Global, rows: &[Row]) -> usize {
-    for place in 0..rows.len() {
-        if !is_so(alloc, &rows[place]) {
-            return place;
-        }
-    }
-    rows.len()
 }
 
 /// What stands in the picture of the one client that locks and unlocks.
@@ -287,7 +276,7 @@ fn each_shape_says_what_it_is(rt: HostRuntime) {
         Row(QUEUED, Part::WHOLE, QUEUED_WORDS),
         Row(LONG_NAMES, Part::WHOLE, LONG_NAMES_WORDS),
     ];
-    assert_rows(&rt, are_so(rt.alloc(), &rows), rows.len());
+    assert_pictures(&rt, &rows);
 }
 
 /// A mark log of two clients: the second one is at node 3, and still inside at the end.
@@ -327,20 +316,16 @@ const LOG_WORDS: &[(&str, u64)] = &[
     ("<title>reply ", 0),
 ];
 
-/// Returns how many rows of mark logs are so, up to the first that is not.
-fn logs_so(alloc: Global, rows: &[Row]) -> usize {
-    for place in 0..rows.len() {
-        let row = &rows[place];
-        if !has_row(log_picture_of(alloc, row.0.as_bytes(), row.1), row) {
-            return place;
-        }
+/// Asserts that each row of a mark log is so.
+fn assert_log_pictures(rt: &(impl Abort + AllocGlobal), rows: &[Row]) {
+    for row in rows {
+        let picture = log_picture_of(rt.alloc(), row.0.as_bytes(), row.1);
+        assert_picture(rt, picture, row);
     }
-    rows.len()
 }
 
 #[test]
 fn a_mark_log_has_bars_alone(rt: HostRuntime) {
-    let alloc = rt.alloc();
     let rows = [
         Row(LOG, Part::WHOLE, LOG_WORDS),
         Row(
@@ -362,7 +347,7 @@ fn a_mark_log_has_bars_alone(rt: HostRuntime) {
             ],
         ),
     ];
-    assert_rows(&rt, logs_so(alloc, &rows), rows.len());
+    assert_log_pictures(&rt, &rows);
 }
 
 #[test]
@@ -427,102 +412,92 @@ fn a_part_has_what_reaches_into_it(rt: HostRuntime) {
             &[("<title>node ", 2), (", from line 20, to line 10<", 2)],
         ),
     ];
-    assert_rows(&rt, are_so(rt.alloc(), &rows), rows.len());
+    assert_pictures(&rt, &rows);
 }
 
-/// Returns what comes of a text, and whether something is written.
-fn drawn(alloc: Global, text: &[u8], part: Part) -> (Result<Verdict, DrawError>, bool) {
-    let mut reader = text;
-    let mut picture = Vec::new(alloc);
-    let result = drawn_to(alloc, &mut reader, &mut picture, part);
-    (result, !picture.is_empty())
-}
-
-/// Returns what comes of the trace of a message that is repeated so often, which has four lines more.
-fn drawn_repeats(
-    alloc: Global,
-    times: usize,
+/// Asserts that this comes of a text, and that something is written or nothing.
+fn assert_drawn(
+    rt: &(impl Abort + AllocGlobal),
+    row: usize,
+    text: &[u8],
     part: Part,
-) -> Option<(Result<Verdict, DrawError>, bool)> {
-    let text = text_of(
-        alloc,
-        &[
-            Text("trace 2 2 0\nask 1 1 r X\nrequest 1 1 r X 1\n"),
-            Times(b"repeat request 1 2 r X 1\n", times),
-            Text("end\n"),
-        ],
-    )?;
-    Some(drawn(alloc, &text, part))
+    expected: Result<Verdict, DrawError>,
+    is_written: bool,
+) {
+    let mut reader = text;
+    let mut picture = Vec::new(rt.alloc());
+    let came = drawn_to(rt.alloc(), &mut reader, &mut picture, part);
+    assert_row(rt, row, &came, &expected);
+    assert_row(rt, row, &!picture.is_empty(), &is_written);
 }
 
+/// Asserts that the trace of a message that is repeated so often, which has four lines more, is drawn, or is too long.
+fn assert_repeats(rt: &(impl Abort + AllocGlobal), times: usize, part: Part, is_drawn: bool) {
+    let expected = if is_drawn {
+        Ok(Verdict::Valid {
+            requests: 1,
+            messages: 1,
+        })
+    } else {
+        Err(DrawError::TooLong)
+    };
+    let parts = [
+        Text("trace 2 2 0\nask 1 1 r X\nrequest 1 1 r X 1\n"),
+        Times(b"repeat request 1 2 r X 1\n", times),
+        Text("end\n"),
+    ];
+    match text_of(rt.alloc(), &parts) {
+        Some(text) => assert_drawn(rt, times, &text, part, expected, is_drawn),
+        None => panic!(rt; "there is no memory for the trace"),
+    }
+}
+
+/// A line that is not drawn counts as well.
 #[test]
 fn a_text_that_is_no_trace_is_refused_with_its_line(rt: HostRuntime) {
-    let alloc = rt.alloc();
     let wrong = b"trace 2 2 0\nask 1 1 r X\nrequest 1 1 r X 1\nenter 1 1 r X 1\nend\n";
     let verdict = Verdict::Invalid {
         line: 4,
         cause: Cause::Marks,
     };
-    // A line that is not drawn counts as well.
-    let whole = drawn(alloc, wrong, Part::WHOLE) == (Ok(verdict), false);
-    assert_so(&rt, "line 4 is wrong by Marks, and nothing is drawn", whole);
-    let part = drawn(alloc, wrong, lines(1, 2)) == (Ok(verdict), false);
-    assert_so(
-        &rt,
-        "line 4 is wrong by Marks if lines 1 and 2 are drawn",
-        part,
-    );
+    assert_drawn(&rt, 0, wrong, Part::WHOLE, Ok(verdict), false);
+    assert_drawn(&rt, 1, wrong, lines(1, 2), Ok(verdict), false);
 }
 
+/// A row is here how often the message is repeated.
 #[test]
 fn no_more_than_4096_lines_are_drawn(rt: HostRuntime) {
-    let alloc = rt.alloc();
-    let verdict = Verdict::Valid {
-        requests: 1,
-        messages: 1,
-    };
-    let (most, more) = (
-        Some((Ok(verdict), true)),
-        Some((Err(DrawError::TooLong), false)),
-    );
-    let whole = drawn_repeats(alloc, 4092, Part::WHOLE) == most
-        && drawn_repeats(alloc, 4093, Part::WHOLE) == more;
-    assert_so(&rt, "4,096 lines are drawn, and 4,097 are TooLong", whole);
-    let part = drawn_repeats(alloc, 4093, lines(2, 4097)) == most
-        && drawn_repeats(alloc, 4094, lines(2, 4098)) == more;
-    assert_so(&rt, "so it is for a part that begins at line 2", part);
+    assert_repeats(&rt, 4092, Part::WHOLE, true);
+    assert_repeats(&rt, 4093, Part::WHOLE, false);
+    assert_repeats(&rt, 4093, lines(2, 4097), true);
+    assert_repeats(&rt, 4094, lines(2, 4098), false);
 }
 
-/// Returns whether a reader that fails is a fault, and nothing is drawn.
-fn fails_to_read(alloc: Global) -> bool {
+/// A reader that fails is a fault, and nothing is drawn.
+#[test]
+fn a_reader_that_fails_is_a_fault(rt: HostRuntime) {
     let mut reader = FailingReader {
         bytes: ONE_LOCK.as_bytes(),
         size: 1,
         before_fault: Some(139),
         fault: io::ErrorKind::Interrupted,
     };
-    let mut picture = Vec::new(alloc);
-    drawn_to(alloc, &mut reader, &mut picture, Part::WHOLE) == Err(DrawError::Read)
-        && reader.bytes.len() == 1
-        && picture.is_empty()
+    let mut picture = Vec::new(rt.alloc());
+    let came = drawn_to(rt.alloc(), &mut reader, &mut picture, Part::WHOLE);
+    assert_same(&rt, "what came", &came, &Err(DrawError::Read));
+    assert_same(&rt, "bytes that are left", &reader.bytes.len(), &1);
+    assert_same(&rt, "bytes that are drawn", &picture.len(), &0);
 }
 
-/// Returns whether a writer that fails is a fault, and has what came before.
-fn fails_to_write(alloc: Global) -> bool {
+/// A writer that fails is a fault, and has what came before.
+#[test]
+fn a_writer_that_fails_is_a_fault(rt: HostRuntime) {
     let mut reader = ONE_LOCK.as_bytes();
     let mut writer = failing("<svg xmlns=", 7, Some(io::ErrorKind::Interrupted));
-    drawn_to(alloc, &mut reader, &mut writer, Part::WHOLE) == Err(DrawError::Write)
-        && writer.left == b"lns=".as_slice()
-        && !writer.differs
-}
-
-#[test]
-fn readers_and_writers_that_fail_are_faults(rt: HostRuntime) {
-    assert_so(
-        &rt,
-        "a reader that fails is Read, and a writer that fails is Write",
-        fails_to_read(rt.alloc()) && fails_to_write(rt.alloc()),
-    );
+    let came = drawn_to(rt.alloc(), &mut reader, &mut writer, Part::WHOLE);
+    assert_same(&rt, "what came", &came, &Err(DrawError::Write));
+    assert_same(&rt, "bytes that are left", &writer.left.len(), &4);
+    assert_same(&rt, "whether another byte came", &writer.differs, &false);
 }
 
 /// Why no picture is drawn, and the word of it.

@@ -1,10 +1,11 @@
 //! Prefixes of a script: each has its answer.
-use crate::helpers::{ONE_LOCK_SCRIPT, assert_rows, failing};
+use crate::asserting::assert_row;
+use crate::helpers::{ONE_LOCK_SCRIPT, failing};
 use crate::performing::{ONE_LOCK_LINES, performed, reader_of};
 use crate::script_cases;
 use ra_schedule::Policy;
 use ra_script::{Format, PerformError, ScriptError};
-use std::alloc::Global;
+use std::process::Abort;
 
 /// The least and the greatest length of some prefixes of the script, and why they are refused.
 struct Lengths(usize, usize, ScriptError);
@@ -33,47 +34,42 @@ fn fault_of(length: usize) -> Option<ScriptError> {
     None
 }
 
-/// Returns whether a text is refused so, or is a script where there is no fault.
-fn is_read(alloc: Global, text: &[u8], fault: Option<ScriptError>) -> bool {
-    script_cases::fault_of(alloc, text) == fault
-}
-
-/// Returns whether a text is refused so and nothing is written, or is performed to its end where there is no fault.
-fn is_performed(alloc: Global, text: &[u8], fault: Option<ScriptError>) -> bool {
+/// Asserts that a text with this many bytes is refused so, and nothing is written, or is performed to its end if there is no fault.
+fn assert_answer(rt: &(impl Abort + AllocGlobal), text: &[u8], fault: Option<ScriptError>) {
+    assert_row(
+        rt,
+        text.len(),
+        &script_cases::fault_of(rt.alloc(), text),
+        &fault,
+    );
     let mut reader = reader_of(text);
     let mut writer = failing(ONE_LOCK_LINES, 1_000, None);
-    match performed(
-        alloc,
+    let came = performed(
+        rt.alloc(),
         &mut reader,
         &mut writer,
         Format::Lines,
         &Policy::Oldest,
-    ) {
-        Ok(finished) => fault.is_none() && finished && !writer.differs,
-        Err(PerformError::Script(found)) => {
-            fault == Some(found) && !writer.differs && writer.left.len() == ONE_LOCK_LINES.len()
-        }
-        Err(_) => false,
-    }
+    );
+    let expected = match fault {
+        Some(fault) => Err(PerformError::Script(fault)),
+        None => Ok(true),
+    };
+    assert_row(rt, text.len(), &came, &expected);
+    let left = if fault.is_none() {
+        0
+    } else {
+        ONE_LOCK_LINES.len()
+    };
+    assert_row(rt, text.len(), &writer.left.len(), &left);
+    assert_row(rt, text.len(), &writer.differs, &false);
 }
 
-/// Returns whether a prefix of a text is read and performed so.
-fn is_answered(alloc: Global, text: &[u8], fault: Option<ScriptError>) -> bool {
-    is_read(alloc, text, fault) && is_performed(alloc, text, fault)
-}
-
-/// Returns how many lengths have prefixes of a text that are answered so, from 0 up to the first that is not, or to that of the text.
-fn answered(alloc: Global, text: &[u8]) -> usize {
-    for length in 0..text.len() {
-        if !is_answered(alloc, &text[..length], fault_of(length)) {
-            return length;
-        }
-    }
-    text.len()
-}
-
+/// A row is here the length of a prefix.
 #[test]
 fn each_prefix_of_a_script_has_its_answer(rt: HostRuntime) {
     let text = ONE_LOCK_SCRIPT.as_bytes();
-    assert_rows(&rt, answered(rt.alloc(), text), text.len());
+    for length in 0..text.len() {
+        assert_answer(&rt, &text[..length], fault_of(length));
+    }
 }

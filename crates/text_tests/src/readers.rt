@@ -1,5 +1,6 @@
 //! How far `check` and `check_buffered` read, and how they treat readers that fail or give a text in pieces.
-use crate::helpers::{ONE_LOCK, ONE_LOCK_LENGTH, Part, TWO_LOCKS, assert_rows, text_of};
+use crate::asserting::assert_row;
+use crate::helpers::{ONE_LOCK, ONE_LOCK_LENGTH, Part, TWO_LOCKS, text_of};
 use ErrorKind::{BrokenPipe, Interrupted, WouldBlock};
 use Part::{Text, Times};
 use Way::{Failing, InPieces, Within};
@@ -27,7 +28,7 @@ pub enum Way {
 struct Case(&'static [Part<'static>], Way, Checked, usize);
 
 /// Returns a reader of a text.
-fn reader(text: &[u8], way: Way) -> FailingReader<'_> {
+pub fn reader(text: &[u8], way: Way) -> FailingReader<'_> {
     let (size, before_fault, fault) = match way {
         InPieces(size) => (size, None, Interrupted),
         Failing(before_fault, fault) => (1, Some(before_fault), fault),
@@ -62,36 +63,32 @@ fn checked_shown(alloc: Global, reader: &mut FailingReader<'_>, way: Way) -> Che
     }
 }
 
-/// Returns whether checking a text has this result and takes this many of its bytes, both by reads and from a buffer.
-fn comes(alloc: Global, text: &[u8], way: Way, wanted: &Checked, taken: usize) -> bool {
+/// Asserts that checking the text of this row has this result and takes this many of its bytes, both by reads and from a buffer.
+fn assert_comes(
+    rt: &(impl Abort + AllocGlobal),
+    row: usize,
+    text: &[u8],
+    way: Way,
+    wanted: &Checked,
+    taken: usize,
+) {
     let (mut given, mut shown) = (reader(text, way), reader(text, way));
-    checked(alloc, &mut given, way) == *wanted
-        && checked_shown(alloc, &mut shown, way) == *wanted
-        && text.len().checked_sub(given.bytes.len()) == Some(taken)
-        && shown.bytes == given.bytes
-}
-
-/// Returns whether a case holds.
-fn is_so(alloc: Global, case: &Case) -> bool {
-    match text_of(alloc, case.0) {
-        Some(text) => comes(alloc, &text, case.1, &case.2, case.3),
-        None => false,
-    }
-}
-
-/// Returns how many cases hold, up to the first that does not.
-fn are_so(alloc: Global, cases: &[Case]) -> usize {
-    for place in 0..cases.len() {
-        if !is_so(alloc, &cases[place]) {
-            return place;
-        }
-    }
-    cases.len()
+    assert_row(rt, row, &checked(rt.alloc(), &mut given, way), wanted);
+    assert_row(rt, row, &checked_shown(rt.alloc(), &mut shown, way), wanted);
+    let left = text.len().checked_sub(taken);
+    assert_row(rt, row, &Some(given.bytes.len()), &left);
+    assert_row(rt, row, &Some(shown.bytes.len()), &left);
 }
 
 /// Asserts that each case holds.
 fn assert_cases(rt: &(impl Abort + AllocGlobal), cases: &[Case]) {
-    assert_rows(rt, are_so(rt.alloc(), cases), cases.len());
+    for row in 0..cases.len() {
+        let case = &cases[row];
+        match text_of(rt.alloc(), case.0) {
+            Some(text) => assert_comes(rt, row, &text, case.1, &case.2, case.3),
+            None => panic!(rt; "there is no memory for the text"),
+        }
+    }
 }
 
 #[test]
@@ -110,25 +107,21 @@ fn the_pieces_of_a_text_do_not_matter(rt: HostRuntime) {
     assert_cases(&rt, CASES);
 }
 
-/// Returns at how many byte positions of the trace of one lock, from 0 up to the first exception, a reader's fault is
-/// reported and the reader is not tried again.
-fn not_tried_again(alloc: Global, fault: ErrorKind) -> usize {
+/// Asserts that a reader's fault is reported at each byte of the trace of one lock, from 0 up, and that the reader is not tried again.
+fn assert_not_tried_again(rt: &(impl Abort + AllocGlobal), fault: ErrorKind) {
     for taken in 0..=ONE_LOCK_LENGTH {
         let (text, way) = (ONE_LOCK.as_bytes(), Failing(taken, fault));
-        if !comes(alloc, text, way, &Err(TraceError::Read), taken) {
-            return taken;
-        }
+        assert_comes(rt, taken, text, way, &Err(TraceError::Read), taken);
     }
-    ONE_LOCK_LENGTH + 1
 }
 
 /// Faults after which other readers would try again, and one after which they would not.
 #[test]
 fn a_reader_that_failed_is_not_tried_again(rt: HostRuntime) {
-    let (alloc, count) = (rt.alloc(), ONE_LOCK.len() + 1);
-    assert_rows(&rt, not_tried_again(alloc, Interrupted), count);
-    assert_rows(&rt, not_tried_again(alloc, WouldBlock), count);
-    assert_rows(&rt, not_tried_again(alloc, BrokenPipe), count);
+    assert_row(&rt, 0, &ONE_LOCK.len(), &ONE_LOCK_LENGTH);
+    assert_not_tried_again(&rt, Interrupted);
+    assert_not_tried_again(&rt, WouldBlock);
+    assert_not_tried_again(&rt, BrokenPipe);
 }
 
 /// `ONE_LOCK` with its fifth and sixth lines exchanged. The fifth ends with byte 84.

@@ -1,11 +1,12 @@
 //! Lists of steps that have no trace because one step is refused: the first, or one after many others.
 use crate::acts::{adds, ask, fault_of_steps, leave, reply, request, text_of_steps};
-use crate::asserting::assert_so;
-use crate::helpers::{assert_rows, failing, r};
+use crate::asserting::{assert_row, assert_so};
+use crate::helpers::{failing, r};
 use ra_stamp::{Message, Mode, NodeId};
 use ra_trace::WriteTraceError;
 use ra_world::{NodeRefusal, RunError, Step, StepError, Steps};
 use std::alloc::Global;
+use std::process::Abort;
 
 /// Returns the step in which a client asks for `r` exclusively, or `None` if there is no such node.
 fn asks(node: u16, client: u32) -> Option<Step> {
@@ -84,34 +85,43 @@ const EXHAUSTED: StepError = StepError::Node(NodeRefusal::Exhausted);
 
 const NOT_HELD: StepError = StepError::Node(NodeRefusal::NotHeld);
 
-/// Returns whether two nodes refuse the step at this place for this cause, so that there is no trace and nothing is
-/// written.
-fn has_no_trace(alloc: Global, start: u64, steps: &Steps, place: u64, cause: StepError) -> bool {
-    let refused = WriteTraceError::Run(RunError::Refused { place, cause });
+/// Asserts that two nodes refuse the step at this place for the cause of a row, so that there is no trace and nothing is written.
+fn assert_no_trace(
+    rt: &(impl Abort + AllocGlobal),
+    row: usize,
+    case: &Case,
+    steps: &Steps,
+    place: u64,
+) {
+    let (alloc, start, cause) = (rt.alloc(), case.1, case.2);
+    let refused = Some(WriteTraceError::Run(RunError::Refused { place, cause }));
     let mut writer = failing("", 0, None);
-    fault_of_steps(alloc, 2, start, steps, &mut writer) == Some(refused)
-        && !writer.differs
-        && writer.before_fault == Some(0)
-        && text_of_steps(alloc, 2, start, steps).err() == Some(refused)
+    let fault = fault_of_steps(alloc, 2, start, steps, &mut writer);
+    assert_row(rt, row, &fault, &refused);
+    assert_row(
+        rt,
+        row,
+        &(writer.differs, writer.before_fault),
+        &(false, Some(0)),
+    );
+    let fault = text_of_steps(alloc, 2, start, steps).err();
+    assert_row(rt, row, &fault, &refused);
 }
 
-/// Returns whether the step of a case is refused, as the first step or after 39 others. One more step follows it.
-fn is_refused(alloc: Global, case: &Case, place: u64) -> bool {
-    let (mut steps, start) = (Steps::new(alloc), case.1);
-    (place < 40 || adds_39_steps(&mut steps, start))
-        && adds(&mut steps, step(case.0))
-        && adds(&mut steps, asks(2, 3))
-        && has_no_trace(alloc, start, &steps, place, case.2)
+/// Adds the step of a case, as the first step or after 39 others, and one more step. Returns whether there was room.
+fn adds_case(steps: &mut Steps, case: &Case, place: u64) -> bool {
+    (place < 40 || adds_39_steps(steps, case.1))
+        && adds(steps, step(case.0))
+        && adds(steps, asks(2, 3))
 }
 
-/// Returns how many cases are refused at this place, up to the first that is not.
-fn are_refused(alloc: Global, cases: &[Case], place: u64) -> usize {
+/// Asserts that the step of each case is refused at this place.
+fn assert_refused(rt: &(impl Abort + AllocGlobal), cases: &[Case], place: u64) {
     for row in 0..cases.len() {
-        if !is_refused(alloc, &cases[row], place) {
-            return row;
-        }
+        let mut steps = Steps::new(rt.alloc());
+        assert_row(rt, row, &adds_case(&mut steps, &cases[row], place), &true);
+        assert_no_trace(rt, row, &cases[row], &steps, place);
     }
-    cases.len()
 }
 
 #[test]
@@ -124,7 +134,7 @@ fn the_first_step_of_a_trace_is_refused_for_each_cause(rt: HostRuntime) {
         Case(Last::Leaves, 0, NOT_HELD),
         Case(Last::Asks(1, 1), u64::MAX, EXHAUSTED),
     ];
-    assert_rows(&rt, are_refused(rt.alloc(), CASES, 1), CASES.len());
+    assert_refused(&rt, CASES, 1);
 }
 
 /// Client 1 holds `r` by its tenth request.
@@ -140,7 +150,7 @@ fn the_fortieth_step_of_a_trace_is_refused_for_each_cause(rt: HostRuntime) {
         Case(Last::Asks(1, 1), TEN_LEFT, BUSY),
         Case(Last::Asks(1, 2), TEN_LEFT, EXHAUSTED),
     ];
-    assert_rows(&rt, are_refused(rt.alloc(), CASES, 40), CASES.len());
+    assert_refused(&rt, CASES, 40);
 }
 
 /// Returns whether the 39 steps, with client 1's leave as the fortieth, have a trace of this many lines.

@@ -1,5 +1,6 @@
 //! What the tests of script texts share: the parts of a text, and whether it is a script or why it is refused.
-use crate::helpers::{Part, assert_rows, text_of};
+use crate::asserting::assert_row;
+use crate::helpers::{Part, text_of};
 use Answer::{Accepted, NoToml, Refused};
 use Part::Text;
 use ra_schedule::Script;
@@ -31,54 +32,42 @@ pub fn fault_of(alloc: Global, text: &[u8]) -> Option<ScriptError> {
     script_of(alloc, text).err()
 }
 
-/// Returns whether reading a text has this result.
-fn comes(alloc: Global, text: &[u8], answer: Answer) -> bool {
-    let fault = fault_of(alloc, text);
+/// Asserts that reading the text of this row has this result.
+fn assert_result(rt: &(impl Abort + AllocGlobal), row: usize, text: &[u8], answer: Answer) {
+    let fault = fault_of(rt.alloc(), text);
     match answer {
-        Accepted => fault.is_none(),
-        Refused(wanted) => fault == Some(wanted),
-        NoToml(length) => text.len() == length && fault == Some(ScriptError::Toml),
-    }
-}
-
-/// Returns whether reading the text of these parts has this result.
-pub fn comes_of_parts(alloc: Global, parts: &[Part<'_>], answer: Answer) -> bool {
-    match text_of(alloc, parts) {
-        Some(text) => comes(alloc, &text, answer),
-        None => false,
-    }
-}
-
-/// Returns how many cases hold, up to the first that does not.
-fn are_so(alloc: Global, cases: &[Case]) -> usize {
-    for place in 0..cases.len() {
-        if !comes_of_parts(alloc, cases[place].0, cases[place].1) {
-            return place;
+        Accepted => assert_row(rt, row, &fault, &None),
+        Refused(expected) => assert_row(rt, row, &fault, &Some(expected)),
+        NoToml(length) => {
+            assert_row(rt, row, &text.len(), &length);
+            assert_row(rt, row, &fault, &Some(ScriptError::Toml));
         }
     }
-    cases.len()
+}
+
+/// Asserts that reading the text of these parts, those of this row, has this result.
+pub fn assert_parts(
+    rt: &(impl Abort + AllocGlobal),
+    row: usize,
+    parts: &[Part<'_>],
+    answer: Answer,
+) {
+    match text_of(rt.alloc(), parts) {
+        Some(text) => assert_result(rt, row, &text, answer),
+        None => panic!(rt; "there is no memory for the text"),
+    }
 }
 
 /// Asserts that each case holds.
 pub fn assert_cases(rt: &(impl Abort + AllocGlobal), cases: &[Case]) {
-    assert_rows(rt, are_so(rt.alloc(), cases), cases.len());
+    for row in 0..cases.len() {
+        assert_parts(rt, row, cases[row].0, cases[row].1);
+    }
 }
 
 /// The text before and after a part of a script.
 #[derive(Clone, Copy)]
 pub struct Around(pub &'static str, pub &'static str);
-
-/// Returns how many of these texts, put into the text around them, are refused with this error, up to the first that is
-/// not.
-fn refused(alloc: Global, around: Around, texts: &[&str], wanted: ScriptError) -> usize {
-    for place in 0..texts.len() {
-        let parts = [Text(around.0), Text(texts[place]), Text(around.1)];
-        if !comes_of_parts(alloc, &parts, Refused(wanted)) {
-            return place;
-        }
-    }
-    texts.len()
-}
 
 /// Asserts that each of the texts, put into the text around it, is refused with this error.
 pub fn assert_refused_in(
@@ -87,7 +76,10 @@ pub fn assert_refused_in(
     texts: &[&str],
     wanted: ScriptError,
 ) {
-    assert_rows(rt, refused(rt.alloc(), around, texts, wanted), texts.len());
+    for row in 0..texts.len() {
+        let parts = [Text(around.0), Text(texts[row]), Text(around.1)];
+        assert_parts(rt, row, &parts, Refused(wanted));
+    }
 }
 
 /// Asserts that each of the texts is refused with this error.

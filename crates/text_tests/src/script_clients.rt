@@ -1,7 +1,7 @@
 //! The nodes, the clients and the operations of a script: what is read of them, and when they are refused.
-use crate::asserting::assert_so;
+use crate::asserting::assert_row;
 use crate::helpers::Part::{Text, Times};
-use crate::helpers::{Part, all_kinds, assert_rows, r};
+use crate::helpers::{Part, all_kinds, r};
 use crate::script_cases::Answer::{Accepted, Refused};
 use crate::script_cases::{
     Around, Case, assert_cases, assert_refused, assert_refused_in, script_of,
@@ -9,7 +9,6 @@ use crate::script_cases::{
 use ra_schedule::{Op, Script};
 use ra_script::ScriptError;
 use ra_stamp::Mode;
-use std::alloc::Global;
 use std::process::Abort;
 
 /// Three clients at two nodes.
@@ -35,53 +34,44 @@ fn assert_ops_refused(rt: &(impl Abort + AllocGlobal), lists: &[&str], wanted: S
     assert_refused_in(rt, around, lists, wanted);
 }
 
-/// Returns whether a client is at this node and has so many operations.
-fn has_client(script: &Script, client: u32, node: u16, ops: u64) -> bool {
-    match (script.node_of(client), script.ops_of(client)) {
-        (Some(found), Some(count)) => found.get() == node && count == ops,
-        _ => false,
+/// Returns the script of a text.
+fn read(rt: &(impl Abort + AllocGlobal), text: &str) -> Script {
+    match script_of(rt.alloc(), text.as_bytes()) {
+        Ok(script) => script,
+        Err(fault) => panic!(rt; "the script is refused: {fault}"),
     }
 }
 
-/// Returns whether a client has this operation at this place.
-fn has_op(script: &Script, client: u32, place: u64, wanted: Op) -> bool {
-    script.op(client, place) == Some(wanted)
-}
-
-/// Returns whether the operations of the example's clients are these.
-fn has_ops_of_example(script: &Script) -> bool {
-    has_op(script, 1, 0, Op::Lock(r(), Mode::Exclusive))
-        && has_op(script, 1, 1, Op::Unlock(r()))
-        && has_op(script, 2, 0, Op::Lock(r(), Mode::Shared))
-        && has_op(script, 2, 1, Op::Lock(all_kinds(), Mode::Exclusive))
-        && has_op(script, 2, 2, Op::Unlock(all_kinds()))
-}
-
-/// Returns whether a script has the nodes, the clients and the operations of the example.
-fn is_example(script: &Script) -> bool {
-    script.nodes() == 2
-        && script.clients() == 3
-        && has_client(script, 1, 1, 2)
-        && has_client(script, 2, 2, 4)
-        && has_client(script, 3, 1, 0)
-        && has_ops_of_example(script)
-}
-
-/// Returns whether the example is read.
-fn example_is_read(alloc: Global) -> bool {
-    match script_of(alloc, EXAMPLE.as_bytes()) {
-        Ok(script) => is_example(&script),
-        Err(_) => false,
+/// Asserts that a client is at this node and has these operations, and no others.
+fn assert_client(rt: &impl Abort, script: &Script, client: u32, node: u16, ops: &[Op]) {
+    let found = match script.node_of(client) {
+        Some(found) => found.get(),
+        None => 0,
+    };
+    let row = client as usize;
+    assert_row(rt, row, &found, &node);
+    assert_row(rt, row, &script.ops_of(client), &Some(ops.len() as u64));
+    for place in 0..ops.len() {
+        assert_row(rt, row, &script.op(client, place as u64), &Some(ops[place]));
     }
 }
 
+/// A row is here a client.
 #[test]
 fn an_example_gives_its_nodes_clients_and_operations(rt: HostRuntime) {
-    assert_so(
-        &rt,
-        "the example has its nodes, clients and operations",
-        example_is_read(rt.alloc()),
-    );
+    let script = read(&rt, EXAMPLE);
+    assert_row(&rt, 0, &script.nodes(), &2);
+    assert_row(&rt, 0, &script.clients(), &3);
+    let first = [Op::Lock(r(), Mode::Exclusive), Op::Unlock(r())];
+    let second = [
+        Op::Lock(r(), Mode::Shared),
+        Op::Lock(all_kinds(), Mode::Exclusive),
+        Op::Unlock(all_kinds()),
+        Op::Lock(all_kinds(), Mode::Exclusive),
+    ];
+    assert_client(&rt, &script, 1, 1, &first);
+    assert_client(&rt, &script, 2, 2, &second);
+    assert_client(&rt, &script, 3, 1, &[]);
 }
 
 const WRONG_NODES: &[&str] = &[
@@ -198,30 +188,16 @@ const MODES: &[Mode] = &[
     Mode::SharedIntentExclusive,
 ];
 
-/// Returns how many clients lock the name in their mode, and unlock it, up to the first that doesn't.
-fn modes_read(script: &Script) -> usize {
-    for place in 0..MODES.len() {
-        let client = (place as u32).wrapping_add(1);
-        let is_so = has_op(script, client, 0, Op::Lock(r(), MODES[place]))
-            && has_op(script, client, 1, Op::Unlock(r()));
-        if !is_so {
-            return place;
-        }
-    }
-    MODES.len()
-}
-
-/// Returns how many modes are read so in the script, up to the first that is not.
-fn modes_read_in_script(alloc: Global) -> usize {
-    match script_of(alloc, EACH_MODE.as_bytes()) {
-        Ok(script) => modes_read(&script),
-        Err(_) => 0,
-    }
-}
-
+/// A row is here a client.
 #[test]
 fn each_mode_is_read_from_its_word(rt: HostRuntime) {
-    assert_rows(&rt, modes_read_in_script(rt.alloc()), MODES.len());
+    let script = read(&rt, EACH_MODE);
+    let mut client = 0u32;
+    for mode in MODES {
+        client = client.wrapping_add(1);
+        let ops = [Op::Lock(r(), *mode), Op::Unlock(r())];
+        assert_client(&rt, &script, client, 1, &ops);
+    }
 }
 
 const NOT_HELD: &[&str] = &[

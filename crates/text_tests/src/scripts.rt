@@ -1,12 +1,11 @@
 //! The document of a script: its length, its nesting and its shape, and other ways to write it.
 use crate::helpers::Part::{Text, Times};
-use crate::helpers::assert_rows;
 use crate::script_cases::Answer::{Accepted, NoToml, Refused};
 use crate::script_cases::{
-    Around, Case, assert_cases, assert_refused, assert_refused_in, comes_of_parts,
+    Around, Case, assert_cases, assert_parts, assert_refused, assert_refused_in,
 };
 use ra_script::ScriptError;
-use std::alloc::Global;
+use std::process::Abort;
 
 #[test]
 fn a_text_has_at_most_65536_bytes(rt: HostRuntime) {
@@ -87,9 +86,14 @@ const CLOSED_TABLES: &[Tables] = &[
     ),
 ];
 
-/// Returns whether tables with this many levels are refused: as invalid TOML if the parser takes fewer levels,
+/// Asserts that the tables of this row with this many levels are refused: as invalid TOML if the parser takes fewer levels,
 /// otherwise as another shape.
-fn tables_are_refused(alloc: Global, tables: &Tables, levels: usize) -> bool {
+fn assert_tables_refused(
+    rt: &(impl Abort + AllocGlobal),
+    row: usize,
+    tables: &Tables,
+    levels: usize,
+) {
     let parts = [
         Text(tables.0),
         Times(tables.1, levels),
@@ -102,37 +106,19 @@ fn tables_are_refused(alloc: Global, tables: &Tables, levels: usize) -> bool {
     } else {
         ScriptError::Shape
     };
-    comes_of_parts(alloc, &parts, Refused(fault))
+    assert_parts(rt, row, &parts, Refused(fault));
 }
 
-/// Returns how many of these tables are refused with this many levels, up to the first that is not.
-fn tables_refused(alloc: Global, rows: &[Tables], levels: usize) -> usize {
-    for place in 0..rows.len() {
-        if !tables_are_refused(alloc, &rows[place], levels) {
-            return place;
-        }
-    }
-    rows.len()
-}
-
-/// Returns with how many of these levels all tables are refused, up to the first with which one is not.
-fn levels_refused(alloc: Global, rows: &[Tables], levels: &[usize]) -> usize {
-    for place in 0..levels.len() {
-        if tables_refused(alloc, rows, levels[place]) != rows.len() {
-            return place;
-        }
-    }
-    levels.len()
-}
-
+/// The rows are counted through all levels, with each table for each of them.
 #[test]
 fn tables_in_tables_are_refused(rt: HostRuntime) {
-    const LEVELS: &[usize] = &[1, 2, 78, 79, 80, 81, 100, 16_000];
-    assert_rows(
-        &rt,
-        levels_refused(rt.alloc(), CLOSED_TABLES, LEVELS),
-        LEVELS.len(),
-    );
+    let mut row = 0usize;
+    for levels in [1, 2, 78, 79, 80, 81, 100, 16_000] {
+        for tables in CLOSED_TABLES {
+            assert_tables_refused(&rt, row, tables, levels);
+            row = row.wrapping_add(1);
+        }
+    }
 }
 
 const OTHER_SHAPES: &[&str] = &[

@@ -1,37 +1,28 @@
 //! Traces as they are written, and writers that fail.
 use crate::acts::{
-    Act, LOSES_REPLY, LOST_REPLY, ONE_LOCKS, Wire, Written, assert_written, fault_of,
+    Act, LOSES_REPLY, LOST_REPLY, ONE_LOCKS, Wire, Written, assert_whole, assert_written, fault_of,
 };
-use crate::asserting::assert_so;
+use crate::asserting::{assert_row, assert_so};
 use crate::helpers::{ONE_LOCK, ONE_LOCK_LENGTH, TWO_LOCKS, assert_rows, failing};
 use Act::{Ask, Deliver, Leave, Lose, Repeat};
 use Wire::{Replies, Requests};
 use ra_trace::WriteTraceError;
 use ra_world::{NodeRefusal, RunError, StepError};
-use std::alloc::Global;
 use std::io;
+use std::process::Abort;
 use test_support::printed;
 
 /// What would happen among so many nodes, and why it is no run.
 struct Refused(u16, &'static [Act], RunError);
 
-/// Returns whether nothing is written of what would happen, as it is no run.
-fn is_no_run(alloc: Global, row: &Refused) -> bool {
-    let mut writer = failing("", 0, None);
-    match fault_of(alloc, row.0, row.1, &mut writer) {
-        Some(WriteTraceError::Run(found)) => found == row.2 && !writer.differs,
-        _ => false,
+/// Asserts that nothing is written of what would happen, as it is no run.
+fn assert_no_runs(rt: &(impl Abort + AllocGlobal), rows: &[Refused]) {
+    for row in 0..rows.len() {
+        let mut writer = failing("", 0, None);
+        let fault = fault_of(rt.alloc(), rows[row].0, rows[row].1, &mut writer);
+        assert_row(rt, row, &fault, &Some(WriteTraceError::Run(rows[row].2)));
+        assert_row(rt, row, &writer.differs, &false);
     }
-}
-
-/// Returns how many of these are no runs, up to the first that is one.
-fn no_runs(alloc: Global, rows: &[Refused]) -> usize {
-    for place in 0..rows.len() {
-        if !is_no_run(alloc, &rows[place]) {
-            return place;
-        }
-    }
-    rows.len()
 }
 
 /// What happens in the trace of two clients who ask at once.
@@ -117,47 +108,45 @@ const NO_RUNS: &[Refused] = &[
 
 #[test]
 fn nothing_is_written_where_the_steps_are_no_run(rt: HostRuntime) {
-    assert_rows(&rt, no_runs(rt.alloc(), NO_RUNS), NO_RUNS.len());
+    assert_no_runs(&rt, NO_RUNS);
 }
 
-/// Returns whether just the prefix with so many bytes is written to a writer that fails then.
-fn prefix_is_written(alloc: Global, before_fault: usize, fault: Option<io::ErrorKind>) -> bool {
+/// Asserts that just the prefix with so many bytes is written to a writer that fails so then.
+fn assert_prefix(
+    rt: &(impl Abort + AllocGlobal),
+    before_fault: usize,
+    fault: Option<io::ErrorKind>,
+) {
     let mut writer = failing(ONE_LOCK, before_fault, fault);
-    let failed = match fault_of(alloc, 2, ONE_LOCKS, &mut writer) {
-        Some(found) => found == WriteTraceError::Write,
-        None => false,
-    };
-    failed && ONE_LOCK.len().checked_sub(writer.left.len()) == Some(before_fault) && !writer.differs
+    let came = fault_of(rt.alloc(), 2, ONE_LOCKS, &mut writer);
+    let expected = (fault, Some(WriteTraceError::Write));
+    assert_row(rt, before_fault, &(fault, came), &expected);
+    let left = ONE_LOCK.len().saturating_sub(before_fault);
+    assert_row(
+        rt,
+        before_fault,
+        &(fault, writer.left.len()),
+        &(fault, left),
+    );
+    assert_row(rt, before_fault, &(fault, writer.differs), &(fault, false));
 }
 
-/// Returns whether all is written to a writer that would fail after it.
-fn whole_is_written(alloc: Global, fault: Option<io::ErrorKind>) -> bool {
-    let mut writer = failing(ONE_LOCK, ONE_LOCK_LENGTH, fault);
-    fault_of(alloc, 2, ONE_LOCKS, &mut writer).is_none()
-        && writer.left.is_empty()
-        && !writer.differs
-}
-
-/// Returns whether a writer that fails so is not tried again.
-fn is_not_tried_again(alloc: Global, fault: Option<io::ErrorKind>) -> bool {
+/// Asserts that a writer that fails so after some bytes is not tried again, and that one that would fail after all gets them.
+fn assert_not_tried_again(rt: &(impl Abort + AllocGlobal), fault: Option<io::ErrorKind>) {
     for before_fault in [0, 1, 12, 139] {
-        if !prefix_is_written(alloc, before_fault, fault) {
-            return false;
-        }
+        assert_prefix(rt, before_fault, fault);
     }
-    whole_is_written(alloc, fault)
+    let mut writer = failing(ONE_LOCK, ONE_LOCK_LENGTH, fault);
+    let came = fault_of(rt.alloc(), 2, ONE_LOCKS, &mut writer);
+    assert_row(rt, ONE_LOCK_LENGTH, &came, &None);
+    assert_whole(rt, ONE_LOCK_LENGTH, &writer);
 }
 
+/// A row is here the number of bytes before the fault.
 #[test]
 fn a_writer_that_failed_is_not_tried_again(rt: HostRuntime) {
-    let interrupted = is_not_tried_again(rt.alloc(), Some(io::ErrorKind::Interrupted));
-    assert_so(
-        &rt,
-        "a writer that was interrupted is not tried again",
-        interrupted,
-    );
-    let full = is_not_tried_again(rt.alloc(), None);
-    assert_so(&rt, "a writer that takes nothing is not tried again", full);
+    assert_not_tried_again(&rt, Some(io::ErrorKind::Interrupted));
+    assert_not_tried_again(&rt, None);
 }
 
 const FAULTS: &[(WriteTraceError, &str)] = &[

@@ -1,4 +1,5 @@
 //! If a growth is refused, the line is refused for lack of memory, nothing has changed, and the line can come again.
+use crate::asserting::{assert_grown, assert_same};
 use ra_book::{Refusal, TimedNode, answer_book, event_of};
 use ra_stamp::NodeId;
 use std::alloc::Global;
@@ -6,18 +7,6 @@ use std::io;
 use std::io::Write;
 use std::process::Abort;
 use test_support::{Tried, again, both};
-
-/// Ends a test.
-fn end(rt: &(impl Abort), tried: Tried) {
-    assert!(rt;
-        tried != Tried::Wrong,
-        "a refused growth had another answer, or changed something"
-    );
-    assert!(rt;
-        tried != Tried::Again,
-        "a growth was refused, and the call made again"
-    );
-}
 
 /// A line that comes twice: the answer when it comes first, and the answer after that.
 struct Pair(&'static str, &'static str);
@@ -99,10 +88,10 @@ fn lines_that_are_refused_for_memory_come_again(rt: HostRuntime) {
         bytes: [0; 512],
         count: 0,
     };
-    let result = answer_book(rt.alloc(), &mut reader, &mut kept);
-    assert_eq!(&rt; result, Ok(()));
+    let came = answer_book(rt.alloc(), &mut reader, &mut kept);
+    assert_same(&rt, "the end", &came, &Ok(()));
     let text = kept.bytes.get(..kept.count).unwrap_or(b"");
-    end(&rt, tried_in(str::from_utf8(text).unwrap_or("")));
+    assert_grown(&rt, tried_in(str::from_utf8(text).unwrap_or("")));
 }
 
 /// The lines of node 1 of 2, each with the number of frames that it sends and of marks that it makes: a request, the reply
@@ -141,23 +130,33 @@ fn hand(alloc: Global, node: &mut TimedNode, line: &(&str, u64, u64)) -> Result<
     }
 }
 
+/// Hands a line to the node, and again if it was refused for lack of memory.
+fn try_line(alloc: Global, node: &mut TimedNode, line: &(&str, u64, u64)) -> Tried {
+    let first = hand(alloc, node, line);
+    let second = match first {
+        Err(true) => hand(alloc, node, line),
+        _ => first,
+    };
+    again(first, second)
+}
+
+/// Hands all lines to node 1 of 2.
+fn try_lines(alloc: Global, one: NodeId, two: NodeId) -> Tried {
+    let Some(mut node) = TimedNode::new(alloc, one, two, 0) else {
+        return Tried::Wrong;
+    };
+    let mut all = Tried::AtOnce;
+    for line in &LINES {
+        all = both(all, try_line(alloc, &mut node, line));
+    }
+    all
+}
+
 #[test]
 fn events_that_are_refused_for_memory_come_again(rt: HostRuntime) {
-    let alloc = rt.alloc();
-    let mut all = Tried::AtOnce;
-    let (Some(one), Some(two)) = (NodeId::new(1), NodeId::new(2)) else {
-        return end(&rt, Tried::Wrong);
+    let tried = match (NodeId::new(1), NodeId::new(2)) {
+        (Some(one), Some(two)) => try_lines(rt.alloc(), one, two),
+        _ => Tried::Wrong,
     };
-    let Some(mut node) = TimedNode::new(alloc, one, two, 0) else {
-        return end(&rt, Tried::Wrong);
-    };
-    for line in &LINES {
-        let first = hand(alloc, &mut node, line);
-        let second = match first {
-            Err(true) => hand(alloc, &mut node, line),
-            _ => first,
-        };
-        all = both(all, again(first, second));
-    }
-    end(&rt, all);
+    assert_grown(&rt, tried);
 }

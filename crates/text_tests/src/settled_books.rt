@@ -1,7 +1,11 @@
 //! Texts of books, and what comes of them. The first line, the clocks and the frames were worked out by hand from the rules of the
 //! formats and of the clocks.
+use crate::asserting::assert_same;
+use crate::helpers::Part::Text;
+use crate::helpers::adds_parts;
+use SettleTextError::{Invalid, Memory};
 use ra_settle::TextCause::{Books, Line, NotSent, Refused, Twice};
-use ra_settle::{SettleTextError, TextCause, settle_text};
+use ra_settle::{SettleTextError, SettledText, TextCause, settle_text};
 use ra_world::report_text;
 use std::alloc::Global;
 use std::process::Abort;
@@ -122,34 +126,60 @@ const CASES: &[Case] = &[
     Case(&[TWO_AGAIN], Err((4, Books))),
 ];
 
-/// Returns a text made of others.
-fn joined(alloc: Global, texts: &[&str]) -> Option<String> {
-    let mut text = String::new(alloc);
+/// Adds these texts, one after the other. Returns whether there was room.
+fn adds_all(text: &mut Vec<u8>, texts: &[&str]) -> bool {
     for part in texts {
-        text.push_str(part).ok()?;
+        if !adds_parts(text, &[Text(part)]) {
+            return false;
+        }
     }
-    Some(text)
+    true
+}
+
+/// Settles the books of a text.
+pub fn settled(alloc: Global, text: &[u8]) -> Result<SettledText, SettleTextError> {
+    settle_text(alloc, text)
+}
+
+/// Returns the report of the run of books, or why they do not settle.
+fn reported(alloc: Global, text: &[u8]) -> Result<String, SettleTextError> {
+    match settled(alloc, text) {
+        Ok(found) => match report_text(alloc, &found.settled.report) {
+            Ok(report) => Ok(report),
+            Err(_) => Err(Memory),
+        },
+        Err(fault) => Err(fault),
+    }
+}
+
+/// Ends the test if this does not come of a text.
+pub fn assert_settles(
+    rt: &(impl Abort + AllocGlobal),
+    text: &[u8],
+    expected: Result<&str, (u64, TextCause)>,
+) {
+    let label = str::from_utf8(text).unwrap_or("a text");
+    let wanted = match expected {
+        Ok(report) => Ok(report),
+        Err((line, cause)) => Err(Invalid { line, cause }),
+    };
+    match reported(rt.alloc(), text) {
+        Ok(report) => assert_same(rt, label, &Ok(report.as_str()), &wanted),
+        Err(fault) => assert_same(rt, label, &Err(fault), &wanted),
+    }
+}
+
+/// Ends the test if a case does not come of its texts.
+fn assert_case(rt: &(impl Abort + AllocGlobal), case: &Case) {
+    let mut text = Vec::new(rt.alloc());
+    let is_made = adds_all(&mut text, case.0);
+    assert_same(rt, "whether there is memory for a text", &is_made, &true);
+    assert_settles(rt, &text, case.1);
 }
 
 #[test]
 fn texts_settle_or_not(rt: HostRuntime) {
-    let alloc = rt.alloc();
     for case in CASES {
-        let text = joined(alloc, case.0).unwrap_or(String::new(alloc));
-        match (settle_text(alloc, text.as_bytes()), case.1) {
-            (Ok(found), Ok(wanted)) => {
-                let report = report_text(alloc, &found.settled.report).unwrap_or(String::new(
-                    alloc,
-                ));
-                assert_eq!(&rt; report.as_str(), wanted);
-            }
-            (Ok(_), Err(_)) => assert_eq!(&rt; "it settles", text.as_str()),
-            (Err(found), Ok(_)) => {
-                assert_eq!(&rt; found, SettleTextError::Memory);
-            }
-            (Err(found), Err((line, cause))) => {
-                assert_eq!(&rt; found, SettleTextError::Invalid { line, cause });
-            }
-        }
+        assert_case(&rt, case);
     }
 }

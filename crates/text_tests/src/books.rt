@@ -1,7 +1,6 @@
 //! Books, and the answers to them.
-use crate::helpers::assert_answers;
+use crate::book_answers::{Case, assert_answers, assert_cases};
 use ra_book::BookFault;
-use std::process::Abort;
 
 /// Texts that begin with no first line of a book. Nothing after it is read.
 const NO_BOOKS: [&str; 11] = [
@@ -24,19 +23,9 @@ fn what_has_no_first_line_is_refused(rt: HostRuntime) {
         assert_answers(
             &rt,
             text.as_bytes(),
-            &Err(BookFault::Line),
-            "refused Line\n",
+            Err(BookFault::Line),
+            b"refused Line\n",
         );
-    }
-}
-
-/// A book and the answers to it.
-struct Case(&'static str, &'static str);
-
-/// Ends the test if one of these books does not have its answers, to its end.
-fn assert_cases<R: Abort + AllocGlobal>(rt: &R, cases: &[Case]) {
-    for case in cases {
-        assert_answers(rt, case.0.as_bytes(), &Ok(()), case.1);
     }
 }
 

@@ -1,43 +1,26 @@
 //! Each refusal of a line, with its word. What comes after it is answered as if the line had not come.
-use crate::helpers::assert_answers;
-use std::alloc::AllocError;
+use crate::book_answers::{Case, assert_answered, assert_cases};
+use crate::helpers::Part::Text;
 use std::process::Abort;
 
 /// A line that is refused, and the word.
 struct Row(&'static str, &'static str);
 
-/// Adds node 1's first line of two nodes, the lines after it, and one more line.
-fn push_book(text: &mut String, lines: &str, last: &str) -> Result<(), AllocError> {
-    text.push_str("book 1 1 2 0\n")?;
-    text.push_str(lines)?;
-    text.push_str(last)?;
-    text.push_str("\n")
-}
-
-/// Adds the answers to the first line, to the lines after it, and to one more line, which is refused with this word.
-fn push_answers(text: &mut String, answers: &str, word: &str) -> Result<(), AllocError> {
-    text.push_str("ok\n")?;
-    text.push_str(answers)?;
-    text.push_str("refused ")?;
-    text.push_str(word)?;
-    text.push_str("\n")
-}
-
-/// Ends the test if, after lines with these answers, one of the rows is not refused with its word.
-fn assert_refused<R: Abort + AllocGlobal>(
-    rt: &R,
-    lines: &str,
-    answers: &str,
-    rows: &[Row],
-) -> Result<(), AllocError> {
+/// Ends the test if, after node 1's first line of two nodes and lines with these answers, one of the rows is not refused with its word.
+fn assert_refused(rt: &(impl Abort + AllocGlobal), lines: &str, answers: &str, rows: &[Row]) {
     for row in rows {
-        let mut book = String::new(rt.alloc());
-        push_book(&mut book, lines, row.0)?;
-        let mut wanted = String::new(rt.alloc());
-        push_answers(&mut wanted, answers, row.1)?;
-        assert_answers(rt, book.as_bytes(), &Ok(()), &wanted);
+        assert_answered(
+            rt,
+            &[Text("book 1 1 2 0\n"), Text(lines), Text(row.0), Text("\n")],
+            &[
+                Text("ok\n"),
+                Text(answers),
+                Text("refused "),
+                Text(row.1),
+                Text("\n"),
+            ],
+        );
     }
-    Ok(())
 }
 
 /// Lines of none of the forms.
@@ -115,11 +98,11 @@ const AT_NODE: [Row; 4] = [
 ];
 
 #[test]
-fn lines_are_refused_with_these_words(rt: HostRuntime) -> Result<(), AllocError> {
-    assert_refused(&rt, "", "", &FORMS)?;
-    assert_refused(&rt, "", "", &DIGITS)?;
-    assert_refused(&rt, "", "", &FRAMES)?;
-    assert_refused(&rt, "", "", &AT_NODE)
+fn lines_are_refused_with_these_words(rt: HostRuntime) {
+    assert_refused(&rt, "", "", &FORMS);
+    assert_refused(&rt, "", "", &DIGITS);
+    assert_refused(&rt, "", "", &FRAMES);
+    assert_refused(&rt, "", "", &AT_NODE);
 }
 
 /// What is refused while client 7 waits for `door`.
@@ -129,13 +112,13 @@ const WHILE_WAITING: [Row; 2] = [
 ];
 
 #[test]
-fn lines_are_refused_while_a_client_waits(rt: HostRuntime) -> Result<(), AllocError> {
+fn lines_are_refused_while_a_client_waits(rt: HostRuntime) {
     assert_refused(
         &rt,
         "ask 7 door X\n",
         "send 2 020100010002010000000000000001000000000000000104646f6f72\nrequest 1 7 door X 1\nok\n",
         &WHILE_WAITING,
-    )
+    );
 }
 
 /// What is refused when the clock is 2^62. The faults of the node come first.
@@ -149,34 +132,29 @@ const CLOCK_FULL: [Row; 3] = [
 ];
 
 #[test]
-fn lines_are_refused_when_no_clock_is_left(rt: HostRuntime) -> Result<(), AllocError> {
+fn lines_are_refused_when_no_clock_is_left(rt: HostRuntime) {
     assert_refused(
         &rt,
         "receive 0201000200010000000000000000013fffffffffffffff04646f6f72\n",
         "send 2 020200010002000000000000000001400000000000000004646f6f72\nok\n",
         &CLOCK_FULL,
-    )
+    );
 }
 
-/// Numbers end at 2^64 - 1.
-#[test]
-fn names_run_out_of_numbers(rt: HostRuntime) {
-    assert_answers(
-        &rt,
-        b"book 1 1 1 18446744073709551614\nask 1 a X\nrelease 1 a\nask 1 a X\n",
-        &Ok(()),
+/// Numbers end at 2^64 - 1, and a start of that leaves none.
+const NO_NUMBER: &[Case] = &[
+    Case(
+        "book 1 1 1 18446744073709551614\nask 1 a X\nrelease 1 a\nask 1 a X\n",
         "ok\nrequest 1 1 a X 18446744073709551615\nenter 1 1 a X 18446744073709551615\nok\n\
          leave 1 1 a X 18446744073709551615\nok\nrefused Exhausted\n",
-    );
-}
-
-/// A start of 2^64 - 1 leaves no number.
-#[test]
-fn the_greatest_start_leaves_no_number(rt: HostRuntime) {
-    assert_answers(
-        &rt,
-        b"book 1 1 1 18446744073709551615\nask 1 a X\n",
-        &Ok(()),
+    ),
+    Case(
+        "book 1 1 1 18446744073709551615\nask 1 a X\n",
         "ok\nrefused Exhausted\n",
-    );
+    ),
+];
+
+#[test]
+fn names_run_out_of_numbers(rt: HostRuntime) {
+    assert_cases(&rt, NO_NUMBER);
 }

@@ -1,5 +1,7 @@
 //! Writers that fail, and what is written before more input is waited for.
+use crate::asserting::{assert_same, assert_so};
 use ra_book::{BookFault, answer_book};
+use std::alloc::Global;
 use std::cell::Cell;
 use std::io;
 use std::io::{BufRead, ErrorKind, Read, Write};
@@ -10,25 +12,34 @@ const BOOK: &str = "book 1 1 1 0\nask 7 door X\n";
 
 const ANSWERS: &str = "ok\nrequest 1 7 door X 1\nenter 1 7 door X 1\nok\n";
 
+/// Returns how a book of one node ends, if its answers go to this writer.
+fn answered<B: BufRead, W: Write>(
+    alloc: Global,
+    reader: &mut B,
+    writer: &mut W,
+) -> Result<(), BookFault> {
+    answer_book(alloc, reader, writer)
+}
+
+/// Ends the test if a writer that fails so after this many bytes of the answers is written to again, or has not taken them.
+fn assert_unwritten(rt: &(impl Abort + AllocGlobal), count: usize, fault: Option<ErrorKind>) {
+    let mut reader = BOOK.as_bytes();
+    let mut writer = failing_writer(ANSWERS.as_bytes(), count, fault);
+    let came = answered(rt.alloc(), &mut reader, &mut writer);
+    assert_same(rt, "the end", &came, &Err(BookFault::Write));
+    let left = ANSWERS.len().saturating_sub(count);
+    assert_same(rt, "the bytes that are left", &writer.left.len(), &left);
+    assert_same(rt, "whether another byte came", &writer.differs, &false);
+}
+
 /// What was written before a writer fails is a prefix of the answers, and nothing is written after that.
 #[test]
 fn a_writer_fails_after_each_byte(rt: HostRuntime) {
-    for fault in [
-        Some(ErrorKind::BrokenPipe),
-        Some(ErrorKind::Interrupted),
-        Some(ErrorKind::WouldBlock),
-        None,
-    ] {
-        for count in 0..ANSWERS.len() {
-            let mut reader = BOOK.as_bytes();
-            let mut writer = failing_writer(ANSWERS.as_bytes(), count, fault);
-            let result = answer_book(rt.alloc(), &mut reader, &mut writer);
-            assert_eq!(&rt; result, Err(BookFault::Write));
-            assert!(&rt;
-                writer.has_taken(ANSWERS.as_bytes(), count),
-                "after {count} bytes"
-            );
-        }
+    for count in 0..ANSWERS.len() {
+        assert_unwritten(&rt, count, Some(ErrorKind::BrokenPipe));
+        assert_unwritten(&rt, count, Some(ErrorKind::Interrupted));
+        assert_unwritten(&rt, count, Some(ErrorKind::WouldBlock));
+        assert_unwritten(&rt, count, None);
     }
 }
 
@@ -122,8 +133,14 @@ fn answers_are_passed_on_before_more_is_waited_for(rt: HostRuntime) {
         written: 0,
         passed: &passed,
     };
-    let result = answer_book(rt.alloc(), &mut reader, &mut writer);
-    assert_eq!(&rt; result, Ok(()));
+    let came = answered(rt.alloc(), &mut reader, &mut writer);
+    assert_same(&rt, "the end", &came, &Ok(()));
     // `ok` has 3 bytes, the answer to the ask 43, that to the wrong line 13, and that to the leave 22.
-    assert_eq!(&rt; reader.noted.as_slice(), [0, 3, 46, 59, 81, 81].as_slice());
+    let expected: &[usize] = &[0, 3, 46, 59, 81, 81];
+    assert_same(
+        &rt,
+        "the bytes passed on before each piece",
+        &reader.noted.as_slice(),
+        &expected,
+    );
 }
