@@ -25,7 +25,6 @@ const ASKED: Wire = Asks(1);
 const REPLIED: Wire = Replies(1);
 
 /// What a bag does or shows.
-#[derive(Clone, Copy)]
 pub enum Step {
     /// These messages are put into it.
     Puts(&'static [Wire]),
@@ -227,50 +226,50 @@ fn has_numbers(
 }
 
 /// Asserts that a bag shows this.
-fn shows(rt: &impl Abort, at: At<'_>, bag: &mut Bag, step: Step) {
+fn shows(rt: &impl Abort, at: At<'_>, bag: &mut Bag, step: &Step) {
     match step {
         Finds(seq, slot) => {
-            assert_same(rt, at, &find(bag, Asks(seq), 9), &Some(Found::In(slot)))
+            assert_same(rt, at, &find(bag, Asks(*seq), 9), &Some(Found::In(*slot)))
         }
         FindsAt(wire, place) => {
-            assert_same(rt, at, &find(bag, wire, place), &Some(Found::At(place)))
+            assert_same(rt, at, &find(bag, *wire, *place), &Some(Found::At(*place)))
         }
-        Misses(wire, near) => assert_same(rt, at, &find(bag, wire, near), &None),
+        Misses(wire, near) => assert_same(rt, at, &find(bag, *wire, *near), &None),
         Has(expected) => has(rt, at, bag, expected),
-        HasCount(count) => has_count(rt, at, bag, count),
+        HasCount(count) => has_count(rt, at, bag, *count),
         HasNumbers(from, first, apart, count) => {
-            has_numbers(rt, at, bag, from, first, apart, count)
+            has_numbers(rt, at, bag, *from, *first, *apart, *count)
         }
-        Contains(wire) => assert_same(rt, at, &bag.contains(&message(wire)), &true),
-        Lacks(wire) => assert_same(rt, at, &bag.contains(&message(wire)), &false),
+        Contains(wire) => assert_same(rt, at, &bag.contains(&message(*wire)), &true),
+        Lacks(wire) => assert_same(rt, at, &bag.contains(&message(*wire)), &false),
         _ => panic!(rt; "this is nothing to be shown"),
     }
 }
 
 /// Asserts that a bag does this, which is about copies, or shows it.
-fn repeats(rt: &(impl Abort + AllocGlobal), at: At<'_>, bag: &mut Bag, step: Step) {
+fn repeats(rt: &(impl Abort + AllocGlobal), at: At<'_>, bag: &mut Bag, step: &Step) {
     match step {
-        Copies(wire) => copies(rt, at, bag, wire, true),
-        CopiesNone(wire) => copies(rt, at, bag, wire, false),
-        CopiesNumbers(first, count) => copies_numbers(rt, at, bag, first, count),
-        CopiesAmong(copied, first, count) => copies_among(rt, at, bag, copied, first, count),
-        TakesEqual(wire, count) => takes_equal(rt, at, bag, wire, count),
-        TakesTwice(first, count) => takes_twice(rt, at, bag, first, count),
+        Copies(wire) => copies(rt, at, bag, *wire, true),
+        CopiesNone(wire) => copies(rt, at, bag, *wire, false),
+        CopiesNumbers(first, count) => copies_numbers(rt, at, bag, *first, *count),
+        CopiesAmong(copied, first, count) => copies_among(rt, at, bag, *copied, *first, *count),
+        TakesEqual(wire, count) => takes_equal(rt, at, bag, *wire, *count),
+        TakesTwice(first, count) => takes_twice(rt, at, bag, *first, *count),
         _ => shows(rt, at, bag, step),
     }
 }
 
 /// Asserts that a bag does or shows this.
-fn does(rt: &(impl Abort + AllocGlobal), at: At<'_>, bag: &mut Bag, step: Step) {
+fn does(rt: &(impl Abort + AllocGlobal), at: At<'_>, bag: &mut Bag, step: &Step) {
     match step {
         Puts(items) => puts(rt, at, bag, items),
-        PutsNumbers(first, count) => puts_numbers(rt, at, bag, first, count),
-        Takes(wire) => takes(rt, at, bag, wire, true),
-        TakesNone(wire) => takes(rt, at, bag, wire, false),
-        TakesNear(wire, near) => takes_near(rt, at, bag, &message(wire), near),
-        TakesEveryOther(first, count) => takes_every_other(rt, at, bag, first, count),
-        MakesRoom(more) => assert_same(rt, at, &bag.reserve(more), &Ok(())),
-        RefusesRoom(more) => assert_same(rt, at, &bag.reserve(more), &Err(Memory)),
+        PutsNumbers(first, count) => puts_numbers(rt, at, bag, *first, *count),
+        Takes(wire) => takes(rt, at, bag, *wire, true),
+        TakesNone(wire) => takes(rt, at, bag, *wire, false),
+        TakesNear(wire, near) => takes_near(rt, at, bag, &message(*wire), *near),
+        TakesEveryOther(first, count) => takes_every_other(rt, at, bag, *first, *count),
+        MakesRoom(more) => assert_same(rt, at, &bag.reserve(*more), &Ok(())),
+        RefusesRoom(more) => assert_same(rt, at, &bag.reserve(*more), &Err(Memory)),
         _ => repeats(rt, at, bag, step),
     }
 }
@@ -291,7 +290,7 @@ pub fn follow(rt: &(impl Abort + AllocGlobal), scenes: &[Scene]) {
     for scene in scenes {
         let mut bag = empty(rt);
         for place in 0..scene.1.len() {
-            does(rt, At(scene.0, "step", place), &mut bag, scene.1[place]);
+            does(rt, At(scene.0, "step", place), &mut bag, &scene.1[place]);
         }
     }
 }

@@ -34,7 +34,7 @@ pub enum Answer {
 }
 
 /// What a node does or shows. Of what it does, all that it sends has to be so, and whether it enters.
-#[derive(Clone, Copy)]
+#[derive(Drop)]
 pub enum Step {
     /// It makes a request, and sends these, and enters or does not.
     Asks(Mode, &'static [Wire], bool),
@@ -298,20 +298,28 @@ fn ignores_reply(
 }
 
 /// Asserts that a node shows this.
-fn is_shown(rt: &impl Abort, at: At<'_>, automaton: &Automaton, step: Step) {
+fn is_shown(rt: &impl Abort, at: At<'_>, automaton: &Automaton, step: &Step) {
     match step {
-        Is(me) => assert_is(rt, at, automaton, me),
-        IsIdle(highest) => assert_shows(rt, at, automaton, Idle, highest),
+        Is(me) => assert_is(rt, at, automaton, *me),
+        IsIdle(highest) => assert_shows(rt, at, automaton, Idle, *highest),
         Waits(mode, seq, highest) => {
-            assert_shows(rt, at, automaton, Waiting { seq, mode }, highest)
+            let phase = Waiting {
+                seq: *seq,
+                mode: *mode,
+            };
+            assert_shows(rt, at, automaton, phase, *highest);
         }
         IsInside(mode, seq, highest) => {
-            assert_shows(rt, at, automaton, Inside { seq, mode }, highest)
+            let phase = Inside {
+                seq: *seq,
+                mode: *mode,
+            };
+            assert_shows(rt, at, automaton, phase, *highest);
         }
-        Awaits(awaited) => assert_same(rt, at, &awaited_by(automaton), &awaited),
-        Defers(deferred) => assert_same(rt, at, &deferred_by(automaton), &deferred),
+        Awaits(awaited) => assert_same(rt, at, &awaited_by(automaton), awaited),
+        Defers(deferred) => assert_same(rt, at, &deferred_by(automaton), deferred),
         DefersOf(other, deferred) => {
-            assert_same(rt, at, &deferral(rt, automaton, other), &deferred)
+            assert_same(rt, at, &deferral(rt, automaton, *other), deferred)
         }
         _ => panic!(rt; "this is nothing to be shown"),
     }
@@ -322,11 +330,11 @@ fn refuses_or_shows(
     rt: &(impl Abort + AllocGlobal),
     at: At<'_>,
     automaton: &mut Automaton,
-    step: Step,
+    step: &Step,
 ) {
     match step {
         RefusesToAsk(fault) => {
-            assert_refused(rt, at, request(rt.alloc(), automaton, Shared), fault)
+            assert_refused(rt, at, request(rt.alloc(), automaton, Shared), *fault)
         }
         RefusesToLeave => {
             assert_refused(rt, at, leave(rt.alloc(), automaton), LeaveError::NotHeld)
@@ -335,31 +343,31 @@ fn refuses_or_shows(
             let came = leave_and_ask(rt, automaton, Shared);
             assert_refused(rt, at, came, LeaveError::NotHeld);
         }
-        RefusesToTake(wire, fault) => refuses_to_take(rt, at, automaton, wire, fault),
+        RefusesToTake(wire, fault) => refuses_to_take(rt, at, automaton, *wire, *fault),
         _ => is_shown(rt, at, automaton, step),
     }
 }
 
 /// Asserts that a step of a node is so.
-fn does(rt: &(impl Abort + AllocGlobal), at: At<'_>, automaton: &mut Automaton, step: Step) {
+fn does(rt: &(impl Abort + AllocGlobal), at: At<'_>, automaton: &mut Automaton, step: &Step) {
     match step {
         Asks(mode, sends, entered) => {
-            let came = request(rt.alloc(), automaton, mode);
-            assert_taken(rt, at, came, automaton.name(), sends, entered);
+            let came = request(rt.alloc(), automaton, *mode);
+            assert_taken(rt, at, came, automaton.name(), sends, *entered);
         }
-        Begins(mode) => { assert_same(rt, at, &request(rt.alloc(), automaton, mode).err(), &None) }
+        Begins(mode) => { assert_same(rt, at, &request(rt.alloc(), automaton, *mode).err(), &None) }
         TakesRequest(from, mode, seq, answer) => {
-            takes_request(rt, at, automaton, from, mode, seq, answer)
+            takes_request(rt, at, automaton, *from, *mode, *seq, *answer)
         }
-        TakesReply(from, seq, entered) => takes_reply(rt, at, automaton, from, seq, entered),
-        IgnoresReply(from, seq) => ignores_reply(rt, at, automaton, from, seq),
+        TakesReply(from, seq, entered) => takes_reply(rt, at, automaton, *from, *seq, *entered),
+        IgnoresReply(from, seq) => ignores_reply(rt, at, automaton, *from, *seq),
         Leaves(sends) => {
             let came = leave(rt.alloc(), automaton);
             assert_taken(rt, at, came, automaton.name(), sends, false);
         }
         LeavesAndAsks(mode, sends, entered) => {
-            let came = leave_and_ask(rt, automaton, mode);
-            assert_taken(rt, at, came, automaton.name(), sends, entered);
+            let came = leave_and_ask(rt, automaton, *mode);
+            assert_taken(rt, at, came, automaton.name(), sends, *entered);
         }
         _ => refuses_or_shows(rt, at, automaton, step),
     }
@@ -393,7 +401,7 @@ pub fn goes(
 ) {
     let mut automaton = made(rt, at, me, nodes, start);
     for place in 0..steps.len() {
-        does(rt, At(at.0, at.1, place), &mut automaton, steps[place]);
+        does(rt, At(at.0, at.1, place), &mut automaton, &steps[place]);
     }
 }
 

@@ -1,29 +1,19 @@
 //! The lock table: what it answers, one call after the other.
 use crate::asserting::{At, assert_same};
-use crate::helpers::{Modes, PAIRS, assert_rows, r};
+use crate::helpers::{Modes, PAIRS, assert_rows};
 use Call::{Asks, CanEnter, Enters, Leaves};
-use Key::{In, On, Reader, Writer};
 use Mode::{Exclusive, Shared};
 use ra_stamp::{Entry, Mode, Name, NodeId, Stamp};
 use ra_table::{EnterError, LeaveError, RequestError, Table};
 use std::process::Abort;
 use test_support::printed;
 
-/// An entry: its node, its client and its number.
+/// An entry: its mode, the letter that is its name, its node, its client and its number.
 #[derive(Clone, Copy)]
-enum Key {
-    /// Of a writer on `r`.
-    Writer(u16, u32, u64),
-    /// Of a reader on `r`.
-    Reader(u16, u32, u64),
-    /// In a mode, on `r`.
-    In(Mode, u16, u32, u64),
-    /// Of a writer on the name of this one letter.
-    On(u8, u16, u32, u64),
-}
+struct Key(Mode, u8, u16, u32, u64);
 
 /// A call of the table about an entry, with the answer that it gives.
-#[derive(Clone, Copy)]
+#[derive(Drop)]
 enum Call {
     /// A request is made.
     Asks(Key, Result<(), RequestError>),
@@ -35,41 +25,26 @@ enum Call {
     CanEnter(Key, bool),
 }
 
-/// Returns the entry, or `None` where a number is that of no node, or a letter is no name.
-fn entry(key: Key) -> Option<Entry> {
-    let (name, node, client, mode, seq) = match key {
-        Writer(node, client, seq) => (Some(r()), node, client, Exclusive, seq),
-        Reader(node, client, seq) => (Some(r()), node, client, Shared, seq),
-        In(mode, node, client, seq) => (Some(r()), node, client, mode, seq),
-        On(letter, node, client, seq) => (Name::new(&[letter]).ok(), node, client, Exclusive, seq),
-    };
-    match (name, NodeId::new(node)) {
-        (Some(name), Some(node)) => Some(Entry {
+/// Returns the entry.
+fn entry(rt: &impl Abort, key: Key) -> Entry {
+    match (Name::new(&[key.1]), NodeId::new(key.2)) {
+        (Ok(name), Some(node)) => Entry {
             name,
-            stamp: Stamp { seq, node },
-            client,
-            mode,
-        }),
-        _ => None,
-    }
-}
-
-/// Asserts that the table gives this answer about an entry.
-fn answers_about(rt: &impl Abort, at: At<'_>, table: &mut Table, entry: &Entry, call: Call) {
-    match call {
-        Asks(_, answer) => assert_same(rt, at, &table.request(*entry), &answer),
-        Enters(_, answer) => assert_same(rt, at, &table.enter(entry), &answer),
-        Leaves(_, answer) => assert_same(rt, at, &table.leave(entry), &answer),
-        CanEnter(_, answer) => assert_same(rt, at, &table.can_enter(entry), &answer),
+            stamp: Stamp { seq: key.4, node },
+            client: key.3,
+            mode: key.0,
+        },
+        _ => panic!(rt; "there is no such entry"),
     }
 }
 
 /// Asserts that the table gives this answer.
-fn answers(rt: &impl Abort, at: At<'_>, table: &mut Table, call: Call) {
-    let (Asks(key, _) | Enters(key, _) | Leaves(key, _) | CanEnter(key, _)) = call;
-    match entry(key) {
-        Some(entry) => answers_about(rt, at, table, &entry, call),
-        None => panic!(rt; "there is no such entry"),
+fn answers(rt: &impl Abort, at: At<'_>, table: &mut Table, call: &Call) {
+    match call {
+        Asks(key, answer) => assert_same(rt, at, &table.request(entry(rt, *key)), answer),
+        Enters(key, answer) => assert_same(rt, at, &table.enter(&entry(rt, *key)), answer),
+        Leaves(key, answer) => assert_same(rt, at, &table.leave(&entry(rt, *key)), answer),
+        CanEnter(key, answer) => assert_same(rt, at, &table.can_enter(&entry(rt, *key)), answer),
     }
 }
 
@@ -78,7 +53,7 @@ fn answered_by_new(rt: &(impl Abort + AllocGlobal), label: &str, calls: &[Call])
     match Table::new(rt.alloc()) {
         Ok(mut table) => {
             for place in 0..calls.len() {
-                answers(rt, At(label, "call", place), &mut table, calls[place]);
+                answers(rt, At(label, "call", place), &mut table, &calls[place]);
             }
         }
         Err(_) => panic!(rt; "there is no table"),
@@ -88,156 +63,151 @@ fn answered_by_new(rt: &(impl Abort + AllocGlobal), label: &str, calls: &[Call])
 /// What it shows, and the answers of a table.
 struct Scene(&'static str, &'static [Call]);
 
-/// Asserts that a new table gives all answers of each scene.
-fn check(rt: &(impl Abort + AllocGlobal), scenes: &[Scene]) {
-    for scene in scenes {
-        answered_by_new(rt, scene.0, scene.1);
-    }
-}
-
 const SCENES: &[Scene] = &[
     Scene(
         "writers take turns in stamp order",
         &[
-            Enters(Writer(1, 1, 1), Err(EnterError::NotWaiting)),
-            Leaves(Writer(1, 1, 1), Err(LeaveError::NotHeld)),
-            Asks(Writer(1, 1, 1), Ok(())),
-            Asks(Writer(1, 2, 2), Err(RequestError::NodeBusy)),
-            Enters(Writer(1, 2, 2), Err(EnterError::NotWaiting)),
-            Leaves(Writer(1, 2, 2), Err(LeaveError::NotHeld)),
-            CanEnter(Writer(1, 1, 1), true),
-            Enters(Writer(1, 1, 1), Ok(())),
-            CanEnter(Writer(1, 1, 1), false),
-            Enters(Writer(1, 1, 1), Err(EnterError::NotWaiting)),
-            Asks(Writer(1, 2, 2), Err(RequestError::NodeBusy)),
-            Asks(Writer(2, 2, 1), Err(RequestError::NotAbove)),
-            Enters(Writer(2, 2, 1), Err(EnterError::NotWaiting)),
-            Leaves(Writer(2, 2, 1), Err(LeaveError::NotHeld)),
-            Asks(Writer(2, 2, 2), Ok(())),
+            Enters(Key(Exclusive, b'r', 1, 1, 1), Err(EnterError::NotWaiting)),
+            Leaves(Key(Exclusive, b'r', 1, 1, 1), Err(LeaveError::NotHeld)),
+            Asks(Key(Exclusive, b'r', 1, 1, 1), Ok(())),
+            Asks(Key(Exclusive, b'r', 1, 2, 2), Err(RequestError::NodeBusy)),
+            Enters(Key(Exclusive, b'r', 1, 2, 2), Err(EnterError::NotWaiting)),
+            Leaves(Key(Exclusive, b'r', 1, 2, 2), Err(LeaveError::NotHeld)),
+            CanEnter(Key(Exclusive, b'r', 1, 1, 1), true),
+            Enters(Key(Exclusive, b'r', 1, 1, 1), Ok(())),
+            CanEnter(Key(Exclusive, b'r', 1, 1, 1), false),
+            Enters(Key(Exclusive, b'r', 1, 1, 1), Err(EnterError::NotWaiting)),
+            Asks(Key(Exclusive, b'r', 1, 2, 2), Err(RequestError::NodeBusy)),
+            Asks(Key(Exclusive, b'r', 2, 2, 1), Err(RequestError::NotAbove)),
+            Enters(Key(Exclusive, b'r', 2, 2, 1), Err(EnterError::NotWaiting)),
+            Leaves(Key(Exclusive, b'r', 2, 2, 1), Err(LeaveError::NotHeld)),
+            Asks(Key(Exclusive, b'r', 2, 2, 2), Ok(())),
             // What is refused is refused again.
-            CanEnter(Writer(2, 2, 2), false),
-            Enters(Writer(2, 2, 2), Err(EnterError::Held)),
-            Leaves(Writer(2, 2, 2), Err(LeaveError::NotHeld)),
-            CanEnter(Writer(2, 2, 2), false),
-            Enters(Writer(2, 2, 2), Err(EnterError::Held)),
-            Leaves(Writer(2, 2, 2), Err(LeaveError::NotHeld)),
-            Leaves(Writer(1, 1, 1), Ok(())),
-            Leaves(Writer(1, 1, 1), Err(LeaveError::NotHeld)),
-            Enters(Writer(1, 1, 1), Err(EnterError::NotWaiting)),
-            Leaves(Writer(1, 1, 1), Err(LeaveError::NotHeld)),
-            CanEnter(Writer(2, 2, 2), true),
-            Enters(Writer(2, 2, 2), Ok(())),
-            Leaves(Writer(2, 2, 2), Ok(())),
-            Leaves(Writer(2, 2, 2), Err(LeaveError::NotHeld)),
+            CanEnter(Key(Exclusive, b'r', 2, 2, 2), false),
+            Enters(Key(Exclusive, b'r', 2, 2, 2), Err(EnterError::Held)),
+            Leaves(Key(Exclusive, b'r', 2, 2, 2), Err(LeaveError::NotHeld)),
+            CanEnter(Key(Exclusive, b'r', 2, 2, 2), false),
+            Enters(Key(Exclusive, b'r', 2, 2, 2), Err(EnterError::Held)),
+            Leaves(Key(Exclusive, b'r', 2, 2, 2), Err(LeaveError::NotHeld)),
+            Leaves(Key(Exclusive, b'r', 1, 1, 1), Ok(())),
+            Leaves(Key(Exclusive, b'r', 1, 1, 1), Err(LeaveError::NotHeld)),
+            Enters(Key(Exclusive, b'r', 1, 1, 1), Err(EnterError::NotWaiting)),
+            Leaves(Key(Exclusive, b'r', 1, 1, 1), Err(LeaveError::NotHeld)),
+            CanEnter(Key(Exclusive, b'r', 2, 2, 2), true),
+            Enters(Key(Exclusive, b'r', 2, 2, 2), Ok(())),
+            Leaves(Key(Exclusive, b'r', 2, 2, 2), Ok(())),
+            Leaves(Key(Exclusive, b'r', 2, 2, 2), Err(LeaveError::NotHeld)),
         ],
     ),
     Scene(
         "of equal numbers the lower node goes first",
         &[
-            Asks(Writer(1, 1, 1), Ok(())),
-            Enters(Writer(1, 1, 1), Ok(())),
-            Leaves(Writer(1, 1, 1), Ok(())),
-            Asks(Writer(2, 2, 2), Ok(())),
-            Enters(Writer(2, 2, 2), Ok(())),
-            Leaves(Writer(2, 2, 2), Ok(())),
-            Asks(Writer(1, 1, 3), Ok(())),
-            Asks(Writer(2, 2, 3), Ok(())),
-            CanEnter(Writer(1, 1, 3), true),
-            CanEnter(Writer(2, 2, 3), false),
-            Enters(Writer(2, 2, 3), Err(EnterError::Earlier)),
-            CanEnter(Writer(3, 3, 3), false),
-            Enters(Writer(3, 3, 3), Err(EnterError::NotWaiting)),
+            Asks(Key(Exclusive, b'r', 1, 1, 1), Ok(())),
+            Enters(Key(Exclusive, b'r', 1, 1, 1), Ok(())),
+            Leaves(Key(Exclusive, b'r', 1, 1, 1), Ok(())),
+            Asks(Key(Exclusive, b'r', 2, 2, 2), Ok(())),
+            Enters(Key(Exclusive, b'r', 2, 2, 2), Ok(())),
+            Leaves(Key(Exclusive, b'r', 2, 2, 2), Ok(())),
+            Asks(Key(Exclusive, b'r', 1, 1, 3), Ok(())),
+            Asks(Key(Exclusive, b'r', 2, 2, 3), Ok(())),
+            CanEnter(Key(Exclusive, b'r', 1, 1, 3), true),
+            CanEnter(Key(Exclusive, b'r', 2, 2, 3), false),
+            Enters(Key(Exclusive, b'r', 2, 2, 3), Err(EnterError::Earlier)),
+            CanEnter(Key(Exclusive, b'r', 3, 3, 3), false),
+            Enters(Key(Exclusive, b'r', 3, 3, 3), Err(EnterError::NotWaiting)),
             // What is refused is refused again.
-            CanEnter(Writer(1, 1, 3), true),
-            CanEnter(Writer(2, 2, 3), false),
-            Enters(Writer(2, 2, 3), Err(EnterError::Earlier)),
-            CanEnter(Writer(3, 3, 3), false),
-            Enters(Writer(3, 3, 3), Err(EnterError::NotWaiting)),
-            Enters(Writer(1, 1, 3), Ok(())),
-            Enters(Writer(2, 2, 3), Err(EnterError::Held)),
-            Leaves(Writer(1, 1, 3), Ok(())),
-            CanEnter(Writer(2, 2, 3), true),
+            CanEnter(Key(Exclusive, b'r', 1, 1, 3), true),
+            CanEnter(Key(Exclusive, b'r', 2, 2, 3), false),
+            Enters(Key(Exclusive, b'r', 2, 2, 3), Err(EnterError::Earlier)),
+            CanEnter(Key(Exclusive, b'r', 3, 3, 3), false),
+            Enters(Key(Exclusive, b'r', 3, 3, 3), Err(EnterError::NotWaiting)),
+            Enters(Key(Exclusive, b'r', 1, 1, 3), Ok(())),
+            Enters(Key(Exclusive, b'r', 2, 2, 3), Err(EnterError::Held)),
+            Leaves(Key(Exclusive, b'r', 1, 1, 3), Ok(())),
+            CanEnter(Key(Exclusive, b'r', 2, 2, 3), true),
         ],
     ),
     Scene(
         "two names are held at once",
         &[
-            Asks(On(b'a', 1, 1, 1), Ok(())),
-            Asks(On(b'b', 2, 2, 1), Ok(())),
-            Enters(On(b'a', 1, 1, 1), Ok(())),
-            CanEnter(On(b'b', 2, 2, 1), true),
-            Enters(On(b'b', 2, 2, 1), Ok(())),
-            Leaves(On(b'a', 1, 1, 1), Ok(())),
-            Leaves(On(b'b', 2, 2, 1), Ok(())),
+            Asks(Key(Exclusive, b'a', 1, 1, 1), Ok(())),
+            Asks(Key(Exclusive, b'b', 2, 2, 1), Ok(())),
+            Enters(Key(Exclusive, b'a', 1, 1, 1), Ok(())),
+            CanEnter(Key(Exclusive, b'b', 2, 2, 1), true),
+            Enters(Key(Exclusive, b'b', 2, 2, 1), Ok(())),
+            Leaves(Key(Exclusive, b'a', 1, 1, 1), Ok(())),
+            Leaves(Key(Exclusive, b'b', 2, 2, 1), Ok(())),
         ],
     ),
     Scene(
         "a name is asked for again",
         &[
-            Asks(On(b'a', 1, 1, 1), Ok(())),
-            Enters(On(b'a', 1, 1, 1), Ok(())),
-            Leaves(On(b'a', 1, 1, 1), Ok(())),
+            Asks(Key(Exclusive, b'a', 1, 1, 1), Ok(())),
+            Enters(Key(Exclusive, b'a', 1, 1, 1), Ok(())),
+            Leaves(Key(Exclusive, b'a', 1, 1, 1), Ok(())),
             // Nobody waits or holds on the name, but it was met.
-            Asks(On(b'b', 1, 1, 1), Ok(())),
-            CanEnter(On(b'a', 2, 2, 2), false),
-            Asks(On(b'a', 2, 2, 2), Ok(())),
-            Enters(On(b'b', 1, 1, 1), Ok(())),
-            CanEnter(On(b'a', 2, 2, 2), true),
-            Enters(On(b'a', 2, 2, 2), Ok(())),
-            Leaves(On(b'b', 1, 1, 1), Ok(())),
-            Leaves(On(b'a', 2, 2, 2), Ok(())),
-            Leaves(On(b'a', 2, 2, 2), Err(LeaveError::NotHeld)),
+            Asks(Key(Exclusive, b'b', 1, 1, 1), Ok(())),
+            CanEnter(Key(Exclusive, b'a', 2, 2, 2), false),
+            Asks(Key(Exclusive, b'a', 2, 2, 2), Ok(())),
+            Enters(Key(Exclusive, b'b', 1, 1, 1), Ok(())),
+            CanEnter(Key(Exclusive, b'a', 2, 2, 2), true),
+            Enters(Key(Exclusive, b'a', 2, 2, 2), Ok(())),
+            Leaves(Key(Exclusive, b'b', 1, 1, 1), Ok(())),
+            Leaves(Key(Exclusive, b'a', 2, 2, 2), Ok(())),
+            Leaves(Key(Exclusive, b'a', 2, 2, 2), Err(LeaveError::NotHeld)),
         ],
     ),
     Scene(
         "a reader waits behind an earlier writer",
         &[
-            Asks(Reader(1, 1, 1), Ok(())),
-            Asks(Writer(2, 2, 1), Ok(())),
-            Asks(Reader(3, 3, 1), Ok(())),
-            CanEnter(Reader(1, 1, 1), true),
-            Enters(Reader(1, 1, 1), Ok(())),
-            Enters(Reader(3, 3, 1), Err(EnterError::Earlier)),
-            Enters(Writer(2, 2, 1), Err(EnterError::Held)),
-            CanEnter(Reader(3, 3, 1), false),
-            CanEnter(Writer(2, 2, 1), false),
+            Asks(Key(Shared, b'r', 1, 1, 1), Ok(())),
+            Asks(Key(Exclusive, b'r', 2, 2, 1), Ok(())),
+            Asks(Key(Shared, b'r', 3, 3, 1), Ok(())),
+            CanEnter(Key(Shared, b'r', 1, 1, 1), true),
+            Enters(Key(Shared, b'r', 1, 1, 1), Ok(())),
+            Enters(Key(Shared, b'r', 3, 3, 1), Err(EnterError::Earlier)),
+            Enters(Key(Exclusive, b'r', 2, 2, 1), Err(EnterError::Held)),
+            CanEnter(Key(Shared, b'r', 3, 3, 1), false),
+            CanEnter(Key(Exclusive, b'r', 2, 2, 1), false),
             // What is refused is refused again.
-            Enters(Reader(3, 3, 1), Err(EnterError::Earlier)),
-            Enters(Writer(2, 2, 1), Err(EnterError::Held)),
-            CanEnter(Reader(3, 3, 1), false),
-            CanEnter(Writer(2, 2, 1), false),
-            Leaves(Reader(1, 1, 1), Ok(())),
-            Enters(Reader(3, 3, 1), Err(EnterError::Earlier)),
-            CanEnter(Writer(2, 2, 1), true),
-            Enters(Writer(2, 2, 1), Ok(())),
-            CanEnter(Reader(3, 3, 1), false),
-            Enters(Reader(3, 3, 1), Err(EnterError::Held)),
-            Leaves(Writer(2, 2, 1), Ok(())),
-            CanEnter(Reader(3, 3, 1), true),
+            Enters(Key(Shared, b'r', 3, 3, 1), Err(EnterError::Earlier)),
+            Enters(Key(Exclusive, b'r', 2, 2, 1), Err(EnterError::Held)),
+            CanEnter(Key(Shared, b'r', 3, 3, 1), false),
+            CanEnter(Key(Exclusive, b'r', 2, 2, 1), false),
+            Leaves(Key(Shared, b'r', 1, 1, 1), Ok(())),
+            Enters(Key(Shared, b'r', 3, 3, 1), Err(EnterError::Earlier)),
+            CanEnter(Key(Exclusive, b'r', 2, 2, 1), true),
+            Enters(Key(Exclusive, b'r', 2, 2, 1), Ok(())),
+            CanEnter(Key(Shared, b'r', 3, 3, 1), false),
+            Enters(Key(Shared, b'r', 3, 3, 1), Err(EnterError::Held)),
+            Leaves(Key(Exclusive, b'r', 2, 2, 1), Ok(())),
+            CanEnter(Key(Shared, b'r', 3, 3, 1), true),
         ],
     ),
     Scene(
         "readers hold a name together",
         &[
-            Asks(Reader(1, 1, 1), Ok(())),
-            Asks(Reader(2, 2, 1), Ok(())),
-            Enters(Reader(2, 2, 1), Ok(())),
-            CanEnter(Reader(1, 1, 1), true),
-            Enters(Reader(1, 1, 1), Ok(())),
-            Leaves(Reader(2, 2, 1), Ok(())),
-            Leaves(Reader(1, 1, 1), Ok(())),
+            Asks(Key(Shared, b'r', 1, 1, 1), Ok(())),
+            Asks(Key(Shared, b'r', 2, 2, 1), Ok(())),
+            Enters(Key(Shared, b'r', 2, 2, 1), Ok(())),
+            CanEnter(Key(Shared, b'r', 1, 1, 1), true),
+            Enters(Key(Shared, b'r', 1, 1, 1), Ok(())),
+            Leaves(Key(Shared, b'r', 2, 2, 1), Ok(())),
+            Leaves(Key(Shared, b'r', 1, 1, 1), Ok(())),
         ],
     ),
 ];
 
 #[test]
 fn requests_are_granted_in_stamp_order(rt: HostRuntime) {
-    check(&rt, SCENES);
+    for scene in SCENES {
+        answered_by_new(&rt, scene.0, scene.1);
+    }
 }
 
 /// A later request goes beside an earlier one, waiting or held, or goes after it, as a pair says.
 fn goes_as_said(rt: &(impl Abort + AllocGlobal), pair: &Modes) {
-    let (earlier, later) = (In(pair.1, 1, 1, 1), In(pair.2, 2, 2, 2));
+    let (earlier, later) = (Key(pair.1, b'r', 1, 1, 1), Key(pair.2, b'r', 2, 2, 2));
     let held = if pair.3 {
         Ok(())
     } else {
