@@ -11,7 +11,7 @@ use ra_cluster::{
     AuditError, AuditFault, Auditor, Book, BookEvent, BookKind, MarkObserver, TakeError, Told,
 };
 use ra_frame::Frame;
-use ra_stamp::{Mark, Mode, Name, NodeId};
+use ra_stamp::{Entry, Mark, Mode, Name, NodeId};
 use std::alloc::Global;
 use std::process::Abort;
 use test_support::{Tried, both};
@@ -45,33 +45,29 @@ pub enum Act {
     Has(Shown),
 }
 
-/// An observer that compares each mark that it is told with the one that is due.
+/// An observer that compares each mark that it is told with the one that is due: those of one lock.
 #[derive(Drop)]
-struct Compares<'a> {
+struct Compares {
     told: Told,
-    due: &'a [Mark],
+    /// The request of the lock.
+    entry: Entry,
     place: usize,
     are_equal: bool,
 }
 
-impl<'a> MarkObserver for Compares<'a> {
+impl MarkObserver for Compares {
     ghost told = { λ c. c.told };
 
     fn tell(&mut self, mark: &Mark) {
         self.told.tell(mark);
-        self.are_equal = self.are_equal && self.due.get(self.place) == Some(mark);
+        let is_equal = match *mark {
+            Mark::Requested(entry) => self.place == 0 && entry == self.entry,
+            Mark::Entered(entry) => self.place == 1 && entry == self.entry,
+            Mark::Left(entry) => self.place == 2 && entry == self.entry,
+        };
+        self.are_equal = self.are_equal && is_equal;
         self.place = self.place.saturating_add(1);
     }
-}
-
-/// Returns the marks of client 1's lock of `r` at node 1, with number 1.
-fn marks_of_a_lock() -> Option<[Mark; 3]> {
-    let entry = entry(r()?, 1, 1, Mode::Exclusive, 1)?;
-    Some([
-        Mark::Requested(entry),
-        Mark::Entered(entry),
-        Mark::Left(entry),
-    ])
 }
 
 /// Returns what became of a call that can be made once: it was taken, or it was wrong.
@@ -83,44 +79,41 @@ fn once(is_right: bool) -> Tried {
     }
 }
 
-fn shown_by(auditor: &Auditor, observer: &Compares<'_>) -> Shown {
+fn shown_by(auditor: &Auditor, observer: &Compares) -> Shown {
     let (steps, requests) = (auditor.steps(), auditor.requests());
     let (sent, under_way) = (auditor.sent(), auditor.under_way());
     Shown(steps, requests, sent, under_way, observer.place)
 }
 
-fn has(auditor: &Auditor, observer: &Compares<'_>, shown: Shown) -> bool {
+fn has(auditor: &Auditor, observer: &Compares, shown: Shown) -> bool {
     observer.are_equal && shown_by(auditor, observer) == shown
 }
 
-/// Takes events of a node. If that is refused, returns whether memory ran out.
-fn gets_once(
+/// Takes events of a node, of which callers know the answer alone, so that their proofs are short.
+fn take(
     auditor: &mut Auditor,
     node: NodeId,
     after: u64,
     events: &[BookEvent],
-) -> Result<(), bool> {
-    match auditor.take(node, after, events) {
-        Ok(()) => Ok(()),
-        Err(fault) => Err(matches!(fault, TakeError::Memory)),
-    }
+) -> Result<(), TakeError> {
+    auditor.take(node, after, events)
 }
 
 /// Takes events of a node, and takes them again if memory ran out and all is as before.
 fn gets(
     auditor: &mut Auditor,
-    observer: &Compares<'_>,
+    observer: &Compares,
     node: NodeId,
     after: u64,
     events: &[BookEvent],
 ) -> Tried {
     let before = shown_by(auditor, observer);
-    match gets_once(auditor, node, after, events) {
+    match take(auditor, node, after, events) {
         Ok(()) => Tried::AtOnce,
-        Err(is_memory)
-            if is_memory
-                && has(auditor, observer, before)
-                && gets_once(auditor, node, after, events).is_ok() => { Tried::Again }
+        Err(TakeError::Memory)
+            if has(auditor, observer, before) && take(auditor, node, after, events).is_ok() => {
+            Tried::Again
+        }
         Err(_) => Tried::Wrong,
     }
 }
@@ -128,7 +121,7 @@ fn gets(
 /// Takes a part of the book of its node.
 fn gets_part(
     auditor: &mut Auditor,
-    observer: &Compares<'_>,
+    observer: &Compares,
     books: &[Book],
     part: Part,
 ) -> Option<Tried> {
@@ -143,21 +136,9 @@ fn gets_part(
 fn advance(
     alloc: Global,
     auditor: &mut Auditor,
-    observer: &mut Compares<'_>,
+    observer: &mut Compares,
 ) -> Result<(), AuditError> {
     auditor.advance(alloc, observer)
-}
-
-/// Puts all that can be put into the run. If that is refused, returns whether memory ran out.
-fn advances_once(
-    alloc: Global,
-    auditor: &mut Auditor,
-    observer: &mut Compares<'_>,
-) -> Result<(), bool> {
-    match advance(alloc, auditor, observer) {
-        Ok(()) => Ok(()),
-        Err(fault) => Err(matches!(fault, AuditError::Memory)),
-    }
 }
 
 /// Puts all that can be put into the run, and does it again if memory ran out and all is as before, unless it may change
@@ -165,16 +146,15 @@ fn advances_once(
 fn advances(
     alloc: Global,
     auditor: &mut Auditor,
-    observer: &mut Compares<'_>,
+    observer: &mut Compares,
     in_parts: bool,
 ) -> Tried {
     let before = shown_by(auditor, observer);
-    match advances_once(alloc, auditor, observer) {
+    match advance(alloc, auditor, observer) {
         Ok(()) => Tried::AtOnce,
-        Err(is_memory)
-            if is_memory
-                && (in_parts || has(auditor, observer, before))
-                && advances_once(alloc, auditor, observer).is_ok() => { Tried::Again }
+        Err(AuditError::Memory)
+            if (in_parts || has(auditor, observer, before))
+                && advance(alloc, auditor, observer).is_ok() => { Tried::Again }
         Err(_) => Tried::Wrong,
     }
 }
@@ -194,11 +174,17 @@ pub fn fault_of(name: Name, came: Came) -> Option<AuditFault> {
     })
 }
 
-/// Puts all that can be put into the run, and returns what does not fit.
-fn found(alloc: Global, auditor: &mut Auditor, observer: &mut Compares<'_>) -> Option<AuditFault> {
-    match advance(alloc, auditor, observer) {
-        Ok(()) | Err(AuditError::Memory) => None,
-        Err(AuditError::Fault(fault)) => Some(fault),
+/// Returns whether this event does not fit.
+fn finds(
+    alloc: Global,
+    auditor: &mut Auditor,
+    observer: &mut Compares,
+    name: Name,
+    came: Came,
+) -> bool {
+    match fault_of(name, came) {
+        Some(due) => advance(alloc, auditor, observer) == Err(AuditError::Fault(due)),
+        None => false,
     }
 }
 
@@ -206,7 +192,7 @@ fn found(alloc: Global, auditor: &mut Auditor, observer: &mut Compares<'_>) -> O
 fn left(
     alloc: Global,
     auditor: &mut Auditor,
-    observer: &mut Compares<'_>,
+    observer: &mut Compares,
 ) -> Option<Option<AuditFault>> {
     match auditor.advance(alloc, observer) {
         Ok(()) => Some(auditor.unsettled()),
@@ -214,23 +200,10 @@ fn left(
     }
 }
 
-fn finds(
-    alloc: Global,
-    auditor: &mut Auditor,
-    observer: &mut Compares<'_>,
-    name: Name,
-    came: Came,
-) -> bool {
-    match fault_of(name, came) {
-        Some(due) => found(alloc, auditor, observer) == Some(due),
-        None => false,
-    }
-}
-
 fn leaves(
     alloc: Global,
     auditor: &mut Auditor,
-    observer: &mut Compares<'_>,
+    observer: &mut Compares,
     name: Name,
     came: Option<Came>,
 ) -> bool {
@@ -245,7 +218,7 @@ fn leaves(
 fn acts(
     alloc: Global,
     auditor: &mut Auditor,
-    observer: &mut Compares<'_>,
+    observer: &mut Compares,
     books: &[Book],
     name: Name,
     act: Act,
@@ -268,7 +241,7 @@ fn acts(
 fn all_acts(
     alloc: Global,
     auditor: &mut Auditor,
-    observer: &mut Compares<'_>,
+    observer: &mut Compares,
     books: &[Book],
     name: Name,
     all: &[Act],
@@ -288,26 +261,33 @@ fn all_acts(
 
 /// Has an auditor of two nodes do all of this with their books. Returns `None` if memory ran out before.
 pub fn audited(alloc: Global, books: &[Book], all: &[Act]) -> Option<Result<Tried, usize>> {
-    let (name, due) = (r()?, marks_of_a_lock()?);
+    let name = r()?;
     let mut auditor = Auditor::new(alloc, 2, 0).ok()?;
     let mut observer = Compares {
         told: Told::new(),
-        due: &due,
+        entry: entry(name, 1, 1, Mode::Exclusive, 1)?,
         place: 0,
         are_equal: true,
     };
     Some(all_acts(alloc, &mut auditor, &mut observer, books, name, all))
 }
 
-/// Ends the test unless an auditor of two nodes, whose books are as they are after this, does and shows all of that.
-fn assert_audited<R: Abort + AllocGlobal>(rt: &R, done: &[Done], all: &[Act]) {
-    let Ok(books) = books_after(rt.alloc(), &[ONE, TWO], done) else {
-        panic!(rt; "the books are made");
+/// What is done to the books of two nodes, in a few words, and what an auditor does and shows then.
+struct Row {
+    words: &'static str,
+    done: &'static [Done],
+    acts: &'static [Act],
+}
+
+/// Ends the test unless an auditor does and shows all of a row.
+fn assert_audited<R: Abort + AllocGlobal>(rt: &R, row: &Row) {
+    let Ok(books) = books_after(rt.alloc(), &[ONE, TWO], row.done) else {
+        panic!(rt; "{}: the books are made", row.words);
     };
-    match audited(rt.alloc(), &books, all) {
+    match audited(rt.alloc(), &books, row.acts) {
         Some(Ok(_)) => {}
-        Some(Err(place)) => panic!(rt; "act {place}, counted from 0"),
-        None => panic!(rt; "the auditor is made"),
+        Some(Err(place)) => panic!(rt; "{}: act {place}, counted from 0", row.words),
+        None => panic!(rt; "{}: the auditor is made", row.words),
     }
 }
 
@@ -329,27 +309,19 @@ pub const EVENT_BY_EVENT: &[Act] = &[
     Leaves(None),
 ];
 
-#[test]
-fn audit_of_a_lock_event_by_event(rt: HostRuntime) {
-    assert_audited(&rt, ONE_LOCK, EVENT_BY_EVENT);
-}
-
 /// The REQUEST of [`ASKS`], which comes to node 2 first.
 const FIRST: Came = Came(2, 2, 1, Wire::Asks);
 
-#[test]
-fn audit_of_a_frame_that_waits_for_its_sender(rt: HostRuntime) {
-    let acts = [
-        Gets(Part(2, 0, 1, 0)),
-        Advances,
-        Has(Shown(0, 0, 0, 0, 0)),
-        Leaves(Some(FIRST)),
-        Gets(Part(1, 0, 3, 0)),
-        AdvancesInParts,
-        Has(Shown(4, 1, 2, 0, 3)),
-    ];
-    assert_audited(&rt, ONE_LOCK, &acts);
-}
+/// The REQUEST of the lock comes to the auditor before the event that sent it.
+const WAITS: &[Act] = &[
+    Gets(Part(2, 0, 1, 0)),
+    Advances,
+    Has(Shown(0, 0, 0, 0, 0)),
+    Leaves(Some(FIRST)),
+    Gets(Part(1, 0, 3, 0)),
+    AdvancesInParts,
+    Has(Shown(4, 1, 2, 0, 3)),
+];
 
 /// Client 1 asks for `r` in shared mode at node 1, but node 2 gets the REQUEST of an exclusive one.
 const NEVER_SENT: &[Done] = &[
@@ -358,18 +330,17 @@ const NEVER_SENT: &[Done] = &[
 ];
 
 /// The frame is found in the round in which the sender's events come, and in each later one.
-#[test]
-fn audit_of_a_frame_that_was_never_sent(rt: HostRuntime) {
-    let acts = [
-        Gets(Part(2, 0, 1, 0)),
-        Advances,
-        Leaves(Some(FIRST)),
-        Gets(Part(1, 0, 1, 0)),
-        Finds(FIRST),
-        Finds(FIRST),
-    ];
-    assert_audited(&rt, NEVER_SENT, &acts);
-}
+const FOUND: &[Act] = &[
+    Gets(Part(2, 0, 1, 0)),
+    Advances,
+    Leaves(Some(FIRST)),
+    Gets(Part(1, 0, 1, 0)),
+    Finds(FIRST),
+    Finds(FIRST),
+];
+
+/// The same frame, which comes again.
+const SECOND: Came = Came(2, 3, 1, Wire::Asks);
 
 /// The same frame comes to node 2 twice.
 const CAME_TWICE: &[Done] = &[
@@ -379,18 +350,44 @@ const CAME_TWICE: &[Done] = &[
 ];
 
 /// The second frame is found in the round in which it comes, and in each later one.
+const FOUND_TWICE: &[Act] = &[
+    Gets(Part(1, 0, 1, 0)),
+    Gets(Part(2, 0, 1, 0)),
+    AdvancesInParts,
+    Has(Shown(2, 1, 2, 1, 1)),
+    Gets(Part(2, 1, 2, 2)),
+    Finds(SECOND),
+    Finds(SECOND),
+    Has(Shown(2, 1, 2, 1, 1)),
+];
+
+/// What auditors find.
+const AUDITS: &[Row] = &[
+    Row {
+        words: "a lock event by event",
+        done: ONE_LOCK,
+        acts: EVENT_BY_EVENT,
+    },
+    Row {
+        words: "a frame waits for its sender",
+        done: ONE_LOCK,
+        acts: WAITS,
+    },
+    Row {
+        words: "a frame was never sent",
+        done: NEVER_SENT,
+        acts: FOUND,
+    },
+    Row {
+        words: "a frame came twice",
+        done: CAME_TWICE,
+        acts: FOUND_TWICE,
+    },
+];
+
 #[test]
-fn audit_of_a_frame_that_came_twice(rt: HostRuntime) {
-    let second = Came(2, 3, 1, Wire::Asks);
-    let acts = [
-        Gets(Part(1, 0, 1, 0)),
-        Gets(Part(2, 0, 1, 0)),
-        AdvancesInParts,
-        Has(Shown(2, 1, 2, 1, 1)),
-        Gets(Part(2, 1, 2, 2)),
-        Finds(second),
-        Finds(second),
-        Has(Shown(2, 1, 2, 1, 1)),
-    ];
-    assert_audited(&rt, CAME_TWICE, &acts);
+fn audits_put_what_happened_into_one_run_and_find_what_does_not_fit(rt: HostRuntime) {
+    for row in AUDITS {
+        assert_audited(&rt, row);
+    }
 }

@@ -1,6 +1,6 @@
 //! What the tests of books share: the steps that a book does or shows, one after another.
 use crate::helpers;
-use crate::helpers::r;
+use crate::helpers::{bytes_of, new_book, r};
 use Call::{Ask, Leave, Receive};
 use Step::{
     Asked, Fails, Gave, Got, Has, HasFault, IsFree, IsHeld, IsNew, Loses, Posts, Refuses,
@@ -8,8 +8,8 @@ use Step::{
 };
 use Wire::{Asks, Replies};
 use ra_cluster::{Book, BookError, BookEvent, BookKind, MarkLostError, Posted, Sent, Stop};
-use ra_frame::{Frame, encode};
-use ra_stamp::{Entry, Mark, Message, Mode, Name, NodeId};
+use ra_frame::Frame;
+use ra_stamp::{Entry, Mark, Message, Mode, Name};
 use std::alloc::Global;
 
 /// A REQUEST with number 1 from node 1 to node 2 for `r`, exclusively, at clock 1.
@@ -144,12 +144,9 @@ fn refuses(alloc: Global, book: &mut Book, name: Name, call: Call<'_>, fault: Bo
 
 /// Returns whether a frame fits and has this text.
 fn is_text(alloc: Global, frame: &Frame, text: &[u8; 25]) -> bool {
-    if !frame.fits() {
-        return false;
-    }
-    match encode(alloc, frame) {
-        Ok(bytes) => bytes.as_slice() == text.as_slice(),
-        Err(_) => false,
+    match bytes_of(alloc, frame) {
+        Some(bytes) => bytes.as_slice() == text.as_slice(),
+        None => false,
     }
 }
 
@@ -298,8 +295,8 @@ pub fn done_by(
     start: u64,
     steps: &[Step<'_>],
 ) -> Option<usize> {
-    let (me, name) = (NodeId::new(me)?, r()?);
-    match Book::new(alloc, me, nodes, start) {
+    let name = r()?;
+    match new_book(alloc, me, nodes, start) {
         Ok(mut book) => Some(done(alloc, &mut book, name, steps)),
         Err(_) => None,
     }

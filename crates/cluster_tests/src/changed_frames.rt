@@ -2,11 +2,12 @@
 //! where it does not.
 use crate::books::Call::Receive;
 use crate::books::{ASK, ASKS, ASKS_1, has, make};
-use crate::helpers::r;
+use crate::helpers::{new_book, r};
 use ra_cluster::{Book, BookError};
 use ra_frame::FrameError;
-use ra_stamp::{Name, NodeId};
+use ra_stamp::Name;
 use std::alloc::Global;
+use std::process::Abort;
 
 /// With how many of the 256 bytes at each place node 2 of 3 takes the REQUEST of version 1.
 const TAKEN_1: [u32; 23] = [
@@ -66,8 +67,8 @@ fn outcome_at(
 
 /// The same for the book of node 2 of 3 and the name `r`.
 fn outcome(alloc: Global, bytes: &[u8]) -> Option<Result<(), BookError>> {
-    let (name, me) = (r()?, NodeId::new(2)?);
-    match Book::new(alloc, me, 3, 0) {
+    let name = r()?;
+    match new_book(alloc, 2, 3, 0) {
         Ok(mut book) => outcome_at(alloc, &mut book, &name, bytes),
         Err(_) => None,
     }
@@ -84,39 +85,41 @@ fn count_taken<const N: usize>(alloc: Global, text: &[u8; N], place: usize) -> O
     Some(count)
 }
 
-#[test]
-fn with_another_byte_a_frame_of_version_1_is_taken_or_leaves_the_book(rt: HostRuntime) {
-    for place in 0..23 {
+/// Ends the test unless the REQUEST is taken with as many of the 256 bytes at each place.
+fn assert_taken<R: Abort + AllocGlobal, const N: usize>(rt: &R, text: &[u8; N], taken: &[u32; N]) {
+    for place in 0..N {
+        let (came, expected) = (count_taken(rt.alloc(), text, place), taken[place]);
         assert!(rt;
-            count_taken(rt.alloc(), &ASKS_1, place) == TAKEN_1.get(place).copied(),
-            "at {place}"
+            came == Some(expected),
+            "at {place}: expected {expected}; {came:?} came"
         );
     }
 }
 
 #[test]
+fn with_another_byte_a_frame_of_version_1_is_taken_or_leaves_the_book(rt: HostRuntime) {
+    assert_taken(&rt, &ASKS_1, &TAKEN_1);
+}
+
+#[test]
 fn with_another_byte_a_frame_of_version_2_is_taken_or_leaves_the_book(rt: HostRuntime) {
-    for place in 0..25 {
+    assert_taken(&rt, &ASKS, &TAKEN_2);
+}
+
+/// Ends the test if a part of these bytes is taken, or is not too short.
+fn assert_short<R: Abort + AllocGlobal>(rt: &R, text: &[u8]) {
+    for end in 0..text.len() {
+        let came = outcome(rt.alloc(), &text[..end]);
         assert!(rt;
-            count_taken(rt.alloc(), &ASKS, place) == TAKEN_2.get(place).copied(),
-            "at {place}"
+            came == Some(Err(BookError::Frame(FrameError::Short))),
+            "{end} of {} bytes: expected Short; {came:?} came",
+            text.len()
         );
     }
 }
 
 #[test]
 fn each_part_of_a_frame_leaves_the_book(rt: HostRuntime) {
-    let short = Some(Err(BookError::Frame(FrameError::Short)));
-    for end in 0..23 {
-        assert!(rt;
-            outcome(rt.alloc(), &ASKS_1[..end]) == short,
-            "{end} bytes of version 1"
-        );
-    }
-    for end in 0..25 {
-        assert!(rt;
-            outcome(rt.alloc(), &ASKS[..end]) == short,
-            "{end} bytes of version 2"
-        );
-    }
+    assert_short(&rt, &ASKS_1);
+    assert_short(&rt, &ASKS);
 }

@@ -1,6 +1,7 @@
 //! What a whole cluster answers if its gate or a stop ends it, and what its clients get.
-use crate::helpers::{Counting, assert_prints, in_a_thread, r};
-use ra_cluster::{Book, BookError, CallError, Cluster, Grant, Held, OpenGate, SiteError, Stop};
+use crate::cluster_calls::{lock, new_cluster, site_of, use_name};
+use crate::helpers::{CAUSES, Counting, assert_prints, closed, in_a_thread, r};
+use ra_cluster::{Book, BookError, CallError, Cluster, OpenGate, SiteError, Stop};
 use ra_stamp::{Mode, Name, NodeId};
 use std::alloc::Global;
 use std::process::Abort;
@@ -8,39 +9,8 @@ use std::sync::Wait;
 use std::sync::atomic::Ordering;
 use std::thread::Threads;
 
-/// Each cause of a stop.
-const CAUSES: [Stop; 8] = [
-    Stop::Memory,
-    Stop::Send,
-    Stop::Clock,
-    Stop::Exhausted,
-    Stop::Frame,
-    Stop::Refused,
-    Stop::Gate,
-    Stop::Spawn,
-];
-
-/// What a client meets that locks and unlocks a name.
-#[derive(Clone, Copy, Debug, PartialEq, Eq)]
-enum Met {
-    /// It is let in, and gives the name back.
-    Done,
-    /// It is let in, and does not give the name back, for this reason.
-    Keeps(SiteError),
-    /// It is not let in, for this reason.
-    Refused(CallError),
-}
-
-/// Returns what a client met.
-fn met_by(held: Result<Held<()>, CallError>) -> Met {
-    match held {
-        Ok(held) => match held.unlocked {
-            Ok(()) => Met::Done,
-            Err(refused) => Met::Keeps(refused),
-        },
-        Err(refused) => Met::Refused(refused),
-    }
-}
+/// What a client meets that locks and unlocks a name: whether it is let in and, if it is, whether it gives the name back.
+type Met = Result<Result<(), SiteError>, CallError>;
 
 /// How many steps the gate of two nodes lets pass, what a client of node 1 meets then, and how many events each node has.
 #[derive(Clone, Copy)]
@@ -51,7 +21,7 @@ struct Passed {
 }
 
 /// A client that the gate did not let in.
-const NOT_LET_IN: Met = Met::Refused(CallError::Site(SiteError::Stopped(Stop::Gate)));
+const NOT_LET_IN: Met = Err(CallError::Site(SiteError::Stopped(Stop::Gate)));
 
 /// The steps are the ask, the REQUEST that comes to node 2, the REPLY that comes to node 1, and the leave.
 const PASSED: &[Passed] = &[
@@ -72,30 +42,32 @@ const PASSED: &[Passed] = &[
     },
     Passed {
         steps: 3,
-        met: Met::Keeps(SiteError::Stopped(Stop::Gate)),
+        met: Ok(Err(SiteError::Stopped(Stop::Gate))),
         events: (2, 1),
     },
     Passed {
         steps: 4,
-        met: Met::Done,
+        met: Ok(Ok(())),
         events: (3, 1),
     },
 ];
 
-/// Has client 1 of a node lock the name and unlock it, while the nodes carry their frames.
-fn works<R: Threads + Wait + Abort + Sync>(
+/// Has client 1 of node 1 lock the name and unlock it.
+fn work<R: Wait>(rt: &R, alloc: Global, cluster: &Cluster<&Counting>, name: &Name) -> Met {
+    match use_name(rt, alloc, cluster, 1, 1, name, None) {
+        Ok(held) => Ok(held.unlocked),
+        Err(refused) => Err(refused),
+    }
+}
+
+/// Has it do so while the nodes carry their frames.
+fn work_while_carried<R: Threads + Wait + Sync>(
     rt: &R,
     alloc: Global,
     cluster: &Cluster<&Counting>,
-    node: NodeId,
-    name: Name,
+    name: &Name,
 ) -> Met {
-    let mode = Mode::Exclusive;
-    cluster.run(
-        rt,
-        alloc,
-        || met_by(cluster.with_lock(rt, alloc, node, 1, name, mode, |_grant: Grant| {})),
-    )
+    cluster.run(rt, alloc, || work(rt, alloc, cluster, name))
 }
 
 /// Returns how many events the books of two nodes have.
@@ -106,40 +78,44 @@ fn events_of(books: &[Book]) -> Option<(u64, u64)> {
     }
 }
 
-/// What a client of two nodes meets behind such a gate, how many steps the gate was asked about, and how many events the
+/// What a client of two nodes with such a gate meets, how many steps the gate was asked about, and how many events the
 /// nodes have.
-fn came<R: Threads + Wait + Abort + Sync>(
+fn came<R: Threads + Wait + Sync>(
     rt: &R,
     alloc: Global,
     steps: u64,
 ) -> Option<(Met, u64, (u64, u64))> {
-    let (name, one, gate) = (r()?, NodeId::new(1)?, Counting::new(steps, true));
-    let cluster = Cluster::new(alloc, 2, 0, &gate).ok()?;
-    let met = works(rt, alloc, &cluster, one, name);
-    let events = events_of(&cluster.close(alloc))?;
+    let (name, gate) = (r()?, Counting::new(steps, true));
+    let cluster = new_cluster(alloc, 2, 0, &gate).ok()?;
+    let met = work_while_carried(rt, alloc, &cluster, &name);
+    let events = events_of(&closed(alloc, cluster))?;
     Some((met, gate.steps.load(Ordering::SeqCst), events))
+}
+
+/// Ends the test unless a client meets what a row says.
+fn assert_passed<R: Threads + Wait + Abort + Sync + AllocGlobal>(rt: &R, row: &'static Passed) {
+    let Some((met, asked, events)) = in_a_thread(rt, move || came(rt, rt.alloc(), row.steps)) else {
+        panic!(rt; "there is no such cluster");
+    };
+    // It is asked about the step that it refuses, too.
+    let is_asked = if row.steps == 4 {
+        asked == 4
+    } else {
+        asked > row.steps
+    };
+    assert!(rt;
+        met == row.met && events == row.events && is_asked,
+        "{} steps pass: expected {:?} and {:?} events; {met:?} and {events:?} came, and it was asked about {asked}",
+        row.steps,
+        row.met,
+        row.events
+    );
 }
 
 #[test]
 fn the_gate_of_a_cluster_is_asked_before_each_step_of_each_node(rt: HostRuntime) {
     for row in PASSED {
-        let came = in_a_thread(&rt, || came(&rt, rt.alloc(), row.steps));
-        let Some((met, asked, events)) = came else {
-            panic!(rt; "there is no such cluster");
-        };
-        assert_eq!(rt; met, row.met, "{} steps", row.steps);
-        assert_eq!(rt; events, row.events, "{} steps", row.steps);
-        // It is asked about the step that it refuses, too.
-        let is_asked = if row.steps == 4 {
-            asked == 4
-        } else {
-            asked > row.steps
-        };
-        assert!(rt;
-            is_asked,
-            "{} steps pass, and it was asked about {asked}",
-            row.steps
-        );
+        assert_passed(&rt, row);
     }
 }
 
@@ -150,11 +126,8 @@ fn not_stopped_for<R: Wait>(
     cause: Stop,
 ) -> Option<(u16, Option<Stop>)> {
     for number in 1..=cluster.nodes() {
-        let fault = match NodeId::new(number) {
-            Some(node) => match cluster.site(node) {
-                Some(site) => site.fault(rt),
-                None => None,
-            },
+        let fault = match site_of(cluster, number) {
+            Some(site) => site.fault(rt),
             None => None,
         };
         if fault != Some(cause) {
@@ -164,7 +137,7 @@ fn not_stopped_for<R: Wait>(
     None
 }
 
-/// Stops a cluster of so many nodes for this cause, and waits until the pumps end. Returns the first node that is not
+/// Stops a cluster of this many nodes for this cause, and waits until the pumps end. Returns the first node that is not
 /// stopped for it, and why a client of the last node is refused then.
 fn after_a_stop<R: Wait>(
     rt: &R,
@@ -172,7 +145,7 @@ fn after_a_stop<R: Wait>(
     nodes: u16,
     cause: Stop,
 ) -> Option<(Option<(u16, Option<Stop>)>, Option<CallError>)> {
-    let cluster = Cluster::new(alloc, nodes, 0, OpenGate).ok()?;
+    let (name, cluster) = (r()?, new_cluster(alloc, nodes, 0, OpenGate).ok()?);
     cluster.stop(rt, cause);
     // The first cause is kept.
     cluster.stop(rt, Stop::Gate);
@@ -180,49 +153,52 @@ fn after_a_stop<R: Wait>(
         // These would wait forever if the post were open.
         cluster.pump(rt, alloc, NodeId::new(number)?);
     }
-    let refused = cluster
-        .lock(rt, alloc, NodeId::new(nodes)?, 1, r()?, Mode::Shared)
-        .err();
+    let refused = lock(rt, alloc, &cluster, nodes, 1, &name, Mode::Shared).err();
     Some((not_stopped_for(rt, &cluster, cause), refused))
+}
+
+/// Ends the test unless all nodes are stopped for this cause, and a client is refused since its node is stopped.
+fn assert_stopped<R: Threads + Wait + Abort + Sync + AllocGlobal>(rt: &R, nodes: u16, cause: Stop) {
+    let failed = CallError::Site(SiteError::Refused(BookError::Failed));
+    let came = in_a_thread(rt, move || after_a_stop(rt, rt.alloc(), nodes, cause));
+    assert!(rt;
+        came == Some((None, Some(failed))),
+        "{nodes} nodes, cause {cause}: expected no node and Failed; {came:?} came"
+    );
 }
 
 #[test]
 fn a_stop_of_a_cluster_stops_all_nodes_for_its_cause_and_ends_the_pumps(rt: HostRuntime) {
-    let failed = CallError::Site(SiteError::Refused(BookError::Failed));
-    for nodes in [1u16, 2, 3] {
+    for nodes in 1..=3u16 {
         for cause in CAUSES {
-            let came = in_a_thread(&rt, || after_a_stop(&rt, rt.alloc(), nodes, cause));
-            assert_eq!(rt;
-                came,
-                Some((None, Some(failed))),
-                "{nodes} nodes, cause {cause}"
-            );
+            assert_stopped(&rt, nodes, *cause);
         }
     }
 }
 
-/// Returns why a client of a single node is refused that holds the name already.
-fn holds_already<R: Wait>(rt: &R, alloc: Global) -> Option<CallError> {
-    let (name, one) = (r()?, NodeId::new(1)?);
-    let cluster = Cluster::new(alloc, 1, 0, OpenGate).ok()?;
-    let _grant = cluster.lock(rt, alloc, one, 1, name, Mode::Exclusive).ok()?;
-    cluster.lock(rt, alloc, one, 1, name, Mode::Exclusive).err()
+/// Returns why a client of a single node, which locks a name twice, is refused, or `None` if it is not. Numbers begin after `start`.
+fn refusal_of<R: Wait>(rt: &R, alloc: Global, start: u64) -> Option<CallError> {
+    let (name, cluster) = (r()?, new_cluster(alloc, 1, start, OpenGate).ok()?);
+    let x = Mode::Exclusive;
+    match lock(rt, alloc, &cluster, 1, 1, &name, x) {
+        Ok(_) => lock(rt, alloc, &cluster, 1, 1, &name, x).err(),
+        Err(refused) => Some(refused),
+    }
 }
 
-/// Returns why a client is refused if no number is left.
-fn has_no_number<R: Wait>(rt: &R, alloc: Global) -> Option<CallError> {
-    let cluster = Cluster::new(alloc, 1, u64::MAX, OpenGate).ok()?;
-    cluster
-        .lock(rt, alloc, NodeId::new(1)?, 1, r()?, Mode::Exclusive)
-        .err()
-}
+/// The number after which those of a name begin, and why the client is refused: since it holds the name, or no number is left.
+const REFUSED: &[(u64, BookError)] = &[(0, BookError::Busy), (u64::MAX, BookError::Exhausted)];
 
 #[test]
 fn a_refused_lock_of_a_cluster_tells_why(rt: HostRuntime) {
-    let busy = CallError::Site(SiteError::Refused(BookError::Busy));
-    let exhausted = CallError::Site(SiteError::Refused(BookError::Exhausted));
-    assert_eq!(rt; holds_already(&rt, rt.alloc()), Some(busy));
-    assert_eq!(rt; has_no_number(&rt, rt.alloc()), Some(exhausted));
+    for row in REFUSED {
+        let came = refusal_of(&rt, rt.alloc(), row.0);
+        assert!(rt;
+            came == Some(CallError::Site(SiteError::Refused(row.1))),
+            "expected {}; {came:?} came",
+            row.1
+        );
+    }
 }
 
 /// Why a call of a cluster failed, and the word of it.
@@ -238,14 +214,14 @@ fn why_a_call_of_a_cluster_failed_is_printed_as_its_word(rt: HostRuntime) {
 }
 
 /// Returns what a closure returned that starts no client, and how many books there are then.
-fn runs_nothing<R: Threads + Wait + Abort + Sync>(rt: &R, alloc: Global) -> Option<(u8, usize)> {
-    let cluster = Cluster::new(alloc, 3, 0, OpenGate).ok()?;
+fn runs_nothing<R: Threads + Wait + Sync>(rt: &R, alloc: Global) -> Option<(u8, usize)> {
+    let cluster = new_cluster(alloc, 3, 0, OpenGate).ok()?;
     let value = cluster.run(rt, alloc, || -> u8 { 7 });
-    Some((value, cluster.close(alloc).len()))
+    Some((value, closed(alloc, cluster).len()))
 }
 
 #[test]
 fn a_cluster_ends_its_pumps_when_the_closure_returns(rt: HostRuntime) {
     let ran = in_a_thread(&rt, || runs_nothing(&rt, rt.alloc()));
-    assert_eq!(rt; ran, Some((7, 3)));
+    assert!(rt; ran == Some((7, 3)), "expected 7 and 3 books; {ran:?} came");
 }

@@ -1,5 +1,5 @@
 //! How a script that threads run comes to its end, or fails to.
-use crate::helpers::ran;
+use crate::helpers::{entry, r, ran};
 use crate::plans::{Client, script_of};
 use ra_cluster::{ClusterError, Gate, Settled};
 use ra_stamp::{Entry, Mark, Mode};
@@ -72,7 +72,9 @@ fn are_as_many(settled: &Settled, requests: u128, sent: u128) -> bool {
         leaves: requests,
         ..NOTHING
     };
-    steps_counted(settled.steps.as_slice()) == steps
+    u128::from(settled.steps.len()) == requests.saturating_mul(2).saturating_add(sent)
+        && steps_counted(settled.steps.as_slice()) == steps
+        && settled.report.marks.len() as u128 == requests.saturating_mul(3)
         && marks_counted(settled.report.marks.as_slice()) == marks
 }
 
@@ -115,7 +117,7 @@ fn exclude_each_other(marks: &[Mark]) -> bool {
 /// Returns whether this many requests were made and messages sent, and nothing is left: no message is under way, lost
 /// or repeated, and no client is waiting or queued. The steps and the marks, counted one by one, must match, and no
 /// writer may be inside with another client.
-pub fn is_done(settled: &Settled, requests: u128, sent: u128) -> bool {
+fn is_done(settled: &Settled, requests: u128, sent: u128) -> bool {
     let report = &settled.report;
     report.requests == requests
         && report.sent == sent
@@ -128,40 +130,64 @@ pub fn is_done(settled: &Settled, requests: u128, sent: u128) -> bool {
         && exclude_each_other(report.marks.as_slice())
 }
 
-/// Returns whether threads, with a gate, bring the script of this many nodes with these clients to its end, with this
-/// many requests and messages.
+/// Returns whether both marks are there, the first before the second.
+fn are_in_order(marks: &[Mark], first: Mark, second: Mark) -> bool {
+    let mut has_first = false;
+    for mark in marks {
+        if *mark == second {
+            return has_first;
+        }
+        has_first = has_first || *mark == first;
+    }
+    false
+}
+
+/// Returns whether the client at the first of these nodes enters `r` with number 1, and after it that at the second with number 2. Each
+/// client has the number of its node.
+fn enter_in_order(marks: &[Mark], first: u16, second: u16) -> Option<bool> {
+    let (r, x) = (r()?, Mode::Exclusive);
+    let one = entry(r, first, u32::from(first), x, 1)?;
+    let two = entry(r, second, u32::from(second), x, 2)?;
+    Some(are_in_order(marks, Mark::Entered(one), Mark::Entered(two)))
+}
+
+/// How a script ends.
+#[derive(Clone, Copy)]
+pub enum End {
+    /// With this many requests, which are all granted and left, and this many messages.
+    Done(u128, u128),
+    /// With four requests and eight messages, and the client at the first of these nodes enters `r` before that at the second.
+    InOrder(u16, u16),
+    /// It does not come to its end, for this reason.
+    Fails(ClusterError),
+}
+
+/// Returns whether what settled is this end.
+fn is_end(settled: &Settled, end: End) -> bool {
+    match end {
+        End::Done(requests, sent) => is_done(settled, requests, sent),
+        End::InOrder(first, second) => {
+            is_done(settled, 4, 8)
+                && enter_in_order(settled.report.marks.as_slice(), first, second) == Some(true)
+        }
+        End::Fails(_) => false,
+    }
+}
+
+/// Returns whether threads, with a gate, bring the script of this many nodes with these clients to this end.
 pub fn ends_behind<R: Threads + Wait + Abort + Sync, G: Gate>(
     rt: &R,
     alloc: Global,
     nodes: u16,
     clients: &[Client],
     gate: &G,
-    requests: u128,
-    sent: u128,
+    end: End,
 ) -> bool {
     let Some(script) = script_of(alloc, nodes, clients) else {
         return false;
     };
     match ran(rt, alloc, &script, gate) {
-        Ok(settled) => is_done(&settled, requests, sent),
-        Err(_) => false,
-    }
-}
-
-/// Returns whether threads, with a gate, do not bring such a script to its end, for this reason.
-pub fn fails_behind<R: Threads + Wait + Abort + Sync, G: Gate>(
-    rt: &R,
-    alloc: Global,
-    nodes: u16,
-    clients: &[Client],
-    gate: &G,
-    fault: ClusterError,
-) -> bool {
-    let Some(script) = script_of(alloc, nodes, clients) else {
-        return false;
-    };
-    match ran(rt, alloc, &script, gate) {
-        Ok(_) => false,
-        Err(found) => found == fault,
+        Ok(settled) => is_end(&settled, end),
+        Err(found) => matches!(end, End::Fails(fault) if fault == found),
     }
 }

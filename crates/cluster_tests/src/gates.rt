@@ -1,5 +1,5 @@
 //! Scripts that threads do behind gates that hold them up, and gates that stop them.
-use crate::endings::{ends_behind, fails_behind};
+use crate::endings::{End, ends_behind};
 use crate::helpers::{Counting, comes_to};
 use crate::plans::{Client, READS_R, TWO_WRITERS, USES_A, USES_B, USES_R};
 use ra_cluster::{ClusterError, Gate, Stop};
@@ -92,103 +92,98 @@ impl Gate for Meets {
     }
 }
 
-/// Two clients of so many nodes that meet so, with the messages that are sent and the steps of node 1 and node 2.
+/// Two clients of this many nodes that meet so, with the messages that are sent and the steps of node 1 and node 2.
 #[derive(Clone, Copy)]
 struct Met {
     at: Meeting,
     nodes: u16,
-    clients: [Client; 2],
+    clients: &'static [Client],
     sent: u128,
     one: u64,
     two: u64,
 }
 
-/// Returns whether two clients meet, and come to their end.
-fn meet<R: Threads + Wait + Abort + Sync>(rt: &R, alloc: Global, met: &Met) -> bool {
-    let gate = Meets::new(met.at);
-    ends_behind(rt, alloc, met.nodes, &met.clients, &gate, 2, met.sent)
-        && gate.has_seen(met.one, met.two)
+/// Ends the test unless two clients meet, and come to their end.
+fn assert_meet<R: AllocGlobal + Threads + Wait + Abort + Sync>(rt: &R, met: &Met) {
+    let (gate, end) = (Meets::new(met.at), End::Done(2, met.sent));
+    let ends = ends_behind(rt, rt.alloc(), met.nodes, met.clients, &gate, end);
+    assert!(rt; ends && gate.has_seen(met.one, met.two));
 }
 
-/// Ends the test where they do not.
-fn assert_meet<R: AllocGlobal + Threads + Wait + Abort + Sync>(rt: &R, met: &Met) {
-    assert!(rt; meet(rt, rt.alloc(), met));
-}
+/// Readers of two nodes.
+const READERS: &Met = &Met {
+    at: Meeting::Inside,
+    nodes: 2,
+    clients: &[
+        Client {
+            node: 1,
+            ops: READS_R,
+        },
+        Client {
+            node: 2,
+            ops: READS_R,
+        },
+    ],
+    sent: 4,
+    one: 4,
+    two: 4,
+};
 
 #[test]
 fn readers_of_two_nodes_are_inside_together(rt: HostRuntime) {
-    assert_meet(
-        &rt,
-        &Met {
-            at: Meeting::Inside,
-            nodes: 2,
-            clients: [
-                Client {
-                    node: 1,
-                    ops: READS_R,
-                },
-                Client {
-                    node: 2,
-                    ops: READS_R,
-                },
-            ],
-            sent: 4,
-            one: 4,
-            two: 4,
-        },
-    );
+    assert_meet(&rt, READERS);
 }
+
+/// Writers of two names at two nodes.
+const STEPPING: &Met = &Met {
+    at: Meeting::Steps,
+    nodes: 2,
+    clients: &[
+        Client {
+            node: 1,
+            ops: USES_A,
+        },
+        Client {
+            node: 2,
+            ops: USES_B,
+        },
+    ],
+    sent: 4,
+    one: 4,
+    two: 4,
+};
 
 #[test]
 fn two_nodes_step_at_once(rt: HostRuntime) {
-    assert_meet(
-        &rt,
-        &Met {
-            at: Meeting::Steps,
-            nodes: 2,
-            clients: [
-                Client {
-                    node: 1,
-                    ops: USES_A,
-                },
-                Client {
-                    node: 2,
-                    ops: USES_B,
-                },
-            ],
-            sent: 4,
-            one: 4,
-            two: 4,
-        },
-    );
+    assert_meet(&rt, STEPPING);
 }
+
+/// Writers of two names at a single node.
+const BESIDE: &Met = &Met {
+    at: Meeting::Both,
+    nodes: 1,
+    clients: &[
+        Client {
+            node: 1,
+            ops: USES_A,
+        },
+        Client {
+            node: 1,
+            ops: USES_B,
+        },
+    ],
+    sent: 0,
+    one: 4,
+    two: 0,
+};
 
 /// While a client is inside, others of its node ask and are let in.
 #[test]
 fn a_client_is_inside_with_no_lock_held(rt: HostRuntime) {
-    assert_meet(
-        &rt,
-        &Met {
-            at: Meeting::Both,
-            nodes: 1,
-            clients: [
-                Client {
-                    node: 1,
-                    ops: USES_A,
-                },
-                Client {
-                    node: 1,
-                    ops: USES_B,
-                },
-            ],
-            sent: 0,
-            one: 4,
-            two: 0,
-        },
-    );
+    assert_meet(&rt, BESIDE);
 }
 
-/// A gate of two nodes that stays in each step for some time, and stops the cluster where another step of the node comes meanwhile.
+/// A gate of two nodes that stays in each step for some time, and stops the cluster if another step of the node comes meanwhile.
 #[derive(Drop)]
 struct Alone {
     /// How many are in a step of node 1 and of node 2.
@@ -241,73 +236,82 @@ fn a_node_steps_under_its_lock(rt: HostRuntime) {
     let gate = Alone {
         within: (AtomicU64::new(0), AtomicU64::new(0)),
     };
-    assert!(rt; ends_behind(&rt, rt.alloc(), 2, FOUR_WRITERS, &gate, 4, 8));
+    assert!(rt; ends_behind(&rt, rt.alloc(), 2, FOUR_WRITERS, &gate, End::Done(4, 8)));
 }
 
-/// How many nodes two writers have, how many of their steps a gate lets pass, and whether it lets everybody be inside or nobody.
-#[derive(Clone, Copy)]
+/// How many nodes two writers have, how many of their steps a gate lets pass, whether it lets everybody be inside or nobody, and how the
+/// script ends.
 struct Stopped {
     nodes: u16,
     steps: u64,
     inside: bool,
+    end: End,
 }
 
-/// Gates that stop two writers. Where there are three nodes the run takes 12 steps: two asks, two leaves and eight frames that come.
+/// The gate stops the script.
+const STOPS: End = End::Fails(ClusterError::Fault(Stop::Gate));
+
+/// Gates that stop two writers, and one that does not: with three nodes the run takes 12 steps, two asks, two leaves and eight frames
+/// that come.
 const STOPPED: &[Stopped] = &[
     Stopped {
         nodes: 3,
         steps: u64::MAX,
         inside: false,
+        end: STOPS,
     },
     Stopped {
         nodes: 3,
         steps: 0,
         inside: true,
+        end: STOPS,
     },
     Stopped {
         nodes: 3,
         steps: 1,
         inside: true,
+        end: STOPS,
     },
     Stopped {
         nodes: 3,
         steps: 5,
         inside: true,
+        end: STOPS,
     },
     Stopped {
         nodes: 3,
         steps: 11,
         inside: true,
+        end: STOPS,
     },
     Stopped {
         nodes: 2,
         steps: u64::MAX,
         inside: false,
+        end: STOPS,
+    },
+    Stopped {
+        nodes: 3,
+        steps: 12,
+        inside: true,
+        end: End::Done(2, 8),
     },
 ];
 
-/// Returns whether such a gate stops two writers.
-fn stops<R: Threads + Wait + Abort + Sync>(rt: &R, alloc: Global, row: Stopped) -> bool {
+/// Returns whether two writers come to the end of a row.
+fn ends_so<R: Threads + Wait + Abort + Sync>(rt: &R, alloc: Global, row: &Stopped) -> bool {
     let gate = Counting::new(row.steps, row.inside);
-    let fault = ClusterError::Fault(Stop::Gate);
-    fails_behind(rt, alloc, row.nodes, TWO_WRITERS, &gate, fault)
-}
-
-/// Returns whether a gate that lets so many steps pass lets two writers of three nodes come to their end.
-fn passes<R: Threads + Wait + Abort + Sync>(rt: &R, alloc: Global, steps: u64) -> bool {
-    let gate = Counting::new(steps, true);
-    ends_behind(rt, alloc, 3, TWO_WRITERS, &gate, 2, 8)
+    ends_behind(rt, alloc, row.nodes, TWO_WRITERS, &gate, row.end)
 }
 
 #[test]
 fn a_gate_stops_the_cluster(rt: HostRuntime) {
     for row in STOPPED {
         assert!(rt;
-            stops(&rt, rt.alloc(), *row),
+            ends_so(&rt, rt.alloc(), row),
             "{} nodes, {} steps",
             row.nodes,
             row.steps
         );
     }
-    assert!(rt; passes(&rt, rt.alloc(), 12));
 }

@@ -2,9 +2,9 @@
 //! should when it is made again.
 use crate::books::Call::{Ask, Receive};
 use crate::books::{ASK, ASKS, Call, LEAVE, REPLIES, has, make};
-use crate::helpers::r;
+use crate::helpers::{new_book, r};
 use ra_cluster::{Book, BookError};
-use ra_stamp::{Mode, Name, NodeId};
+use ra_stamp::{Mode, Name};
 use std::alloc::Global;
 use std::process::Abort;
 use test_support::{Tried, both};
@@ -47,31 +47,15 @@ fn try_call(alloc: Global, book: &mut Book, name: Name, call: Call<'_>, kept: Ke
     }
 }
 
-/// Client 1 asks for `r`, enters and leaves.
-fn try_calls(alloc: Global, book: &mut Book, name: Name) -> Tried {
-    let asked = try_call(alloc, book, name, ASK, Kept(0, 0, 0));
-    let entered = try_call(alloc, book, name, Receive(&REPLIES), Kept(1, 1, 1));
-    let left = try_call(alloc, book, name, LEAVE, Kept(2, 1, 3));
-    if has(book, 3, 1, 4) {
-        both(both(asked, entered), left)
-    } else {
-        Tried::Wrong
-    }
-}
+/// A call of a book, and what the book has before the call.
+struct Row(Call<'static>, Kept);
 
-/// Makes a book, which takes no memory, and makes all calls of it.
-fn try_book(alloc: Global) -> Option<Tried> {
-    let (me, name) = (NodeId::new(1)?, r()?);
-    match Book::new(alloc, me, 2, 0) {
-        Ok(mut book) => Some(try_calls(alloc, &mut book, name)),
-        Err(_) => None,
-    }
-}
-
-#[test]
-fn growth_of_a_book(rt: HostRuntime) {
-    end(&rt, try_book(rt.alloc()).unwrap_or(Tried::Wrong));
-}
+/// Client 1 of node 1 asks for `r`, enters and leaves.
+const LOCKS: &[Row] = &[
+    Row(ASK, Kept(0, 0, 0)),
+    Row(Receive(&REPLIES), Kept(1, 1, 1)),
+    Row(LEAVE, Kept(2, 1, 3)),
+];
 
 /// The REQUEST of node 1 to node 2 for `r`, exclusively, with number 3 and at clock 5.
 const ASKS_AFTER: [u8; 25] = [
@@ -82,9 +66,6 @@ const ASKS_AFTER: [u8; 25] = [
 const REPLIES_TO_SECOND: [u8; 25] = [
     2, 2, 0, 1, 0, 2, 0, 0, 0, 0, 0, 0, 0, 0, 2, 0, 0, 0, 0, 0, 0, 0, 7, 1, b'r',
 ];
-
-/// A call of the book of node 2, and what the book has before the call.
-struct Row(Call<'static>, Kept);
 
 /// Node 2 answers a REQUEST, asks, defers the next REQUEST and is let in; then a second client queues. When the first
 /// client leaves, the deferred REPLY and the REQUEST of the second client are sent.
@@ -97,34 +78,20 @@ const ANSWERS: &[Row] = &[
     Row(LEAVE, Kept(5, 2, 9)),
 ];
 
-/// Makes all calls of the book of node 2.
-fn try_answers(alloc: Global, book: &mut Book, name: Name) -> Tried {
+/// Makes all calls of a book, which has this at the end.
+fn try_rows(alloc: Global, book: &mut Book, name: Name, rows: &[Row], end: Kept) -> Tried {
     let mut tried = Tried::AtOnce;
-    for row in ANSWERS {
+    for row in rows {
         if !has(book, row.1.0, row.1.1, row.1.2) {
             return Tried::Wrong;
         }
         tried = both(tried, try_call(alloc, book, name, row.0, row.1));
     }
-    if has(book, 6, 4, 10) {
+    if has(book, end.0, end.1, end.2) {
         tried
     } else {
         Tried::Wrong
     }
-}
-
-/// Makes the book of node 2, which takes no memory, and makes all calls of it.
-fn try_answering_book(alloc: Global) -> Option<Tried> {
-    let (me, name) = (NodeId::new(2)?, r()?);
-    match Book::new(alloc, me, 2, 0) {
-        Ok(mut book) => Some(try_answers(alloc, &mut book, name)),
-        Err(_) => None,
-    }
-}
-
-#[test]
-fn growth_of_a_book_that_answers_and_defers(rt: HostRuntime) {
-    end(&rt, try_answering_book(rt.alloc()).unwrap_or(Tried::Wrong));
 }
 
 /// How often a client asks for `r` and leaves it in the large book. Each time takes two events.
@@ -145,16 +112,40 @@ fn try_many_calls(alloc: Global, book: &mut Book, name: Name) -> Tried {
     tried
 }
 
-/// Makes the book of a single node, and makes many calls of it.
-fn try_large_book(alloc: Global) -> Option<Tried> {
-    let (me, name) = (NodeId::new(1)?, r()?);
-    match Book::new(alloc, me, 1, 0) {
-        Ok(mut book) => Some(try_many_calls(alloc, &mut book, name)),
-        Err(_) => None,
+/// The calls that are made of a book.
+#[derive(Clone, Copy)]
+enum Calls {
+    /// [`LOCKS`].
+    Lock,
+    /// [`ANSWERS`].
+    Answer,
+    /// A client asks and leaves, many times.
+    Many,
+}
+
+/// Makes the book of a node of this many, which takes no memory, and makes these calls of it.
+fn try_book(alloc: Global, number: u16, nodes: u16, calls: Calls) -> Tried {
+    let (Some(name), Ok(mut book)) = (r(), new_book(alloc, number, nodes, 0)) else {
+        return Tried::Wrong;
+    };
+    match calls {
+        Calls::Lock => try_rows(alloc, &mut book, name, LOCKS, Kept(3, 1, 4)),
+        Calls::Answer => try_rows(alloc, &mut book, name, ANSWERS, Kept(6, 4, 10)),
+        Calls::Many => try_many_calls(alloc, &mut book, name),
     }
 }
 
 #[test]
+fn growth_of_a_book(rt: HostRuntime) {
+    end(&rt, try_book(rt.alloc(), 1, 2, Calls::Lock));
+}
+
+#[test]
+fn growth_of_a_book_that_answers_and_defers(rt: HostRuntime) {
+    end(&rt, try_book(rt.alloc(), 2, 2, Calls::Answer));
+}
+
+#[test]
 fn large_growth_of_a_book(rt: HostRuntime) {
-    end(&rt, try_large_book(rt.alloc()).unwrap_or(Tried::Wrong));
+    end(&rt, try_book(rt.alloc(), 1, 1, Calls::Many));
 }

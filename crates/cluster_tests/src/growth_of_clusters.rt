@@ -1,17 +1,18 @@
 //! Each growth of a whole cluster is refused: its calls answer that memory ran out, in the thread of the client or in one
 //! that carries frames, and do what they should when they are made again.
+use crate::cluster_calls::{new_cluster, use_name};
 use crate::growth::end;
 use crate::growth_of_sites::WANTING;
 use crate::helpers::{closed, r};
 use crate::plans::{TWO_WRITERS, script_of};
+use crate::threads::run_in;
 use ra_cluster::{
-    Book, BookError, CallError, Cluster, ClusterError, Grant, NewPostError, OpenGate, ScriptRun,
-    SiteError, Stop, run_cluster, run_threads,
+    Book, BookError, CallError, Cluster, ClusterError, NewPostError, OpenGate, SiteError, Stop,
+    run_cluster,
 };
 use ra_schedule::Script;
-use ra_stamp::{Mode, Name, NodeId};
 use std::alloc::Global;
-use std::sync::{Mutex, Wait};
+use std::sync::Wait;
 use std::thread::Threads;
 use test_support::{Tried, again};
 
@@ -28,45 +29,32 @@ fn is_wanting(fault: SiteError) -> bool {
     )
 }
 
-/// Makes a cluster of so many nodes. If it cannot be made, returns whether memory ran out.
-fn new_cluster(alloc: Global, nodes: u16) -> Result<Cluster<OpenGate>, bool> {
-    match Cluster::new(alloc, nodes, 0, OpenGate) {
+/// Makes a cluster of this many nodes. If it cannot be made, returns whether memory ran out.
+fn make(alloc: Global, nodes: u16) -> Result<Cluster<OpenGate>, bool> {
+    match new_cluster(alloc, nodes, 0, OpenGate) {
         Ok(cluster) => Ok(cluster),
         Err(fault) => Err(fault == NewPostError::Memory),
     }
 }
 
-/// A client of a node of a cluster locks `r`, does nothing and unlocks it.
-fn work<R: Wait>(
-    rt: &R,
-    alloc: Global,
-    cluster: &Cluster<OpenGate>,
-    node: NodeId,
-    name: Name,
-) -> Result<Result<(), SiteError>, CallError> {
-    let mode = Mode::Exclusive;
-    match cluster.with_lock(rt, alloc, node, 1, name, mode, |_grant: Grant| {}) {
-        Ok(held) => Ok(held.unlocked),
-        Err(fault) => Err(fault),
-    }
-}
-
-/// The client of node 1 does so, of which the unlock needs no memory. If it is not let in, or the cluster was stopped, returns whether
-/// memory ran out.
+/// The client of node 1 locks `r` and unlocks it, of which the unlock needs no memory. If it is not let in, or the cluster was stopped,
+/// returns whether memory ran out.
 fn try_work<R: Wait>(rt: &R, alloc: Global, cluster: &Cluster<OpenGate>) -> Result<Tried, bool> {
-    let (Some(node), Some(name)) = (NodeId::new(1), r()) else {
+    let Some(name) = r() else {
         return Ok(Tried::Wrong);
     };
-    match work(rt, alloc, cluster, node, name) {
-        Ok(Ok(())) => Ok(Tried::AtOnce),
-        Ok(Err(fault)) if fault == WANTING => Ok(Tried::Wrong),
-        Ok(Err(fault)) => Err(is_wanting(fault)),
+    match use_name(rt, alloc, cluster, 1, 1, &name, None) {
+        Ok(held) => match held.unlocked {
+            Ok(()) => Ok(Tried::AtOnce),
+            Err(fault) if fault == WANTING => Ok(Tried::Wrong),
+            Err(fault) => Err(is_wanting(fault)),
+        },
         Err(CallError::Site(fault)) => Err(is_wanting(fault)),
         Err(CallError::NoNode) => Ok(Tried::Wrong),
     }
 }
 
-/// Returns this if a cluster has so many books when it is closed, which takes no memory.
+/// Returns this if a cluster has this many books when it is closed, which takes no memory.
 fn after_closing(
     alloc: Global,
     cluster: Cluster<OpenGate>,
@@ -82,7 +70,7 @@ fn after_closing(
 
 /// Makes a cluster of one node, has a client work at it, and closes it. If the cluster cannot be made, returns whether memory ran out.
 fn try_whole<R: Wait>(rt: &R, alloc: Global) -> Result<Tried, bool> {
-    let cluster = new_cluster(alloc, 1)?;
+    let cluster = make(alloc, 1)?;
     let tried = again(try_work(rt, alloc, &cluster), try_work(rt, alloc, &cluster));
     after_closing(alloc, cluster, 1, Ok(tried))
 }
@@ -96,7 +84,7 @@ fn growth_of_a_whole_cluster(rt: HostRuntime) {
 /// Makes a cluster of two nodes, has a client work at the first, and closes it. If the cluster cannot be made, or was
 /// stopped, returns whether memory ran out.
 fn try_two<R: Threads + Wait + Sync>(rt: &R, alloc: Global) -> Result<Tried, bool> {
-    let cluster = new_cluster(alloc, 2)?;
+    let cluster = make(alloc, 2)?;
     let tried = cluster.run(rt, alloc, || try_work(rt, alloc, &cluster));
     after_closing(alloc, cluster, 2, tried)
 }
@@ -148,23 +136,6 @@ fn growth_of_a_cluster(rt: HostRuntime) {
     end(&rt, again(try_cluster(&rt, alloc), try_cluster(&rt, alloc)));
 }
 
-/// Has threads run a script in a cluster. Returns how many grants are kept.
-fn count_kept<R: Threads + Wait + Sync>(
-    rt: &R,
-    alloc: Global,
-    script: &Script,
-    cluster: &Cluster<OpenGate>,
-) -> usize {
-    let grants = Mutex::new(Vec::new(alloc));
-    let run = ScriptRun {
-        script,
-        cluster,
-        grants: &grants,
-    };
-    run_threads(rt, alloc, &run);
-    grants.into_inner().len()
-}
-
 /// Returns whether both grants of two writers were kept. If a node was stopped, returns whether that is since memory ran out.
 fn judge_kept(books: &[Book], kept: usize) -> Result<Tried, bool> {
     let Some(one) = books.first() else {
@@ -183,8 +154,8 @@ fn try_keeping<R: Threads + Wait + Sync>(rt: &R, alloc: Global) -> Result<Tried,
     let Some(script) = script_of(alloc, 2, TWO_WRITERS) else {
         return Err(true);
     };
-    let cluster = new_cluster(alloc, 2)?;
-    let kept = count_kept(rt, alloc, &script, &cluster);
+    let cluster = make(alloc, 2)?;
+    let kept = run_in(rt, alloc, &script, &cluster).len();
     judge_kept(&closed(alloc, cluster), kept)
 }
 

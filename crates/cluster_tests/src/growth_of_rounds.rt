@@ -1,9 +1,10 @@
 //! Each growth that a round asks for while a cluster runs is refused: the round answers that memory ran out, nothing is
 //! lost, and the next round goes on. A client that holds can leave all the same.
+use crate::audit_acts::{last_round, new_audited, round};
+use crate::cluster_calls::{lock, unlock};
 use crate::growth::end;
 use crate::growth_of_sites::WANTING;
 use crate::helpers::r;
-use crate::rounds::{last_round, leaves, lock_at, round};
 use ra_cluster::{
     Auditor, CallError, Cluster, FinishError, NewPostError, OpenGate, RoundError, TakeError,
 };
@@ -47,71 +48,33 @@ fn is_of_memory(refused: RoundError) -> bool {
     }
 }
 
-/// Client 1 locks the name. If it is refused, returns whether memory ran out, as do those below.
-fn locks<R: Wait>(
-    rt: &R,
-    alloc: Global,
-    cluster: &Cluster<OpenGate>,
-    name: Name,
-) -> Result<(), bool> {
-    match lock_at(rt, alloc, cluster, 1, name, Mode::Exclusive) {
-        Ok(()) => Ok(()),
-        Err(fault) => Err(fault == CallError::Site(WANTING)),
-    }
-}
-
-fn unlocks<R: Wait>(
-    rt: &R,
-    alloc: Global,
-    cluster: &Cluster<OpenGate>,
-    name: Name,
-) -> Result<(), bool> {
-    if leaves(rt, alloc, cluster, 1, name) {
-        Ok(())
-    } else {
-        Err(false)
-    }
-}
-
-fn audits<R: Wait>(
-    rt: &R,
-    alloc: Global,
-    cluster: &Cluster<OpenGate>,
-    auditor: &mut Auditor,
-) -> Result<(), bool> {
-    match round(rt, alloc, cluster, auditor) {
-        Ok(()) => Ok(()),
-        Err(refused) => Err(is_of_memory(refused)),
-    }
-}
-
-fn ends<R: Wait>(
-    rt: &R,
-    alloc: Global,
-    cluster: &mut Cluster<OpenGate>,
-    auditor: &mut Auditor,
-) -> Result<(), bool> {
-    match last_round(rt, alloc, cluster, auditor) {
-        Ok(()) => Ok(()),
-        Err(FinishError::Round(refused)) => Err(is_of_memory(refused)),
-        Err(FinishError::NeverSent(_)) => Err(false),
-    }
-}
-
 /// Does this. If it is refused, returns whether memory ran out.
 fn try_once<R: Wait>(
     rt: &R,
     alloc: Global,
     cluster: &mut Cluster<OpenGate>,
     auditor: &mut Auditor,
-    name: Name,
+    name: &Name,
     act: Act,
 ) -> Result<(), bool> {
     match act {
-        Act::Locks => locks(rt, alloc, cluster, name),
-        Act::Unlocks => unlocks(rt, alloc, cluster, name),
-        Act::Audits => audits(rt, alloc, cluster, auditor),
-        Act::Ends => ends(rt, alloc, cluster, auditor),
+        Act::Locks => match lock(rt, alloc, cluster, 1, 1, name, Mode::Exclusive) {
+            Ok(_) => Ok(()),
+            Err(fault) => Err(fault == CallError::Site(WANTING)),
+        },
+        Act::Unlocks => match unlock(rt, alloc, cluster, 1, 1, name) {
+            Ok(()) => Ok(()),
+            Err(_) => Err(false),
+        },
+        Act::Audits => match round(rt, alloc, cluster, auditor) {
+            Ok(()) => Ok(()),
+            Err(refused) => Err(is_of_memory(refused)),
+        },
+        Act::Ends => match last_round(rt, alloc, cluster, auditor) {
+            Ok(()) => Ok(()),
+            Err(FinishError::Round(refused)) => Err(is_of_memory(refused)),
+            Err(FinishError::NeverSent(_)) => Err(false),
+        },
     }
 }
 
@@ -121,7 +84,7 @@ fn try_act<R: Wait>(
     alloc: Global,
     cluster: &mut Cluster<OpenGate>,
     auditor: &mut Auditor,
-    name: Name,
+    name: &Name,
     act: Act,
 ) -> Tried {
     match try_once(rt, alloc, cluster, auditor, name, act) {
@@ -139,7 +102,7 @@ fn try_acts<R: Wait>(
     alloc: Global,
     cluster: &mut Cluster<OpenGate>,
     auditor: &mut Auditor,
-    name: Name,
+    name: &Name,
 ) -> Tried {
     let mut tried = Tried::AtOnce;
     for act in ACTS {
@@ -162,7 +125,7 @@ fn new_auditor(alloc: Global) -> Result<Auditor, bool> {
 
 /// Makes the cluster. If it can't be made, returns whether memory ran out.
 fn new_cluster(alloc: Global) -> Result<Cluster<OpenGate>, bool> {
-    match Cluster::new_audited(alloc, 1, 0, OpenGate) {
+    match new_audited(alloc, 1) {
         Ok(cluster) => Ok(cluster),
         Err(fault) => Err(fault == NewPostError::Memory),
     }
@@ -175,7 +138,7 @@ fn try_rounds<R: Wait>(rt: &R, alloc: Global) -> Result<Tried, bool> {
     };
     let mut auditor = new_auditor(alloc)?;
     let mut cluster = new_cluster(alloc)?;
-    Ok(try_acts(rt, alloc, &mut cluster, &mut auditor, name))
+    Ok(try_acts(rt, alloc, &mut cluster, &mut auditor, &name))
 }
 
 #[test]

@@ -2,11 +2,11 @@
 use crate::books::Step::Takes;
 use crate::books::{ASK, LEAVE, make};
 use crate::growth::end;
-use crate::helpers::{r, settled};
+use crate::helpers::{new_book, r, settled};
 use crate::histories::Done::{At, Passes};
 use crate::histories::{Done, Granted, ONE, TWO, books_after, grants_of};
 use ra_cluster::{Book, Grant, SettleError, Settled};
-use ra_stamp::{Mode, Name, NodeId};
+use ra_stamp::{Mode, Name};
 use std::alloc::Global;
 use test_support::{Tried, again};
 
@@ -144,9 +144,9 @@ fn asks_and_leaves(alloc: Global, book: &mut Book, name: Name) -> bool {
 
 /// Makes the books of a single node, with very many events, or returns `None` if memory ran out.
 fn large_books(alloc: Global) -> Option<Vec<Book>> {
-    let (me, name) = (NodeId::new(1)?, r()?);
+    let name = r()?;
     let mut books = Vec::new(alloc);
-    books.push(Book::new(alloc, me, 1, 0).ok()?).ok()?;
+    books.push(new_book(alloc, 1, 1, 0).ok()?).ok()?;
     let is_large = match books.get_mut(0) {
         Some(book) => asks_and_leaves(alloc, book, name),
         None => false,

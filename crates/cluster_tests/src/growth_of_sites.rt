@@ -1,34 +1,27 @@
 //! Each growth of a post or a site is refused: the call answers that memory ran out, and does what it should when it is
 //! made again; or a frame is lost, and all sites are stopped.
 use crate::growth::end;
-use crate::helpers::{books_of, r, request, sites_of};
-use crate::steps::{Cluster, have_ended, loses_inbox, make_cluster, stopped};
+use crate::helpers::{books_of, r, request};
+use crate::shown::{Ended, have_ended};
+use crate::site_cluster::{Cluster, loses_inbox, make_cluster, send};
 use ra_cluster::{
     Book, BookError, Inbox, NewPostError, OpenGate, Post, SendError, Site, SiteError, Stop,
-    is_site_of,
 };
-use ra_frame::Frame;
-use ra_stamp::{Entry, Mode, Name};
+use ra_stamp::{Entry, Message, Mode, Name};
 use std::alloc::Global;
 use std::sync::Wait;
 use test_support::{Tried, again};
 
+/// Returns a REQUEST from node 1 to node 2.
+fn asks() -> Option<Message> {
+    request(r()?, 1, 2, Mode::Exclusive)
+}
+
 /// Sends a frame from node 1 to node 2, and sends it again if it was refused.
 fn try_send<R: Wait>(rt: &R, alloc: Global, post: &Post) -> Tried {
-    let message = match r() {
-        Some(name) => request(name, 1, 2, Mode::Exclusive),
-        None => None,
-    };
-    let Some(message) = message else {
-        return Tried::Wrong;
-    };
-    let frame = Frame { clock: 1, message };
-    if !frame.fits() {
-        return Tried::Wrong;
-    }
-    match post.send(rt, alloc, &frame) {
+    match send(rt, alloc, post, 1, asks()) {
         Ok(()) => Tried::AtOnce,
-        Err(SendError::Refused) if post.send(rt, alloc, &frame).is_ok() => Tried::Again,
+        Err(Some(SendError::Refused)) if send(rt, alloc, post, 1, asks()).is_ok() => Tried::Again,
         Err(_) => Tried::Wrong,
     }
 }
@@ -78,69 +71,52 @@ enum Act {
     Unlocks,
 }
 
-/// Makes a call of the one site.
+/// Makes a call of a site.
 fn call_at<R: Wait>(
     rt: &R,
     alloc: Global,
     act: Act,
     name: &Name,
-    post: &Post,
-    sites: &[Site],
+    all: &Cluster,
+    site: &Site,
 ) -> Result<(), bool> {
-    let [site] = sites else {
-        return Err(false);
-    };
-    if !is_site_of(site, sites) {
-        return Err(false);
-    }
     let mode = Mode::Exclusive;
     match act {
-        Act::Locks => taken(site.lock(rt, alloc, 1, *name, mode, post, sites, &OpenGate)),
-        Act::Unlocks => taken(site.unlock(rt, alloc, 1, *name, post, sites, &OpenGate)),
+        Act::Locks => taken(all.lock_at(rt, alloc, site, 1, name, mode, &OpenGate)),
+        Act::Unlocks => taken(all.unlock_at(rt, alloc, site, 1, name, &OpenGate)),
     }
 }
 
-/// Makes a call of the one site, and makes it again if memory ran out and the site is as before.
-fn try_at<R: Wait>(
-    rt: &R,
-    alloc: Global,
-    act: Act,
-    name: &Name,
-    post: &Post,
-    sites: &[Site],
-) -> Tried {
-    let [site] = sites else {
-        return Tried::Wrong;
-    };
+/// Has a client lock a name at a site, and lock it again if memory ran out and the site is as before.
+fn try_lock<R: Wait>(rt: &R, alloc: Global, name: &Name, all: &Cluster, site: &Site) -> Tried {
     let (events, holder) = (site.events(rt), site.holder(rt, name));
-    match call_at(rt, alloc, act, name, post, sites) {
+    match call_at(rt, alloc, Act::Locks, name, all, site) {
         Ok(()) => Tried::AtOnce,
         Err(is_memory)
             if is_memory
                 && is_as_before(rt, site, name, events, &holder)
-                && call_at(rt, alloc, act, name, post, sites).is_ok() => { Tried::Again }
+                && call_at(rt, alloc, Act::Locks, name, all, site).is_ok() => { Tried::Again }
         Err(_) => Tried::Wrong,
     }
 }
 
 /// A client locks `r` at the one site and unlocks it, which needs no memory.
-fn try_site<R: Wait>(rt: &R, alloc: Global, name: &Name, post: &Post, sites: &[Site]) -> Tried {
-    let locked = try_at(rt, alloc, Act::Locks, name, post, sites);
-    match call_at(rt, alloc, Act::Unlocks, name, post, sites) {
+fn try_site<R: Wait>(rt: &R, alloc: Global, name: &Name, all: &Cluster) -> Tried {
+    let Some(site) = all.site(1) else {
+        return Tried::Wrong;
+    };
+    let locked = try_lock(rt, alloc, name, all, site);
+    match call_at(rt, alloc, Act::Unlocks, name, all, site) {
         Ok(()) => locked,
         Err(_) => Tried::Wrong,
     }
 }
 
-/// Makes a cluster of one site, at which a client locks `r` and unlocks it. If it cannot be made, returns whether
-/// memory ran out.
+/// Makes a cluster of one site, at which a client locks `r` and unlocks it. If it cannot be made, memory ran out.
 fn try_sites<R: Wait>(rt: &R, alloc: Global) -> Result<Tried, bool> {
-    let (Some(name), Some(sites)) = (r(), sites_of(alloc, 1, 0)) else {
-        return Err(true);
-    };
-    match Post::new(alloc, 1) {
-        Ok((post, _inboxes)) => Ok(try_site(rt, alloc, &name, &post, &sites)),
-        Err(fault) => Err(fault == NewPostError::Memory),
+    match (r(), make_cluster(alloc, 1)) {
+        (Some(name), Some(all)) => Ok(try_site(rt, alloc, &name, &all)),
+        _ => Err(true),
     }
 }
 
@@ -156,23 +132,28 @@ pub const WANTING: SiteError = SiteError::Refused(BookError::Memory);
 /// Returns how many frames are left in the inbox at a place, that of the node with this number, which a new site of the
 /// node takes. The post has to be closed before. Returns `None` if memory ran out.
 fn frames_left<R: Wait>(rt: &R, alloc: Global, inbox: &Inbox, number: u16) -> Option<u64> {
-    let fresh = make_cluster(alloc, 3, 0, u64::MAX)?;
-    let site = fresh.sites.get(usize::from(number).wrapping_sub(1))?;
+    let fresh = make_cluster(alloc, 3)?;
+    let site = fresh.site(number)?;
     if !fresh.pump_at(rt, alloc, site, inbox, &OpenGate) || site.fault(rt) == Some(Stop::Memory) {
         return None;
     }
     Some(site.events(rt))
 }
 
+/// The books of three nodes, of which the first has lost a frame.
+const LOST: &[Ended] = &[
+    Ended(Some(Stop::Send), 1),
+    Ended(Some(Stop::Send), 0),
+    Ended(Some(Stop::Send), 0),
+];
+
 /// Returns whether the frame for node 2 is lost, and that for node 3 either is the one that is left in its inbox, or is
 /// lost too.
 fn are_accounted_for(books: &[Book], left: u64) -> Tried {
-    let send = Stop::Send;
-    let ended = [stopped(send, 1), stopped(send, 0), stopped(send, 0)];
     let Some(one) = books.first() else {
         return Tried::Wrong;
     };
-    match (have_ended(books, &ended), one.sent(0), one.sent(1)) {
+    match (have_ended(books, LOST), one.sent(0), one.sent(1)) {
         (true, Some(two), Some(three)) if two.lost && !three.lost && left == 1 => Tried::AtOnce,
         (true, Some(two), Some(three)) if two.lost && three.lost && left == 0 => Tried::Again,
         _ => Tried::Wrong,
@@ -195,7 +176,7 @@ fn loses<R: Wait>(rt: &R, alloc: Global, all: &Cluster, name: &Name) -> Result<u
 
 /// Makes the three nodes, and does so. If it cannot be done, returns whether memory ran out.
 fn try_losing<R: Wait>(rt: &R, alloc: Global) -> Result<Tried, bool> {
-    let (Some(name), Some(mut all)) = (r(), make_cluster(alloc, 3, 0, u64::MAX)) else {
+    let (Some(name), Some(mut all)) = (r(), make_cluster(alloc, 3)) else {
         return Err(true);
     };
     if !loses_inbox(&mut all, 1) {

@@ -1,8 +1,9 @@
 //! What several files of tests use.
 use ra_cluster::{
-    Book, Cluster, ClusterError, Gate, Grant, SettleError, Settled, Site, is_cluster, run_cluster,
-    settle,
+    Book, Cluster, ClusterError, Gate, Grant, NewError, SettleError, Settled, Site, Stop,
+    is_cluster, run_cluster, settle,
 };
+use ra_frame::{Frame, encode};
 use ra_schedule::Script;
 use ra_stamp::{Entry, Message, Mode, Name, NodeId, Stamp};
 use std::alloc::Global;
@@ -51,7 +52,7 @@ pub fn in_a_thread<R: Threads + Abort, T: Send, F: FnOnce() -> T + Send>(rt: &R,
             ends.fetch_add(1, Ordering::SeqCst);
             given
         },
-        // Without it `join` would wait for ever for a thread that does not end.
+        // Without it `join` would wait forever for a thread that does not end.
         move || assert!(rt;
             comes_within(MOST_LOOKS_FOR_THE_END, ends, 1),
             "the thread ends"
@@ -60,12 +61,24 @@ pub fn in_a_thread<R: Threads + Abort, T: Send, F: FnOnce() -> T + Send>(rt: &R,
     given
 }
 
+/// Each cause of a stop.
+pub const CAUSES: &[Stop] = &[
+    Stop::Memory,
+    Stop::Send,
+    Stop::Clock,
+    Stop::Exhausted,
+    Stop::Frame,
+    Stop::Refused,
+    Stop::Gate,
+    Stop::Spawn,
+];
+
 /// Returns the name `r`.
 pub fn r() -> Option<Name> {
     Name::new(b"r").ok()
 }
 
-/// Returns the request of a client on a name at a node, with this number, or `None` where there is no such node.
+/// Returns the request of a client on a name at a node, with this number, or `None` if there is no such node.
 pub fn entry(name: Name, node: u16, client: u32, mode: Mode, seq: u64) -> Option<Entry> {
     let node = NodeId::new(node)?;
     Some(Entry {
@@ -76,7 +89,7 @@ pub fn entry(name: Name, node: u16, client: u32, mode: Mode, seq: u64) -> Option
     })
 }
 
-/// Returns the REQUEST with number 1 for a name between these nodes, or `None` where there is no such node.
+/// Returns the REQUEST with number 1 for a name between these nodes, or `None` if there is no such node.
 pub fn request(name: Name, from: u16, to: u16, mode: Mode) -> Option<Message> {
     Some(Message::Request {
         from: NodeId::new(from)?,
@@ -97,18 +110,39 @@ pub fn reply(name: Name, from: u16, to: u16) -> Option<Message> {
     })
 }
 
-/// Returns whether a value prints as this text.
-fn prints(alloc: Global, value: &impl Display, text: &str) -> bool {
-    match value.to_string(alloc) {
-        Ok(printed) => printed.as_str() == text,
-        Err(_) => false,
+/// Makes the book of a node of this many, in which each name begins with the number `start`.
+///
+/// # Errors
+///
+/// Why there is none, or `BadNode` if there is no such number.
+pub fn new_book(alloc: Global, number: u16, nodes: u16, start: u64) -> Result<Book, NewError> {
+    match NodeId::new(number) {
+        Some(me) => Book::new(alloc, me, nodes, start),
+        None => Err(NewError::BadNode),
     }
 }
 
-/// Ends the test where one of these values does not print as the text beside it.
+/// Returns the bytes of a frame, or `None` if it does not fit or memory runs out.
+pub fn bytes_of(alloc: Global, frame: &Frame) -> Option<Vec<u8>> {
+    if frame.fits() {
+        encode(alloc, frame).ok()
+    } else {
+        None
+    }
+}
+
+/// Ends the test if one of these values does not print as the text beside it.
 pub fn assert_prints<R: Abort + AllocGlobal, T: Display>(rt: &R, rows: &[(T, &str)]) {
     for row in rows {
-        assert!(rt; prints(rt.alloc(), &row.0, row.1), "{}", row.1);
+        match row.0.to_string(rt.alloc()) {
+            Ok(printed) => assert!(rt;
+                printed.as_str() == row.1,
+                "expected {}; {} came",
+                row.1,
+                printed.as_str()
+            ),
+            Err(_) => panic!(rt; "{}: memory ran out", row.1),
+        }
     }
 }
 
@@ -207,7 +241,7 @@ impl Gate for Counting {
     }
 }
 
-/// Has threads do a script behind a gate, and returns what came of it. Where they do not end, the test ends after many looks.
+/// Has threads do a script behind a gate, and returns what came of it. If they do not end, the test ends after many looks.
 pub fn ran<R: Threads + Wait + Abort + Sync, G: Gate>(
     rt: &R,
     alloc: Global,

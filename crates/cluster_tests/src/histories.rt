@@ -1,11 +1,11 @@
 //! Books to which something was done, and grants that clients got.
 use crate::books::Call::Receive;
 use crate::books::{Step, does, make};
-use crate::helpers::{entry, r};
+use crate::helpers::{bytes_of, entry, new_book, r};
 use Done::{At, Passes};
 use ra_cluster::{Book, Grant};
-use ra_frame::{Frame, encode};
-use ra_stamp::{Mode, Name, NodeId};
+use ra_frame::Frame;
+use ra_stamp::{Mode, Name};
 use std::alloc::Global;
 
 /// A book in which nothing has happened: that of node `me` of `nodes`, in which each name begins with the number
@@ -49,10 +49,7 @@ pub struct Granted(pub u16, pub u32, pub Mode, pub u64);
 
 /// Adds a book to the others. Returns whether that succeeds.
 fn adds_book(alloc: Global, books: &mut Vec<Book>, made: Made) -> bool {
-    let Some(me) = NodeId::new(made.me) else {
-        return false;
-    };
-    match Book::new(alloc, me, made.nodes, made.start) {
+    match new_book(alloc, made.me, made.nodes, made.start) {
         Ok(book) => books.push(book).is_ok(),
         Err(_) => false,
     }
@@ -78,15 +75,9 @@ fn sent(books: &[Book], number: u16, place: u64) -> Option<Frame> {
 /// Delivers a frame to its destination node. Returns whether that node's book takes it.
 fn takes(alloc: Global, books: &mut [Book], name: Name, frame: &Frame) -> bool {
     let place = usize::from(frame.message.to().get()).wrapping_sub(1);
-    if !frame.fits() {
-        return false;
-    }
-    let Some(book) = books.get_mut(place) else {
-        return false;
-    };
-    match encode(alloc, frame) {
-        Ok(bytes) => make(alloc, book, name, Receive(bytes.as_slice())).is_ok(),
-        Err(_) => false,
+    match (books.get_mut(place), bytes_of(alloc, frame)) {
+        (Some(book), Some(bytes)) => make(alloc, book, name, Receive(bytes.as_slice())).is_ok(),
+        _ => false,
     }
 }
 

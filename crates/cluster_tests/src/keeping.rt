@@ -1,15 +1,15 @@
 //! The book of a node: what it keeps and sends, what it refuses, and the words for its refusals.
 use crate::books::{ASK, ASKS, ASKS_1, Call, LEAVE, REPLIES, REPLIES_1, Step, Turn, Wire, done_by};
-use crate::helpers::assert_prints;
+use crate::helpers::{assert_prints, new_book};
 use Call::{Ask, Receive};
 use Step::{
     Asked, Fails, Gave, Got, Has, HasFault, IsFree, IsHeld, IsNew, Loses, Posts, Refuses,
     RefusesToLose, Takes, WasSent,
 };
 use Wire::{Asks, Replies};
-use ra_cluster::{Book, BookError, MarkLostError, NewError, Stop};
+use ra_cluster::{BookError, MarkLostError, NewError, Stop};
 use ra_frame::FrameError;
-use ra_stamp::{Mode, NodeId};
+use ra_stamp::Mode;
 use std::alloc::Global;
 use std::process::Abort;
 
@@ -24,23 +24,19 @@ const ASKS_LAST: [u8; 25] = [
     2, 1, 0, 1, 0, 2, 1, 0, 0, 0, 0, 0, 0, 0, 1, 0x40, 0, 0, 0, 0, 0, 0, 0, 1, b'r',
 ];
 
-/// Returns whether a book of this node, in a cluster of this many nodes, is refused for this reason.
-fn is_no_book(alloc: Global, me: u16, nodes: u16, fault: NewError) -> bool {
-    match NodeId::new(me) {
-        Some(me) => match Book::new(alloc, me, nodes, 0) {
-            Ok(_) => false,
-            Err(found) => found == fault,
-        },
-        None => false,
-    }
-}
+/// A node, how many there are, and why there is no book of it.
+const NO_BOOKS: &[(u16, u16, NewError)] = &[
+    (1, 0, NewError::BadCount),
+    (1, 65, NewError::BadCount),
+    (3, 2, NewError::BadNode),
+];
 
 #[test]
 fn bad_counts_and_nodes_make_no_book(rt: HostRuntime) {
-    let alloc = rt.alloc();
-    assert!(rt; is_no_book(alloc, 1, 0, NewError::BadCount));
-    assert!(rt; is_no_book(alloc, 1, 65, NewError::BadCount));
-    assert!(rt; is_no_book(alloc, 3, 2, NewError::BadNode));
+    for row in NO_BOOKS {
+        let fault = new_book(rt.alloc(), row.0, row.1, 0).err();
+        assert!(rt; fault == Some(row.2), "expected {}; {fault:?} came", row.2);
+    }
 }
 
 /// The last clock.
@@ -292,11 +288,6 @@ const BOOK_ERRORS: &[(BookError, &str)] = &[
     (BookError::Memory, "Memory"),
 ];
 
-#[test]
-fn refusals_of_events_are_printed_as_their_words(rt: HostRuntime) {
-    assert_prints(&rt, BOOK_ERRORS);
-}
-
 /// The faults that stop a book, and the word for each.
 const FAULTS: &[(Stop, &str)] = &[
     (Stop::Memory, "Memory"),
@@ -309,11 +300,6 @@ const FAULTS: &[(Stop, &str)] = &[
     (Stop::Spawn, "Spawn"),
 ];
 
-#[test]
-fn faults_are_printed_as_their_words(rt: HostRuntime) {
-    assert_prints(&rt, FAULTS);
-}
-
 /// The reasons why a book does not flag a frame, and the word for each.
 const FLAG_ERRORS: &[(MarkLostError, &str)] = &[
     (MarkLostError::NotSent, "NotSent"),
@@ -321,6 +307,8 @@ const FLAG_ERRORS: &[(MarkLostError, &str)] = &[
 ];
 
 #[test]
-fn refusals_of_flags_are_printed_as_their_words(rt: HostRuntime) {
+fn refusals_and_faults_are_printed_as_their_words(rt: HostRuntime) {
+    assert_prints(&rt, BOOK_ERRORS);
+    assert_prints(&rt, FAULTS);
     assert_prints(&rt, FLAG_ERRORS);
 }

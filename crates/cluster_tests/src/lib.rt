@@ -5,11 +5,17 @@
 #[cfg(test)]
 mod asleep;
 #[cfg(test)]
+mod audit_acts;
+#[cfg(test)]
 mod audits;
 #[cfg(test)]
 mod books;
 #[cfg(test)]
 mod changed_frames;
+#[cfg(test)]
+mod clients;
+#[cfg(test)]
+mod cluster_calls;
 #[cfg(test)]
 mod clusters;
 #[cfg(test)]
@@ -35,8 +41,6 @@ mod histories;
 #[cfg(test)]
 mod keeping;
 #[cfg(test)]
-mod last_number;
-#[cfg(test)]
 mod orders;
 #[cfg(test)]
 mod outcomes;
@@ -49,11 +53,13 @@ mod scripts;
 #[cfg(test)]
 mod settling;
 #[cfg(test)]
+mod shown;
+#[cfg(test)]
+mod site_cluster;
+#[cfg(test)]
 mod sites;
 #[cfg(test)]
 mod steps;
-#[cfg(test)]
-mod stops;
 #[cfg(test)]
 mod threads;
 #[cfg(test)]

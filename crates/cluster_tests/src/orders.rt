@@ -1,11 +1,11 @@
 //! Scripts whose clients a gate brings into an order that no policy chooses. The report has to tell what the threads
 //! did, and not what a simulation of the script would do.
-use crate::endings::is_done;
-use crate::helpers::{comes_to, entry, r, ran};
+use crate::endings::{End, ends_behind};
+use crate::helpers::{comes_to, r};
+use crate::plans::Client;
 use crate::plans::Does::{Locks, Unlocks};
-use crate::plans::{Client, script_of};
-use ra_cluster::{Gate, Settled};
-use ra_stamp::{Entry, Mark, Mode, Name, NodeId};
+use ra_cluster::Gate;
+use ra_stamp::{Entry, Name, NodeId};
 use std::alloc::Global;
 use std::process::Abort;
 use std::sync::Wait;
@@ -48,58 +48,27 @@ const OWN_AND_R: &[Client] = &[
     },
 ];
 
-/// Returns whether both marks are there, the first before the second.
-fn are_in_order(marks: &[Mark], first: Mark, second: Mark) -> bool {
-    let mut has_first = false;
-    for mark in marks {
-        if *mark == second {
-            return has_first;
-        }
-        has_first = has_first || *mark == first;
-    }
-    false
-}
-
-/// Returns whether the client at the first of these nodes enters `r` with number 1, and after it that at the second with number 2.
-fn enter_in_order(settled: &Settled, r: Name, first: u16, second: u16) -> Option<bool> {
-    let x = Mode::Exclusive;
-    let (one, two) = (
-        entry(r, first, u32::from(first), x, 1)?,
-        entry(r, second, u32::from(second), x, 2)?,
-    );
-    let marks = settled.report.marks.as_slice();
-    Some(are_in_order(marks, Mark::Entered(one), Mark::Entered(two)))
-}
+/// The node whose client is kept, and the other node, whose client enters `r` first. Each client has the number of its node.
+const ORDERS: &[(u16, u16)] = &[(1, 2), (2, 1)];
 
 /// Returns whether the script comes to its end while the client of this node is kept, and the other one enters `r` first.
-fn ends_so<R: Threads + Wait + Abort + Sync>(
-    rt: &R,
-    alloc: Global,
-    kept: u16,
-    other: u16,
-) -> Option<bool> {
-    let (script, r) = (script_of(alloc, 2, OWN_AND_R)?, r()?);
+fn ends_so<R: Threads + Wait + Abort + Sync>(rt: &R, alloc: Global, kept: u16, other: u16) -> bool {
+    let Some(r) = r() else {
+        return false;
+    };
     let gate = Keeps {
         client: u32::from(kept),
         r,
         others: AtomicU64::new(0),
     };
-    match ran(rt, alloc, &script, &gate) {
-        Ok(settled) => Some(
-            is_done(&settled, 4, 8) && enter_in_order(&settled, r, other, kept) == Some(true),
-        ),
-        Err(_) => None,
-    }
+    ends_behind(rt, alloc, 2, OWN_AND_R, &gate, End::InOrder(other, kept))
 }
-
-/// The node whose client is kept, and the other node. Each client has the number of its node.
-const ORDERS: &[(u16, u16)] = &[(1, 2), (2, 1)];
 
 #[test]
 fn what_settles_is_what_the_threads_did(rt: HostRuntime) {
     for row in ORDERS {
         assert!(rt;
-            ends_so(&rt, rt.alloc(), row.0, row.1) == Some(true),
+            ends_so(&rt, rt.alloc(), row.0, row.1),
             "client {} is kept",
             row.0
         );

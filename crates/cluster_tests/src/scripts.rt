@@ -1,35 +1,39 @@
 //! Scripts that threads run.
-use crate::endings::{ends_behind, fails_behind, is_done};
-use crate::helpers::{Counting, assert_prints, ran};
+use crate::endings::{End, ends_behind};
+use crate::helpers::{Counting, assert_prints};
 use crate::plans::Does::{Locks, Shares, Unlocks};
-use crate::plans::{Client, Does, LOCKS_R, READS_R, TWO_WRITERS, USES_R, script_of};
-use ra_cluster::{ClusterError, OpenGate, Settled, Stop};
+use crate::plans::{Client, Does, LOCKS_R, READS_R, TWO_WRITERS, USES_R};
+use ra_cluster::{ClusterError, OpenGate, Stop};
 use std::alloc::Global;
 use std::process::Abort;
 use std::sync::Wait;
 use std::sync::atomic::Ordering;
 use std::thread::Threads;
 
-/// Returns whether a script whose only client does these is refused for this reason, before any step.
-fn is_refused<R: Threads + Wait + Abort + Sync>(
-    rt: &R,
-    alloc: Global,
+/// What the only client does, how the script ends, and how often the node steps.
+struct Alone {
+    words: &'static str,
     ops: &'static [Does],
-    fault: ClusterError,
-) -> bool {
-    let gate = Counting::open();
-    fails_behind(rt, alloc, 1, &[Client { node: 1, ops }], &gate, fault)
-        && gate.steps.load(Ordering::SeqCst) == 0
+    end: End,
+    steps: u64,
 }
 
-/// Ends the test if it is not.
-fn assert_refused<R: AllocGlobal + Threads + Wait + Abort + Sync>(
-    rt: &R,
-    shows: &str,
-    ops: &'static [Does],
-    fault: ClusterError,
-) {
-    assert!(rt; is_refused(rt, rt.alloc(), ops, fault), "{shows}");
+/// Returns whether the script of a row ends so.
+fn ends_so<R: Threads + Wait + Abort + Sync>(rt: &R, alloc: Global, row: &Alone) -> bool {
+    let gate = Counting::open();
+    let clients = [Client {
+        node: 1,
+        ops: row.ops,
+    }];
+    ends_behind(rt, alloc, 1, &clients, &gate, row.end)
+        && gate.steps.load(Ordering::SeqCst) == row.steps
+}
+
+/// Ends the test unless the scripts of all rows do.
+fn assert_alone<R: AllocGlobal + Threads + Wait + Abort + Sync>(rt: &R, rows: &[Alone]) {
+    for row in rows {
+        assert!(rt; ends_so(rt, rt.alloc(), row), "{}", row.words);
+    }
 }
 
 /// A client locks a name below the one that it holds.
@@ -41,39 +45,37 @@ const FALLING_LATER: &[Does] = &[Locks(b'a'), Unlocks(b'a'), Locks(b'b'), Shares
 /// It unlocks one of two names.
 const ONE_OF_TWO: &[Does] = &[Locks(b'a'), Locks(b'b'), Unlocks(b'b')];
 
+/// Scripts that are refused before any step.
+const REFUSED: &[Alone] = &[
+    Alone {
+        words: "falling",
+        ops: FALLING,
+        end: End::Fails(ClusterError::OutOfOrder),
+        steps: 0,
+    },
+    Alone {
+        words: "falling later",
+        ops: FALLING_LATER,
+        end: End::Fails(ClusterError::OutOfOrder),
+        steps: 0,
+    },
+    Alone {
+        words: "kept",
+        ops: LOCKS_R,
+        end: End::Fails(ClusterError::Unreleased),
+        steps: 0,
+    },
+    Alone {
+        words: "one of two is kept",
+        ops: ONE_OF_TWO,
+        end: End::Fails(ClusterError::Unreleased),
+        steps: 0,
+    },
+];
+
 #[test]
 fn names_out_of_order_or_kept_are_refused_before_any_step(rt: HostRuntime) {
-    assert_refused(&rt, "falling", FALLING, ClusterError::OutOfOrder);
-    assert_refused(
-        &rt,
-        "falling later",
-        FALLING_LATER,
-        ClusterError::OutOfOrder,
-    );
-    assert_refused(&rt, "kept", LOCKS_R, ClusterError::Unreleased);
-    assert_refused(
-        &rt,
-        "one of two is kept",
-        ONE_OF_TWO,
-        ClusterError::Unreleased,
-    );
-}
-
-/// Ends the test unless the only client does these with this many requests, and the node steps once for each.
-fn assert_done_alone<R: AllocGlobal + Threads + Wait + Abort + Sync>(
-    rt: &R,
-    ops: &'static [Does],
-    requests: u128,
-) {
-    let gate = Counting::open();
-    let clients = [Client { node: 1, ops }];
-    let ends = ends_behind(rt, rt.alloc(), 1, &clients, &gate, requests, 0);
-    let steps = gate.steps.load(Ordering::SeqCst);
-    assert!(rt;
-        ends && steps == ops.len() as u64,
-        "{} operations",
-        ops.len()
-    );
+    assert_alone(&rt, REFUSED);
 }
 
 /// A client locks and unlocks one name after the other.
@@ -89,37 +91,36 @@ const OVERLAPPING: &[Does] = &[
     Unlocks(b'b'),
 ];
 
+/// The node steps once for each operation.
+const IN_ORDER: &[Alone] = &[
+    Alone {
+        words: "one by one",
+        ops: ONE_BY_ONE,
+        end: End::Done(2, 0),
+        steps: 4,
+    },
+    Alone {
+        words: "overlapping",
+        ops: OVERLAPPING,
+        end: End::Done(3, 0),
+        steps: 6,
+    },
+];
+
 #[test]
 fn names_in_order_are_taken_and_given_back(rt: HostRuntime) {
-    assert_done_alone(&rt, ONE_BY_ONE, 2);
-    assert_done_alone(&rt, OVERLAPPING, 3);
-}
-
-/// Returns whether a run has the steps and marks of two writers, and ends with two requests and eight messages.
-fn is_of_two_writers(alloc: Global, settled: &Settled) -> bool {
-    // Two asks, two leaves and eight frames that arrive. Each client requests, enters and leaves.
-    is_done(settled, 2, 8) && settled.steps.len() == 12 && settled.report.marks.len() == 6
-}
-
-/// Returns whether two writers of three nodes run to their end.
-fn two_writers_end<R: Threads + Wait + Abort + Sync>(rt: &R, alloc: Global) -> bool {
-    match script_of(alloc, 3, TWO_WRITERS) {
-        Some(script) => match ran(rt, alloc, &script, &OpenGate) {
-            Ok(settled) => is_of_two_writers(alloc, &settled),
-            _ => false,
-        },
-        None => false,
-    }
+    assert_alone(&rt, IN_ORDER);
 }
 
 #[test]
 fn two_writers_of_three_nodes(rt: HostRuntime) {
-    assert!(rt; two_writers_end(&rt, rt.alloc()));
+    let end = End::Done(2, 8);
+    assert!(rt; ends_behind(&rt, rt.alloc(), 3, TWO_WRITERS, &OpenGate, end));
 }
 
 #[test]
 fn no_clients_do_nothing(rt: HostRuntime) {
-    assert!(rt; ends_behind(&rt, rt.alloc(), 64, &[], &OpenGate, 0, 0));
+    assert!(rt; ends_behind(&rt, rt.alloc(), 64, &[], &OpenGate, End::Done(0, 0)));
 }
 
 /// A client holds `a` exclusively and `b` shared at the same time.
@@ -180,7 +181,7 @@ const TWELVE: &[Client] = &[
 #[test]
 fn many_clients_of_many_nodes(rt: HostRuntime) {
     // 4 clients with two locks and 8 with one, and 6 messages for each lock.
-    assert!(rt; ends_behind(&rt, rt.alloc(), 4, TWELVE, &OpenGate, 16, 96));
+    assert!(rt; ends_behind(&rt, rt.alloc(), 4, TWELVE, &OpenGate, End::Done(16, 96)));
 }
 
 /// Returns a writer for each of 64 nodes.
@@ -201,7 +202,16 @@ fn writers_of_64_nodes() -> [Client; 64] {
 fn as_many_nodes_and_clients_as_there_may_be(rt: HostRuntime) {
     // Each of the 64 requests sends a REQUEST to each of the 63 other nodes, and gets a REPLY from it.
     let clients = writers_of_64_nodes();
-    assert!(rt; ends_behind(&rt, rt.alloc(), 64, &clients, &OpenGate, 64, 8064));
+    assert!(rt;
+        ends_behind(
+            &rt,
+            rt.alloc(),
+            64,
+            &clients,
+            &OpenGate,
+            End::Done(64, 8064)
+        )
+    );
 }
 
 /// Why threads do not bring a script to its end, and the word printed for it.

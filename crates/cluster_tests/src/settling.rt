@@ -2,13 +2,13 @@
 use crate::books::Call::{Ask, Leave, Receive};
 use crate::books::Step::{Loses, Takes};
 use crate::books::{ASK, ASKS, LEAVE};
-use crate::helpers::{assert_prints, r, reply, request};
+use crate::helpers::{assert_prints, r, reply, request, settled};
 use crate::histories::Done::{At, Passes};
 use crate::histories::{Done, Granted, Made, ONE, TWO, books_after, grants_of};
 use Mode::{Exclusive, Shared};
 use Outcome::{Refused, Settles};
 use Seen::{Asked, Left, Lost, Replied, Requested};
-use ra_cluster::{Book, Grant, SettleError, Settled, is_cluster, settle};
+use ra_cluster::{Book, Grant, SettleError, Settled, is_cluster};
 use ra_stamp::{Mode, Name, NodeId};
 use ra_world::{Step, report_text};
 use std::alloc::Global;
@@ -66,25 +66,19 @@ fn is_step(found: &Step, name: Name, seen: Seen) -> bool {
     }
 }
 
-/// Returns how many of the steps are these, up to the first that differs, or `None` if more steps follow.
-fn steps_so(found: &[Step], all: &[Seen]) -> Option<usize> {
-    let (name, mut count) = (r()?, 0usize);
-    for (found, seen) in found.iter().zip(all.iter()) {
-        if !is_step(found, name, *seen) {
-            return Some(count);
+/// Returns how many of the steps are these, up to the first that differs. If more follow, that is one more.
+fn count_steps(found: &[Step], name: Name, all: &[Seen]) -> usize {
+    for place in 0..all.len() {
+        match found.get(place) {
+            Some(step) if is_step(step, name, all[place]) => {}
+            _ => return place,
         }
-        count = count.saturating_add(1);
     }
     if found.len() > all.len() {
-        None
+        all.len().saturating_add(1)
     } else {
-        Some(count)
+        all.len()
     }
-}
-
-/// Returns whether the steps are these.
-fn are_steps(found: &[Step], all: &[Seen]) -> bool {
-    steps_so(found, all) == Some(all.len())
 }
 
 /// Returns whether the report prints as this text.
@@ -95,52 +89,77 @@ fn has_text(alloc: Global, settled: &Settled, text: &str) -> bool {
     }
 }
 
-/// Returns whether books are a cluster and have this outcome.
-pub fn comes(alloc: Global, books: &[Book], grants: &[Grant], outcome: Outcome) -> bool {
-    if !is_cluster(books) {
-        return false;
+/// What is unlike the outcome that is expected, at which place, and why it did not settle if it should.
+#[derive(Clone, Copy)]
+struct Unlike(&'static str, usize, Option<SettleError>);
+
+/// Returns what of a run is unlike these steps and the report.
+fn unlike_run(alloc: Global, settled: &Settled, steps: &[Seen], text: &str) -> Option<Unlike> {
+    let Some(name) = r() else {
+        return Some(Unlike("there are no such grants for step", 0, None));
+    };
+    let count = count_steps(settled.steps.as_slice(), name, steps);
+    if count != steps.len() {
+        return Some(Unlike("step", count, None));
     }
-    match (settle(alloc, books, grants), outcome) {
-        (Ok(settled), Settles(steps, text)) => {
-            are_steps(settled.steps.as_slice(), steps) && has_text(alloc, &settled, text)
-        }
-        (Err(found), Refused(fault)) => found == fault,
-        _ => false,
+    if has_text(alloc, settled, text) {
+        None
+    } else {
+        Some(Unlike("the report after step", count, None))
     }
 }
 
-/// Ends the test unless the books are a cluster and have this outcome.
-fn assert_settles<R: Abort + AllocGlobal>(
-    rt: &R,
+/// Returns what is unlike this outcome if books settle with grants.
+fn find_unlike(
+    alloc: Global,
     books: &[Book],
     grants: &[Grant],
     outcome: Outcome,
-) {
-    assert!(rt; is_cluster(books), "the books are a cluster");
-    match (settle(rt.alloc(), books, grants), outcome) {
-        (Ok(settled), Settles(steps, text)) => {
-            let so = steps_so(settled.steps.as_slice(), steps);
-            assert!(rt; so == Some(steps.len()), "the steps up to {so:?} are so");
-            assert!(rt; has_text(rt.alloc(), &settled, text), "the report is so");
-        }
-        (Ok(_), Refused(fault)) => panic!(rt; "it settles, and is not refused: {fault}"),
-        (Err(found), Refused(fault)) => assert_eq!(rt; found, fault),
-        (Err(found), Settles(_, _)) => panic!(rt; "it does not settle: {found}"),
+) -> Option<Unlike> {
+    match settled(alloc, books, grants) {
+        None => Some(Unlike("the books are not a cluster after step", 0, None)),
+        Some(Err(found)) => match outcome {
+            Refused(fault) if found == fault => None,
+            _ => Some(Unlike("it is refused at step", 0, Some(found))),
+        },
+        Some(Ok(settled)) => match outcome {
+            Settles(steps, text) => unlike_run(alloc, &settled, steps, text),
+            Refused(_) => Some(Unlike("it settles, and not before step", 0, None)),
+        },
     }
 }
 
-/// Does all of this to the books of two nodes. Ends the test if these and the grants have another outcome.
-fn assert_outcome<R: Abort + AllocGlobal>(
-    rt: &R,
-    done: &[Done],
-    granted: &[Granted],
+/// Returns whether books are a cluster and have this outcome.
+pub fn comes(alloc: Global, books: &[Book], grants: &[Grant], outcome: Outcome) -> bool {
+    find_unlike(alloc, books, grants, outcome).is_none()
+}
+
+/// What is done to the books of two nodes, in a few words, and the outcome with some grants.
+struct Row {
+    words: &'static str,
+    done: &'static [Done],
+    granted: &'static [Granted],
     outcome: Outcome,
-) {
-    let books = books_after(rt.alloc(), &[ONE, TWO], done);
-    match (books, grants_of(rt.alloc(), granted)) {
-        (Ok(books), Some(grants)) => assert_settles(rt, &books, &grants, outcome),
-        (Err(place), _) => panic!(rt; "what is done at place {place}, counted from 0, can't be"),
-        (Ok(_), None) => panic!(rt; "there are no such grants"),
+}
+
+/// Does all of a row. Returns what is unlike its outcome.
+fn unlike_row(alloc: Global, row: &Row) -> Option<Unlike> {
+    let books = match books_after(alloc, &[ONE, TWO], row.done) {
+        Ok(books) => books,
+        Err(place) => return Some(Unlike("this can not be done:", place, None)),
+    };
+    match grants_of(alloc, row.granted) {
+        Some(grants) => find_unlike(alloc, &books, &grants, row.outcome),
+        None => Some(Unlike("there are no such grants for step", 0, None)),
+    }
+}
+
+/// Ends the test if a row has another outcome.
+fn assert_outcomes<R: Abort + AllocGlobal>(rt: &R, rows: &[Row]) {
+    for row in rows {
+        if let Some(Unlike(what, place, found)) = unlike_row(rt.alloc(), row) {
+            panic!(rt; "{}: {what} {place}, counted from 0; {found:?}", row.words);
+        }
     }
 }
 
@@ -164,8 +183,9 @@ const NO_CLUSTERS: &[&[Made]] = &[
 #[test]
 fn books_of_all_nodes_in_order_are_a_cluster(rt: HostRuntime) {
     assert!(rt; are_cluster(rt.alloc(), &[ONE, TWO]) == Some(true));
-    for (place, made) in NO_CLUSTERS.iter().enumerate() {
-        assert!(rt; are_cluster(rt.alloc(), made) == Some(false), "at {place}");
+    for place in 0..NO_CLUSTERS.len() {
+        let are_cluster = are_cluster(rt.alloc(), NO_CLUSTERS[place]);
+        assert!(rt; are_cluster == Some(false), "at {place}");
     }
 }
 
@@ -188,97 +208,11 @@ const LOCKED_ONCE: &[Seen] = &[
     Left(1),
 ];
 
-#[test]
-fn one_lock_settles_into_the_run_of_it(rt: HostRuntime) {
-    let text = "request 1 1 r X 1\nenter 1 1 r X 1\nleave 1 1 r X 1\n\
-        requests 1\nmessages 2\nunder-way 0\nlost 0\nwaiting 0\nqueued 0\n";
-    let outcome = Settles(LOCKED_ONCE, text);
-    assert_outcome(&rt, LOCKS_ONCE, &[FIRST], outcome);
-}
-
-/// The REQUEST of [`ASKS`] arrives at node 2.
-const HEARS: Done = At(2, Takes(Receive(&ASKS)));
-
-#[test]
-fn a_frame_that_was_not_sent_is_refused(rt: HostRuntime) {
-    let not_sent = Refused(SettleError::NotSent);
-    assert_outcome(&rt, &[HEARS], &[], not_sent);
-    // It takes precedence over a missing grant.
-    assert_outcome(&rt, &[HEARS], &[FIRST], not_sent);
-}
-
-/// The REQUEST of [`ASKS`] at clock 2.
-const ASKS_AT_2: [u8; 25] = [
-    2, 1, 0, 1, 0, 2, 1, 0, 0, 0, 0, 0, 0, 0, 1, 0, 0, 0, 0, 0, 0, 0, 2, 1, b'r',
-];
-
-#[test]
-fn a_frame_with_another_clock_was_not_sent(rt: HostRuntime) {
-    // It was sent at clock 1.
-    assert_outcome(
-        &rt,
-        &[At(1, Takes(ASK)), At(2, Takes(Receive(&ASKS_AT_2)))],
-        &[],
-        Refused(SettleError::NotSent),
-    );
-}
-
-#[test]
-fn a_message_that_came_twice_is_refused(rt: HostRuntime) {
-    assert_outcome(
-        &rt,
-        &[At(1, Takes(ASK)), Passes(1, 0), Passes(1, 0)],
-        &[],
-        Refused(SettleError::Twice),
-    );
-}
-
-#[test]
-fn a_request_that_waits_is_no_grant(rt: HostRuntime) {
-    let missing = Refused(SettleError::GrantMissing);
-    assert_outcome(&rt, &[At(1, Takes(ASK))], &[FIRST], missing);
-}
-
-#[test]
-fn each_grant_stands_once(rt: HostRuntime) {
-    let twice = Refused(SettleError::GrantTwice);
-    assert_outcome(&rt, LOCKS_ONCE, &[FIRST, FIRST], twice);
-    // A missing grant takes precedence over it.
-    let missing = Refused(SettleError::GrantMissing);
-    assert_outcome(
-        &rt,
-        LOCKS_ONCE,
-        &[FIRST, FIRST, Granted(1, 1, Shared, 1)],
-        missing,
-    );
-}
-
-#[test]
-fn a_lost_frame_did_not_come(rt: HostRuntime) {
-    assert_outcome(
-        &rt,
-        &[
-            At(1, Takes(ASK)),
-            Passes(1, 0),
-            Passes(2, 0),
-            At(1, Takes(LEAVE)),
-            At(1, Loses(1)),
-        ],
-        &[FIRST],
-        Refused(SettleError::NotSent),
-    );
-}
-
 /// The run in which client 1 of node 1 asks, and the REQUEST to node 2 is lost.
 pub const LOST_ONCE: Outcome = Settles(
     &[Asked(1, Exclusive), Lost(1, 2, Exclusive)],
     "request 1 1 r X 1\nrequests 1\nmessages 1\nunder-way 0\nlost 1\nwaiting 1\nqueued 0\n",
 );
-
-#[test]
-fn a_lost_frame_is_lost_at_the_end(rt: HostRuntime) {
-    assert_outcome(&rt, &[At(1, Takes(ASK)), At(1, Loses(1))], &[], LOST_ONCE);
-}
 
 /// The clients of two nodes ask for `r` shared, each at clock 1. The REQUESTs and the REPLYs arrive, and both clients
 /// leave. Each event of one node has the clock of an event of the other. Each book sends the REQUEST first, and then
@@ -306,18 +240,111 @@ const READS_AT_ONCE: &[Seen] = &[
     Left(2),
 ];
 
+/// What settles.
+const SETTLED: &[Row] = &[
+    Row {
+        words: "one lock",
+        done: LOCKS_ONCE,
+        granted: &[FIRST],
+        outcome: Settles(
+            LOCKED_ONCE,
+            "request 1 1 r X 1\nenter 1 1 r X 1\nleave 1 1 r X 1\n\
+            requests 1\nmessages 2\nunder-way 0\nlost 0\nwaiting 0\nqueued 0\n",
+        ),
+    },
+    Row {
+        words: "a lost frame is lost at the end",
+        done: &[At(1, Takes(ASK)), At(1, Loses(1))],
+        granted: &[],
+        outcome: LOST_ONCE,
+    },
+    Row {
+        words: "events of one clock are settled by node",
+        done: READ_AT_ONCE,
+        granted: &[Granted(1, 1, Shared, 1), Granted(2, 2, Shared, 1)],
+        outcome: Settles(
+            READS_AT_ONCE,
+            "request 1 1 r S 1\nrequest 2 2 r S 1\nenter 1 1 r S 1\nenter 2 2 r S 1\n\
+            leave 1 1 r S 1\nleave 2 2 r S 1\n\
+            requests 2\nmessages 4\nunder-way 0\nlost 0\nwaiting 0\nqueued 0\n",
+        ),
+    },
+];
+
 #[test]
-fn events_of_one_clock_are_settled_by_node(rt: HostRuntime) {
-    let text = "request 1 1 r S 1\nrequest 2 2 r S 1\nenter 1 1 r S 1\nenter 2 2 r S 1\n\
-        leave 1 1 r S 1\nleave 2 2 r S 1\n\
-        requests 2\nmessages 4\nunder-way 0\nlost 0\nwaiting 0\nqueued 0\n";
-    let outcome = Settles(READS_AT_ONCE, text);
-    assert_outcome(
-        &rt,
-        READ_AT_ONCE,
-        &[Granted(1, 1, Shared, 1), Granted(2, 2, Shared, 1)],
-        outcome,
-    );
+fn books_settle_into_the_run_of_what_happened(rt: HostRuntime) {
+    assert_outcomes(&rt, SETTLED);
+}
+
+/// The REQUEST of [`ASKS`] arrives at node 2.
+const HEARS: Done = At(2, Takes(Receive(&ASKS)));
+
+/// The REQUEST of [`ASKS`] at clock 2.
+const ASKS_AT_2: [u8; 25] = [
+    2, 1, 0, 1, 0, 2, 1, 0, 0, 0, 0, 0, 0, 0, 1, 0, 0, 0, 0, 0, 0, 0, 2, 1, b'r',
+];
+
+/// What does not settle.
+const NOT_SETTLED: &[Row] = &[
+    Row {
+        words: "a frame that was not sent",
+        done: &[HEARS],
+        granted: &[],
+        outcome: Refused(SettleError::NotSent),
+    },
+    Row {
+        words: "a frame that was not sent takes precedence over a missing grant",
+        done: &[HEARS],
+        granted: &[FIRST],
+        outcome: Refused(SettleError::NotSent),
+    },
+    Row {
+        words: "a frame with another clock was not sent: it was sent at clock 1",
+        done: &[At(1, Takes(ASK)), At(2, Takes(Receive(&ASKS_AT_2)))],
+        granted: &[],
+        outcome: Refused(SettleError::NotSent),
+    },
+    Row {
+        words: "a message that came twice",
+        done: &[At(1, Takes(ASK)), Passes(1, 0), Passes(1, 0)],
+        granted: &[],
+        outcome: Refused(SettleError::Twice),
+    },
+    Row {
+        words: "a request that waits is no grant",
+        done: &[At(1, Takes(ASK))],
+        granted: &[FIRST],
+        outcome: Refused(SettleError::GrantMissing),
+    },
+    Row {
+        words: "a grant twice",
+        done: LOCKS_ONCE,
+        granted: &[FIRST, FIRST],
+        outcome: Refused(SettleError::GrantTwice),
+    },
+    Row {
+        words: "a missing grant takes precedence over a grant twice",
+        done: LOCKS_ONCE,
+        granted: &[FIRST, FIRST, Granted(1, 1, Shared, 1)],
+        outcome: Refused(SettleError::GrantMissing),
+    },
+    Row {
+        words: "a lost frame did not come",
+        done: &[
+            At(1, Takes(ASK)),
+            Passes(1, 0),
+            Passes(2, 0),
+            At(1, Takes(LEAVE)),
+            At(1, Loses(1)),
+        ],
+        granted: &[FIRST],
+        outcome: Refused(SettleError::NotSent),
+    },
+];
+
+#[test]
+fn what_did_not_happen_does_not_settle(rt: HostRuntime) {
+    assert_outcomes(&rt, NOT_SETTLED);
 }
 
 /// Returns whether a book has four events, and the clock of each is its place plus one.

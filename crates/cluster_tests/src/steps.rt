@@ -1,23 +1,38 @@
-//! What a cluster of sites with a post does and shows, step by step.
-use crate::helpers::{Counting, books_of, entry, in_a_thread, r, request, sites_of};
+//! What a cluster of sites with a post does and shows, step by step, with clients on threads of their own.
+use crate::helpers::{comes_to, entry, in_a_thread, r, request};
+use crate::shown::{Shown, after_all, count_shown};
+use crate::site_cluster::{Answer, Cluster, cluster_behind, loses_inbox, send, taken_from};
 use Step::{
-    ClosesPost, HasLeft, HasLeftOne, HasStepped, Locks, LosesAllInboxes, LosesInbox, Pumps,
-    RefusesToLock, RefusesToSend, RefusesToUnlock, Sends, Stops, Unlocks,
+    ClosesPost, ComesToBeStopped, ComesToStep, HasLeft, HasLeftOne, HasStepped, HaveEnded, LetsGo,
+    LetsSleep, Locks, Pumps, RefusesToLock, RefusesToSend, RefusesToUnlock, Sends, Starts, Stays,
+    Stops, StopsAll, Unlocks,
 };
-use ra_cluster::{
-    Book, BookError, BookEvent, BookKind, Gate, Grant, Inbox, OpenGate, Post, SendError, Site,
-    SiteError, Stop, is_site_of,
-};
+use ra_cluster::{BookError, BookEvent, BookKind, OpenGate, SendError, Site, SiteError, Stop};
 use ra_frame::Frame;
-use ra_stamp::{Message, Mode, Name, NodeId};
+use ra_stamp::{Mode, Name};
 use std::alloc::Global;
 use std::process::Abort;
 use std::sync::Wait;
 use std::sync::atomic::Ordering;
+use std::thread;
 use std::thread::Threads;
 
-/// What a cluster does or shows. All requests are for `r`, exclusively, with number 1. Only client 1 of each node locks
-/// it.
+/// What a thread of its own does. All locks are exclusive.
+#[derive(Clone, Copy)]
+pub enum Task {
+    /// At this node, this client locks `r`. What it gets is told.
+    Asks(u16, u32),
+    /// At this node, this client locks `r` and unlocks it.
+    Uses(u16, u32),
+    /// The site of this node takes the frames from its inbox, and asks no gate.
+    Carries(u16),
+    /// At this node, client 1 locks `r` and unlocks it, very often or until it is refused, and asks no gate. At this turn it closes the
+    /// post while it holds `r`, and in any case at its end.
+    UsesOften(u16, Option<u32>),
+}
+
+/// What a cluster does or shows. All requests are for `r`, exclusively. If no client is named, it is client 1 of the node, whose lock
+/// is the first of `r`.
 #[derive(Clone, Copy)]
 pub enum Step {
     /// The post sends a REQUEST with this clock from the first node to the second.
@@ -26,20 +41,18 @@ pub enum Step {
     RefusesToSend(u16, u16, SendError),
     /// The post is closed.
     ClosesPost,
-    /// The inbox at this place is dropped, and those after it move one place to the front.
-    LosesInbox(usize),
-    /// All inboxes are dropped.
-    LosesAllInboxes,
     /// The site of this node is stopped for this reason.
     Stops(u16, Stop),
+    /// The sites of all nodes are.
+    StopsAll(Stop),
     /// The client of this node locks `r`.
     Locks(u16),
-    /// The client of this node does not lock `r`, for this reason.
-    RefusesToLock(u16, SiteError),
+    /// This client of this node does not lock `r`, for this reason.
+    RefusesToLock(u16, u32, SiteError),
     /// The client of this node unlocks `r`.
     Unlocks(u16),
-    /// The client of this node does not unlock `r`, for this reason.
-    RefusesToUnlock(u16, SiteError),
+    /// This client of this node does not unlock `r`, for this reason.
+    RefusesToUnlock(u16, u32, SiteError),
     /// The site of this node takes the frames from the inbox at its place.
     Pumps(u16),
     /// This many frames are left in the inbox at this place, that of this node. Another site of the node takes them.
@@ -50,190 +63,167 @@ pub enum Step {
     HasLeftOne,
     /// The gate has counted this many steps.
     HasStepped(u64),
+    /// A thread of its own does this.
+    Starts(Task),
+    /// The gate comes to count this many steps. It is told of a step under the lock of the node, so what comes from now on comes
+    /// after that step.
+    ComesToStep(u64),
+    /// The threads yield a few hundred times, so that a client of node 1 which is about to sleep most likely does.
+    LetsSleep,
+    /// The site of this node comes to be stopped.
+    ComesToBeStopped(u16),
+    /// The gate lets the thread go that it keeps.
+    LetsGo,
+    /// This many threads come to their end.
+    HaveEnded(u64),
+    /// For a while no more than this many do.
+    Stays(u64),
 }
 
-/// A book at the end: its fault, and how many events it has.
+/// What becomes of the inboxes before the first step.
 #[derive(Clone, Copy)]
-pub struct Ended {
-    /// Why it was stopped, if it was.
-    pub fault: Option<Stop>,
-    /// How many events it has.
-    pub events: u64,
+pub enum Gone {
+    /// All are kept.
+    Nothing,
+    /// That at this place is dropped, and those after it move one place to the front.
+    Inbox(usize),
+    /// All are dropped.
+    Inboxes,
 }
 
-/// The book of a node that is not stopped.
-pub fn runs(events: u64) -> Ended {
-    Ended {
-        fault: None,
-        events,
-    }
+/// What a cluster does and shows, in a few words.
+#[derive(Clone, Copy)]
+pub struct Row {
+    /// The words.
+    pub words: &'static str,
+    /// How many nodes it has.
+    pub nodes: u16,
+    /// The number after which those of `r` begin.
+    pub start: u64,
+    /// How many steps its gate lets pass.
+    pub most: u64,
+    /// At which node the gate keeps a thread, or 0.
+    pub kept: u16,
+    /// Which inboxes are gone.
+    pub gone: Gone,
+    /// The steps, in order.
+    pub steps: &'static [Step],
+    /// What is shown at the end.
+    pub shown: &'static [Shown],
 }
 
-/// The book of a node that is stopped for this reason.
-pub fn stopped(stop: Stop, events: u64) -> Ended {
-    Ended {
-        fault: Some(stop),
-        events,
-    }
-}
+/// A cluster of two nodes from number 0 with all its inboxes, and a gate that lets all steps pass.
+pub const TWO_NODES: Row = Row {
+    words: "",
+    nodes: 2,
+    start: 0,
+    most: u64::MAX,
+    kept: 0,
+    gone: Gone::Nothing,
+    steps: &[],
+    shown: &[],
+};
 
-/// The sites of a cluster, its post with the inboxes, and its gate.
-#[derive(Drop)]
-pub struct Cluster {
-    nodes: u16,
-    /// The site of each node.
-    pub sites: Vec<Site>,
-    /// The post between them.
-    pub post: Post,
-    /// The inbox of each node.
-    pub inboxes: Vec<Inbox>,
-    gate: Counting,
-}
-
-/// What the calls below answer if the sites are not as a site requires them, which no test expects.
-const NO_SITE: SiteError = SiteError::Refused(BookError::Stranger);
-
-impl Cluster {
-    /// Has a client lock a name at a site.
-    pub fn lock_at<R: Wait, G: Gate>(
-        &self,
-        rt: &R,
-        alloc: Global,
-        site: &Site,
-        client: u32,
-        name: &Name,
-        mode: Mode,
-        gate: &G,
-    ) -> Result<Grant, SiteError> {
-        if !is_site_of(site, &self.sites) {
-            return Err(NO_SITE);
-        }
-        site.lock(
-            rt,
-            alloc,
-            client,
-            *name,
-            mode,
-            &self.post,
-            &self.sites,
-            gate,
-        )
-    }
-
-    /// Has a client unlock a name at a site.
-    pub fn unlock_at<R: Wait, G: Gate>(
-        &self,
-        rt: &R,
-        alloc: Global,
-        site: &Site,
-        client: u32,
-        name: &Name,
-        gate: &G,
-    ) -> Result<(), SiteError> {
-        if !is_site_of(site, &self.sites) {
-            return Err(NO_SITE);
-        }
-        site.unlock(rt, alloc, client, *name, &self.post, &self.sites, gate)
-    }
-
-    /// Has a site take the frames from an inbox. Returns whether the sites are as it requires them.
-    pub fn pump_at<R: Wait, G: Gate>(
-        &self,
-        rt: &R,
-        alloc: Global,
-        site: &Site,
-        inbox: &Inbox,
-        gate: &G,
-    ) -> bool {
-        if !is_site_of(site, &self.sites) {
-            return false;
-        }
-        site.pump(rt, alloc, inbox, &self.post, &self.sites, gate);
-        true
-    }
-}
-
-/// Makes a cluster of this many nodes. Its numbers begin at `start`, and its gate lets `most` steps pass.
-pub fn make_cluster(alloc: Global, nodes: u16, start: u64, most: u64) -> Option<Cluster> {
-    let sites = sites_of(alloc, nodes, start)?;
-    let (post, inboxes) = Post::new(alloc, nodes).ok()?;
-    let gate = Counting::new(most, true);
-    Some(Cluster {
-        nodes,
-        sites,
-        post,
-        inboxes,
-        gate,
-    })
-}
-
-/// Returns the site of a node.
-fn site(sites: &[Site], number: u16) -> Option<&Site> {
-    sites.get(usize::from(number).wrapping_sub(1))
-}
-
-/// Sends a message in a frame with this clock. Returns whether it is refused for this reason, or is sent if there is no
-/// reason.
-pub fn sends<R: Wait>(
+/// Sends a REQUEST from the first node to the second. Returns whether it is refused for this reason, or is sent if there is no reason.
+fn sends<R: Wait>(
     rt: &R,
     alloc: Global,
-    post: &Post,
+    all: &Cluster,
+    name: &Name,
+    ends: (u16, u16),
     clock: u64,
-    message: Option<Message>,
     refusal: Option<SendError>,
 ) -> bool {
-    let Some(message) = message else {
-        return false;
-    };
-    let frame = Frame { clock, message };
-    if !frame.fits() {
-        return false;
-    }
-    match post.send(rt, alloc, &frame) {
+    let message = request(*name, ends.0, ends.1, Mode::Exclusive);
+    match send(rt, alloc, &all.post, clock, message) {
         Ok(()) => refusal.is_none(),
-        Err(found) => refusal == Some(found),
+        Err(found) => found.is_some() && found == refusal,
     }
 }
 
-/// Returns whether a client locks the name, or does not for this reason.
-fn locks<R: Wait>(
+/// Has a client lock the name at a node.
+fn lock<R: Wait>(
     rt: &R,
     alloc: Global,
     all: &Cluster,
+    name: &Name,
     number: u16,
-    name: Name,
-    refusal: Option<SiteError>,
-) -> bool {
-    let Some(site) = site(&all.sites, number) else {
-        return false;
-    };
-    let mode = Mode::Exclusive;
-    match all.lock_at(rt, alloc, site, 1, &name, mode, &all.gate) {
-        Ok(grant) => refusal.is_none() && entry(name, number, 1, mode, 1) == Some(grant.entry),
-        Err(found) => refusal == Some(found),
+    client: u32,
+) -> Answer {
+    let site = all.site(number)?;
+    Some(all.lock_at(rt, alloc, site, client, name, Mode::Exclusive, &all.gate))
+}
+
+/// Returns whether client 1 of a node locks the name, with the first number.
+fn locks<R: Wait>(rt: &R, alloc: Global, all: &Cluster, name: &Name, number: u16) -> bool {
+    let first = all.start.wrapping_add(1);
+    match lock(rt, alloc, all, name, number, 1) {
+        Some(Ok(grant)) => entry(*name, number, 1, Mode::Exclusive, first) == Some(grant.entry),
+        _ => false,
     }
 }
 
-/// Returns whether a client unlocks the name, or does not for this reason.
-fn unlocks<R: Wait>(
+/// Has a client unlock the name at a node.
+fn unlock<R: Wait>(
     rt: &R,
     alloc: Global,
     all: &Cluster,
+    name: &Name,
     number: u16,
-    name: Name,
-    refusal: Option<SiteError>,
-) -> bool {
-    let Some(site) = site(&all.sites, number) else {
-        return false;
-    };
-    match all.unlock_at(rt, alloc, site, 1, &name, &all.gate) {
-        Ok(()) => refusal.is_none(),
-        Err(found) => refusal == Some(found),
-    }
+    client: u32,
+) -> Option<Result<(), SiteError>> {
+    let site = all.site(number)?;
+    Some(all.unlock_at(rt, alloc, site, client, name, &all.gate))
 }
 
+/// Returns why client 2, which holds nothing, cannot unlock the name at a node: `NotHeld`, or `Failed` if the site is stopped. No gate
+/// is asked.
+fn refusal<R: Wait>(
+    rt: &R,
+    alloc: Global,
+    all: &Cluster,
+    name: &Name,
+    site: &Site,
+) -> Option<SiteError> {
+    all.unlock_at(rt, alloc, site, 2, name, &OpenGate).err()
+}
+
+/// Returns whether the site of a node comes to be stopped, for which it is looked many times.
+fn comes_to_be_stopped<R: Wait>(
+    rt: &R,
+    alloc: Global,
+    all: &Cluster,
+    name: &Name,
+    number: u16,
+) -> bool {
+    let Some(site) = all.site(number) else {
+        return false;
+    };
+    for _ in 0..1_000_000u32 {
+        if refusal(rt, alloc, all, name, site) == Some(SiteError::Refused(BookError::Failed)) {
+            return true;
+        }
+        thread::yield_now();
+    }
+    false
+}
+
+/// Yields a few hundred times, each time after it had the lock of the site of node 1. Nothing can tell that another client sleeps then.
+fn lets_sleep<R: Wait>(rt: &R, alloc: Global, all: &Cluster, name: &Name) -> bool {
+    let Some(site) = all.site(1) else {
+        return false;
+    };
+    for _ in 0..300u32 {
+        // Client 1 holds the name, so it is refused, which wakes nobody.
+        let _busy = all.lock_at(rt, alloc, site, 1, name, Mode::Shared, &OpenGate);
+        thread::yield_now();
+    }
+    true
+}
+
+/// Stops the site of a node. Returns whether there is one.
 fn stops<R: Wait>(rt: &R, all: &Cluster, number: u16, stop: Stop) -> bool {
-    match site(&all.sites, number) {
+    match all.site(number) {
         Some(site) => {
             site.stop(rt, stop);
             true
@@ -242,50 +232,16 @@ fn stops<R: Wait>(rt: &R, all: &Cluster, number: u16, stop: Stop) -> bool {
     }
 }
 
-fn pumps<R: Wait>(rt: &R, alloc: Global, all: &Cluster, number: u16) -> bool {
-    let place = usize::from(number).wrapping_sub(1);
-    match (site(&all.sites, number), all.inboxes.get(place)) {
-        (Some(site), Some(inbox)) => all.pump_at(rt, alloc, site, inbox, &all.gate),
-        _ => false,
+/// Stops each site.
+fn stops_all<R: Wait>(rt: &R, all: &Cluster, stop: Stop) -> bool {
+    for site in &all.sites {
+        site.stop(rt, stop);
     }
+    true
 }
 
-/// Makes a new cluster of this many nodes, whose site of this node takes all frames that are left in an inbox, and sends
-/// through the new post. Returns how many events its book then has, and the first of them.
-fn taken<R: Wait>(
-    rt: &R,
-    alloc: Global,
-    number: u16,
-    nodes: u16,
-    inbox: &Inbox,
-) -> Option<(u64, Option<BookEvent>)> {
-    let fresh = make_cluster(alloc, nodes, 0, u64::MAX)?;
-    if !fresh.pump_at(rt, alloc, site(&fresh.sites, number)?, inbox, &OpenGate) {
-        return None;
-    }
-    let mut books = books_of(alloc, fresh.sites)?;
-    let place = usize::from(number).wrapping_sub(1);
-    if books.len() <= place {
-        return None;
-    }
-    let book = books.swap_remove(place);
-    Some((book.events().len(), book.events().at(0)))
-}
-
-/// Does this for the inbox at a place, that of the node with this number.
-fn taken_from<R: Wait>(
-    rt: &R,
-    alloc: Global,
-    all: &Cluster,
-    place: usize,
-    number: u16,
-) -> Option<(u64, Option<BookEvent>)> {
-    taken(rt, alloc, number, all.nodes, all.inboxes.get(place)?)
-}
-
-/// Returns whether this many frames are left in the inbox at a place, that of the node with this number. The post has
-/// to be closed before.
-pub fn has_left<R: Wait>(
+/// Returns whether this many frames are left in the inbox at a place, that of the node with this number.
+fn has_left<R: Wait>(
     rt: &R,
     alloc: Global,
     all: &Cluster,
@@ -299,197 +255,249 @@ pub fn has_left<R: Wait>(
     }
 }
 
-/// Returns whether only the message is left in the inbox of node 2, in a frame with clock 1.
-fn has_left_one<R: Wait>(rt: &R, alloc: Global, all: &Cluster, message: &Message) -> bool {
-    let (clock, message) = (1, *message);
-    let kind = BookKind::Got(Frame { clock, message });
+/// Returns whether only the REQUEST from node 1 is left in the inbox of node 2, in a frame with clock 1.
+fn has_left_one<R: Wait>(rt: &R, alloc: Global, all: &Cluster, name: &Name) -> bool {
+    let Some(message) = request(*name, 1, 2, Mode::Exclusive) else {
+        return false;
+    };
+    let kind = BookKind::Got(Frame { clock: 1, message });
     match taken_from(rt, alloc, all, 1, 2) {
         Some((1, Some(first))) => first == BookEvent { clock: 2, kind },
         _ => false,
     }
 }
 
-/// Returns the REQUEST from one node to the other.
-fn asks(name: Name, from: u16, to: u16) -> Option<Message> {
-    request(name, from, to, Mode::Exclusive)
-}
-
-/// Drops the inbox at a place. Returns whether there was one.
-pub fn loses_inbox(all: &mut Cluster, place: usize) -> bool {
-    if place < all.inboxes.len() {
-        drop(all.inboxes.remove(place));
-        true
-    } else {
-        false
-    }
-}
-
-/// Returns whether a cluster does or shows this.
-fn does<R: Wait>(rt: &R, alloc: Global, all: &mut Cluster, name: Name, step: Step) -> bool {
-    match step {
-        Sends(clock, from, to) => { sends(rt, alloc, &all.post, clock, asks(name, from, to), None) }
-        RefusesToSend(from, to, fault) => {
-            sends(rt, alloc, &all.post, 1, asks(name, from, to), Some(fault))
+/// Returns whether this many threads have ended for a while, in which others may go on.
+fn stays(all: &Cluster, ended: u64) -> bool {
+    for _ in 0..3_000u32 {
+        if all.ended.load(Ordering::SeqCst) != ended {
+            return false;
         }
-        ClosesPost => {
+        thread::yield_now();
+    }
+    true
+}
+
+/// Returns whether a cluster does or shows this with the post.
+fn does_at_the_post<R: Wait>(
+    rt: &R,
+    alloc: Global,
+    all: &Cluster,
+    name: &Name,
+    step: Step,
+) -> bool {
+    match step {
+        Sends(clock, from, to) => sends(rt, alloc, all, name, (from, to), clock, None),
+        RefusesToSend(from, to, fault) => sends(rt, alloc, all, name, (from, to), 1, Some(fault)),
+        Pumps(number) => all.pump_number(rt, alloc, number, &all.gate),
+        HasLeft(place, number, frames) => has_left(rt, alloc, all, place, number, frames),
+        HasLeftOne => has_left_one(rt, alloc, all, name),
+        _ => {
             all.post.close(rt);
             true
         }
-        LosesInbox(place) => loses_inbox(all, place),
-        LosesAllInboxes => {
+    }
+}
+
+/// Returns whether a cluster does or shows this on the thread of the test.
+fn does<R: Wait>(rt: &R, alloc: Global, all: &Cluster, name: &Name, step: Step) -> bool {
+    match step {
+        Stops(number, stop) => stops(rt, all, number, stop),
+        StopsAll(stop) => stops_all(rt, all, stop),
+        Locks(number) => locks(rt, alloc, all, name, number),
+        RefusesToLock(number, client, fault) => {
+            lock(rt, alloc, all, name, number, client) == Some(Err(fault))
+        }
+        Unlocks(number) => unlock(rt, alloc, all, name, number, 1) == Some(Ok(())),
+        RefusesToUnlock(number, client, fault) => {
+            unlock(rt, alloc, all, name, number, client) == Some(Err(fault))
+        }
+        HasStepped(steps) => all.gate.counting.steps.load(Ordering::SeqCst) == steps,
+        ComesToStep(steps) => comes_to(&all.gate.counting.steps, steps),
+        LetsSleep => lets_sleep(rt, alloc, all, name),
+        ComesToBeStopped(number) => comes_to_be_stopped(rt, alloc, all, name, number),
+        LetsGo => all.gate.goes.fetch_add(1, Ordering::SeqCst) == 0,
+        HaveEnded(threads) => comes_to(&all.ended, threads),
+        Stays(threads) => stays(all, threads),
+        _ => does_at_the_post(rt, alloc, all, name, step),
+    }
+}
+
+/// Has a client of a node lock and unlock the name, very often or until it is refused.
+fn uses_often<R: Wait>(
+    rt: &R,
+    alloc: Global,
+    all: &Cluster,
+    name: &Name,
+    site: &Site,
+    closing: Option<u32>,
+) {
+    for turn in 0..10_000u32 {
+        let Ok(grant) = all.lock_at(rt, alloc, site, 1, name, Mode::Exclusive, &OpenGate) else {
+            return;
+        };
+        // It holds the name, and a client that waits for it would wait forever.
+        if all.grants.lock(rt).push(grant).is_err() {
+            stops_all(rt, all, Stop::Memory);
+            return;
+        }
+        if closing == Some(turn) {
+            all.post.close(rt);
+        }
+        match all.unlock_at(rt, alloc, site, 1, name, &OpenGate) {
+            Ok(()) => {}
+            // The node is stopped, so that nobody else need be.
+            Err(SiteError::Refused(BookError::Failed)) => return,
+            Err(_) => {
+                stops_all(rt, all, Stop::Refused);
+                return;
+            }
+        }
+    }
+}
+
+/// Does what a thread of its own does. Returns whether it can be done.
+fn works<R: Wait>(rt: &R, alloc: Global, all: &Cluster, name: &Name, task: Task) -> bool {
+    match task {
+        Task::Asks(number, client) => {
+            *all.answer.lock(rt) = lock(rt, alloc, all, name, number, client);
+            true
+        }
+        Task::Uses(number, client) => {
+            matches!(lock(rt, alloc, all, name, number, client), Some(Ok(_)))
+                && unlock(rt, alloc, all, name, number, client) == Some(Ok(()))
+        }
+        Task::Carries(number) => all.pump_number(rt, alloc, number, &OpenGate),
+        Task::UsesOften(number, closing) => {
+            if let Some(site) = all.site(number) {
+                uses_often(rt, alloc, all, name, site, closing);
+            }
+            // If it came to no such turn, the threads that carry frames would wait forever.
+            if closing.is_some() {
+                all.post.close(rt);
+            }
+            true
+        }
+    }
+}
+
+/// Does so, and counts the thread.
+fn work<R: Wait>(rt: &R, alloc: Global, all: &Cluster, name: &Name, task: Task) {
+    if !works(rt, alloc, all, name, task) {
+        all.failed.fetch_add(1, Ordering::SeqCst);
+    }
+    all.ended.fetch_add(1, Ordering::SeqCst);
+}
+
+/// Ends what threads may wait for.
+fn give_up<R: Wait>(rt: &R, all: &Cluster) {
+    all.gate.goes.fetch_add(1, Ordering::SeqCst);
+    stops_all(rt, all, Stop::Refused);
+    all.post.close(rt);
+}
+
+/// Returns how many of the steps of a row a cluster does or shows, in order, up to the first that it does not. Ends the test if a thread
+/// does not end.
+fn done<R: Threads + Wait + Abort + Sync>(
+    rt: &R,
+    alloc: Global,
+    all: &Cluster,
+    name: &Name,
+    row: &'static Row,
+) -> usize {
+    thread::scope(thread::scope_env(), rt, move |scope| {
+        let (mut count, mut started) = (0usize, 0u64);
+        for step in row.steps {
+            let is_done = match *step {
+                Starts(task) => {
+                    let starts = scope
+                        .spawn(move || work(rt, alloc, all, name, task))
+                        .is_ok();
+                    started = started.saturating_add(u64::from(starts));
+                    starts
+                }
+                other => does(rt, alloc, all, name, other),
+            };
+            if !is_done {
+                give_up(rt, all);
+                break;
+            }
+            count = count.saturating_add(1);
+        }
+        // The scope would wait forever for a client that is not woken.
+        assert!(rt;
+            comes_to(&all.ended, started),
+            "{}: all threads end",
+            row.words
+        );
+        count
+    })
+}
+
+/// What is not as it should be, and at which place.
+#[derive(Clone, Copy)]
+struct Wrong(&'static str, usize);
+
+/// Drops the inboxes that are to be gone. Returns whether there were such.
+fn lose(all: &mut Cluster, gone: Gone) -> bool {
+    match gone {
+        Gone::Nothing => true,
+        Gone::Inbox(place) => loses_inbox(all, place),
+        Gone::Inboxes => {
             all.inboxes.clear();
             true
         }
-        Stops(number, stop) => stops(rt, all, number, stop),
-        Locks(number) => locks(rt, alloc, all, number, name, None),
-        RefusesToLock(number, fault) => locks(rt, alloc, all, number, name, Some(fault)),
-        Unlocks(number) => unlocks(rt, alloc, all, number, name, None),
-        RefusesToUnlock(number, fault) => unlocks(rt, alloc, all, number, name, Some(fault)),
-        Pumps(number) => pumps(rt, alloc, all, number),
-        HasLeft(place, number, frames) => has_left(rt, alloc, all, place, number, frames),
-        HasLeftOne => match asks(name, 1, 2) {
-            Some(message) => has_left_one(rt, alloc, all, &message),
-            None => false,
-        },
-        HasStepped(steps) => all.gate.steps.load(Ordering::SeqCst) == steps,
     }
 }
 
-/// Returns how many of these steps a cluster does or shows, in order, up to the first that it does not.
-fn done<R: Wait>(rt: &R, alloc: Global, all: &mut Cluster, name: Name, steps: &[Step]) -> usize {
-    for place in 0..steps.len() {
-        if !does(rt, alloc, all, name, steps[place]) {
-            return place;
-        }
-    }
-    steps.len()
-}
-
-/// What is not as it should be.
-#[derive(Clone, Copy)]
-enum Wrong {
-    /// There is no such cluster.
-    Cluster,
-    /// The step at this place is not done or shown.
-    Step(usize),
-    /// The book of this node does not end as expected.
-    Book(usize),
-}
-
-/// Has a cluster do and show all of this, in order, and returns its books. The cluster has this many nodes, its numbers
-/// begin at `start`, and its gate lets `most` steps pass.
-///
-/// # Errors
-///
-/// What is not as it should be.
-fn books_of_steps<R: Wait>(
-    rt: &R,
-    alloc: Global,
-    nodes: u16,
-    start: u64,
-    most: u64,
-    steps: &[Step],
-) -> Result<Vec<Book>, Wrong> {
-    let (Some(name), Some(mut all)) = (r(), make_cluster(alloc, nodes, start, most)) else {
-        return Err(Wrong::Cluster);
-    };
-    let done = done(rt, alloc, &mut all, name, steps);
-    if done < steps.len() {
-        return Err(Wrong::Step(done));
-    }
-    books_of(alloc, all.sites).ok_or(Wrong::Cluster)
-}
-
-/// Has a cluster do and show all of this, in order, in a thread, and returns its books, or `None` if it does not.
-pub fn books_after<R: Threads + Wait + Abort + Sync>(
-    rt: &R,
-    alloc: Global,
-    nodes: u16,
-    start: u64,
-    most: u64,
-    steps: &[Step],
-) -> Option<Vec<Book>> {
-    in_a_thread(
-        rt,
-        move || books_of_steps(rt, alloc, nodes, start, most, steps).ok(),
-    )
-}
-
-/// Returns whether the book at this place is there, and ends as expected.
-fn has_ended(books: &[Book], place: usize, ended: &Ended) -> bool {
-    match books.get(place) {
-        Some(book) => book.fault() == ended.fault && book.events().len() == ended.events,
-        None => false,
-    }
-}
-
-/// Returns how many of the books, from the first on, end as expected, or `None` if there are more books than ends.
-fn ended_so(books: &[Book], ended: &[Ended]) -> Option<usize> {
-    for place in 0..ended.len() {
-        if !has_ended(books, place, &ended[place]) {
-            return Some(place);
-        }
-    }
-    if books.len() == ended.len() {
-        Some(ended.len())
+/// Makes the cluster of a row.
+fn cluster_of(alloc: Global, row: &Row) -> Option<Cluster> {
+    let mut all = cluster_behind(alloc, row.nodes, row.start, row.most, row.kept)?;
+    if lose(&mut all, row.gone) {
+        Some(all)
     } else {
         None
     }
 }
 
-/// Returns whether all the books end as expected, and there are no others.
-pub fn have_ended(books: &[Book], ended: &[Ended]) -> bool {
-    ended_so(books, ended) == Some(ended.len())
+/// Looks at the end of a cluster that did all steps of a row.
+fn wrong_at_the_end(alloc: Global, all: Cluster, name: Name, row: &Row) -> Option<Wrong> {
+    if all.failed.load(Ordering::SeqCst) != 0 {
+        return Some(Wrong("a thread that was started before step", row.steps.len()));
+    }
+    let Some(after) = after_all(alloc, all, name) else {
+        return Some(Wrong("there is no such cluster, for step", 0));
+    };
+    let shown = count_shown(alloc, &after, row.shown);
+    if shown < row.shown.len() {
+        Some(Wrong("what is shown at", shown))
+    } else {
+        None
+    }
 }
 
-/// Has a cluster do and show all of this. It has a node for each end, its numbers begin at `start`, and its gate lets
-/// `most` steps pass. Returns what is not as it should be, or `None` if all is.
-fn wrong_from<R: Threads + Wait + Abort + Sync>(
+/// Has a cluster do and show all of a row. Returns what is not as it should be, or `None` if all is.
+fn find_wrong<R: Threads + Wait + Abort + Sync>(
     rt: &R,
     alloc: Global,
-    start: u64,
-    most: u64,
-    steps: &[Step],
-    ended: &[Ended],
+    row: &'static Row,
 ) -> Option<Wrong> {
-    let Ok(nodes) = u16::try_from(ended.len()) else {
-        return Some(Wrong::Cluster);
+    let (Some(name), Some(all)) = (r(), cluster_of(alloc, row)) else {
+        return Some(Wrong("there is no such cluster, for step", 0));
     };
-    let made = in_a_thread(
-        rt,
-        move || books_of_steps(rt, alloc, nodes, start, most, steps),
-    );
-    match made {
-        Ok(books) => match ended_so(&books, ended) {
-            Some(count) if count == ended.len() => None,
-            Some(count) => Some(Wrong::Book(count.saturating_add(1))),
-            None => Some(Wrong::Cluster),
-        },
-        Err(wrong) => Some(wrong),
+    let done = done(rt, alloc, &all, &name, row);
+    if done < row.steps.len() {
+        return Some(Wrong("step", done));
     }
+    wrong_at_the_end(alloc, all, name, row)
 }
 
-/// Ends the test if something is not as it should be.
-pub fn assert_does_from<R: AllocGlobal + Threads + Wait + Abort + Sync>(
-    rt: &R,
-    start: u64,
-    most: u64,
-    steps: &[Step],
-    ended: &[Ended],
-) {
-    match wrong_from(rt, rt.alloc(), start, most, steps, ended) {
-        None => {}
-        Some(Wrong::Cluster) => panic!(rt; "there is no such cluster"),
-        Some(Wrong::Step(place)) => panic!(rt; "step {place}, counted from 0"),
-        Some(Wrong::Book(node)) => panic!(rt; "the book of node {node} has not ended so"),
+/// Ends the test if something in a row is not as it should be. What a row does has to end within a minute or so.
+pub fn assert_rows<R: AllocGlobal + Threads + Wait + Abort + Sync>(rt: &R, rows: &'static [Row]) {
+    for row in rows {
+        let wrong = in_a_thread(rt, move || find_wrong(rt, rt.alloc(), row));
+        if let Some(Wrong(what, place)) = wrong {
+            panic!(rt; "{}: {what} {place}, counted from 0", row.words);
+        }
     }
-}
-
-/// Does the same from number 0, with a gate that lets all steps pass.
-pub fn assert_cluster_does<R: AllocGlobal + Threads + Wait + Abort + Sync>(
-    rt: &R,
-    steps: &[Step],
-    ended: &[Ended],
-) {
-    assert_does_from(rt, 0, u64::MAX, steps, ended);
 }

@@ -1,18 +1,20 @@
 //! The threads that do a script, in a cluster that the test makes.
+use crate::cluster_calls::{new_cluster, site_of};
 use crate::helpers::{closed, entry, in_a_thread, r};
+use crate::histories::Granted;
 use crate::plans::Does::{Locks, Shares, Unlocks};
 use crate::plans::{Client, USES_R, script_of};
-use crate::steps::{Ended, have_ended, runs, stopped};
+use crate::shown::{Ended, have_ended};
 use ra_cluster::{Cluster, Grant, OpenGate, ScriptRun, Stop, run_threads};
 use ra_schedule::Script;
-use ra_stamp::{Mode, Name, NodeId};
+use ra_stamp::{Mode, Name};
 use std::alloc::Global;
 use std::process::Abort;
 use std::sync::{Mutex, Wait};
 use std::thread::Threads;
 
 /// Has threads do a script in this cluster, and returns the grants that are kept.
-fn run_in<R: Threads + Wait + Abort + Sync>(
+pub fn run_in<R: Threads + Wait + Sync>(
     rt: &R,
     alloc: Global,
     script: &Script,
@@ -24,76 +26,120 @@ fn run_in<R: Threads + Wait + Abort + Sync>(
         cluster,
         grants: &grants,
     };
-    let run = &run;
-    in_a_thread(rt, move || run_threads(rt, alloc, run));
+    run_threads(rt, alloc, &run);
     grants.into_inner()
 }
 
-/// Returns whether the grants are those of the first two requests of client 1 at node 1, for `r` exclusively and then shared.
-fn are_both(grants: &[Grant], name: Name) -> bool {
-    let first = entry(name, 1, 1, Mode::Exclusive, 1);
-    let second = entry(name, 1, 1, Mode::Shared, 2);
-    match (grants, first, second) {
-        ([one, two], Some(first), Some(second)) => one.entry == first && two.entry == second,
-        _ => false,
+/// Returns whether the grants are these of a name.
+fn are_granted(grants: &[Grant], name: Name, all: &[Granted]) -> bool {
+    for place in 0..all.len() {
+        let Granted(node, client, mode, seq) = all[place];
+        match grants.get(place) {
+            Some(grant) if entry(name, node, client, mode, seq) == Some(grant.entry) => {}
+            _ => return false,
+        }
+    }
+    grants.len() == all.len()
+}
+
+/// A client in a cluster of two nodes, of which a node may be stopped before; the grants that are kept, and how the books end.
+struct Row {
+    words: &'static str,
+    /// The number after which those of `r` begin.
+    start: u64,
+    stopped: Option<(u16, Stop)>,
+    client: Client,
+    granted: &'static [Granted],
+    ended: &'static [Ended],
+}
+
+/// Stops a node, if one is to be. Returns whether there is such a node.
+fn stops<R: Wait>(rt: &R, cluster: &Cluster<OpenGate>, stopped: Option<(u16, Stop)>) -> bool {
+    match stopped {
+        Some((number, stop)) => match site_of(cluster, number) {
+            Some(site) => {
+                site.stop(rt, stop);
+                true
+            }
+            None => false,
+        },
+        None => true,
     }
 }
 
-/// A client locks `r` exclusively and unlocks it, and then shared.
-const USES_R_TWICE: Client = Client {
-    node: 1,
-    ops: &[Locks(b'r'), Unlocks(b'r'), Shares(b'r'), Unlocks(b'r')],
-};
-
-/// Returns whether both grants of a client are kept.
-fn keeps_both<R: Threads + Wait + Abort + Sync>(rt: &R, alloc: Global) -> Option<bool> {
-    let name = r()?;
-    let script = script_of(alloc, 2, &[USES_R_TWICE])?;
-    let cluster = Cluster::new(alloc, 2, 0, OpenGate).ok()?;
+/// Returns whether the grants of a row are kept and the books end as it says.
+fn is_so<R: Threads + Wait + Sync>(rt: &R, alloc: Global, row: &Row) -> Option<bool> {
+    let (name, script) = (r()?, script_of(alloc, 2, &[row.client])?);
+    let cluster = new_cluster(alloc, 2, row.start, OpenGate).ok()?;
+    if !stops(rt, &cluster, row.stopped) {
+        return None;
+    }
     let grants = run_in(rt, alloc, &script, &cluster);
-    Some(are_both(&grants, name))
+    let books = closed(alloc, cluster);
+    Some(are_granted(&grants, name, row.granted) && have_ended(&books, row.ended))
 }
+
+/// Ends the test unless it is so.
+fn assert_row<R: Threads + Wait + Abort + Sync + AllocGlobal>(rt: &R, row: &'static Row) {
+    let is_so = in_a_thread(rt, move || is_so(rt, rt.alloc(), row));
+    assert!(rt; is_so == Some(true), "{}", row.words);
+}
+
+/// A client locks `r` exclusively and unlocks it, and then shared.
+const KEPT: &Row = &Row {
+    words: "both grants are kept",
+    start: 0,
+    stopped: None,
+    client: Client {
+        node: 1,
+        ops: &[Locks(b'r'), Unlocks(b'r'), Shares(b'r'), Unlocks(b'r')],
+    },
+    granted: &[
+        Granted(1, 1, Mode::Exclusive, 1),
+        Granted(1, 1, Mode::Shared, 2),
+    ],
+    // Node 1 asks, gets a REPLY and leaves, twice, and node 2 gets two REQUESTs.
+    ended: &[Ended(None, 6), Ended(None, 2)],
+};
 
 #[test]
 fn each_grant_is_kept(rt: HostRuntime) {
-    assert!(rt; keeps_both(&rt, rt.alloc()) == Some(true));
+    assert_row(&rt, KEPT);
 }
 
-/// Has a client at this node of two use `r` in this cluster. Returns whether no grant is kept and the books end as expected.
-fn ends_so<R: Threads + Wait + Abort + Sync>(
-    rt: &R,
-    alloc: Global,
-    node: u16,
-    cluster: Cluster<OpenGate>,
-    ended: &[Ended],
-) -> Option<bool> {
-    let script = script_of(alloc, 2, &[Client { node, ops: USES_R }])?;
-    let grants = run_in(rt, alloc, &script, &cluster);
-    let books = closed(alloc, cluster);
-    Some(grants.is_empty() && have_ended(&books, ended))
-}
-
-/// Returns whether a client of node 2, which is stopped, stops no other.
-fn stops_no_other<R: Threads + Wait + Abort + Sync>(rt: &R, alloc: Global) -> Option<bool> {
-    let cluster = Cluster::new(alloc, 2, 0, OpenGate).ok()?;
-    cluster.site(NodeId::new(2)?)?.stop(rt, Stop::Clock);
-    let ended = [runs(0), stopped(Stop::Clock, 0)];
-    ends_so(rt, alloc, 2, cluster, &ended)
-}
+const STOPPED_NODE: &Row = &Row {
+    words: "node 2 is stopped, and its client stops no other",
+    start: 0,
+    stopped: Some((2, Stop::Clock)),
+    client: Client {
+        node: 2,
+        ops: USES_R,
+    },
+    granted: &[],
+    ended: &[Ended(None, 0), Ended(Some(Stop::Clock), 0)],
+};
 
 #[test]
 fn a_client_of_a_stopped_node_stops_no_other(rt: HostRuntime) {
-    assert!(rt; stops_no_other(&rt, rt.alloc()) == Some(true));
+    assert_row(&rt, STOPPED_NODE);
 }
 
-/// Returns whether a client of node 1 stops all where no number is left for any name.
-fn stops_all<R: Threads + Wait + Abort + Sync>(rt: &R, alloc: Global) -> Option<bool> {
-    let cluster = Cluster::new(alloc, 2, u64::MAX, OpenGate).ok()?;
-    let ended = stopped(Stop::Exhausted, 0);
-    ends_so(rt, alloc, 1, cluster, &[ended, ended])
-}
+const REFUSED: &Row = &Row {
+    words: "no number is left for any name, and the client of node 1 stops all",
+    start: u64::MAX,
+    stopped: None,
+    client: Client {
+        node: 1,
+        ops: USES_R,
+    },
+    granted: &[],
+    ended: &[
+        Ended(Some(Stop::Exhausted), 0),
+        Ended(Some(Stop::Exhausted), 0),
+    ],
+};
 
 #[test]
 fn a_refusal_of_a_client_stops_all(rt: HostRuntime) {
-    assert!(rt; stops_all(&rt, rt.alloc()) == Some(true));
+    assert_row(&rt, REFUSED);
 }

@@ -1,0 +1,116 @@
+//! Calls of a cluster. Their contracts are long, so tests make them by these functions, which have none.
+use crate::helpers::entry;
+use ra_cluster::{CallError, Cluster, Gate, Grant, Held, NewPostError, Site, Stop};
+use ra_stamp::{Mode, Name, NodeId};
+use std::alloc::Global;
+use std::sync::Wait;
+
+/// Makes a cluster that is not audited.
+///
+/// # Errors
+///
+/// Why there is none.
+pub fn new_cluster<G: Gate + Drop>(
+    alloc: Global,
+    nodes: u16,
+    start: u64,
+    gate: G,
+) -> Result<Cluster<G>, NewPostError> {
+    Cluster::new(alloc, nodes, start, gate)
+}
+
+/// Returns the site of a node.
+pub fn site_of<G: Gate + Drop>(cluster: &Cluster<G>, number: u16) -> Option<&Site> {
+    cluster.site(NodeId::new(number)?)
+}
+
+/// Has a client of a node lock a name.
+///
+/// # Errors
+///
+/// Why it does not, or `NoNode` if there is no such number.
+pub fn lock<R: Wait, G: Gate + Drop>(
+    rt: &R,
+    alloc: Global,
+    cluster: &Cluster<G>,
+    number: u16,
+    client: u32,
+    name: &Name,
+    mode: Mode,
+) -> Result<Grant, CallError> {
+    match NodeId::new(number) {
+        Some(node) => cluster.lock(rt, alloc, node, client, *name, mode),
+        None => Err(CallError::NoNode),
+    }
+}
+
+/// Has a client of a node unlock a name.
+///
+/// # Errors
+///
+/// Why it does not, or `NoNode` if there is no such number.
+pub fn unlock<R: Wait, G: Gate + Drop>(
+    rt: &R,
+    alloc: Global,
+    cluster: &Cluster<G>,
+    number: u16,
+    client: u32,
+    name: &Name,
+) -> Result<(), CallError> {
+    match NodeId::new(number) {
+        Some(node) => cluster.unlock(rt, alloc, node, client, *name),
+        None => Err(CallError::NoNode),
+    }
+}
+
+/// Looks whether the node has this grant, and then stops the cluster if there is a cause. Returns whether the node had it.
+fn work<R: Wait, G: Gate + Drop>(
+    rt: &R,
+    cluster: &Cluster<G>,
+    node: NodeId,
+    grant: Grant,
+    cause: Option<Stop>,
+) -> bool {
+    let holder = match cluster.site(node) {
+        Some(site) => site.holder(rt, &grant.entry.name),
+        None => None,
+    };
+    if let Some(stop) = cause {
+        cluster.stop(rt, stop);
+    }
+    holder == Some(grant.entry)
+}
+
+/// Has a client of a node lock a name exclusively, look whether it holds it, stop the cluster if there is a cause, and unlock the name.
+///
+/// # Errors
+///
+/// Why it does not lock the name, or `NoNode` if there is no such number.
+pub fn use_name<R: Wait, G: Gate + Drop>(
+    rt: &R,
+    alloc: Global,
+    cluster: &Cluster<G>,
+    number: u16,
+    client: u32,
+    name: &Name,
+    cause: Option<Stop>,
+) -> Result<Held<bool>, CallError> {
+    let Some(node) = NodeId::new(number) else {
+        return Err(CallError::NoNode);
+    };
+    let mode = Mode::Exclusive;
+    cluster.with_lock(
+        rt,
+        alloc,
+        node,
+        client,
+        *name,
+        mode,
+        |grant: Grant| work(rt, cluster, node, grant, cause),
+    )
+}
+
+/// Returns whether this is the exclusive grant of a name to a client of a node, with this number.
+pub fn is_grant(grant: Grant, name: &Name, number: u16, client: u32, seq: u64) -> bool {
+    entry(*name, number, client, Mode::Exclusive, seq) == Some(grant.entry)
+}
