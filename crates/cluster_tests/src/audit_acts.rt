@@ -7,10 +7,8 @@ use crate::site_cluster;
 use crate::site_cluster::{make_cluster, send};
 use Act::{Asks, Audits, AuditsAnew, Comes, Ends, Enters, HasAt, Leaves, Shows, Stops, Waits};
 use Answer::{Finds, Fine, NeverSent, NotAudited, OtherCluster, OutOfTurn};
-use ra_cluster::{
-    Auditor, CallError, Cluster, FinishError, NewPostError, OpenGate, RoundError, Site, SiteError,
-    Stop, TakeError, Told,
-};
+use ra_audit::{Auditor, FinishError, RoundError, TakeError, Told};
+use ra_cluster::{CallError, Cluster, NewPostError, OpenGate, Site, SiteError, Stop};
 use ra_stamp::{Message, Mode, Name, NodeId};
 use std::alloc::Global;
 use std::process::Abort;
@@ -94,7 +92,7 @@ pub fn round<R: Wait>(
     cluster: &Cluster<OpenGate>,
     auditor: &mut Auditor,
 ) -> Result<(), RoundError> {
-    cluster.audit(rt, alloc, auditor, &mut Told::new())
+    auditor.audit(rt, alloc, cluster, &mut Told::new())
 }
 
 /// Ends an audit, of which callers know the answer alone.
@@ -104,7 +102,7 @@ pub fn last_round<R: Wait>(
     cluster: &mut Cluster<OpenGate>,
     auditor: &mut Auditor,
 ) -> Result<(), FinishError> {
-    cluster.finish(rt, alloc, auditor, &mut Told::new())
+    auditor.finish(rt, alloc, cluster, &mut Told::new())
 }
 
 /// Makes a cluster of this many nodes that is audited.

@@ -7,9 +7,8 @@ use crate::helpers::{entry, r};
 use crate::histories::Done::At;
 use crate::histories::{Done, ONE, TWO, books_after};
 use Act::{Advances, AdvancesInParts, Finds, Gets, Has, Leaves};
-use ra_cluster::{
-    AuditError, AuditFault, Auditor, Book, BookEvent, BookKind, MarkObserver, TakeError, Told,
-};
+use ra_audit::{AuditError, AuditFault, Auditor, MarkObserver, TakeError, Told};
+use ra_cluster::{Book, BookEvent, BookKind};
 use ra_frame::Frame;
 use ra_stamp::{Entry, Mark, Mode, Name, NodeId};
 use std::alloc::Global;

@@ -5,9 +5,8 @@ use crate::cluster_calls::{lock, unlock};
 use crate::growth::end;
 use crate::growth_of_sites::WANTING;
 use crate::helpers::r;
-use ra_cluster::{
-    Auditor, CallError, Cluster, FinishError, NewPostError, OpenGate, RoundError, TakeError,
-};
+use ra_audit::{Auditor, FinishError, RoundError, TakeError};
+use ra_cluster::{CallError, Cluster, NewPostError, OpenGate};
 use ra_stamp::{Mode, Name};
 use ra_world::NewError;
 use std::alloc::Global;
