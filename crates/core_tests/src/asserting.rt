@@ -17,6 +17,13 @@ pub fn assert_same<T: Debug + PartialEq>(rt: &impl Abort, at: At<'_>, came: &T, 
     }
 }
 
+/// Asserts that what came of the row with this number, from 0 up, is what was expected.
+pub fn assert_row<T: Debug + PartialEq>(rt: &impl Abort, row: usize, came: &T, expected: &T) {
+    if came != expected {
+        panic!(rt; "row {row}, counted from 0: expected {expected:?}, and {came:?} came");
+    }
+}
+
 /// Asserts that what is expected is so.
 pub fn assert_so(rt: &impl Abort, expected: &str, so: bool) {
     assert!(rt; so, "expected that {expected}, which is not so");

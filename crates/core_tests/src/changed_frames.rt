@@ -1,8 +1,10 @@
 //! Frames of which one byte is another: each of the 256, at each place, in both versions.
-use crate::frames::{ASKS_1, ASKS_2, is_read, is_refused, with};
-use crate::helpers::{assert_rows, r};
+use crate::asserting::assert_row;
+use crate::frames::{ASKS_1, ASKS_2, read, with};
+use crate::helpers::r;
 use ra_frame::{Frame, FrameError};
 use ra_stamp::{Message, Mode, Name, NodeId};
+use std::process::Abort;
 
 /// A place in the REQUEST, the first and the last of some bytes, and why it is refused with one of them at the place.
 struct WrongBytes(usize, u8, u8, FrameError);
@@ -166,40 +168,28 @@ fn frame_of(version: &Version, name: Name, place: usize, byte: u8) -> Option<Fra
     }
 }
 
-/// Returns whether these bytes, the REQUEST with this byte at the place, are read or refused as they are to be.
-fn is_judged(version: &Version, bytes: &[u8], name: Name, place: usize, byte: u8) -> bool {
-    if let Some(fault) = fault_of(version, place, byte) {
-        return is_refused(bytes, fault);
-    }
-    match frame_of(version, name, place, byte) {
-        Some(frame) => is_read(bytes, &frame),
-        None => false,
-    }
-}
-
-/// Returns whether it is so with each byte at the place.
-fn all_are_judged<const N: usize>(version: &Version, text: &[u8; N], place: usize) -> bool {
+/// Asserts that the REQUEST with each byte at the place is read or refused as it is to be.
+fn assert_judged<const N: usize>(rt: &impl Abort, version: &Version, text: &[u8; N], place: usize) {
     for byte in 0..=u8::MAX {
-        let changed = with(text, &[(place, byte)]);
-        if !is_judged(version, &changed, r(), place, byte) {
-            return false;
+        let came = read(&with(text, &[(place, byte)]));
+        match (
+            fault_of(version, place, byte),
+            frame_of(version, r(), place, byte),
+        ) {
+            (Some(fault), _) => assert_row(rt, place, &came, &Err(fault)),
+            (None, Some(frame)) => assert_row(rt, place, &came, &Ok(frame)),
+            (None, None) => panic!(rt; "place {place}, byte {byte}: there is no such frame"),
         }
     }
-    true
 }
 
-/// Returns at how many places it is so, up to the first at which it is not.
-fn places_judged<const N: usize>(version: &Version, text: &[u8; N]) -> usize {
-    for place in 0..N {
-        if !all_are_judged(version, text, place) {
-            return place;
-        }
-    }
-    N
-}
-
+/// A row is here a place in the frame.
 #[test]
 fn each_byte_at_each_place_is_read_by_the_format(rt: HostRuntime) {
-    assert_rows(&rt, places_judged(&VERSION_1, &ASKS_1), 23);
-    assert_rows(&rt, places_judged(&VERSION_2, &ASKS_2), 25);
+    for place in 0..ASKS_1.len() {
+        assert_judged(&rt, &VERSION_1, &ASKS_1, place);
+    }
+    for place in 0..ASKS_2.len() {
+        assert_judged(&rt, &VERSION_2, &ASKS_2, place);
+    }
 }

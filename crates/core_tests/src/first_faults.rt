@@ -1,7 +1,8 @@
 //! Why bytes are not a frame: the first wrong field is named, as soon as all of its bytes are there.
-use crate::frames::{ASKS_1, ASKS_2, Change, is_refused, with};
-use crate::helpers::assert_rows;
+use crate::asserting::assert_row;
+use crate::frames::{ASKS_1, ASKS_2, Change, read, with};
 use ra_frame::FrameError;
+use std::process::Abort;
 
 /// How many bytes of a REQUEST there are, the changes in them, and why they are then refused.
 struct Case(usize, &'static [Change], FrameError);
@@ -53,45 +54,35 @@ const CASES_2: &[Case] = &[
     Case(24, &[(3, 40), (6, 3)], FrameError::Short),
 ];
 
-/// Returns whether the first so many bytes are refused for this reason.
-fn is_refused_of(bytes: &[u8], count: usize, fault: FrameError) -> bool {
+/// Asserts that the first so many bytes are refused for this reason, in the row with this number.
+fn assert_refused(rt: &impl Abort, row: usize, bytes: &[u8], count: usize, fault: FrameError) {
     match bytes.get(..count) {
-        Some(bytes) => is_refused(bytes, fault),
-        None => false,
+        Some(bytes) => assert_row(rt, row, &read(bytes).err(), &Some(fault)),
+        None => panic!(rt; "there are not so many bytes"),
     }
-}
-
-/// Returns how many cases are refused as they say, up to the first that is not.
-fn refused<const N: usize>(text: &[u8; N], cases: &[Case]) -> usize {
-    for place in 0..cases.len() {
-        let case = &cases[place];
-        if !is_refused_of(&with(text, case.1), case.0, case.2) {
-            return place;
-        }
-    }
-    cases.len()
 }
 
 #[test]
 fn the_first_wrong_field_is_named(rt: HostRuntime) {
-    assert_rows(&rt, refused(&ASKS_1, CASES_1), CASES_1.len());
-    assert_rows(&rt, refused(&ASKS_2, CASES_2), CASES_2.len());
-}
-
-/// Returns how many prefixes of a frame are too short, up to the first that is not.
-fn short(text: &[u8]) -> usize {
-    for count in 0..text.len() {
-        if !is_refused_of(text, count, FrameError::Short) {
-            return count;
-        }
+    for row in 0..CASES_1.len() {
+        let Case(count, changes, fault) = &CASES_1[row];
+        assert_refused(&rt, row, &with(&ASKS_1, changes), *count, *fault);
     }
-    text.len()
+    for row in 0..CASES_2.len() {
+        let Case(count, changes, fault) = &CASES_2[row];
+        assert_refused(&rt, row, &with(&ASKS_2, changes), *count, *fault);
+    }
 }
 
+/// A row is here the number of bytes.
 #[test]
 fn each_part_of_a_frame_is_short(rt: HostRuntime) {
-    assert_rows(&rt, short(&ASKS_1), 23);
-    assert_rows(&rt, short(&ASKS_2), 25);
+    for count in 0..ASKS_1.len() {
+        assert_refused(&rt, count, &ASKS_1, count, FrameError::Short);
+    }
+    for count in 0..ASKS_2.len() {
+        assert_refused(&rt, count, &ASKS_2, count, FrameError::Short);
+    }
 }
 
 /// The REQUESTs with one more byte.
@@ -102,17 +93,10 @@ const TRAILING: &[&[u8]] = &[
     b"\x02\x01\0\x01\0\x02\x01\0\0\0\0\0\0\0\x01\0\0\0\0\0\0\0\x01\x01rr",
 ];
 
-/// Returns how many frames have a byte too many, up to the first that has not.
-fn trailing(frames: &[&[u8]]) -> usize {
-    for place in 0..frames.len() {
-        if !is_refused(frames[place], FrameError::Trailing) {
-            return place;
-        }
-    }
-    frames.len()
-}
-
 #[test]
 fn nothing_follows_the_name(rt: HostRuntime) {
-    assert_rows(&rt, trailing(TRAILING), TRAILING.len());
+    for row in 0..TRAILING.len() {
+        let bytes = TRAILING[row];
+        assert_refused(&rt, row, bytes, bytes.len(), FrameError::Trailing);
+    }
 }

@@ -1,10 +1,11 @@
 //! Frames as they are read and written: both versions are read, and version 2 is written.
+use crate::asserting::assert_row;
 use crate::helpers::{assert_rows, r};
 use Kind::{Asks, Replies};
 use Mode::{Exclusive, IntentExclusive, IntentShared, Shared, SharedIntentExclusive};
 use ra_frame::{Frame, FrameError, decode, encode};
 use ra_stamp::{Message, Mode, Name, NodeId};
-use std::alloc::Global;
+use std::process::Abort;
 use test_support::printed;
 
 /// A REQUEST with number 1 from node 1 to node 2 for `r`, exclusively, at clock 1, in version 1.
@@ -69,14 +70,14 @@ fn message(kind: Kind, from: NodeId, to: NodeId, name: Name, seq: u64) -> Messag
     }
 }
 
-/// Returns the frame for the name, or `None` where a number is that of no node.
-fn frame(parts: &Parts, name: Name) -> Option<Frame> {
+/// Returns the frame for the name.
+fn frame(rt: &impl Abort, parts: &Parts, name: Name) -> Frame {
     match (NodeId::new(parts.1), NodeId::new(parts.2)) {
-        (Some(from), Some(to)) => Some(Frame {
+        (Some(from), Some(to)) => Frame {
             clock: parts.4,
             message: message(parts.0, from, to, name, parts.3),
-        }),
-        _ => None,
+        },
+        _ => panic!(rt; "there is no such node"),
     }
 }
 
@@ -91,46 +92,32 @@ pub fn with<const N: usize>(bytes: &[u8; N], changes: &[Change]) -> [u8; N] {
     changed
 }
 
-/// Returns whether the bytes are read as the frame.
-pub fn is_read(bytes: &[u8], frame: &Frame) -> bool {
-    match decode(bytes) {
-        Ok(read) => read == *frame,
-        Err(_) => false,
-    }
+/// Returns the frame that the bytes are, or why they are none.
+pub fn read(bytes: &[u8]) -> Result<Frame, FrameError> {
+    decode(bytes)
 }
 
-/// Returns whether the bytes are refused for this reason.
-pub fn is_refused(bytes: &[u8], fault: FrameError) -> bool {
-    match decode(bytes) {
-        Ok(_) => false,
-        Err(found) => found == fault,
-    }
+/// Asserts that the bytes of version 1 are read as the frame of a row for the name.
+fn assert_old(rt: &impl Abort, row: usize, bytes: &[u8], parts: &Parts, name: Name) {
+    assert_row(rt, row, &read(bytes), &Ok(frame(rt, parts, name)));
 }
 
-/// Returns whether the frame fits and is written as the bytes.
-fn is_written(alloc: Global, frame: &Frame, bytes: &[u8]) -> bool {
+/// Asserts that the bytes of version 2 are read as the frame of a row for the name, which fits and is written as these bytes.
+fn assert_new(
+    rt: &(impl Abort + AllocGlobal),
+    row: usize,
+    bytes: &[u8],
+    parts: &Parts,
+    name: Name,
+) {
+    let frame = frame(rt, parts, name);
+    assert_row(rt, row, &read(bytes), &Ok(frame));
     if !frame.fits() {
-        return false;
+        panic!(rt; "row {row}, counted from 0: the frame does not fit");
     }
-    match encode(alloc, frame) {
-        Ok(written) => written.as_slice() == bytes,
-        Err(_) => false,
-    }
-}
-
-/// Returns whether the bytes of version 2 are read as a frame for the name, and the frame is written as these bytes.
-fn comes_back(alloc: Global, bytes: &[u8], parts: &Parts, name: Name) -> bool {
-    match frame(parts, name) {
-        Some(frame) => is_read(bytes, &frame) && is_written(alloc, &frame, bytes),
-        None => false,
-    }
-}
-
-/// Returns whether the bytes of version 1 are read as a frame for the name.
-fn is_old(bytes: &[u8], parts: &Parts, name: Name) -> bool {
-    match frame(parts, name) {
-        Some(frame) => is_read(bytes, &frame),
-        None => false,
+    match encode(rt.alloc(), &frame) {
+        Ok(written) => assert_row(rt, row, &written.as_slice(), &bytes),
+        Err(_) => panic!(rt; "there is no memory for the bytes"),
     }
 }
 
@@ -193,25 +180,13 @@ const ROWS: &[Row] = &[
     ),
 ];
 
-/// Returns whether a row's bytes of both versions are read as its frame, and the frame is written as those of version 2.
-fn is_so(alloc: Global, row: &Row) -> bool {
-    is_old(&with(&ASKS_1, row.0), &row.2, r())
-        && comes_back(alloc, &with(&ASKS_2, row.1), &row.2, r())
-}
-
-/// Returns how many rows are so, up to the first that is not.
-fn are_so(alloc: Global, rows: &[Row]) -> usize {
-    for place in 0..rows.len() {
-        if !is_so(alloc, &rows[place]) {
-            return place;
-        }
-    }
-    rows.len()
-}
-
 #[test]
 fn frames_are_read_in_both_versions_and_written_in_the_second(rt: HostRuntime) {
-    assert_rows(&rt, are_so(rt.alloc(), ROWS), ROWS.len());
+    for row in 0..ROWS.len() {
+        let Row(old, new, parts) = &ROWS[row];
+        assert_old(&rt, row, &with(&ASKS_1, old), parts, r());
+        assert_new(&rt, row, &with(&ASKS_2, new), parts, r());
+    }
 }
 
 /// Changes of the REQUEST in version 2, and the frame that it is then, which version 1 does not have.
@@ -231,19 +206,11 @@ const NEWER: &[Newer] = &[
     Newer(&[(3, 63), (5, 64)], Parts(Asks(Exclusive), 63, 64, 1, 1)),
 ];
 
-/// Returns how many rows are read and written so, up to the first that is not.
-fn newer_so(alloc: Global, rows: &[Newer]) -> usize {
-    for place in 0..rows.len() {
-        if !comes_back(alloc, &with(&ASKS_2, rows[place].0), &rows[place].1, r()) {
-            return place;
-        }
-    }
-    rows.len()
-}
-
 #[test]
 fn version_2_has_five_modes_and_64_nodes(rt: HostRuntime) {
-    assert_rows(&rt, newer_so(rt.alloc(), NEWER), NEWER.len());
+    for row in 0..NEWER.len() {
+        assert_new(&rt, row, &with(&ASKS_2, NEWER[row].0), &NEWER[row].1, r());
+    }
 }
 
 /// The longest REQUEST and the longest REPLY.
@@ -266,68 +233,39 @@ const LONGEST: &[Row] = &[
     ),
 ];
 
-/// Returns how many of the longest frames are read and written so, up to the first that is not.
-fn longest_so(alloc: Global, rows: &[Row], name: Name) -> usize {
-    for place in 0..rows.len() {
-        let row = &rows[place];
-        if !is_old(&with(&LONGEST_1, row.0), &row.2, name)
-            || !comes_back(alloc, &with(&LONGEST_2, row.1), &row.2, name)
-        {
-            return place;
-        }
+/// Asserts that the longest frames, which have this name, are read and written so.
+fn assert_longest(rt: &(impl Abort + AllocGlobal), name: Name) {
+    for row in 0..LONGEST.len() {
+        let Row(old, new, parts) = &LONGEST[row];
+        assert_old(rt, row, &with(&LONGEST_1, old), parts, name);
+        assert_new(rt, row, &with(&LONGEST_2, new), parts, name);
     }
-    rows.len()
 }
 
 #[test]
 fn the_longest_frames_are_read_in_both_versions_and_written_in_the_second(rt: HostRuntime) {
-    let so = match Name::new(b"AZaz09_-.bcdefghijklmnopqrstuvwx") {
-        Ok(name) => longest_so(rt.alloc(), LONGEST, name),
-        Err(_) => 0,
-    };
-    assert_rows(&rt, so, LONGEST.len());
-}
-
-/// Returns whether a REPLY from a node to node 2 fits, with this clock and number.
-fn fits(from: u16, clock: u64, seq: u64) -> bool {
-    match (NodeId::new(from), NodeId::new(2)) {
-        (Some(from), Some(to)) => {
-            let message = Message::Reply {
-                from,
-                to,
-                name: r(),
-                seq,
-            };
-            Frame { clock, message }.fits()
-        }
-        _ => false,
+    match Name::new(b"AZaz09_-.bcdefghijklmnopqrstuvwx") {
+        Ok(name) => assert_longest(&rt, name),
+        Err(fault) => assert_row(&rt, 0, &Some(fault), &None),
     }
 }
 
-/// The node from which a frame is, its clock and its number, and whether it fits.
-const FITTING: &[(u16, u64, u64, bool)] = &[
-    (1, 1, 1, true),
-    (1, LAST, u64::MAX, true),
-    (1, 0, 1, false),
-    (1, LAST + 1, 1, false),
-    (1, 1, 0, false),
-    (2, 1, 1, false),
+/// A frame of a REPLY for `r`, and whether it fits.
+const FITTING: &[(Parts, bool)] = &[
+    (Parts(Replies, 1, 2, 1, 1), true),
+    (Parts(Replies, 1, 2, u64::MAX, LAST), true),
+    (Parts(Replies, 1, 2, 1, 0), false),
+    (Parts(Replies, 1, 2, 1, LAST + 1), false),
+    (Parts(Replies, 1, 2, 0, 1), false),
+    (Parts(Replies, 2, 2, 1, 1), false),
 ];
-
-/// Returns how many of these fit or do not, as is said beside them, up to the first that does otherwise.
-fn fitting(rows: &[(u16, u64, u64, bool)]) -> usize {
-    for place in 0..rows.len() {
-        let (from, clock, seq, so) = rows[place];
-        if fits(from, clock, seq) != so {
-            return place;
-        }
-    }
-    rows.len()
-}
 
 #[test]
 fn a_frame_fits_by_its_ranges(rt: HostRuntime) {
-    assert_rows(&rt, fitting(FITTING), FITTING.len());
+    for row in 0..FITTING.len() {
+        let fits = frame(&rt, &FITTING[row].0, r()).fits();
+        assert_row(&rt, row, &fits, &FITTING[row].1);
+    }
 }
 
 const FAULTS: &[(FrameError, &str)] = &[

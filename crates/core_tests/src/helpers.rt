@@ -4,7 +4,6 @@ ghost use Rattle.ra_stamp.specs.NodeId.{IsNodeNumber};
 use Mode::{Exclusive, IntentExclusive, IntentShared, Shared, SharedIntentExclusive};
 use ra_stamp::{Entry, Message, Mode, Name, NodeId, Stamp};
 use std::process::Abort;
-use test_support::Tried;
 
 /// Returns the node with this number.
 pub fn id(number: u16) -> NodeId
@@ -73,11 +72,6 @@ pub fn writer(node: u16, client: u32, seq: u64) -> Entry
 /// Asserts that each of so many rows is so, where so many are so up to the first that is not.
 pub fn assert_rows(rt: &impl Abort, so: usize, rows: usize) {
     assert!(rt; so == rows, "row {so}, counted from 0");
-}
-
-/// Asserts that each of so many steps is so, where so many are so up to the first that is not. The label says what they show.
-pub fn assert_done(rt: &impl Abort, label: &str, done: usize, steps: usize) {
-    assert!(rt; done == steps, "{label}: step {done}, counted from 0");
 }
 
 /// Two modes: their label, the one that is there, the one that is wanted, and whether both can be held at once.

@@ -1,86 +1,100 @@
 //! As many nodes as there may be: a client hands a name over to the next, and each automaton meets all others.
 ghost use Rattle.std.specs.Prelude.{◌≤◌};
 
-use crate::asserting::{At, assert_same, assert_so};
+use crate::asserting::{At, assert_same};
 use crate::helpers::{id, r, reply, request, writer};
-use crate::node_steps::takes_ask;
+use crate::node_steps::{fault_of_ask, leave as leave_node, receive as take};
 use crate::steps::{Wire, assert_taken, leave, made, message, receive, request as ask};
 use Wire::{Replies, Requests};
 use ra_automaton::{Automaton, Reaction};
 use ra_node::{Node, Outcome};
-use ra_stamp::{Mark, Mode, NodeId};
-use std::alloc::Global;
+use ra_stamp::{Mark, Message, Mode, NodeId};
 use std::process::Abort;
 
-/// Returns whether a node lets nobody enter until each of the other 63 has sent its REPLY.
-fn takes_replies(alloc: Global, node: &mut Node) -> bool {
-    for place in 0..63 {
-        match node.receive(alloc, &reply(place + 2, 1, 1)) {
-            Ok(outcome) if outcome.marks.len() == u64::from(place == 62) => {}
-            _ => return false,
-        }
+/// Asserts that a node takes a message, and sends and marks so many.
+fn assert_taken_by(
+    rt: &(impl Abort + AllocGlobal),
+    at: At<'_>,
+    node: &mut Node,
+    message: &Message,
+    counts: (u64, u64),
+) {
+    match take(rt.alloc(), node, message) {
+        Ok(outcome) => assert_same(rt, at, &(outcome.sends.len(), outcome.marks.len()), &counts),
+        Err(fault) => assert_same(rt, at, &Some(fault), &None),
     }
-    true
 }
 
-/// Returns whether a node sends nothing at a REQUEST of each of the other 63.
-fn defers_others(alloc: Global, node: &mut Node) -> bool {
-    for place in 0..63 {
-        match node.receive(alloc, &request(place + 2, 1, 2)) {
-            Ok(outcome) if outcome.sends.len() == 0 => {}
-            _ => return false,
-        }
-    }
-    true
+/// A client asks, and a node takes it.
+fn asks(rt: &(impl Abort + AllocGlobal), node: &mut Node, client: u32) {
+    let fault = fault_of_ask(rt.alloc(), node, client, r(), Mode::Exclusive);
+    assert_same(rt, At("asks", "client", client as usize), &fault, &None);
 }
 
-/// Returns whether a REPLY went out to each of the other 63 nodes, and then a REQUEST with the next number, in ascending order.
-fn lets_go_and_asks(outcome: &Outcome) -> bool {
+/// A node lets nobody enter until each of the other 63 has sent its REPLY, and sends nothing at a REQUEST of each of them.
+fn meets_others(rt: &(impl Abort + AllocGlobal), node: &mut Node) {
+    for place in 0..63 {
+        let marks = u64::from(place == 62);
+        let at = about("takes the reply of each", place + 2);
+        assert_taken_by(rt, at, node, &reply(place + 2, 1, 1), (0, marks));
+    }
+    for place in 0..63 {
+        let at = about("defers each", place + 2);
+        assert_taken_by(rt, at, node, &request(place + 2, 1, 2), (0, 0));
+    }
+}
+
+/// Asserts that a REPLY went out to each of the other 63 nodes, and then a REQUEST with the next number, in ascending order; and
+/// that one client left with number 1, and the next one asked with number 3.
+fn assert_handed_over(rt: &impl Abort, outcome: &Outcome) {
     for place in 0..63 {
         let (other, behind) = (u64::from(place), u64::from(place) + 63);
-        if outcome.sends.at(other) != Some(reply(1, place + 2, 2))
-            || outcome.sends.at(behind) != Some(request(1, place + 2, 3))
-        {
-            return false;
-        }
+        let at = about("hands over", place + 2);
+        assert_same(
+            rt,
+            at,
+            &outcome.sends.at(other),
+            &Some(reply(1, place + 2, 2)),
+        );
+        assert_same(
+            rt,
+            at,
+            &outcome.sends.at(behind),
+            &Some(request(1, place + 2, 3)),
+        );
     }
-    outcome.sends.len() == 126
+    let at = about("hands over", 1);
+    assert_same(rt, at, &outcome.sends.len(), &126);
+    assert_same(
+        rt,
+        at,
+        &outcome.marks.at(0),
+        &Some(Mark::Left(writer(1, 1, 1))),
+    );
+    assert_same(
+        rt,
+        at,
+        &outcome.marks.at(1),
+        &Some(Mark::Requested(writer(1, 2, 3))),
+    );
+    assert_same(rt, at, &outcome.marks.len(), &2);
 }
 
-/// Returns whether one client left with number 1, and the next one asked with number 3.
-fn hands_over(outcome: &Outcome) -> bool {
-    outcome.marks.at(0) == Some(Mark::Left(writer(1, 1, 1)))
-        && outcome.marks.at(1) == Some(Mark::Requested(writer(1, 2, 3)))
-        && outcome.marks.len() == 2
-}
-
-/// Returns whether two clients of node 1 of 64 ask, and the first enters, leaves and hands over.
-fn goes_through(alloc: Global, node: &mut Node) -> bool {
-    let taken = takes_ask(alloc, node, 1, r(), Mode::Exclusive)
-        && takes_ask(alloc, node, 2, r(), Mode::Exclusive)
-        && takes_replies(alloc, node)
-        && defers_others(alloc, node);
-    match node.leave(alloc, 1, r()) {
-        Ok(outcome) => taken && lets_go_and_asks(&outcome) && hands_over(&outcome),
-        Err(_) => false,
-    }
-}
-
-/// Returns whether node 1 of 64 does so.
-fn is_handed_over(alloc: Global) -> bool {
-    match Node::new(alloc, id(1), 64, 0) {
-        Ok(mut node) => goes_through(alloc, &mut node),
-        Err(_) => false,
-    }
-}
-
+/// Two clients of node 1 of 64 ask, and the first enters, leaves and hands over.
 #[test]
 fn a_name_is_handed_over_among_sixty_four_nodes(rt: HostRuntime) {
-    assert_so(
-        &rt,
-        "node 1 of 64 hands the name over as its steps say",
-        is_handed_over(rt.alloc()),
-    );
+    match Node::new(rt.alloc(), id(1), 64, 0) {
+        Ok(mut node) => {
+            asks(&rt, &mut node, 1);
+            asks(&rt, &mut node, 2);
+            meets_others(&rt, &mut node);
+            match leave_node(rt.alloc(), &mut node, 1, r()) {
+                Ok(outcome) => assert_handed_over(&rt, &outcome),
+                Err(fault) => assert_same(&rt, about("leaves", 1), &Some(fault), &None),
+            }
+        }
+        Err(fault) => assert_same(&rt, about("is made", 1), &Some(fault), &None),
+    }
 }
 
 /// An automaton and how many nodes there are.

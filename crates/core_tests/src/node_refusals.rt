@@ -1,11 +1,12 @@
 //! What is refused: nodes that cannot be, and messages for others or from strangers; and how faults are printed.
+use crate::asserting::assert_row;
 use crate::helpers::assert_rows;
 use crate::node_steps::{Scene, Step, Wire, follow};
 use Step::{HasHighest, RefusesMessage};
 use Wire::Requests;
 use ra_node::{AskError, LeaveError, NewError, Node, ReceiveError};
 use ra_stamp::NodeId;
-use std::alloc::Global;
+use std::process::Abort;
 use test_support::printed;
 
 /// The number of a node, a number of nodes, and why there is no such node.
@@ -17,27 +18,20 @@ const MADE: &[Made] = &[
     Made(4, 3, NewError::BadNode),
 ];
 
-/// Returns whether there is no such node, for its reason.
-fn is_none(alloc: Global, row: &Made) -> bool {
-    match NodeId::new(row.0) {
-        Some(me) => Node::new(alloc, me, row.1, 0).err() == Some(row.2),
-        None => false,
+/// Asserts that there is no node for each row, for its reason.
+fn assert_none(rt: &(impl Abort + AllocGlobal), rows: &[Made]) {
+    for row in 0..rows.len() {
+        let fault = match NodeId::new(rows[row].0) {
+            Some(me) => Node::new(rt.alloc(), me, rows[row].1, 0).err(),
+            None => panic!(rt; "there is no such node"),
+        };
+        assert_row(rt, row, &fault, &Some(rows[row].2));
     }
-}
-
-/// Returns how many rows are no nodes, up to the first that is one.
-fn none(alloc: Global, rows: &[Made]) -> usize {
-    for place in 0..rows.len() {
-        if !is_none(alloc, &rows[place]) {
-            return place;
-        }
-    }
-    rows.len()
 }
 
 #[test]
 fn bad_counts_and_nodes_make_no_node(rt: HostRuntime) {
-    assert_rows(&rt, none(rt.alloc(), MADE), MADE.len());
+    assert_none(&rt, MADE);
 }
 
 const SCENES: &[Scene] = &[Scene(

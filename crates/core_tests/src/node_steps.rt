@@ -1,5 +1,6 @@
 //! What the tests of nodes share: what a node does or shows, one step after the other.
-use crate::helpers::{assert_done, q, r};
+use crate::asserting::{At, assert_same};
+use crate::helpers::{q, r};
 use Mode::Exclusive;
 use Step::{
     Asks, HasCounts, HasHighest, HasHighestOfOther, IsFree, IsHeld, Leaves, MayAsk, MayAskForOther,
@@ -11,6 +12,7 @@ use Wire::{Replies, Requests};
 use ra_node::{AskError, LeaveError, Node, Outcome, ReceiveError};
 use ra_stamp::{Entry, Mark, Message, Mode, Name, NodeId, Stamp};
 use std::alloc::Global;
+use std::fmt::Debug;
 use std::process::Abort;
 
 /// A REQUEST of a writer or a REPLY on `r`: its sender, its receiver and its number.
@@ -28,8 +30,7 @@ pub enum Turn {
     Left(u16, u32, u64),
 }
 
-/// What a node does or shows. What is asked for or left is `r`, where nothing else is said.
-#[derive(Clone, Copy)]
+/// What a node does or shows. What is asked for or left is `r`, if nothing else is said.
 pub enum Step {
     /// A writer asks, and just these messages and marks come of it.
     Asks(u32, &'static [Wire], &'static [Turn]),
@@ -95,110 +96,95 @@ fn between(wire: Wire, from: NodeId, to: NodeId) -> Message {
     }
 }
 
-/// Returns the numbers of the sender and the receiver.
-fn ends_of(wire: Wire) -> [u16; 2] {
-    match wire {
-        Requests(from, to, _) | Replies(from, to, _) => [from, to],
+/// Returns the node with this number.
+fn node(rt: &impl Abort, number: u16) -> NodeId {
+    match NodeId::new(number) {
+        Some(node) => node,
+        None => panic!(rt; "there is no such node"),
     }
 }
 
-/// Returns the message, or `None` where a number is that of no node.
-pub fn message(wire: Wire) -> Option<Message> {
-    let [from, to] = ends_of(wire);
-    match (NodeId::new(from), NodeId::new(to)) {
-        (Some(from), Some(to)) => Some(between(wire, from, to)),
-        _ => None,
+/// Returns the message.
+fn message(rt: &impl Abort, wire: Wire) -> Message {
+    let (Requests(from, to, _) | Replies(from, to, _)) = wire;
+    between(wire, node(rt, from), node(rt, to))
+}
+
+/// Returns the request on `r`.
+fn entry(rt: &impl Abort, number: u16, client: u32, mode: Mode, seq: u64) -> Entry {
+    let node = node(rt, number);
+    Entry {
+        name: r(),
+        stamp: Stamp { seq, node },
+        client,
+        mode,
     }
 }
 
-/// Returns the request on `r`, or `None` where there is no such node.
-fn entry(node: u16, client: u32, mode: Mode, seq: u64) -> Option<Entry> {
-    match NodeId::new(node) {
-        Some(node) => Some(Entry {
-            name: r(),
-            stamp: Stamp { seq, node },
-            client,
-            mode,
-        }),
-        None => None,
+/// Returns the mark.
+fn mark(rt: &impl Abort, turn: Turn) -> Mark {
+    match turn {
+        Requested(node, client, seq) => Mark::Requested(entry(rt, node, client, Exclusive, seq)),
+        Entered(node, client, seq) => Mark::Entered(entry(rt, node, client, Exclusive, seq)),
+        Left(node, client, seq) => Mark::Left(entry(rt, node, client, Exclusive, seq)),
     }
 }
 
-/// Returns the mark, or `None` where there is no such node.
-fn mark(turn: Turn) -> Option<Mark> {
-    let (Requested(node, client, seq) | Entered(node, client, seq) | Left(node, client, seq)) =
-        turn;
-    match (entry(node, client, Exclusive, seq), turn) {
-        (Some(entry), Requested(_, _, _)) => Some(Mark::Requested(entry)),
-        (Some(entry), Entered(_, _, _)) => Some(Mark::Entered(entry)),
-        (Some(entry), Left(_, _, _)) => Some(Mark::Left(entry)),
-        (None, _) => None,
+/// Asserts that just these messages and marks came of an event, in this order.
+fn assert_outcome(rt: &impl Abort, at: At<'_>, outcome: &Outcome, wires: &[Wire], turns: &[Turn]) {
+    for place in 0..wires.len() {
+        let expected = Some(message(rt, wires[place]));
+        assert_same(rt, at, &outcome.sends.at(place as u64), &expected);
+    }
+    assert_same(rt, at, &outcome.sends.len(), &(wires.len() as u64));
+    for place in 0..turns.len() {
+        let expected = Some(mark(rt, turns[place]));
+        assert_same(rt, at, &outcome.marks.at(place as u64), &expected);
+    }
+    assert_same(rt, at, &outcome.marks.len(), &(turns.len() as u64));
+}
+
+/// Asserts that a call was taken, and that just these messages and marks came of it.
+fn assert_taken<E: Debug + PartialEq + Copy>(
+    rt: &impl Abort,
+    at: At<'_>,
+    came: Result<Outcome, E>,
+    wires: &[Wire],
+    turns: &[Turn],
+) {
+    match came {
+        Ok(outcome) => assert_outcome(rt, at, &outcome, wires, turns),
+        Err(fault) => assert_same(rt, at, &Some(fault), &None),
     }
 }
 
-/// Returns whether there is a message, and it was sent at this place.
-fn is_sent(outcome: &Outcome, place: u64, expected: Option<Message>) -> bool {
-    expected.is_some() && outcome.sends.at(place) == expected
+/// A client asks for a name. Returns what came of it.
+fn ask(
+    alloc: Global,
+    node: &mut Node,
+    client: u32,
+    name: Name,
+    mode: Mode,
+) -> Result<Outcome, AskError> {
+    node.ask(alloc, client, name, mode)
 }
 
-/// Returns whether there is a mark, and it was made at this place.
-fn is_made(outcome: &Outcome, place: u64, expected: Option<Mark>) -> bool {
-    expected.is_some() && outcome.marks.at(place) == expected
+/// A client leaves a name. Returns what came of it.
+pub fn leave(
+    alloc: Global,
+    node: &mut Node,
+    client: u32,
+    name: Name,
+) -> Result<Outcome, LeaveError> {
+    node.leave(alloc, client, name)
 }
 
-/// Returns whether just these messages were sent, in this order.
-fn sends(outcome: &Outcome, expected: &[Wire]) -> bool {
-    for place in 0..expected.len() {
-        if !is_sent(outcome, place as u64, message(expected[place])) {
-            return false;
-        }
-    }
-    outcome.sends.len() == expected.len() as u64
+/// A message comes. Returns what came of it.
+pub fn receive(alloc: Global, node: &mut Node, message: &Message) -> Result<Outcome, ReceiveError> {
+    node.receive(alloc, message)
 }
 
-/// Returns whether just these marks were made, in this order.
-fn makes(outcome: &Outcome, expected: &[Turn]) -> bool {
-    for place in 0..expected.len() {
-        if !is_made(outcome, place as u64, mark(expected[place])) {
-            return false;
-        }
-    }
-    outcome.marks.len() == expected.len() as u64
-}
-
-/// Returns whether just these messages and marks came of an event.
-fn is_so(outcome: &Outcome, wires: &[Wire], turns: &[Turn]) -> bool {
-    sends(outcome, wires) && makes(outcome, turns)
-}
-
-/// A writer asks for `r`. Returns whether this came of it.
-fn asks(alloc: Global, node: &mut Node, client: u32, wires: &[Wire], turns: &[Turn]) -> bool {
-    match node.ask(alloc, client, r(), Exclusive) {
-        Ok(outcome) => is_so(&outcome, wires, turns),
-        Err(_) => false,
-    }
-}
-
-/// A client leaves `r`. Returns whether this came of it.
-fn leaves(alloc: Global, node: &mut Node, client: u32, wires: &[Wire], turns: &[Turn]) -> bool {
-    match node.leave(alloc, client, r()) {
-        Ok(outcome) => is_so(&outcome, wires, turns),
-        Err(_) => false,
-    }
-}
-
-/// A message comes. Returns whether this came of it.
-fn receives(alloc: Global, node: &mut Node, wire: Wire, wires: &[Wire], turns: &[Turn]) -> bool {
-    let Some(message) = message(wire) else {
-        return false;
-    };
-    match node.receive(alloc, &message) {
-        Ok(outcome) => is_so(&outcome, wires, turns),
-        Err(_) => false,
-    }
-}
-
-/// A client asks for a name. Returns the fault, or `None` where there is none.
+/// A client asks for a name. Returns the fault, or `None` if there is none.
 pub fn fault_of_ask(
     alloc: Global,
     node: &mut Node,
@@ -206,55 +192,22 @@ pub fn fault_of_ask(
     name: Name,
     mode: Mode,
 ) -> Option<AskError> {
-    node.ask(alloc, client, name, mode).err()
+    ask(alloc, node, client, name, mode).err()
 }
 
-/// A client leaves a name. Returns the fault, or `None` where there is none.
+/// A client leaves a name. Returns the fault, or `None` if there is none.
 pub fn fault_of_leave(
     alloc: Global,
     node: &mut Node,
     client: u32,
     name: Name,
 ) -> Option<LeaveError> {
-    node.leave(alloc, client, name).err()
+    leave(alloc, node, client, name).err()
 }
 
-/// A client leaves `r`. Returns whether this is the fault, or there is none.
-fn has_fault_of_leave(
-    alloc: Global,
-    node: &mut Node,
-    client: u32,
-    fault: Option<LeaveError>,
-) -> bool {
-    fault_of_leave(alloc, node, client, r()) == fault
-}
-
-/// A message comes. Returns the fault, or `None` where there is none.
+/// A message comes. Returns the fault, or `None` if there is none.
 pub fn fault_of_message(alloc: Global, node: &mut Node, message: &Message) -> Option<ReceiveError> {
-    node.receive(alloc, message).err()
-}
-
-/// A message comes, if there is one. Returns whether this is the fault, or there is none.
-fn has_fault(alloc: Global, node: &mut Node, wire: Wire, fault: Option<ReceiveError>) -> bool {
-    match message(wire) {
-        Some(message) => fault_of_message(alloc, node, &message) == fault,
-        None => false,
-    }
-}
-
-/// A client asks for a name. Returns whether the node took it.
-pub fn takes_ask(alloc: Global, node: &mut Node, client: u32, name: Name, mode: Mode) -> bool {
-    fault_of_ask(alloc, node, client, name, mode).is_none()
-}
-
-/// A client asks for `r`. Returns whether the node refused it so.
-fn refuses_ask(alloc: Global, node: &mut Node, client: u32, mode: Mode, fault: AskError) -> bool {
-    fault_of_ask(alloc, node, client, r(), mode) == Some(fault)
-}
-
-/// Returns whether the request is granted at the node on `r`.
-fn is_held(node: &Node, expected: Option<Entry>) -> bool {
-    expected.is_some() && node.holder(&r()) == expected
+    receive(alloc, node, message).err()
 }
 
 /// Returns whether so many requests wait at the node, and so many clients are queued.
@@ -262,103 +215,155 @@ pub fn has_counts(node: &Node, waiting: u64, queued: u128) -> bool {
     node.waiting() == waiting && node.queued() == queued
 }
 
-/// So many writers ask for `r`, in this order. Returns whether the node took each.
-fn writers_ask(alloc: Global, node: &mut Node, count: u32) -> bool {
+/// Asserts that a client may ask for a name, or may not, for this reason.
+fn assert_may_ask(
+    rt: &impl Abort,
+    at: At<'_>,
+    node: &Node,
+    client: u32,
+    name: Name,
+    expected: Result<(), AskError>,
+) {
+    assert_same(rt, at, &node.may_ask(client, &name), &expected);
+}
+
+/// So many writers ask for `r`, from client 1 up, and each is taken, or refused so.
+fn writers_ask(
+    rt: &(impl Abort + AllocGlobal),
+    at: At<'_>,
+    node: &mut Node,
+    count: u32,
+    fault: Option<AskError>,
+) {
     for client in 1..=count {
-        if !takes_ask(alloc, node, client, r(), Exclusive) {
-            return false;
-        }
+        let came = fault_of_ask(rt.alloc(), node, client, r(), Exclusive);
+        assert_same(rt, at, &came, &fault);
     }
-    true
 }
 
-/// Returns whether the node tells each of so many that it is busy.
-fn writers_are_refused(alloc: Global, node: &mut Node, count: u32) -> bool {
+/// Each of so many writers holds `r` by its own number, leaves and may ask again, while the last one is still busy.
+fn writers_take_turns(rt: &(impl Abort + AllocGlobal), at: At<'_>, node: &mut Node, count: u32) {
     for client in 1..=count {
-        if !refuses_ask(alloc, node, client, Exclusive, AskError::Busy) {
-            return false;
-        }
+        let held = Some(entry(rt, 1, client, Exclusive, u64::from(client)));
+        assert_same(rt, at, &node.holder(&r()), &held);
+        assert_may_ask(rt, at, node, count, r(), Err(AskError::Busy));
+        assert_same(
+            rt,
+            at,
+            &fault_of_leave(rt.alloc(), node, client, r()),
+            &None,
+        );
+        assert_may_ask(rt, at, node, client, r(), Ok(()));
     }
-    true
 }
 
-/// Returns whether the node tells each of so many that it is busy, and no other.
-fn writers_are_busy(alloc: Global, node: &mut Node, count: u32) -> bool {
-    writers_are_refused(alloc, node, count)
-        && node.may_ask(0, &r()).is_ok()
-        && node.may_ask(count.wrapping_add(1), &r()).is_ok()
-}
-
-/// Returns whether a client holds `r` by its own number, leaves, and may ask again, while the last one is still busy.
-fn takes_its_turn(alloc: Global, node: &mut Node, client: u32, last: u32) -> bool {
-    is_held(node, entry(1, client, Exclusive, u64::from(client)))
-        && node.may_ask(last, &r()) == Err(AskError::Busy)
-        && has_fault_of_leave(alloc, node, client, None)
-        && node.may_ask(client, &r()).is_ok()
-}
-
-/// Returns whether each of this many writers takes its turn.
-fn writers_take_turns(alloc: Global, node: &mut Node, count: u32) -> bool {
-    for client in 1..=count {
-        if !takes_its_turn(alloc, node, client, count) {
-            return false;
-        }
-    }
-    true
-}
-
-/// Returns whether a node shows this, where it is something to be shown.
-fn shows(node: &Node, step: Step) -> bool {
+/// Asserts that a node shows this.
+fn shows(rt: &impl Abort, at: At<'_>, node: &Node, step: &Step) {
     match step {
-        MayAsk(client) => node.may_ask(client, &r()).is_ok(),
-        MayAskForOther(client) => node.may_ask(client, &q()).is_ok(),
-        MayNotAsk(client, fault) => node.may_ask(client, &r()) == Err(fault),
-        IsHeld(me, client, mode, seq) => is_held(node, entry(me, client, mode, seq)),
-        IsFree => node.holder(&r()).is_none(),
-        HasCounts(waiting, queued) => has_counts(node, waiting, queued),
-        HasHighest(number) => node.highest(&r()) == number,
-        HasHighestOfOther(number) => node.highest(&q()) == number,
-        _ => false,
-    }
-}
-
-/// Returns whether a node takes or refuses this, or shows it.
-fn takes_or_shows(alloc: Global, node: &mut Node, step: Step) -> bool {
-    match step {
-        TakesAsk(client, mode) => takes_ask(alloc, node, client, r(), mode),
-        TakesAskForOther(client, mode) => takes_ask(alloc, node, client, q(), mode),
-        TakesLeave(client) => has_fault_of_leave(alloc, node, client, None),
-        TakesMessage(wire) => has_fault(alloc, node, wire, None),
-        RefusesAsk(client, mode, fault) => refuses_ask(alloc, node, client, mode, fault),
-        RefusesLeave(client) => {
-            has_fault_of_leave(alloc, node, client, Some(LeaveError::NotHeld))
+        MayAsk(client) => assert_may_ask(rt, at, node, *client, r(), Ok(())),
+        MayAskForOther(client) => assert_may_ask(rt, at, node, *client, q(), Ok(())),
+        MayNotAsk(client, fault) => assert_may_ask(rt, at, node, *client, r(), Err(*fault)),
+        IsHeld(me, client, mode, seq) => {
+            let held = Some(entry(rt, *me, *client, *mode, *seq));
+            assert_same(rt, at, &node.holder(&r()), &held);
         }
-        RefusesMessage(wire, fault) => has_fault(alloc, node, wire, Some(fault)),
-        _ => shows(node, step),
-    }
-}
-
-/// Returns whether a node does or shows this.
-fn does(alloc: Global, node: &mut Node, step: Step) -> bool {
-    match step {
-        Asks(client, wires, turns) => asks(alloc, node, client, wires, turns),
-        Leaves(client, wires, turns) => leaves(alloc, node, client, wires, turns),
-        Receives(wire, wires, turns) => receives(alloc, node, wire, wires, turns),
-        WritersAsk(count) => writers_ask(alloc, node, count),
-        WritersAreBusy(count) => writers_are_busy(alloc, node, count),
-        WritersTakeTurns(count) => writers_take_turns(alloc, node, count),
-        _ => takes_or_shows(alloc, node, step),
-    }
-}
-
-/// Returns how many steps of a node are so, up to the first that is not.
-fn done(alloc: Global, node: &mut Node, steps: &[Step]) -> usize {
-    for place in 0..steps.len() {
-        if !does(alloc, node, steps[place]) {
-            return place;
+        IsFree => assert_same(rt, at, &node.holder(&r()), &None),
+        HasCounts(waiting, queued) => {
+            assert_same(
+                rt,
+                at,
+                &(node.waiting(), node.queued()),
+                &(*waiting, *queued),
+            )
         }
+        HasHighest(number) => assert_same(rt, at, &node.highest(&r()), number),
+        HasHighestOfOther(number) => assert_same(rt, at, &node.highest(&q()), number),
+        _ => panic!(rt; "this is nothing to be shown"),
     }
-    steps.len()
+}
+
+/// Asserts that a client asks for a name, and is taken or refused so.
+fn assert_ask(
+    rt: &(impl Abort + AllocGlobal),
+    at: At<'_>,
+    node: &mut Node,
+    client: u32,
+    name: Name,
+    mode: Mode,
+    fault: Option<AskError>,
+) {
+    let came = fault_of_ask(rt.alloc(), node, client, name, mode);
+    assert_same(rt, at, &came, &fault);
+}
+
+/// Asserts that a client leaves `r`, or does not, for this reason.
+fn assert_leave(
+    rt: &(impl Abort + AllocGlobal),
+    at: At<'_>,
+    node: &mut Node,
+    client: u32,
+    fault: Option<LeaveError>,
+) {
+    assert_same(
+        rt,
+        at,
+        &fault_of_leave(rt.alloc(), node, client, r()),
+        &fault,
+    );
+}
+
+/// Asserts that a message is taken, or is not, for this reason.
+fn assert_message(
+    rt: &(impl Abort + AllocGlobal),
+    at: At<'_>,
+    node: &mut Node,
+    wire: Wire,
+    fault: Option<ReceiveError>,
+) {
+    let came = fault_of_message(rt.alloc(), node, &message(rt, wire));
+    assert_same(rt, at, &came, &fault);
+}
+
+/// Asserts that a node takes or refuses this, or shows it.
+fn takes_or_shows(rt: &(impl Abort + AllocGlobal), at: At<'_>, node: &mut Node, step: &Step) {
+    match step {
+        TakesAsk(client, mode) => assert_ask(rt, at, node, *client, r(), *mode, None),
+        TakesAskForOther(client, mode) => assert_ask(rt, at, node, *client, q(), *mode, None),
+        TakesLeave(client) => assert_leave(rt, at, node, *client, None),
+        TakesMessage(wire) => assert_message(rt, at, node, *wire, None),
+        RefusesAsk(client, mode, fault) => {
+            assert_ask(rt, at, node, *client, r(), *mode, Some(*fault))
+        }
+        RefusesLeave(client) => assert_leave(rt, at, node, *client, Some(LeaveError::NotHeld)),
+        RefusesMessage(wire, fault) => assert_message(rt, at, node, *wire, Some(*fault)),
+        _ => shows(rt, at, node, step),
+    }
+}
+
+/// Asserts that a node does or shows this.
+fn does(rt: &(impl Abort + AllocGlobal), at: At<'_>, node: &mut Node, step: &Step) {
+    match step {
+        Asks(client, wires, turns) => {
+            let came = ask(rt.alloc(), node, *client, r(), Exclusive);
+            assert_taken(rt, at, came, wires, turns);
+        }
+        Leaves(client, wires, turns) => {
+            let came = leave(rt.alloc(), node, *client, r());
+            assert_taken(rt, at, came, wires, turns);
+        }
+        Receives(wire, wires, turns) => {
+            let came = receive(rt.alloc(), node, &message(rt, *wire));
+            assert_taken(rt, at, came, wires, turns);
+        }
+        WritersAsk(count) => writers_ask(rt, at, node, *count, None),
+        WritersAreBusy(count) => {
+            writers_ask(rt, at, node, *count, Some(AskError::Busy));
+            assert_may_ask(rt, at, node, 0, r(), Ok(()));
+            assert_may_ask(rt, at, node, count.wrapping_add(1), r(), Ok(()));
+        }
+        WritersTakeTurns(count) => writers_take_turns(rt, at, node, *count),
+        _ => takes_or_shows(rt, at, node, step),
+    }
 }
 
 /// What it shows, a node, how many nodes there are, the number that the node has met, and its steps.
@@ -370,25 +375,21 @@ pub struct Scene(
     pub &'static [Step],
 );
 
-/// Makes a node, and returns how many of its steps are so, up to the first that is not.
-fn done_by(alloc: Global, me: NodeId, scene: &Scene) -> usize {
-    match Node::new(alloc, me, scene.2, scene.3) {
-        Ok(mut node) => done(alloc, &mut node, scene.4),
-        Err(_) => 0,
-    }
-}
-
-/// Returns how many steps of a scene are so, up to the first that is not.
-fn done_in(alloc: Global, scene: &Scene) -> usize {
-    match NodeId::new(scene.1) {
-        Some(me) => done_by(alloc, me, scene),
-        None => 0,
+/// Makes a node, and tests its steps.
+fn goes(rt: &(impl Abort + AllocGlobal), scene: &Scene) {
+    match Node::new(rt.alloc(), node(rt, scene.1), scene.2, scene.3) {
+        Ok(mut node) => {
+            for place in 0..scene.4.len() {
+                does(rt, At(scene.0, "step", place), &mut node, &scene.4[place]);
+            }
+        }
+        Err(fault) => panic!(rt; "{}: there is no such node: {fault}", scene.0),
     }
 }
 
 /// Tests the steps of each scene.
 pub fn follow(rt: &(impl Abort + AllocGlobal), scenes: &[Scene]) {
     for scene in scenes {
-        assert_done(rt, scene.0, done_in(rt.alloc(), scene), scene.4.len());
+        goes(rt, scene);
     }
 }

@@ -1,4 +1,5 @@
 //! What is refused: nodes that cannot be, and messages for others or from strangers; and how faults are printed.
+use crate::asserting::assert_row;
 use crate::helpers::{assert_rows, r};
 use crate::steps::{Scene, Step, Wire, follow};
 use Mode::Shared;
@@ -6,28 +7,21 @@ use Step::RefusesToTake;
 use Wire::{Replies, Requests};
 use ra_automaton::{Automaton, LeaveError, NewError, ReceiveError, RequestError};
 use ra_stamp::{Mode, NodeId};
-use std::alloc::Global;
+use std::process::Abort;
 use test_support::printed;
 
 /// The number of a node, a number of nodes, and why there is no such node, or `None` where there is one.
 struct Made(u16, u16, Option<NewError>);
 
-/// Returns whether there is such a node, or there is none for this reason.
-fn is_so(alloc: Global, row: &Made) -> bool {
-    match NodeId::new(row.0) {
-        Some(me) => Automaton::new(alloc, me, row.1, r(), 0).err() == row.2,
-        None => false,
+/// Asserts that there is the node of each row, or there is none, for its reason.
+fn assert_made(rt: &(impl Abort + AllocGlobal), rows: &[Made]) {
+    for row in 0..rows.len() {
+        let fault = match NodeId::new(rows[row].0) {
+            Some(me) => Automaton::new(rt.alloc(), me, rows[row].1, r(), 0).err(),
+            None => panic!(rt; "there is no such node"),
+        };
+        assert_row(rt, row, &fault, &rows[row].2);
     }
-}
-
-/// Returns how many rows are so, up to the first that is not.
-fn are_so(alloc: Global, rows: &[Made]) -> usize {
-    for place in 0..rows.len() {
-        if !is_so(alloc, &rows[place]) {
-            return place;
-        }
-    }
-    rows.len()
 }
 
 #[test]
@@ -43,7 +37,7 @@ fn there_are_one_to_sixty_four_nodes(rt: HostRuntime) {
         Made(4, 3, Some(NewError::BadNode)),
         Made(2, 0, Some(NewError::BadCount)),
     ];
-    assert_rows(&rt, are_so(rt.alloc(), ROWS), ROWS.len());
+    assert_made(&rt, ROWS);
 }
 
 #[test]

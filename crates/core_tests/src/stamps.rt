@@ -1,12 +1,13 @@
 ghost use Rattle.ra_stamp.specs.NodeId.{IsNodeNumber};
 
-use crate::asserting::assert_so;
+use crate::asserting::{At, assert_row, assert_same, assert_so};
 use crate::helpers::{Modes, PAIRS, assert_rows, id, r};
 use ra_stamp::{
     Entry, Mark, Marks, Memory, Message, Messages, Mode, Name, NameError, NodeId, Stamp, conflicts,
 };
 use std::alloc::Global;
 use std::cmp::Ordering;
+use std::process::Abort;
 use test_support::{printed, prints};
 
 /// Returns a REQUEST from node 1 to node 2.
@@ -27,30 +28,15 @@ fn stamp(seq: u64, of: u16) -> Stamp
     Stamp { seq, node: id(of) }
 }
 
-/// Returns whether a node has this number.
-fn is_node(number: u16) -> bool {
-    match NodeId::new(number) {
-        Some(node) => node.get() == number,
-        None => false,
-    }
-}
-
 #[test]
 fn nodes_are_numbered_from_one_to_sixty_four(rt: HostRuntime) {
-    assert_so(
-        &rt,
-        "1 and 64 are numbers of nodes",
-        is_node(1) && is_node(64),
-    );
-    let none = NodeId::new(0).is_none() && NodeId::new(65).is_none();
-    assert_so(&rt, "0 and 65 are none", none);
-}
-
-/// Returns whether the bytes are those of a name, or are refused for this reason.
-fn is_so(bytes: &[u8], fault: Option<NameError>) -> bool {
-    match Name::new(bytes) {
-        Ok(name) => fault.is_none() && name.bytes() == bytes,
-        Err(found) => fault == Some(found),
+    for number in 0..=65 {
+        let found = match NodeId::new(number) {
+            Some(node) => node.get(),
+            None => 0,
+        };
+        let expected = if number == 65 { 0 } else { number };
+        assert_row(&rt, usize::from(number), &found, &expected);
     }
 }
 
@@ -75,26 +61,16 @@ const NAMED: &[Named] = &[
     Named(b"\xc3\xa4", Some(NameError::BadByte)),
 ];
 
-/// Returns how many rows are so, up to the first that is not.
-fn are_so(rows: &[Named]) -> usize {
-    for place in 0..rows.len() {
-        if !is_so(rows[place].0, rows[place].1) {
-            return place;
-        }
-    }
-    rows.len()
-}
-
 #[test]
 fn names_have_one_to_thirty_two_letters_digits_and_three_signs(rt: HostRuntime) {
-    assert_rows(&rt, are_so(NAMED), NAMED.len());
-}
-
-/// Returns whether two names are ordered so.
-fn are_ordered(a: &[u8], b: &[u8], order: Ordering) -> bool {
-    match (Name::new(a), Name::new(b)) {
-        (Ok(a), Ok(b)) => a.cmp(&b) == order,
-        _ => false,
+    for row in 0..NAMED.len() {
+        match Name::new(NAMED[row].0) {
+            Ok(name) => {
+                assert_row(&rt, row, &None, &NAMED[row].1);
+                assert_row(&rt, row, &name.bytes(), &NAMED[row].0);
+            }
+            Err(fault) => assert_row(&rt, row, &Some(fault), &NAMED[row].1),
+        }
     }
 }
 
@@ -106,36 +82,26 @@ const NAMES: &[(&[u8], &[u8], Ordering)] = &[
     (b"a", b"a", Ordering::Equal),
 ];
 
-/// Returns how many pairs of names are ordered as is said beside them, up to the first that is not.
-fn ordered(rows: &[(&[u8], &[u8], Ordering)]) -> usize {
-    for place in 0..rows.len() {
-        let (a, b, order) = rows[place];
-        if !are_ordered(a, b, order) {
-            return place;
-        }
-    }
-    rows.len()
-}
-
 #[test]
 fn names_are_ordered_by_their_bytes(rt: HostRuntime) {
-    assert_rows(&rt, ordered(NAMES), NAMES.len());
-}
-
-/// Returns how many pairs of modes go together or do not, as is said beside them, up to the first that does otherwise.
-fn going_together(pairs: &[Modes]) -> usize {
-    for place in 0..pairs.len() {
-        let pair = &pairs[place];
-        if conflicts(pair.1, pair.2) == pair.3 {
-            return place;
+    for row in 0..NAMES.len() {
+        match (Name::new(NAMES[row].0), Name::new(NAMES[row].1)) {
+            (Ok(one), Ok(other)) => assert_row(&rt, row, &one.cmp(&other), &NAMES[row].2),
+            _ => panic!(rt; "there is no such name"),
         }
     }
-    pairs.len()
 }
 
 #[test]
 fn nine_pairs_of_modes_go_together(rt: HostRuntime) {
-    assert_rows(&rt, going_together(PAIRS), PAIRS.len());
+    for Modes(label, held, wanted, together) in PAIRS {
+        assert_same(
+            &rt,
+            At(label, "row", 0),
+            &!conflicts(*held, *wanted),
+            together,
+        );
+    }
 }
 
 #[test]
@@ -150,145 +116,138 @@ fn modes_print_their_words(rt: HostRuntime) {
     assert_rows(&rt, printed(rt.alloc(), WORDS), WORDS.len());
 }
 
-/// Returns whether two stamps are ordered so.
-fn stamps_are_ordered(one: &Stamp, other: &Stamp, order: Ordering) -> bool {
-    one.cmp(other) == order
+/// Asserts that two stamps are ordered so. The label says which.
+fn assert_ordered(rt: &impl Abort, label: &str, one: &Stamp, other: &Stamp, order: Ordering) {
+    assert_same(rt, At(label, "row", 0), &one.cmp(other), &order);
 }
 
 #[test]
 fn equal_numbers_go_to_the_lower_node(rt: HostRuntime) {
-    let by_node = stamps_are_ordered(&stamp(1, 1), &stamp(1, 2), Ordering::Less);
-    assert_so(&rt, "1 of node 1 comes before 1 of node 2", by_node);
-    let by_number = stamps_are_ordered(&stamp(1, 64), &stamp(2, 1), Ordering::Less)
-        && stamps_are_ordered(&stamp(2, 1), &stamp(1, 64), Ordering::Greater);
-    assert_so(&rt, "1 of node 64 comes before 2 of node 1", by_number);
-    let equal = stamps_are_ordered(&stamp(7, 3), &stamp(7, 3), Ordering::Equal);
-    assert_so(&rt, "7 of node 3 is equal to itself", equal);
+    let (one, other) = (stamp(1, 64), stamp(2, 1));
+    let (of_1, of_2, of_3) = (stamp(1, 1), stamp(1, 2), stamp(7, 3));
+    assert_ordered(
+        &rt,
+        "1 of node 1 and 1 of node 2",
+        &of_1,
+        &of_2,
+        Ordering::Less,
+    );
+    assert_ordered(
+        &rt,
+        "1 of node 64 and 2 of node 1",
+        &one,
+        &other,
+        Ordering::Less,
+    );
+    assert_ordered(
+        &rt,
+        "2 of node 1 and 1 of node 64",
+        &other,
+        &one,
+        Ordering::Greater,
+    );
+    assert_ordered(
+        &rt,
+        "7 of node 3 and itself",
+        &of_3,
+        &stamp(7, 3),
+        Ordering::Equal,
+    );
 }
 
-/// Returns whether a message has these parts.
-fn has_parts(message: &Message, from: u16, to: u16, name: Name, seq: u64) -> bool {
-    message.from().get() == from
-        && message.to().get() == to
-        && message.name() == name
-        && message.seq() == seq
-}
-
-/// Returns whether a REQUEST and a REPLY about the name tell their parts.
-fn both_kinds_tell_their_parts(name: Name) -> bool {
-    let reply = Message::Reply {
-        from: id(3),
-        to: id(64),
-        name,
-        seq: 9,
-    };
-    has_parts(&request(name, 4), 1, 2, name, 4) && has_parts(&reply, 3, 64, name, 9)
+/// Asserts that a message has these parts.
+fn assert_parts(rt: &impl Abort, row: usize, message: &Message, ends: [u16; 2], seq: u64) {
+    assert_row(rt, row, &[message.from().get(), message.to().get()], &ends);
+    assert_row(rt, row, &message.name(), &r());
+    assert_row(rt, row, &message.seq(), &seq);
 }
 
 #[test]
 fn messages_of_both_kinds_tell_their_parts(rt: HostRuntime) {
-    assert_so(
-        &rt,
-        "a REQUEST and a REPLY tell their nodes, name and number",
-        both_kinds_tell_their_parts(r()),
+    let reply = Message::Reply {
+        from: id(3),
+        to: id(64),
+        name: r(),
+        seq: 9,
+    };
+    assert_parts(&rt, 0, &request(r(), 4), [1, 2], 4);
+    assert_parts(&rt, 1, &reply, [3, 64], 9);
+}
+
+/// Adds the request with this number to a list.
+fn adds(rt: &impl Abort, messages: &mut Messages, seq: u64) {
+    assert_same(
+        rt,
+        At("adds", "number", 0),
+        &messages.push(request(r(), seq)),
+        &Ok(()),
     );
 }
 
-/// Returns whether a list takes a message.
-fn takes_message(messages: &mut Messages, message: &Message) -> bool {
-    messages.push(*message).is_ok()
-}
-
-/// Returns whether the message stands at the place, or nothing does.
-fn has_message_at(messages: &Messages, place: u64, message: Option<Message>) -> bool {
-    messages.at(place) == message
-}
-
-/// Returns whether a new list of messages lists three of them in order.
-fn messages_are_in_order(alloc: Global) -> bool {
-    let mut messages = Messages::new(alloc);
-    let (one, two) = (request(r(), 1), request(r(), 2));
-    has_message_at(&messages, 0, None)
-        && takes_message(&mut messages, &one)
-        && takes_message(&mut messages, &two)
-        && takes_message(&mut messages, &one)
-        && messages.len() == 3
-        && has_message_at(&messages, 0, Some(one))
-        && has_message_at(&messages, 1, Some(two))
-        && has_message_at(&messages, 2, Some(one))
-        && has_message_at(&messages, 3, None)
-        && has_message_at(&messages, u64::MAX, None)
+/// Asserts that a list has the requests with these numbers, in this order, and nothing after them.
+fn assert_listed(rt: &impl Abort, messages: &Messages, numbers: &[u64]) {
+    for place in 0..numbers.len() {
+        let expected = Some(request(r(), numbers[place]));
+        assert_row(rt, place, &messages.at(place as u64), &expected);
+    }
+    let count = numbers.len() as u64;
+    assert_row(rt, numbers.len(), &messages.len(), &count);
+    assert_row(rt, numbers.len(), &messages.at(count), &None);
+    assert_row(rt, numbers.len(), &messages.at(u64::MAX), &None);
 }
 
 #[test]
 fn messages_are_listed_in_order(rt: HostRuntime) {
-    assert_so(
-        &rt,
-        "three messages are listed in their order",
-        messages_are_in_order(rt.alloc()),
-    );
+    let mut messages = Messages::new(rt.alloc());
+    assert_listed(&rt, &messages, &[]);
+    adds(&rt, &mut messages, 1);
+    adds(&rt, &mut messages, 2);
+    adds(&rt, &mut messages, 1);
+    assert_listed(&rt, &messages, &[1, 2, 1]);
 }
 
-/// Returns whether a list takes a mark.
-fn takes_mark(marks: &mut Marks, mark: Mark) -> bool {
-    marks.push(mark).is_ok()
+/// The list keeps its message.
+#[test]
+fn more_room_than_there_is_is_refused(rt: HostRuntime) {
+    let mut messages = Messages::new(rt.alloc());
+    adds(&rt, &mut messages, 1);
+    assert_row(&rt, 0, &messages.reserve(u64::MAX), &Err(Memory));
+    assert_listed(&rt, &messages, &[1]);
 }
 
-/// Returns whether room is made for so many more marks.
-fn makes_room(marks: &mut Marks, more: u64) -> bool {
-    marks.reserve(more).is_ok()
+/// Adds a mark to a list, after room was made for so many.
+fn adds_mark(rt: &impl Abort, marks: &mut Marks, room: u64, mark: Mark) {
+    assert_row(rt, 0, &marks.reserve(room), &Ok(()));
+    assert_row(rt, 0, &marks.push(mark), &Ok(()));
 }
 
-/// Returns whether the mark stands at the place, or nothing does.
-fn has_mark_at(marks: &Marks, place: u64, mark: Option<Mark>) -> bool {
-    marks.at(place) == mark
+/// Asserts that a list has these marks, in this order, and nothing after them.
+fn assert_marks(rt: &impl Abort, marks: &Marks, expected: &[Mark]) {
+    for place in 0..expected.len() {
+        assert_row(rt, place, &marks.at(place as u64), &Some(expected[place]));
+    }
+    let count = expected.len() as u64;
+    assert_row(rt, expected.len(), &marks.at(count), &None);
 }
 
-/// Returns whether a new list takes three marks of an entry, with room that is made for two, and lists them in order.
-fn marks_are_in_order(alloc: Global, entry: &Entry) -> bool {
-    let mut marks = Marks::new(alloc);
-    makes_room(&mut marks, 2)
-        && has_mark_at(&marks, 0, None)
-        && takes_mark(&mut marks, Mark::Requested(*entry))
-        && takes_mark(&mut marks, Mark::Entered(*entry))
-        && makes_room(&mut marks, 0)
-        && takes_mark(&mut marks, Mark::Left(*entry))
-        && has_mark_at(&marks, 0, Some(Mark::Requested(*entry)))
-        && has_mark_at(&marks, 1, Some(Mark::Entered(*entry)))
-        && has_mark_at(&marks, 2, Some(Mark::Left(*entry)))
-        && has_mark_at(&marks, 3, None)
+/// Returns the three marks of an entry.
+fn marks_of(entry: &Entry) -> [Mark; 3] {
+    [
+        Mark::Requested(*entry),
+        Mark::Entered(*entry),
+        Mark::Left(*entry),
+    ]
 }
 
 #[test]
 fn marks_are_listed_in_order(rt: HostRuntime) {
-    assert_so(
-        &rt,
-        "three marks are listed in their order",
-        marks_are_in_order(rt.alloc(), &entry(r(), Mode::Shared)),
-    );
-}
-
-/// Returns whether more room for messages is refused.
-fn refuses_room(messages: &mut Messages, more: u64) -> bool {
-    messages.reserve(more) == Err(Memory)
-}
-
-/// Returns whether a list that takes a message refuses more room than there is, and keeps the message.
-fn room_is_refused(alloc: Global) -> bool {
-    let mut messages = Messages::new(alloc);
-    takes_message(&mut messages, &request(r(), 1))
-        && refuses_room(&mut messages, u64::MAX)
-        && messages.len() == 1
-        && has_message_at(&messages, 0, Some(request(r(), 1)))
-}
-
-#[test]
-fn more_room_than_there_is_is_refused(rt: HostRuntime) {
-    assert_so(
-        &rt,
-        "room for 2^64-1 messages is refused, and the list stays as it is",
-        room_is_refused(rt.alloc()),
-    );
+    let all = marks_of(&entry(r(), Mode::Shared));
+    let mut marks = Marks::new(rt.alloc());
+    assert_marks(&rt, &marks, &[]);
+    adds_mark(&rt, &mut marks, 2, all[0]);
+    adds_mark(&rt, &mut marks, 0, all[1]);
+    adds_mark(&rt, &mut marks, 0, all[2]);
+    assert_marks(&rt, &marks, &all);
 }
 
 const NAME_FAULTS: &[(NameError, &str)] = &[
