@@ -4,11 +4,11 @@ ghost use Rattle.ra_draw.specs.declared.error.DrawError.TheVariants as draw;
 
 use ra_stamp::Memory;
 use ra_world::{ReadFault, WriteFault};
+use std::fmt;
 use thiserror::Error;
 
 /// Why no picture was drawn, in the order in which the causes are looked for.
 #[derive(Clone, Copy, Debug, PartialEq, Eq, Error)]
-#[error("{:?}", self)]
 pub enum DrawError {
     /// The reader failed.
     Read,
@@ -20,6 +20,14 @@ pub enum DrawError {
     Memory,
     /// The writer failed.
     Write,
+}
+
+// By hand, since a derived one takes ten times as long to prove.
+impl fmt::Display for DrawError {
+    /// Prints the name of the variant.
+    fn fmt<W: fmt::Write>(&self, f: &mut fmt::Formatter<W>) -> fmt::Result {
+        fmt::Debug::fmt(self, f)
+    }
 }
 
 impl From<ReadFault> for DrawError {

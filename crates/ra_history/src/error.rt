@@ -4,16 +4,15 @@ use ra_frame::FrameError;
 use ra_node::AskError;
 use ra_stamp::Memory;
 use std::alloc::{AllocError, AllocFailed};
+use std::fmt;
 use thiserror::Error;
 
 /// Why an event was refused, in the order in which the causes are looked for.
 #[derive(Clone, Copy, Debug, PartialEq, Eq, Error)]
-#[error("{:?}", self)]
 pub enum BookError {
     /// The book has a fault.
     Failed,
     /// The bytes are no frame.
-    #[error(transparent)]
     Frame(FrameError),
     /// The client that asks waits, is queued or holds on that name here.
     Busy,
@@ -29,6 +28,17 @@ pub enum BookError {
     ClockFull,
     /// Memory ran out.
     Memory,
+}
+
+// By hand, since a derived one takes ten times as long to prove.
+impl fmt::Display for BookError {
+    /// Prints one word: that of the frame's fault, or the name of the variant.
+    fn fmt<W: fmt::Write>(&self, f: &mut fmt::Formatter<W>) -> fmt::Result {
+        match self {
+            BookError::Frame(fault) => fmt::Display::fmt(fault, f),
+            _ => fmt::Debug::fmt(self, f),
+        }
+    }
 }
 
 impl From<Memory> for BookError {
@@ -67,7 +77,6 @@ pub enum MarkLostError {
 
 /// Why books did not settle, in the order in which the causes are looked for.
 #[derive(Clone, Copy, Debug, PartialEq, Eq, Error)]
-#[error("{:?}", self)]
 pub enum SettleError {
     /// A frame came that is not among the frames that its sender sent and that were not lost.
     NotSent,
@@ -79,6 +88,14 @@ pub enum SettleError {
     GrantTwice,
     /// Memory ran out.
     Memory,
+}
+
+// By hand, since a derived one takes ten times as long to prove.
+impl fmt::Display for SettleError {
+    /// Prints the name of the variant.
+    fn fmt<W: fmt::Write>(&self, f: &mut fmt::Formatter<W>) -> fmt::Result {
+        fmt::Debug::fmt(self, f)
+    }
 }
 
 impl From<Memory> for SettleError {

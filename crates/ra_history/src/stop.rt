@@ -1,8 +1,8 @@
+use std::fmt;
 use thiserror::Error;
 
 /// Why a node is stopped. It prints as its name.
 #[derive(Clone, Copy, Debug, PartialEq, Eq, Error)]
-#[error("{:?}", self)]
 pub enum Stop {
     /// Memory ran out.
     Memory,
@@ -20,4 +20,12 @@ pub enum Stop {
     Gate,
     /// A thread could not be started.
     Spawn,
+}
+
+// By hand, since a derived one takes ten times as long to prove.
+impl fmt::Display for Stop {
+    /// Prints the name of the variant.
+    fn fmt<W: fmt::Write>(&self, f: &mut fmt::Formatter<W>) -> fmt::Result {
+        fmt::Debug::fmt(self, f)
+    }
 }

@@ -5,6 +5,7 @@ ghost use Rattle.ra_schedule.specs.declared.error.DriveError.TheVariants as driv
 
 use ra_stamp::Memory;
 use std::alloc::AllocFailed;
+use std::fmt;
 use thiserror::Error;
 
 /// Why there is no script.
@@ -29,7 +30,6 @@ pub enum AddClientError {
 
 /// Why an operation was not added, in the order in which the causes are looked for.
 #[derive(Clone, Copy, Debug, PartialEq, Eq, Error)]
-#[error("{:?}", self)]
 pub enum AddOpError {
     /// There is no client.
     Clients,
@@ -41,6 +41,14 @@ pub enum AddOpError {
     AlreadyHeld,
     /// Memory ran out.
     Memory,
+}
+
+// By hand, since a derived one takes ten times as long to prove.
+impl fmt::Display for AddOpError {
+    /// Prints the name of the variant.
+    fn fmt<W: fmt::Write>(&self, f: &mut fmt::Formatter<W>) -> fmt::Result {
+        fmt::Debug::fmt(self, f)
+    }
 }
 
 /// Why a script was not driven to an end, in the order in which the causes are looked for at each turn.

@@ -9,11 +9,11 @@ use ra_schedule::{AddClientError, AddOpError, DriveError, NewScriptError};
 use ra_stamp::Memory;
 use ra_world::{ReadFault, WriteFault};
 use std::alloc::AllocFailed;
+use std::fmt;
 use thiserror::Error;
 
 /// Why a text is not a script.
 #[derive(Clone, Copy, Debug, PartialEq, Eq, Error)]
-#[error("{:?}", self)]
 pub enum ScriptError {
     /// It is not UTF-8, or no TOML document.
     Toml,
@@ -35,6 +35,14 @@ pub enum ScriptError {
     Memory,
 }
 
+// By hand, since a derived one takes ten times as long to prove.
+impl fmt::Display for ScriptError {
+    /// Prints the name of the variant.
+    fn fmt<W: fmt::Write>(&self, f: &mut fmt::Formatter<W>) -> fmt::Result {
+        fmt::Debug::fmt(self, f)
+    }
+}
+
 /// Why a text is not a list of choices.
 #[derive(Clone, Copy, Debug, PartialEq, Eq, Error)]
 #[error("{:?}", self)]
@@ -47,15 +55,12 @@ pub enum ChoicesError {
 
 /// Why a script was not performed, in the order in which the causes are looked for.
 #[derive(Clone, Copy, Debug, PartialEq, Eq, Error)]
-#[error("{:?}", self)]
 pub enum PerformError {
     /// The reader failed.
     Read,
     /// What was read is not a script. It is never that memory ran out.
-    #[error(transparent)]
     Script(ScriptError),
     /// The policy could not go on. It is never that memory ran out.
-    #[error(transparent)]
     Drive(DriveError),
     /// The choices of the run are to be written, and a message is repeated, for which there is no word.
     Choice,
@@ -63,6 +68,18 @@ pub enum PerformError {
     Memory,
     /// The writer failed.
     Write,
+}
+
+// By hand, since a derived one takes ten times as long to prove.
+impl fmt::Display for PerformError {
+    /// Prints one word: that of the inner refusal, or the name of the variant.
+    fn fmt<W: fmt::Write>(&self, f: &mut fmt::Formatter<W>) -> fmt::Result {
+        match self {
+            PerformError::Script(refusal) => fmt::Display::fmt(refusal, f),
+            PerformError::Drive(refusal) => fmt::Display::fmt(refusal, f),
+            _ => fmt::Debug::fmt(self, f),
+        }
+    }
 }
 
 impl From<NewScriptError> for ScriptError {
