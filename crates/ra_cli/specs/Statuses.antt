@@ -88,7 +88,7 @@ pub record Serves (words : List (List ℕ)) (old new before after : Option (List
   -- trace or the log of no run; or for `ra settle`.
   pub unfinished : status ≡ 3 → IsUnfinished words old new before after ⊎ AreSettleWords words
   -- It never comes of a script whose clients take names in ascending order and give them all back, if the words ask for
-  -- `ra sim` by a policy that neither loses nor repeats a message.
+  -- `ra sim` by a policy that chooses by itself, and neither loses nor repeats a message.
   pub finished : SimsFaithfully words → IfSome old (λ input. IsOrderly input → status ≢ 3)
   -- If the words also give no choices, status 2 comes of such a script only with the line for want of memory, or that for
   -- words that are no command line of `ra`.
