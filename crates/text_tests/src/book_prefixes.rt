@@ -1,10 +1,9 @@
 //! Prefixes of a book, byte by byte, and readers that give it in pieces.
 use crate::asserting::{assert_same, assert_so};
-use crate::book_answers::assert_read;
 use crate::helpers::Part::Text;
 use crate::helpers::adds_parts;
-use ra_book::BookFault;
-use std::io::ErrorKind;
+use ra_book::{BookFault, answer_book};
+use std::io::{BufRead, ErrorKind};
 use std::process::Abort;
 use test_support::FailingReader;
 
@@ -20,6 +19,24 @@ const ANSWERS: [&str; 4] = [
 
 /// How long the first line of the book is.
 const FIRST: usize = 13;
+
+/// Returns bytes as the text that they are.
+fn text(bytes: &[u8]) -> &str {
+    str::from_utf8(bytes).unwrap_or("no text")
+}
+
+/// Ends the test if the book that a reader gives does not have these answers, or does not end like this.
+fn assert_read<B: BufRead>(
+    rt: &(impl Abort + AllocGlobal),
+    reader: &mut B,
+    end: Result<(), BookFault>,
+    answers: &[u8],
+) {
+    let mut written = Vec::new(rt.alloc());
+    let came = answer_book(rt.alloc(), reader, &mut written);
+    assert_same(rt, "the answers", &text(&written), &text(answers));
+    assert_same(rt, "the end", &came, &end);
+}
 
 /// Adds the answers to these bytes of the book, if it has no others. Returns whether there was room.
 fn adds_answers(text: &mut Vec<u8>, bytes: &[u8]) -> bool {

@@ -1,4 +1,4 @@
-//! How lists of choices are read, and which words are no choices.
+//! How lists of choices are read.
 use crate::asserting::assert_row;
 use ra_schedule::{Choice, Choices};
 use ra_script::{ChoicesError, read_choices};
@@ -34,38 +34,5 @@ fn choices_are_read_in_order(rt: HostRuntime) {
     ];
     for row in 0..ROWS.len() {
         assert_read(&rt, row, ROWS[row].0, ROWS[row].1);
-    }
-}
-
-const NO_CHOICES: &[&str] = &[
-    " ",
-    " c1",
-    "c1 ",
-    "c1  c2",
-    "c01",
-    "c00",
-    "c1234567890",
-    "C1",
-    "c",
-    "c+1",
-    "c-1",
-    "x1",
-    "1",
-    "c1,c2",
-    "c1\tc2",
-    "c1\nc2",
-    "c1\n",
-    "cc1",
-    "c1c",
-    "c ",
-    "é1",
-    "c١",
-];
-
-#[test]
-fn other_words_are_no_choices(rt: HostRuntime) {
-    for row in 0..NO_CHOICES.len() {
-        let fault = choices_of(rt.alloc(), NO_CHOICES[row]).err();
-        assert_row(&rt, row, &fault, &Some(ChoicesError::Choice));
     }
 }

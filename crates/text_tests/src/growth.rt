@@ -2,9 +2,9 @@
 use crate::acts::{fault_of_steps, one_lock, text_of_steps};
 use crate::asserting::assert_grown;
 use crate::choice_words::choices_of;
-use crate::explained_runs::{A_DEADLOCK, A_KEEPER, DEADLOCK_NOTE};
+use crate::explained::{A_DEADLOCK, A_KEEPER, DEADLOCK_NOTE};
 use crate::helpers::{ONE_LOCK, ONE_LOCK_SCRIPT, TWO_LOCKS, failing};
-use crate::mark_logs::TWO_WRITERS;
+use crate::log_readers::TWO_WRITERS;
 use crate::notes::Asked::{
     Choice, Digits, Field, Frame, Kept, Order, Script, Unanswered, Unfinished,
 };
@@ -12,7 +12,7 @@ use crate::notes::{Note, Told, said};
 use crate::performing::{performed, reader_of, text_of};
 use crate::pictures::{drawn_marks_to, drawn_to};
 use crate::readers::Way;
-use crate::script_cases::script_of;
+use crate::script_clients::script_of;
 use crate::{log_readers, readers};
 use ra_draw::{DrawError, Part};
 use ra_explain::LineCause;

@@ -1,8 +1,5 @@
 //! What several files of tests use.
-use crate::asserting::assert_row;
-use crate::readers::{Checked, Way, checked_text};
 use ra_stamp::Name;
-use ra_trace::{Cause, Verdict};
 use std::alloc::Global;
 use std::io;
 use std::process::Abort;
@@ -69,14 +66,6 @@ leave 1 1 r X 1
 end
 ";
 
-/// Returns a trace of version 2 as one of version 1, and any other text as it is.
-pub fn in_version_1(alloc: Global, text: &[u8]) -> Option<Vec<u8>> {
-    match text.strip_prefix(b"trace 2 ") {
-        Some(rest) => text_of(alloc, &[Part::Text("trace 1 "), Part::Times(rest, 1)]),
-        None => text_of(alloc, &[Part::Times(text, 1)]),
-    }
-}
-
 /// Returns a writer that looks for this text, and fails after this many writes, of a byte each.
 pub fn failing(text: &str, before_fault: usize, fault: Option<io::ErrorKind>) -> FailingWriter<'_> {
     failing_writer(text.as_bytes(), before_fault, fault)
@@ -135,41 +124,6 @@ pub fn text_of(alloc: Global, parts: &[Part<'_>]) -> Option<Vec<u8>> {
         Some(text)
     } else {
         None
-    }
-}
-
-/// Returns the verdict on a text.
-pub fn verdict_on(alloc: Global, text: &[u8]) -> Checked {
-    checked_text(alloc, text, Way::InPieces(64))
-}
-
-/// A text and its verdict.
-#[derive(Clone, Copy)]
-pub enum Judged<'a> {
-    /// It is the trace of a run with so many requests and messages.
-    Valid(&'a str, u128, u128),
-    /// This line of it is the first wrong one, for this cause.
-    Invalid(&'a str, u64, Cause),
-}
-
-/// Returns the text of a row, and its verdict.
-fn verdict_of(row: Judged<'_>) -> (&str, Verdict) {
-    match row {
-        Judged::Valid(text, requests, messages) => (text, Verdict::Valid { requests, messages }),
-        Judged::Invalid(text, line, cause) => (text, Verdict::Invalid { line, cause }),
-    }
-}
-
-/// Asserts that each of these texts has its verdict.
-pub fn assert_judged(rt: &(impl Abort + AllocGlobal), rows: &[Judged<'_>]) {
-    for row in 0..rows.len() {
-        let (text, verdict) = verdict_of(rows[row]);
-        assert_row(
-            rt,
-            row,
-            &verdict_on(rt.alloc(), text.as_bytes()),
-            &Ok(verdict),
-        );
     }
 }
 

@@ -1,7 +1,6 @@
 //! How far `check_marks` and `check_marks_buffered` read, and how they treat readers that fail or give a log in pieces.
 use crate::asserting::assert_row;
 use crate::helpers::{Part, text_of};
-use crate::mark_logs::{BOTH_INSIDE, TWO_WRITERS, TWO_WRITERS_LENGTH};
 use crate::readers::{Way, reader};
 use ErrorKind::{BrokenPipe, Interrupted, WouldBlock};
 use Part::{Text, Times};
@@ -13,6 +12,27 @@ use std::alloc::Global;
 use std::io::ErrorKind;
 use std::process::Abort;
 use test_support::FailingReader;
+
+/// One writer after the other.
+pub const TWO_WRITERS: &str = "request 1 1 r X 1
+request 2 2 r X 2
+enter 1 1 r X 1
+leave 1 1 r X 1
+enter 2 2 r X 2
+leave 2 2 r X 2
+";
+
+/// How many bytes that log has.
+const TWO_WRITERS_LENGTH: usize = 100;
+
+/// The same with both inside at once. Its fourth line ends with byte 68.
+const BOTH_INSIDE: &str = "request 1 1 r X 1
+request 2 2 r X 2
+enter 1 1 r X 1
+enter 2 2 r X 2
+leave 1 1 r X 1
+leave 2 2 r X 2
+";
 
 /// The result of checking a log.
 pub type Checked = Result<MarksVerdict, TraceError>;

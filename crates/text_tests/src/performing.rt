@@ -1,4 +1,4 @@
-//! How a script is performed: as its trace, by readers that fail while it is read, and by writers that fail while its text is written.
+//! How a script is performed if its reader fails, or the writer of its text.
 use crate::acts::assert_whole;
 use crate::asserting::assert_row;
 use crate::helpers::{ONE_LOCK, ONE_LOCK_LENGTH, ONE_LOCK_SCRIPT, failing};
@@ -145,15 +145,4 @@ fn a_writer_that_fails_behind_any_byte_has_those_before(rt: HostRuntime) {
     assert_unwritten(&rt, Lines, ONE_LOCK_LINES_LENGTH);
     assert_unwritten(&rt, Trace, ONE_LOCK_LENGTH);
     assert_unwritten(&rt, Choices, ONE_LOCK_CHOICES_LENGTH);
-}
-
-/// The script of one client is driven to its end, from the oldest message on, and this is its trace.
-#[test]
-fn a_run_is_written_as_its_trace(rt: HostRuntime) {
-    let script = b"nodes = 2\nclient = [{ node = 1, ops = [\"X r\", \"U r\"] }]\n";
-    let mut reader = reader_of(script);
-    let mut writer = failing(ONE_LOCK, 1_000, None);
-    let came = performed(rt.alloc(), &mut reader, &mut writer, Trace, &Policy::Oldest);
-    assert_row(&rt, 0, &came, &Ok(true));
-    assert_whole(&rt, 0, &writer);
 }

@@ -1,11 +1,10 @@
-//! Traces that are written, and read again as the same run, and other texts that are traces.
+//! Steps, and the traces that are written of them. `cases/traces.toml` has the same traces as texts that are read: a text is
+//! the trace of one run at most, so where it is valid, its lines are read as the steps that it is written for.
 use crate::acts::{Act, LOSES_REPLY, LOST_REPLY, ONE_LOCKS, Wire, Written, assert_written};
-use crate::helpers::{Judged, ONE_LOCK, REPEATED_REQUEST, assert_judged};
+use crate::helpers::{ONE_LOCK, REPEATED_REQUEST};
 use Act::{Ask, AskForAllKinds, AskIn, Deliver, Leave, Lose, Repeat};
-use Judged::{Invalid, Valid};
 use Wire::{Replies, RepliesNext, Requests, RequestsNext};
 use ra_stamp::Mode;
-use ra_trace::Cause;
 
 /// What happens in the trace of one client whose REQUEST is repeated.
 const REPEATS_REQUEST: &[Act] = &[
@@ -91,7 +90,6 @@ const REPEATS_REPLY: &[Act] = &[
     Deliver(Replies(2, 1)),
 ];
 
-/// A copy is no message that was sent, and so it is not counted.
 #[test]
 fn repeats_have_their_lines(rt: HostRuntime) {
     const WRITTEN: &[Written] = &[
@@ -100,37 +98,7 @@ fn repeats_have_their_lines(rt: HostRuntime) {
         Written(2, LOSES_COPIES, LOST_COPIES),
         Written(2, REPEATS_REPLY, REPEATED_REPLY),
     ];
-    const READ: &[Judged] = &[
-        Valid(REPEATED_REQUEST, 1, 3),
-        Valid(LATE_COPY, 2, 5),
-        Valid(LOST_COPIES, 1, 1),
-        Valid(REPEATED_REPLY, 1, 2),
-    ];
     assert_written(&rt, WRITTEN);
-    assert_judged(&rt, READ);
-}
-
-#[test]
-fn the_first_line_and_the_last_are_read(rt: HostRuntime) {
-    const ROWS: &[Judged] = &[
-        Valid("trace 1 16 18446744073709551615\nend\n", 0, 0),
-        Valid("trace 2 64 18446744073709551615\nend\n", 0, 0),
-        // No number is left behind the first line.
-        Invalid(
-            "trace 1 16 18446744073709551615\nask 16 1 r X\nrequest 16 1 r X 1\nend\n",
-            2,
-            Cause::Refused,
-        ),
-        Invalid(
-            "trace 2 64 18446744073709551615\nask 64 1 r X\nrequest 64 1 r X 1\nend\n",
-            2,
-            Cause::Refused,
-        ),
-        // The last line is read, and what is left behind it is not.
-        Invalid("trace 1 2 0\nend\nend\nx", 3, Cause::Line),
-        Invalid("trace 1 2 0\nend\n\n", 3, Cause::Line),
-    ];
-    assert_judged(&rt, ROWS);
 }
 
 /// The least client asks for a name with each kind of byte, at the last of the nodes.
@@ -192,9 +160,8 @@ const LOCKS_IN_EACH_MODE: &[Act] = &[
     Leave(1, 1),
 ];
 
-/// A text is the trace of one run at most. So where it is valid, its lines are read as the steps that it is written for.
 #[test]
-fn each_step_is_read(rt: HostRuntime) {
+fn each_step_is_written(rt: HostRuntime) {
     const WRITTEN: &[Written] = &[
         Written(64, &[AskForAllKinds], ALL_KINDS),
         Written(1, LOCKS_IN_EACH_MODE, EACH_MODE),
@@ -202,30 +169,61 @@ fn each_step_is_read(rt: HostRuntime) {
         Written(2, &[Ask(1, 1), Lose(Requests(1, 2))], LOST_REQUEST),
         Written(2, LOSES_REPLY, LOST_REPLY),
     ];
-    const READ: &[Judged] = &[
-        Valid(ALL_KINDS, 1, 63),
-        Valid(EACH_MODE, 5, 0),
-        Valid(ONE_LOCK, 1, 2),
-        Valid(LOST_REQUEST, 1, 1),
-        Valid(LOST_REPLY, 1, 2),
-    ];
     assert_written(&rt, WRITTEN);
-    assert_judged(&rt, READ);
 }
 
-/// The greatest client locks and unlocks at the last of two nodes, with the last number.
-const GREATEST: &str = "trace 1 2 18446744073709551614
-ask 2 4294967295 a-B_9.z S
-request 2 4294967295 a-B_9.z S 18446744073709551615
-deliver request 2 1 a-B_9.z S 18446744073709551615
-deliver reply 1 2 a-B_9.z 18446744073709551615
-enter 2 4294967295 a-B_9.z S 18446744073709551615
-release 2 4294967295 a-B_9.z
-leave 2 4294967295 a-B_9.z S 18446744073709551615
+/// Two clients of the first of two nodes, one after the other.
+const AT_TWO_NODES: &str = "trace 2 2 0
+ask 1 1 r X
+request 1 1 r X 1
+ask 1 2 r X
+deliver request 1 2 r X 1
+deliver reply 2 1 r 1
+enter 1 1 r X 1
+release 1 1 r
+leave 1 1 r X 1
+request 1 2 r X 2
+deliver request 1 2 r X 2
+deliver reply 2 1 r 2
+enter 1 2 r X 2
+release 1 2 r
+leave 1 2 r X 2
+end
+";
+
+/// Two clients of a single node. The second one enters as soon as it requests.
+const ALONE: &str = "trace 2 1 0
+ask 1 1 r X
+request 1 1 r X 1
+enter 1 1 r X 1
+ask 1 2 r X
+release 1 1 r
+leave 1 1 r X 1
+request 1 2 r X 2
+enter 1 2 r X 2
+release 1 2 r
+leave 1 2 r X 2
 end
 ";
 
 #[test]
-fn each_mark_is_read(rt: HostRuntime) {
-    assert_judged(&rt, &[Valid(GREATEST, 1, 2)]);
+fn a_leave_and_the_next_request_are_written_under_one_release(rt: HostRuntime) {
+    const TWO_NODES: &[Act] = &[
+        Ask(1, 1),
+        Ask(1, 2),
+        Deliver(Requests(1, 2)),
+        Deliver(Replies(2, 1)),
+        Leave(1, 1),
+        Deliver(RequestsNext(1, 2)),
+        Deliver(RepliesNext(2, 1)),
+        Leave(1, 2),
+    ];
+    const ONE_NODE: &[Act] = &[Ask(1, 1), Ask(1, 2), Leave(1, 1), Leave(1, 2)];
+    assert_written(
+        &rt,
+        &[
+            Written(2, TWO_NODES, AT_TWO_NODES),
+            Written(1, ONE_NODE, ALONE),
+        ],
+    );
 }

@@ -3,14 +3,13 @@ use crate::acts::{
     Act, LOSES_REPLY, LOST_REPLY, ONE_LOCKS, Wire, Written, assert_whole, assert_written, fault_of,
 };
 use crate::asserting::{assert_row, assert_so};
-use crate::helpers::{ONE_LOCK, ONE_LOCK_LENGTH, TWO_LOCKS, assert_rows, failing};
+use crate::helpers::{ONE_LOCK, ONE_LOCK_LENGTH, TWO_LOCKS, failing};
 use Act::{Ask, Deliver, Leave, Lose, Repeat};
 use Wire::{Replies, Requests};
 use ra_trace::WriteTraceError;
 use ra_world::{NodeRefusal, RunError, StepError};
 use std::io;
 use std::process::Abort;
-use test_support::printed;
 
 /// What would happen among so many nodes, and why it is no run.
 struct Refused(u16, &'static [Act], RunError);
@@ -147,22 +146,4 @@ fn assert_not_tried_again(rt: &(impl Abort + AllocGlobal), fault: Option<io::Err
 fn a_writer_that_failed_is_not_tried_again(rt: HostRuntime) {
     assert_not_tried_again(&rt, Some(io::ErrorKind::Interrupted));
     assert_not_tried_again(&rt, None);
-}
-
-const FAULTS: &[(WriteTraceError, &str)] = &[
-    (WriteTraceError::Run(RunError::BadCount), "BadCount"),
-    (
-        WriteTraceError::Run(RunError::Refused {
-            place: 2,
-            cause: StepError::Node(NodeRefusal::NotHeld),
-        }),
-        "NotHeld",
-    ),
-    (WriteTraceError::Memory, "Memory"),
-    (WriteTraceError::Write, "Write"),
-];
-
-#[test]
-fn faults_are_printed_as_their_words(rt: HostRuntime) {
-    assert_rows(&rt, printed(rt.alloc(), FAULTS), FAULTS.len());
 }
