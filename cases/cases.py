@@ -1,0 +1,175 @@
+"""What cases/check does, and what the tests in test_*.py use."""
+import concurrent.futures
+import os
+import subprocess
+import sys
+import tomllib
+import unittest
+
+FOLDER = os.path.dirname(os.path.realpath(__file__))
+RA = f"{FOLDER}/../ra"
+# The most seconds that one run may take.
+LIMIT = 100
+STREAMS = {"output": "standard output", "note": "standard error"}
+PARTS = ("begins", "has", "ends")
+KEYS = {"shows", "words", "input", "status", "row", *STREAMS, *(f"{it}_{part}" for it in STREAMS for part in PARTS)}
+# The texts of all tables, by their names.
+TEXTS = {}
+
+
+def text(value):
+    """Returns the bytes that a text of a table is. A test may also have bytes in its place."""
+    if isinstance(value, bytes):
+        return value
+    if isinstance(value, str):
+        return value.encode()
+    if isinstance(value, list):
+        return b"".join(text(it) for it in value)
+    if set(value) == {"of"}:
+        return text(TEXTS[value["of"]])
+    if set(value) == {"hex"}:
+        return bytes.fromhex(value["hex"])
+    if set(value) == {"times", "text"}:
+        return value["times"] * text(value["text"])
+    raise ValueError(f"not a text: {value}")
+
+
+def run(words, given=b""):
+    """Returns the status, standard output and standard error of `ra` with these words and this standard input."""
+    words = words.split() if isinstance(words, str) else words
+    done = subprocess.run([RA, *words], input=given, capture_output=True, timeout=LIMIT, check=False)
+    return done.returncode, done.stdout, done.stderr
+
+
+def shown(found):
+    """Returns bytes as they are shown to a person."""
+    shortened = found if len(found) <= 4000 else found[:2000] + b" .. " + found[-2000:]
+    return shortened.decode(errors="backslashreplace")
+
+
+def is_utf8(found):
+    try:
+        found.decode()
+    except UnicodeDecodeError:
+        return False
+    return True
+
+
+def differences(case, name, found):
+    """Returns what is wrong with what a case printed to the stream of this name."""
+    begins, has, ends = (case.get(f"{name}_{part}") for part in PARTS)
+    has_parts = (begins, has, ends) != (None, None, None)
+    said = []
+
+    def expect(is_so, where, expected):
+        if not is_so:
+            said.append(f"{STREAMS[name]}: expected{where}\n{shown(expected)}\nbut it is\n{shown(found)}")
+
+    if name in case or (name == "output" and not has_parts):
+        exact = text(case.get(name, ""))
+        expect(found == exact, "", exact)
+    if begins is not None:
+        expect(found.startswith(text(begins)), " at the beginning", text(begins))
+    for it in has or []:
+        expect(text(it) in found, " somewhere", text(it))
+    if ends is not None:
+        expect(found.endswith(text(ends)), " at the end", text(ends))
+    if has_parts:
+        expect(is_utf8(found), "", b"UTF-8")
+    return said
+
+
+def wrong(case):
+    """Returns what is wrong with a case, as a list of texts."""
+    unknown = set(case) - KEYS
+    if unknown:
+        return [f"unknown keys: {', '.join(sorted(unknown))}"]
+    try:
+        status, output, note = run(case["words"], text(case.get("input", "")))
+    except subprocess.TimeoutExpired:
+        return [f"it did not end within {LIMIT} seconds"]
+    expected = case.get("status", 0)
+    said = [] if status == expected else [f"status: expected {expected}, but it is {status}"]
+    return said + differences(case, "output", output) + differences(case, "note", note)
+
+
+class RaTest(unittest.TestCase):
+    """A test that runs `ra`."""
+
+    def expect(self, **case):
+        """Fails if something is wrong with a case, which is as in a table."""
+        said = wrong(case)
+        if said:
+            self.fail("\n".join([f"ra {case['words']}", *said]))
+
+
+def tables():
+    """Returns the tables by their names, and keeps their texts."""
+    found = {}
+    for file in sorted(os.listdir(FOLDER)):
+        if file.endswith(".toml"):
+            with open(f"{FOLDER}/{file}", "rb") as it:
+                found[file.removesuffix(".toml")] = table = tomllib.load(it)
+            extra = set(table) - {"texts", "case"}
+            twice = set(table.get("texts", {})) & set(TEXTS)
+            if extra or twice:
+                sys.exit(f"cases/check: {file}: unknown keys, or texts of another table: {', '.join(sorted(extra | twice))}")
+            TEXTS.update(table.get("texts", {}))
+    return found
+
+
+def cases_of(found):
+    """Returns each case of the tables, and in place of one with rows each row, with its name."""
+    listed = []
+    for table, content in found.items():
+        for case in content.get("case", []):
+            name = f"{table}: {case['shows']}"
+            if "row" not in case:
+                listed.append((name, case))
+            for number, row in enumerate(case.get("row", []), 1):
+                full = {**case, **row}
+                del full["row"]
+                listed.append((f"{name}, {row['shows']}" if "shows" in row else f"{name}, row {number}", full))
+    return listed
+
+
+def run_cases(chosen):
+    """Runs cases, several at a time, and returns how many passed and how many failed."""
+    failed = 0
+    with concurrent.futures.ThreadPoolExecutor(os.cpu_count()) as pool:
+        for (name, case), said in zip(chosen, pool.map(lambda it: wrong(it[1]), chosen)):
+            failed += bool(said)
+            for it in said:
+                print(f"case {name}: ra {case['words']}: {it}", file=sys.stderr)
+    return len(chosen) - failed, failed
+
+
+def each_test(suite):
+    """Returns the tests of a suite and of those within it."""
+    return [it for each in suite for it in (each_test(each) if isinstance(each, unittest.TestSuite) else [each])]
+
+
+def run_tests(is_chosen):
+    """Runs the chosen tests of test_*.py, and returns how many passed and how many failed."""
+    chosen = [it for it in each_test(unittest.defaultTestLoader.discover(FOLDER)) if is_chosen(it.id())]
+    if not chosen:
+        return 0, 0
+    result = unittest.TextTestRunner(verbosity=0).run(unittest.TestSuite(chosen))
+    failed = len({id(getattr(it, "test_case", it)) for it, _ in [*result.failures, *result.errors]})
+    return result.testsRun - failed, failed
+
+
+def main(words):
+    """Runs the cases and tests with one of these words in their names, or all, and returns the status."""
+    # If the program is to be built, that is done once, before several runs at a time.
+    if subprocess.run([RA, "--version"], stdout=subprocess.DEVNULL, check=False).returncode != 0:
+        print("cases/check: the program cannot be run", file=sys.stderr)
+        return 1
+
+    def is_chosen(name):
+        return not words or any(it in name for it in words)
+
+    counted = [run_cases([it for it in cases_of(tables()) if is_chosen(it[0])]), run_tests(is_chosen)]
+    passed, failed = (sum(it[at] for it in counted) for at in (0, 1))
+    print(f"{passed} cases passed, {failed} failed")
+    return 1 if failed or not passed else 0

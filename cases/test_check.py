@@ -1,0 +1,74 @@
+"""Traces that `ra sim` prints, and traces with one line edited, judged by `ra check`."""
+from cases import TEXTS, RaTest, run
+
+# What is expected of the first trace, in either version.
+VALID = "valid\nrequests 2\nmessages 8\n"
+
+# Traces, a first line in version 1 for each, and the verdict.
+OLDER = [
+    ("ONE_CLIENT_TRACE", "trace 1 2 0\n", "valid\nrequests 1\nmessages 2\n"),
+    ("TWO_CLIENTS_TRACE", "trace 1 3 0\n", VALID),
+    ("LOST_TRACE", "trace 1 2 0\n", "valid\nrequests 1\nmessages 1\n"),
+]
+
+# A line of the two clients' trace, counted from 1, a text that comes before it, whether the line stays, and the verdict.
+EDITS = [
+    (13, "enter 2 2 r X 1\n", True, "invalid 13 Table\n"),
+    (12, "", False, "invalid 12 Marks\n"),
+    (8, "deliver request 1 3 r X 1\n", True, "invalid 8 NotUnderWay\n"),
+    (2, "ask 4 1 r X\n", False, "invalid 2 Refused\n"),
+    (20, "", False, "invalid 20 Line\n"),
+]
+
+POLICIES = [
+    "sim --trace --policy oldest",
+    "sim --trace --policy newest",
+    "sim --trace --policy seeded --seed 1",
+    "sim --trace --policy seeded --seed 99",
+    "sim --trace --policy faulty --seed 1",
+]
+
+# Scripts, and the verdict on the trace of each of their runs.
+TRACED = [
+    ("TWO_CLIENTS", VALID),
+    ("ONE_ORDER", "valid\nrequests 4\nmessages 8\n"),
+    ("A_WRITER", "valid\nrequests 3\nmessages 12\n"),
+    ("A_QUEUE", "valid\nrequests 2\nmessages 4\n"),
+    ("A_TABLE", "valid\nrequests 5\nmessages 20\n"),
+]
+
+
+def edited(trace, place, before, stays):
+    """Returns a trace with a text before the line at this place, which stays or does not."""
+    lines = trace.splitlines(keepends=True)
+    lines[place - 1] = before + (lines[place - 1] if stays else "")
+    return "".join(lines)
+
+
+class Traces(RaTest):
+    def expect_valid(self, words, script, status, verdict):
+        """Fails unless a command ends with this status, and prints a trace with this verdict."""
+        with self.subTest(words=words, script=script):
+            given, trace, note = run(words, TEXTS[script].encode())
+            self.assertEqual(given, status, note)
+            self.expect(words="check", input=trace, output=verdict)
+
+    def test_the_same_traces_are_valid_in_version_1(self):
+        for trace, line, verdict in OLDER:
+            with self.subTest(trace=trace):
+                self.expect(words="check", input=edited(TEXTS[trace], 1, line, False), output=verdict)
+
+    def test_the_first_wrong_line_is_named_in_both_versions(self):
+        trace = TEXTS["TWO_CLIENTS_TRACE"]
+        for version, whole in ((2, trace), (1, edited(trace, 1, "trace 1 3 0\n", False))):
+            for place, before, stays, verdict in EDITS:
+                with self.subTest(version=version, place=place):
+                    self.expect(words="check", input=edited(whole, place, before, stays), status=3, output=verdict)
+
+    def test_each_trace_that_sim_prints_is_valid(self):
+        for script, verdict in TRACED:
+            for words in POLICIES:
+                self.expect_valid(words, script, 0, verdict)
+
+    def test_the_trace_of_a_deadlock_is_valid(self):
+        self.expect_valid("sim --trace", "A_DEADLOCK", 3, "valid\nrequests 4\nmessages 6\n")
