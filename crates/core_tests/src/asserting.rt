@@ -37,3 +37,14 @@ pub fn assert_grown(rt: &impl Abort, tried: Tried) {
         Tried::Wrong => panic!(rt; "a refused growth had another answer, or changed something"),
     }
 }
+
+/// Returns what became of a call, where the second one is made only if the first ran out of memory and left all as it was.
+pub fn at_once_or(is_done: bool, is_done_again: bool) -> Tried {
+    if is_done {
+        Tried::AtOnce
+    } else if is_done_again {
+        Tried::Again
+    } else {
+        Tried::Wrong
+    }
+}

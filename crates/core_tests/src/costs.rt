@@ -2,7 +2,7 @@
 //! anew at each call, takes longer.
 use crate::asserting::assert_so;
 use crate::bags::{Scene, Step, follow};
-use crate::growth_of_nodes::{asked, pushes, puts as puts_all};
+use crate::growth_of_bags::{asked, pushes, puts as puts_all};
 use crate::helpers::{id, r};
 use Step::{Finds, HasCount, HasNumbers, PutsNumbers, TakesEveryOther};
 use ra_bag::Bag;

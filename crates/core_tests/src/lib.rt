@@ -18,6 +18,8 @@ mod frames;
 #[cfg(test)]
 mod growth;
 #[cfg(test)]
+mod growth_of_bags;
+#[cfg(test)]
 mod growth_of_nodes;
 #[cfg(test)]
 mod helpers;
