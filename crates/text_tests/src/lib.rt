@@ -42,3 +42,5 @@ mod round_trips;
 mod script_clients;
 #[cfg(test)]
 mod traces;
+#[cfg(test)]
+mod written_books;
