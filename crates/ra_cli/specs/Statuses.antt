@@ -9,7 +9,7 @@ use Rattle.ra_cli.specs.declared.cluster_output.ClusterOutput.{ClusterOutput}
 use Rattle.ra_cli.specs.declared.refusal.Refusal.{Refusal}
 use Rattle.ra_cli.specs.declared.search.Search.{Search}
 use Rattle.ra_cli.specs.Answer.{IsAnswered}
-use Rattle.ra_cli.specs.Words.{IsHelpWord, GivesNoChoices, GivesNode, PrintsBy, SimsFaithfully}
+use Rattle.ra_cli.specs.Words.{AreSimWords, IsHelpWord, GivesNoChoices, GivesNode, PrintsBy, SimsFaithfully}
 use Rattle.ra_cli.specs.Performs.{Performs}
 use Rattle.ra_cli.specs.Checks.{Judges, IsJudged}
 use Rattle.ra_cli.specs.ClusterRun.{IsClusterRun, RunsBy}
@@ -90,10 +90,11 @@ pub record Serves (words : List (List ℕ)) (old new before after : Option (List
   -- It never comes of a script whose clients take names in ascending order and give them all back, if the words ask for
   -- `ra sim` by a policy that chooses by itself, and neither loses nor repeats a message.
   pub finished : SimsFaithfully words → IfSome old (λ input. IsOrderly input → status ≢ 3)
-  -- If the words also give no choices, status 2 comes of such a script only with the line for want of memory, or that for
-  -- words that are no command line of `ra`.
+  -- If the words also give no choices, status 2 comes of such a script only with the line for want of memory or, unless
+  -- they are the program's name and `sim` alone, that for words that are no command line of `ra`.
   pub only_memory : SimsFaithfully words → GivesNoChoices words → status ≡ 2 → IfSome old (λ input. IsOrderly input
-      → Appends before after (refused_line (codes "Memory")) ⊎ Appends before after (refused_line (codes "Usage")))
+      → Appends before after (refused_line (codes "Memory"))
+        ⊎ ((AreSimWords words → ⊥) × Appends before after (refused_line (codes "Usage"))))
   -- Status 2 comes only with the line of a refusal that is neither the reader's nor the writer's.
   pub refused : status ≡ 2 → IsRefused before after
   -- Status 1 comes only if the reader or the writer failed, with the line that says so of the reader, or a prefix of what

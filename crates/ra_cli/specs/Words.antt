@@ -1,5 +1,5 @@
 -- What the words of a command line ask for.
-use Rattle.std.specs.Prelude.{◌≡◌, ℕ, ◌+◌, ◌≤◌, ◌⊎◌, ⊤, List, ◌∷◌, ◌++◌, Any, Some, slice_get, codes}
+use Rattle.std.specs.Prelude.{◌≡◌, ℕ, ◌+◌, ◌≤◌, ◌⊎◌, ⊤, List, [], ◌∷◌, ◌++◌, Any, Some, slice_get, codes}
 use Rattle.std.specs.Str.Parse.{IsNumeral, digits_value, without_leading_plus}
 use Rattle.ra_cli.specs.declared.cluster_output.ClusterOutput.{ClusterOutput}
 use Rattle.ra_cli.specs.declared.cluster_output.ClusterOutput.TheVariants.{Lines, Trace}
@@ -43,6 +43,10 @@ pub record SimsFaithfully (words : List (List ℕ)) : Type 0 where
   pub command : slice_get words 1 ≡ Some (codes "sim")
   pub no_help : Any IsHelpWord words → ⊥
   pub names : NamesFaithfully words
+
+-- the words are the program's name and `sim`
+abbrev pub AreSimWords : (words : List (List ℕ)) → Type 0
+AreSimWords words = (name : List ℕ) × (words ≡ name ∷ codes "sim" ∷ [])
 
 -- the words give no choices
 abbrev pub GivesNoChoices : (words : List (List ℕ)) → Type 0

@@ -1,7 +1,7 @@
 //! What the words of a command line ask for.
-ghost use Rattle.std.specs.Prelude.{◌≡◌, ◌≢◌, ◌⊎◌, [], ◌≤◌, ◌↔◌, ◌∷◌, ◌++◌, ℕ, List, Any, Some, map, codes, slice_get, IsTrue, IfOk, IfSome, string_bytes};
+ghost use Rattle.std.specs.Prelude.{◌≡◌, ◌≢◌, ◌⊎◌, [], ◌≤◌, ◌↔◌, ◌∷◌, ◌++◌, ℕ, List, Any, Some, map, codes, slice_get, IsTrue, IsOk, IfOk, IfSome, true, string_bytes};
 ghost use Rattle.ra_schedule.specs.Survey.{NoneIsLost, NoneIsRepeated};
-ghost use Rattle.ra_cli.specs.Words.{ChecksBy, ReadsBy, Gives, GivesNoChoices, GivesNode, GivesNothingBut, GivesText, IsHelpWord, NamesFaithfully, OnAnswer, OnHelp, SimsFaithfully};
+ghost use Rattle.ra_cli.specs.Words.{AreSimWords, ChecksBy, ReadsBy, Gives, GivesNoChoices, GivesNode, GivesNothingBut, GivesText, IsHelpWord, NamesFaithfully, OnAnswer, OnHelp, SimsFaithfully};
 ghost use Rattle.ra_cli.specs.Finishing.{HasNoChoices, IsFaithful, RunsFaithfully};
 
 use crate::cluster_output::ClusterOutput;
@@ -448,8 +448,18 @@ fn asks_for_summary(words: &[String]) -> bool {
     false
 }
 
+/// Returns whether the words are the program's name and `sim`. It does not allocate.
+fn are_sim_words(words: &[String]) -> bool
+    ensures { AreSimWords (map string_bytes words.now) → result ≡ true }
+{
+    match words {
+        [_, word] => word.as_str() == "sim",
+        _ => false,
+    }
+}
+
 /// Returns the task of the words, of which the first is the program's name. It is a text of help, or the version, only where one of
-/// them asks for it.
+/// them asks for it. The name and `sim` alone are never refused.
 ///
 /// # Errors
 ///
@@ -461,7 +471,16 @@ pub fn parse<'a>(alloc: Global, words: &'a [String]) -> Result<Task<'a>, Command
     ensures marks { IfOk result (ChecksBy (map string_bytes words.now)) }
     ensures faithful { IfOk result (λ task. SimsFaithfully (map string_bytes words.now) → RunsFaithfully task) }
     ensures choices { IfOk result (λ task. GivesNoChoices (map string_bytes words.now) → HasNoChoices task) }
+    ensures plain { AreSimWords (map string_bytes words.now) → IsOk result }
 {
+    // No contract of the parser's says that it takes these words.
+    if are_sim_words(words) {
+        return Ok(Task::Sim {
+            policy: PolicyName::Oldest,
+            choices: "",
+            format: Format::Lines,
+        });
+    }
     let Ok(command) = command(alloc, asks_for_summary(words)) else {
         return Err(CommandFault::Memory);
     };

@@ -10,6 +10,7 @@ use Rattle.ra_cli.specs.declared.command_line.CommandFault.{CommandFault}
 use Rattle.ra_cli.specs.declared.command_line.CommandFault.TheVariants as command
 use Rattle.ra_cli.proofs.ClusterRuns.{of_known}
 use Rattle.ra_cli.proofs.Helping.{for_each}
+use Rattle.ra_cli.specs.Words.{AreSimWords}
 use Rattle.ra_cli.specs.SettleRun.{AreSettleWords, ServesSettle}
 use Rattle.ra_cli.proofs.NodeRuns.{no_book, no_sim}
 use Rattle.ra_cli.proofs.SettleRuns.{two_refuses}
@@ -18,13 +19,15 @@ use Rattle.ra_cli.proofs.Statuses.{none_of_command, refused, broken}
 use Rattle.ra_cli.proofs.TaskLemmas.{done, left, suits, without_cause}
 use Rattle.ra_cli.proofs.serving.outcome_of.Goals as goal
 
--- the line for want of memory was written, or that for words that are no command line
-abbrev MemoryOrUsage : (before after : Option (List ℕ)) → Type 0
-MemoryOrUsage before after = Appends before after (refused_line (codes "Memory")) ⊎ Appends before after (refused_line (codes "Usage"))
+-- the line for want of memory was written, or that for words that are no command line, which are not the name and `sim`
+abbrev MemoryOrUsage : (words : List (List ℕ)) (before after : Option (List ℕ)) → Type 0
+MemoryOrUsage words before after = Appends before after (refused_line (codes "Memory"))
+    ⊎ ((AreSimWords words → ⊥) × Appends before after (refused_line (codes "Usage")))
 
-of_fault : (fault : CommandFault) (before after : Option (List ℕ)) → Appends before after (refused_line (command_word fault)) → MemoryOrUsage before after
-of_fault command.Usage before after out = inr out
-of_fault command.Memory before after out = inl out
+of_fault : (words : List (List ℕ)) (fault : CommandFault) (before after : Option (List ℕ)) → (AreSimWords words → ⊥)
+    → Appends before after (refused_line (command_word fault)) → MemoryOrUsage words before after
+of_fault words command.Usage before after other out = inr (other, out)
+of_fault words command.Memory before after other out = inl out
 
 not_three : (status : ℕ) → status ≤ 2 → status ≡ 3 → ⊥
 not_three status most is = omega (arith, most, is)
@@ -95,7 +98,7 @@ returns-in-Ok g c =
           (λ input h orderly. h orderly (c.in-Ok.ensures.faithful sims)) task.finished;
       only_memory = λ sims none two. of_known old
           (λ input. IsOrderly input → RunsFaithfully asked → HasNoChoices asked → status ≡ 2 → Appends before after (refused_line (codes "Memory")))
-          (λ input. IsOrderly input → MemoryOrUsage before after)
+          (λ input. IsOrderly input → MemoryOrUsage (map string_bytes words) before after)
           (λ input h orderly. inl (h orderly (c.in-Ok.ensures.faithful sims) (c.in-Ok.ensures.choices none) two)) task.only_memory;
       refused = λ is. without_cause _ before after (task.refused is);
       broken = λ is. inl (task.broken (map string_bytes words) fits is);
@@ -119,8 +122,8 @@ returns-in-Err g c =
       unfinished = λ is. absurd (not_three status c.refuse.ensures.range is);
       finished = λ sims. for_each (g.R.Read.remaining c.args.reader.now) (λ input. IsOrderly input → status ≢ 3)
           (λ input orderly is. not_three status c.refuse.ensures.range is);
-      only_memory = λ sims none two. for_each (g.R.Read.remaining c.args.reader.now) (λ input. IsOrderly input → MemoryOrUsage before after)
-          (λ input orderly. of_fault c.in-Err.fault before after (c.refuse.ensures.refused two).2);
+      only_memory = λ sims none two. for_each (g.R.Read.remaining c.args.reader.now) (λ input. IsOrderly input → MemoryOrUsage (map string_bytes c.args.words.now) before after)
+          (λ input orderly. of_fault (map string_bytes c.args.words.now) c.in-Err.fault before after (λ are. false≢true (c.in-Err.ensures.plain are)) (c.refuse.ensures.refused two).2);
       refused = λ two. refused why before before after (λ other. refl) (c.refuse.ensures.refused two);
       broken = λ one. inl (broken (map string_bytes c.args.words.now) (g.R.Read.remaining c.args.reader.now) before before after why
           (λ is. absurd (never is)) (λ is. absurd (never is)) (λ other. refl) (c.refuse.ensures.broken one));
