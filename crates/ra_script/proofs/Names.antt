@@ -1,11 +1,11 @@
 -- Names and operations as they are spelled.
-use Rattle.std.proofs.Common.{◌≡◌, ◌⊎◌, ◌↔◌, ℕ, ◌≤◌, ◌==◌, List, [], ◌∷◌, ◌++◌, length, true, false, ◌&&◌, nat_le, if◌then◌else◌, Option, Some, None, IsSome, Result, Ok, Err, IfOk, IsOk, All, inl, inr, refl, sym, ap, subst, ◌∙◌, codes, arith}
+use Rattle.std.proofs.Common.{◌≡◌, ◌≢◌, ◌⊎◌, ◌↔◌, ℕ, ◌≤◌, List, [], ◌∷◌, ◌++◌, length, true, ◌&&◌, nat_le, if◌then◌else◌, Option, Some, None, IsSome, Result, Ok, Err, IfOk, IsOk, All, inl, inr, refl, sym, ap, subst, ◌∙◌, codes, arith}
 use Rattle.std.specs.Prelude.{IfSome, is_some, option_and_then}
 use Rattle.std.specs.Result.{result_ok}
 use Rattle.std.specs.Str.{bytes_eq}
 use Rattle.std.specs.List.{list_all}
 use Rattle.std.proofs.lemmas.Option.{same_Some, option_and_then_some}
-use Rattle.std.proofs.lemmas.Bool.{cases_Bool, and_parts, le-leb, leb-true, ne_eqb, false≢true}
+use Rattle.std.proofs.lemmas.Bool.{cases_Bool, and_parts, le-leb, leb-true, false≢true}
 use Rattle.std.proofs.lemmas.List.Elements.{All-nil, All-cons}
 use Rattle.std.proofs.lemmas.List.Sums.{AllPass-from_list_all, list_all-from_AllPass}
 use Rattle.std.proofs.lemmas.Slice.Eq.{bytes_eq-Decides}
@@ -98,13 +98,13 @@ spelled_from string op e =
 -- ---- What is written is read
 
 -- no space is in a mode's word
-one_more : (b : ℕ) (bytes : List ℕ) → 73 ≤ b → All (λ b. (b == 32) ≡ false) bytes → All (λ b. (b == 32) ≡ false) (b ∷ bytes)
-one_more b bytes high free = All-cons (λ b. (b == 32) ≡ false) b bytes (ne_eqb b 32 (omega arith)) free
+one_more : (b : ℕ) (bytes : List ℕ) → 73 ≤ b → All (λ b. b ≢ 32) bytes → All (λ b. b ≢ 32) (b ∷ bytes)
+one_more b bytes high free = All-cons (λ b. b ≢ 32) b bytes (omega arith) free
 
-none : All (λ b. (b == 32) ≡ false) []
-none = All-nil (λ b. (b == 32) ≡ false)
+none : All (λ (b : ℕ). b ≢ 32) []
+none = All-nil (λ (b : ℕ). b ≢ 32)
 
-no_space : (mode : Mode) → All (λ b. (b == 32) ≡ false) (mode_word mode)
+no_space : (mode : Mode) → All (λ b. b ≢ 32) (mode_word mode)
 no_space Shared = one_more 83 [] (omega arith) none
 no_space Exclusive = one_more 88 [] (omega arith) none
 no_space IntentShared = one_more 73 (83 ∷ []) (omega arith) (one_more 83 [] (omega arith) none)
@@ -120,7 +120,7 @@ word_is IntentExclusive name = refl
 word_is SharedIntentExclusive name = refl
 
 -- a word that has no space, a space and a name
-read_with : (word name : List ℕ) (op : Op) → All (λ b. (b == 32) ≡ false) word → IsName name → op_with word name ≡ Some op
+read_with : (word name : List ℕ) (op : Op) → All (λ b. b ≢ 32) word → IsName name → op_with word name ≡ Some op
     → op_of (word ++ 32 ∷ name) ≡ Some op
 read_with word name op free named e = rw (cut-append word name free, is_name-true name named, e)
 

@@ -6,6 +6,7 @@ ghost use Rattle.ra_script.specs.Operation.{spelling, name_in};
 
 use ra_schedule::Op;
 use ra_stamp::{Mode, Name};
+use ra_text::cut;
 
 /// Returns the operation that a string spells, or `None` where it spells none: a word, one space and a name, where the word of a
 /// mode, `X`, `S`, `IS`, `IX` or `SIX`, locks the name in that mode, and `U` unlocks it. It does not allocate.
@@ -21,21 +22,20 @@ pub fn operation(string: &str) -> Option<Op>
 fn operation_of(text: &[u8]) -> Option<Op>
     ensures { result ≡ spec.op_of text.now }
 {
-    let (word, name) = cut(text)?;
+    let (word, name) = word_and_name(text)?;
     let name = name_of(name)?;
     operation_with(word, name)
 }
 
 /// Returns what stands before and after the first space, or `None` where there is none. It does not allocate.
-fn cut(text: &[u8]) -> Option<(&[u8], &[u8])>
+fn word_and_name(text: &[u8]) -> Option<(&[u8], &[u8])>
     ensures { MatchOption result (spec.cut text.now ≡ None) (λ parts. spec.cut text.now ≡ Some (parts.0.now, parts.1.now)) }
 {
-    for (end, byte) in text.iter().enumerate() {
-        if *byte == b' ' {
-            return Some((&text[..end], &text[end + 1..]));
-        }
+    let (word, rest) = cut(text, b' ');
+    match rest {
+        Some(name) => Some((word, name)),
+        None => None,
     }
-    None
 }
 
 /// Returns the name that these bytes are, or `None` where they are none. It does not allocate.
