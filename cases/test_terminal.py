@@ -26,6 +26,8 @@ WAITING = [
     ("draw", "ONE_CLIENT_TRACE", "a trace from standard input: type it and then Ctrl-D, or redirect a file with < FILE"),
     ("check --marks", "ONE_TURN_LOG", "a mark log from standard input: type it and then Ctrl-D, or redirect a file with < FILE"),
     ("draw --marks", "ONE_TURN_LOG", "a mark log from standard input: type it and then Ctrl-D, or redirect a file with < FILE"),
+    ("node", "A_BOOK", "a book from standard input: type its lines, and Ctrl-D at the end"),
+    ("settle", "A_BOOK", "books from standard input: redirect a file with < FILE, or several with cat FILE .. |"),
 ]
 
 

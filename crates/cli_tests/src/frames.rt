@@ -17,6 +17,3 @@ pub const FED_TWICE: &str = "0101010201000000000000000100000000000000010172\n\n"
 
 /// The REPLY to it, at clock 2, in version 2, as a line.
 pub const REPLY: &str = "02020002000100000000000000000100000000000000020172\n";
-
-/// The words by which node 2 of 64 answers.
-pub const ANSWER_64: &str = "ra answer --node 2 --nodes 64";

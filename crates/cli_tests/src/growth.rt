@@ -104,7 +104,7 @@ fn try_line<T: AllocGlobal + Threads + Wait + Sync>(
     input: &str,
     output: &str,
 ) -> Result<Tried, bool> {
-    let Some(words) = words_of(rt.alloc(), line, None) else {
+    let Some(words) = words_of(rt.alloc(), line) else {
         return Err(true);
     };
     let (mut reader, mut page) = (input.as_bytes(), Page::new());
@@ -202,7 +202,7 @@ fn growth_of_the_version(rt: HostRuntime) {
 
 /// Draws the trace. A picture of which the writer has no room for the end has its beginning.
 fn try_drawing<T: AllocGlobal + Threads + Wait + Sync>(rt: &T) -> Result<Tried, bool> {
-    let Some(words) = words_of(rt.alloc(), "ra draw", None) else {
+    let Some(words) = words_of(rt.alloc(), "ra draw") else {
         return Err(true);
     };
     let (mut reader, mut page) = (TRACE.as_bytes(), Page::new());

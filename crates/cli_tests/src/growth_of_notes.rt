@@ -46,7 +46,7 @@ fn is_refused(words: &str, output: &Page, notes: &Page) -> bool {
 /// Runs `ra` on the words and the input. If memory runs out for the note alone, all else is as it should be.
 fn try_noted<T: AllocGlobal + Threads + Wait + Sync>(rt: &T, case: &Noted) -> Result<Tried, bool> {
     let alloc = rt.alloc();
-    let Some(words) = words_of(alloc, case.words, None) else {
+    let Some(words) = words_of(alloc, case.words) else {
         return Err(true);
     };
     let (mut output, mut notes) = (Page::new(), Page::new());

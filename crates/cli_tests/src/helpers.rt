@@ -10,26 +10,6 @@ use std::sync::Wait;
 use std::thread::Threads;
 use test_support::{FailingReader, failing_writer};
 
-/// A command, and what `ra` makes of it.
-pub struct Case {
-    /// What the case shows.
-    pub shows: &'static str,
-    /// The words, with a space between two.
-    pub words: &'static str,
-    pub input: &'static str,
-    pub status: u8,
-    pub output: &'static str,
-}
-
-/// A command that is refused.
-pub struct Refused {
-    /// The words, with a space between two.
-    pub words: &'static str,
-    pub input: &'static str,
-    /// The word that says why.
-    pub word: &'static str,
-}
-
 /// What `ra` answered, and what it printed.
 #[derive(Drop)]
 pub struct Answered {
@@ -45,23 +25,20 @@ fn push_word(alloc: Global, words: &mut Vec<String>, word: &str) -> bool {
     }
 }
 
-/// Adds the words of a line, and a last one where there is one, which may have spaces. Returns whether there was memory for them.
-fn push_words(alloc: Global, words: &mut Vec<String>, line: &str, last: Option<&str>) -> bool {
+/// Adds the words of a line, and returns whether there was memory for them.
+fn push_words(alloc: Global, words: &mut Vec<String>, line: &str) -> bool {
     for word in line.split(' ') {
         if !push_word(alloc, words, word) {
             return false;
         }
     }
-    match last {
-        Some(last) => push_word(alloc, words, last),
-        None => true,
-    }
+    true
 }
 
-/// Returns the words of a line, and a last one where there is one, or `None` where there is no memory for them.
-pub fn words_of(alloc: Global, line: &str, last: Option<&str>) -> Option<Vec<String>> {
+/// Returns the words of a line, or `None` if there is no memory for them.
+pub fn words_of(alloc: Global, line: &str) -> Option<Vec<String>> {
     let mut words = Vec::new(alloc);
-    if push_words(alloc, &mut words, line, last) {
+    if push_words(alloc, &mut words, line) {
         Some(words)
     } else {
         None
@@ -78,19 +55,14 @@ fn push_times(text: &mut String, piece: &str, times: u64) -> bool {
     true
 }
 
-/// Makes a text of a piece so many times, with what stands before and behind.
-pub fn repeated(
-    alloc: Global,
-    before: &str,
-    piece: &str,
-    times: u64,
-    behind: &str,
-) -> Option<String> {
+/// Makes a text of a piece so many times, or `None` if there is no memory for it.
+pub fn repeated(alloc: Global, piece: &str, times: u64) -> Option<String> {
     let mut text = String::new(alloc);
-    let is_made = text.push_str(before).is_ok()
-        && push_times(&mut text, piece, times)
-        && text.push_str(behind).is_ok();
-    if is_made { Some(text) } else { None }
+    if push_times(&mut text, piece, times) {
+        Some(text)
+    } else {
+        None
+    }
 }
 
 /// Ends the test with this text if something is not so. A call of it is cheaper to prove than `assert!` with a text.
@@ -101,11 +73,6 @@ pub fn assert_so<T: Abort>(rt: &T, is_so: bool, text: &str) {
 /// Ends the test with these two texts if something is not so.
 pub fn assert_so_of<T: Abort>(rt: &T, is_so: bool, words: &str, text: &str) {
     assert!(rt; is_so, "{words}: {text}");
-}
-
-/// Ends the test with the seed for which something is not so.
-pub fn assert_so_with_seed<T: Abort>(rt: &T, is_so: bool, seed: u64) {
-    assert!(rt; is_so, "seed {seed}");
 }
 
 /// Ends the test with the number of bytes after which something is not so.
@@ -132,16 +99,14 @@ pub fn answer_as_2_of_3<R: Read, W: Write>(
     answer(alloc, 2, 3, reader, writer)
 }
 
-/// Returns the status that `ra` answers to the words of a line, and a last one where there is one, or 255 where there is no memory
-/// for them.
+/// Returns the status that `ra` answers to the words of a line, or 255 if there is no memory for them.
 pub fn status_alone<T: AllocGlobal + Threads + Wait + Sync, R: BufRead, W: Write>(
     rt: &T,
     line: &str,
-    last: Option<&str>,
     reader: &mut R,
     writer: &mut W,
 ) -> u8 {
-    match words_of(rt.alloc(), line, last) {
+    match words_of(rt.alloc(), line) {
         Some(words) => status_of_words(rt, words.as_slice(), reader, writer),
         None => u8::MAX,
     }
@@ -151,34 +116,21 @@ pub fn status_alone<T: AllocGlobal + Threads + Wait + Sync, R: BufRead, W: Write
 fn status_of<T: AllocGlobal + Threads + Wait + Abort + Sync, R: BufRead + Send, W: Write + Send>(
     rt: &T,
     line: &str,
-    last: Option<&str>,
     reader: &mut R,
     writer: &mut W,
 ) -> u8 {
-    in_a_thread(rt, move || status_alone(rt, line, last, reader, writer))
+    in_a_thread(rt, move || status_alone(rt, line, reader, writer))
 }
 
-/// Returns what `ra` makes of the words of a line, and a last one where there is one, and what a reader gives.
+/// Returns what `ra` makes of the words of a line and what a reader gives.
 pub fn run_on<T: AllocGlobal + Threads + Wait + Abort + Sync, R: BufRead + Send>(
     rt: &T,
     line: &str,
-    last: Option<&str>,
     reader: &mut R,
 ) -> Answered {
     let mut output = Vec::new(rt.alloc());
-    let status = status_of(rt, line, last, reader, &mut output);
+    let status = status_of(rt, line, reader, &mut output);
     Answered { status, output }
-}
-
-/// Returns what `ra` makes of the words of a line, and a last one where there is one, and an input.
-pub fn run<T: AllocGlobal + Threads + Wait + Abort + Sync>(
-    rt: &T,
-    line: &str,
-    last: Option<&str>,
-    input: &str,
-) -> Answered {
-    let mut bytes = input.as_bytes();
-    run_on(rt, line, last, &mut bytes)
 }
 
 /// Returns whether bytes are those of a text. A call of it is cheaper to prove than a comparison.
@@ -191,74 +143,11 @@ pub fn is_answer(answered: &Answered, status: u8, text: &str) -> bool {
     answered.status == status && is_text(answered.output.as_slice(), text)
 }
 
-/// Returns whether two answers are the same.
-pub fn are_the_same(one: &Answered, other: &Answered) -> bool {
-    one.status == other.status && one.output.as_slice() == other.output.as_slice()
-}
-
-/// Returns whether `ra`, with the line of its words and an input, answers this status and prints this text.
-pub fn prints<T: AllocGlobal + Threads + Wait + Abort + Sync>(
-    rt: &T,
-    line: &str,
-    input: &str,
-    status: u8,
-    text: &str,
-) -> bool {
-    is_answer(&run(rt, line, None, input), status, text)
-}
-
-/// Ends the test where it does not.
-pub fn assert_answers<T: AllocGlobal + Threads + Wait + Abort + Sync>(
-    rt: &T,
-    line: &str,
-    input: &str,
-    status: u8,
-    text: &str,
-) {
-    assert_so(rt, prints(rt, line, input, status, text), line);
-}
-
-/// Returns whether `ra`, with the line of its words and an input, answers this status.
-pub fn has_status<T: AllocGlobal + Threads + Wait + Abort + Sync>(
-    rt: &T,
-    line: &str,
-    input: &str,
-    status: u8,
-) -> bool {
-    run(rt, line, None, input).status == status
-}
-
-/// Ends the test where `ra` makes something else of one of the commands.
-pub fn assert_meets<T: AllocGlobal + Threads + Wait + Abort + Sync>(rt: &T, cases: &[Case]) {
-    for case in cases {
-        let is_printed = prints(rt, case.words, case.input, case.status, case.output);
-        assert_so(rt, is_printed, case.shows);
-    }
-}
-
 /// Returns whether `ra` answers status 2, and prints the line of a refusal by this word.
 pub fn is_refusal(answered: &Answered, word: &str) -> bool {
     match answered.output.as_slice().strip_prefix(b"refused ") {
         Some(rest) => answered.status == 2 && rest.strip_suffix(b"\n") == Some(word.as_bytes()),
         None => false,
-    }
-}
-
-/// Returns whether `ra` refuses an input by this word, with status 2.
-pub fn refuses_input<T: AllocGlobal + Threads + Wait + Abort + Sync>(
-    rt: &T,
-    line: &str,
-    input: &str,
-    word: &str,
-) -> bool {
-    is_refusal(&run(rt, line, None, input), word)
-}
-
-/// Ends the test where `ra` does not refuse one of the commands by its word, with status 2.
-pub fn assert_refuses<T: AllocGlobal + Threads + Wait + Abort + Sync>(rt: &T, cases: &[Refused]) {
-    for case in cases {
-        let is_refused = refuses_input(rt, case.words, case.input, case.word);
-        assert_so_of(rt, is_refused, case.words, case.input);
     }
 }
 
@@ -306,7 +195,7 @@ pub fn is_read_fault<T: AllocGlobal + Threads + Wait + Abort + Sync>(
         before_fault: Some(before_fault),
         fault,
     };
-    let answered = run_on(rt, line, None, &mut reader);
+    let answered = run_on(rt, line, &mut reader);
     is_answer(&answered, 1, "refused Read\n") && bytes.get(before_fault..) == Some(reader.bytes)
 }
 
@@ -339,7 +228,7 @@ fn leaves_a_prefix<T: AllocGlobal + Threads + Wait + Abort + Sync>(
 ) -> bool {
     let mut reader = input.as_bytes();
     let mut writer = failing_writer(printed, before_fault, fault);
-    status_of(rt, line, None, &mut reader, &mut writer) == status
+    status_of(rt, line, &mut reader, &mut writer) == status
         && writer.has_taken(printed, before_fault)
 }
 

@@ -1,16 +1,50 @@
 //! The notes for a reader or a writer that fails, and what becomes of a command whose notes cannot be written.
-use crate::checks::ALONE;
 use crate::frames::{ANSWER, REPLY, REQUEST};
-use crate::helpers::{WRITER_FAULTS, assert_so_after, assert_so_of, is_text};
-use crate::notes::run_noted;
-use crate::scripts::{ONE_CLIENT, ONE_CLIENT_PRINTED};
-use ra_cli::{CommandFault, SeenWriter, refuse_words_with_note};
+use crate::helpers::{WRITER_FAULTS, assert_so_after, assert_so_of, is_text, words_of};
+use crate::scripts::{ONE_CLIENT, ONE_CLIENT_PRINTED, ONE_CLIENT_TRACE};
+use crate::threads::in_a_thread;
+use ra_cli::{CommandFault, SeenReader, SeenWriter, refuse_words_with_note, serve_with_notes};
 use std::alloc::Global;
 use std::io;
+use std::io::{BufRead, Write};
 use std::process::Abort;
 use std::sync::Wait;
 use std::thread::Threads;
 use test_support::{FailingReader, failing_writer};
+
+/// Returns the status that `ra` answers to the words of a line, or 255 if there is no memory for them.
+fn run_noted_alone<T: AllocGlobal + Threads + Wait + Sync, R: BufRead, W: Write, N: Write>(
+    rt: &T,
+    line: &str,
+    reader: &mut R,
+    writer: &mut W,
+    notes: &mut N,
+) -> u8 {
+    let alloc = rt.alloc();
+    let mut reader = SeenReader::new(alloc, reader);
+    let mut writer = SeenWriter::new(writer);
+    match words_of(alloc, line) {
+        Some(words) => serve_with_notes(
+            rt,
+            alloc,
+            words.as_slice(),
+            &mut reader,
+            &mut writer,
+            notes,
+        ),
+        None => u8::MAX,
+    }
+}
+
+/// The same by a thread, since the command may be one that waits for threads.
+fn run_noted<
+    T: AllocGlobal + Threads + Wait + Abort + Sync,
+    R: BufRead + Send,
+    W: Write + Send,
+    N: Write + Send,
+>(rt: &T, line: &str, reader: &mut R, writer: &mut W, notes: &mut N) -> u8 {
+    in_a_thread(rt, move || run_noted_alone(rt, line, reader, writer, notes))
+}
 
 #[test]
 fn a_reader_that_fails_is_said(rt: HostRuntime) {
@@ -21,7 +55,7 @@ fn a_reader_that_fails_is_said(rt: HostRuntime) {
         fault: io::ErrorKind::WouldBlock,
     };
     let (mut output, mut notes) = (Vec::new(rt.alloc()), Vec::new(rt.alloc()));
-    let status = run_noted(&rt, "ra sim", None, &mut reader, &mut output, &mut notes);
+    let status = run_noted(&rt, "ra sim", &mut reader, &mut output, &mut notes);
     assert!(rt; status == 1 && output.as_slice() == b"refused Read\n".as_slice());
     assert!(rt; notes.as_slice() == b"ra: cannot read standard input\n".as_slice());
 }
@@ -68,7 +102,7 @@ const BROKEN: &[Broken] = &[
     Broken {
         words: "ra sim --trace",
         input: ONE_CLIENT,
-        printed: ALONE,
+        printed: ONE_CLIENT_TRACE,
         note: "",
     },
     Broken {
@@ -97,7 +131,7 @@ const BROKEN: &[Broken] = &[
     },
     Broken {
         words: "ra check",
-        input: ALONE,
+        input: ONE_CLIENT_TRACE,
         printed: "valid\nrequests 1\n",
         note: "",
     },
@@ -121,7 +155,7 @@ const BROKEN: &[Broken] = &[
     },
     Broken {
         words: "ra draw",
-        input: ALONE,
+        input: ONE_CLIENT_TRACE,
         printed: "<svg xmlns=",
         note: "",
     },
@@ -173,7 +207,7 @@ fn breaks_off<T: AllocGlobal + Threads + Wait + Abort + Sync>(
     let (mut input, printed) = (case.input.as_bytes(), case.printed.as_bytes());
     let mut writer = failing_writer(printed, 7, fault);
     let mut notes = Vec::new(rt.alloc());
-    let status = run_noted(rt, case.words, None, &mut input, &mut writer, &mut notes);
+    let status = run_noted(rt, case.words, &mut input, &mut writer, &mut notes);
     status == 1
         && writer.has_taken(printed, 7)
         && notes.as_slice().strip_prefix(case.note.as_bytes()) == Some(said.as_bytes())
@@ -207,7 +241,7 @@ fn says_both<T: AllocGlobal + Threads + Wait + Abort + Sync>(rt: &T) -> bool {
     };
     let mut writer = failing_writer("refused Read\n".as_bytes(), 7, Some(io::ErrorKind::Other));
     let mut notes = Vec::new(rt.alloc());
-    let status = run_noted(rt, "ra sim", None, &mut reader, &mut writer, &mut notes);
+    let status = run_noted(rt, "ra sim", &mut reader, &mut writer, &mut notes);
     let said = "ra: cannot read standard input\nra: cannot write to standard output\n";
     status == 1 && is_text(notes.as_slice(), said)
 }
@@ -247,17 +281,10 @@ fn changes_nothing<T: AllocGlobal + Threads + Wait + Abort + Sync>(
     place: usize,
     fault: Option<io::ErrorKind>,
 ) -> bool {
-    let mut input = ALONE.as_bytes();
+    let mut input = ONE_CLIENT_TRACE.as_bytes();
     let mut output = Vec::new(rt.alloc());
     let mut notes = failing_writer(NO_MARK.as_bytes(), place, fault);
-    let status = run_noted(
-        rt,
-        "ra check --marks",
-        None,
-        &mut input,
-        &mut output,
-        &mut notes,
-    );
+    let status = run_noted(rt, "ra check --marks", &mut input, &mut output, &mut notes);
     let is_same = status == 3 && is_text(output.as_slice(), "invalid 1 Line\n");
     is_same && notes.has_taken(NO_MARK.as_bytes(), place)
 }

@@ -1,11 +1,10 @@
 //! Readers that fail while a command reads its input, and writers that fail while it prints.
-use crate::checks;
 use crate::frames::{ANSWER, FED_TWICE, FOLLOWED, REPLY, REQUEST, REQUEST_LINE};
 use crate::helpers::{
     FAULTS, WRITER_FAULTS, answer_as_2_of_3, assert_fails_at_each_byte, assert_fails_in_prefixes,
-    assert_so, assert_so_after, assert_written, is_read_fault, repeated,
+    assert_so, assert_so_after, assert_written, is_read_fault, is_text, repeated,
 };
-use crate::scripts::{ONE_CLIENT, ONE_CLIENT_PRINTED};
+use crate::scripts::{A_KEEPER, ONE_CLIENT, ONE_CLIENT_PRINTED, ONE_CLIENT_TRACE, TWO_NAMES};
 use ra_cli::AnswerError;
 use std::alloc::Global;
 use std::io;
@@ -73,7 +72,7 @@ fn a_reader_is_not_asked_behind_its_end(rt: HostRuntime) {
 
 /// Returns whether each fault after 257 digits is one of `answer`, which `ra` prints.
 fn are_faults_behind_digits<T: AllocGlobal + Threads + Wait + Abort + Sync>(rt: &T) -> bool {
-    match repeated(rt.alloc(), "", "0", 257, "") {
+    match repeated(rt.alloc(), "0", 257) {
         Some(too_long) => are_faults(rt, too_long.as_bytes(), too_long.len()),
         None => false,
     }
@@ -138,6 +137,87 @@ fn a_writer_that_fails_has_a_prefix_of_the_lines(rt: HostRuntime) {
     let traced = "ra sim --trace";
     assert_fails_in_prefixes(&rt, "ra sim", ONE_CLIENT, ONE_CLIENT_PRINTED);
     assert_written(&rt, "ra sim", ONE_CLIENT, ONE_CLIENT_PRINTED, 0);
-    assert_fails_in_prefixes(&rt, traced, ONE_CLIENT, checks::ALONE);
-    assert_written(&rt, traced, ONE_CLIENT, checks::ALONE, 0);
+    assert_fails_in_prefixes(&rt, traced, ONE_CLIENT, ONE_CLIENT_TRACE);
+    assert_written(&rt, traced, ONE_CLIENT, ONE_CLIENT_TRACE, 0);
+}
+
+/// Returns whether a request of node 1 is answered by `answer` itself.
+fn replies(alloc: Global) -> bool {
+    let mut reader = REQUEST.as_bytes();
+    let mut output = Vec::new(alloc);
+    let answered = answer_as_2_of_3(alloc, &mut reader, &mut output);
+    answered.is_ok() && is_text(output.as_slice(), REPLY)
+}
+
+#[test]
+fn answer_writes_the_reply_with_ample_memory(rt: HostRuntime) {
+    assert!(rt; replies(rt.alloc()));
+}
+
+/// Ends the test unless the fault of a reader that fails after the last byte of a script is printed.
+fn assert_fails_at_the_end<T: AllocGlobal + Threads + Wait + Abort + Sync>(rt: &T, script: &str) {
+    let (bytes, fault) = (script.as_bytes(), io::ErrorKind::Interrupted);
+    let is_fault = is_read_fault(rt, "ra cluster", bytes, script.len(), fault);
+    assert_so(rt, is_fault, script);
+}
+
+#[test]
+fn a_fault_of_the_reader_comes_before_what_is_wrong_with_the_script(rt: HostRuntime) {
+    assert_fails_at_the_end(&rt, ONE_CLIENT);
+    assert_fails_at_the_end(&rt, "nodes = ");
+    assert_fails_at_the_end(&rt, A_KEEPER);
+    assert_fails_at_the_end(&rt, TWO_NAMES);
+}
+
+#[test]
+fn a_writer_that_fails_has_a_prefix_of_what_the_threads_did(rt: HostRuntime) {
+    assert_fails_in_prefixes(&rt, "ra cluster", ONE_CLIENT, ONE_CLIENT_PRINTED);
+    assert_fails_in_prefixes(&rt, "ra cluster --trace", ONE_CLIENT, ONE_CLIENT_TRACE);
+    assert_fails_in_prefixes(&rt, "ra cluster", TWO_NAMES, "refused OutOfOrder\n");
+    // The writer fails only if something is left to be written.
+    assert_written(&rt, "ra cluster", ONE_CLIENT, ONE_CLIENT_PRINTED, 0);
+}
+
+#[test]
+fn a_reader_that_fails_behind_any_byte_of_a_trace_is_a_fault(rt: HostRuntime) {
+    assert_fails_at_each_byte(&rt, "ra check", ONE_CLIENT_TRACE.as_bytes());
+}
+
+#[test]
+fn a_writer_that_fails_has_a_prefix_of_the_verdict(rt: HostRuntime) {
+    let printed = "valid\nrequests 1\nmessages 2\n";
+    assert_fails_in_prefixes(&rt, "ra check", ONE_CLIENT_TRACE, printed);
+    assert_written(&rt, "ra check", ONE_CLIENT_TRACE, printed, 0);
+}
+
+/// The log of a service in which two writers take turns.
+const IN_TURN: &str = "request 1 17 orders X 41
+enter 1 17 orders X 41
+request 2 8 orders X 42
+leave 1 17 orders X 41
+enter 2 8 orders X 42
+";
+
+/// What is said of it.
+const IN_TURN_VERDICT: &str = "valid\nrequests 2\ngrants 2\n";
+
+/// The log of a service that lets the second in beside the first.
+const BOTH_INSIDE: &str = "request 1 17 orders X 41
+enter 1 17 orders X 41
+request 2 8 orders X 42
+enter 2 8 orders X 42
+leave 1 17 orders X 41
+leave 2 8 orders X 42
+";
+
+#[test]
+fn a_reader_that_fails_behind_any_byte_of_a_log_is_a_fault(rt: HostRuntime) {
+    assert_fails_at_each_byte(&rt, "ra check --marks", IN_TURN.as_bytes());
+}
+
+#[test]
+fn a_writer_that_fails_has_a_prefix_of_the_verdict_on_marks(rt: HostRuntime) {
+    assert_fails_in_prefixes(&rt, "ra check --marks", IN_TURN, IN_TURN_VERDICT);
+    assert_written(&rt, "ra check --marks", IN_TURN, IN_TURN_VERDICT, 0);
+    assert_fails_in_prefixes(&rt, "ra check --marks", BOTH_INSIDE, "invalid 4 Held\n");
 }
