@@ -1,7 +1,7 @@
 //! What a cluster, its clients and its auditor do and show, act by act. Frames come that no node sent.
 use crate::audits::{Came, Shown, fault_of};
-use crate::cluster_calls::{lock, new_cluster, site_of, unlock};
-use crate::helpers::{closed, in_a_thread, r, request};
+use crate::cluster_calls::{books_at_the_end, clusters_of, lock, site_of, unlock};
+use crate::helpers::{in_a_thread, r, request};
 use crate::shown::{Ended, have_ended};
 use crate::site_cluster;
 use crate::site_cluster::{make_cluster, send};
@@ -210,11 +210,15 @@ fn comes<R: Wait>(
     from: u16,
     to: u16,
     name: Name,
-) -> Option<bool> {
-    let site = site_of(cluster, to)?;
-    let (carrier, others) = (make_cluster(alloc, 2)?, make_cluster(alloc, 2)?);
+) -> bool {
     let message = request(name, from, to, Mode::Exclusive);
-    Some(carries(rt, alloc, &carrier, &others, site, clock, message))
+    let (carriers, others) = (make_cluster(alloc, 2), make_cluster(alloc, 2));
+    match (carriers.first(), others.first(), site_of(cluster, to)) {
+        (Some(carrier), Some(others), Some(site)) => {
+            carries(rt, alloc, carrier, others, site, clock, message)
+        }
+        _ => false,
+    }
 }
 
 /// Returns whether the auditor has this run.
@@ -245,6 +249,29 @@ fn has_at<R: Wait>(
     }
 }
 
+/// Returns whether this happens in the cluster, or is shown by it.
+fn happens<R: Wait>(
+    rt: &R,
+    alloc: Global,
+    cluster: &Cluster<OpenGate>,
+    name: Name,
+    act: Act,
+) -> bool {
+    match act {
+        Enters => lock(rt, alloc, cluster, 1, 1, &name, Mode::Exclusive).is_ok(),
+        Leaves => unlock(rt, alloc, cluster, 1, 1, &name).is_ok(),
+        Asks(node, mode) => asks(rt, alloc, cluster, &name, node, mode),
+        Comes(clock, from, to) => comes(rt, alloc, cluster, clock, from, to, name),
+        AuditsAnew(answer) => audits_anew(rt, alloc, cluster, name, answer),
+        HasAt(node, clock, events) => has_at(rt, cluster, node, clock, events),
+        Stops(stop) => {
+            cluster.stop(rt, stop);
+            true
+        }
+        _ => false,
+    }
+}
+
 /// Returns whether this is done or shown.
 fn does<R: Wait>(
     rt: &R,
@@ -255,20 +282,11 @@ fn does<R: Wait>(
     act: Act,
 ) -> bool {
     match act {
-        Enters => lock(rt, alloc, cluster, 1, 1, &name, Mode::Exclusive).is_ok(),
-        Leaves => unlock(rt, alloc, cluster, 1, 1, &name).is_ok(),
-        Asks(node, mode) => asks(rt, alloc, cluster, &name, node, mode),
-        Comes(clock, from, to) => comes(rt, alloc, cluster, clock, from, to, name) == Some(true),
         Audits(answer) => audits(rt, alloc, cluster, auditor, name, answer),
-        AuditsAnew(answer) => audits_anew(rt, alloc, cluster, name, answer),
         Ends(answer) => is_due(name, answer, last_round(rt, alloc, cluster, auditor)),
         Shows(shown) => shows(auditor, shown),
         Waits(events) => waits(auditor, events),
-        HasAt(node, clock, events) => has_at(rt, cluster, node, clock, events),
-        Stops(stop) => {
-            cluster.stop(rt, stop);
-            true
-        }
+        other => happens(rt, alloc, cluster, name, other),
     }
 }
 
@@ -289,18 +307,22 @@ fn done<R: Wait>(
     acts.len()
 }
 
-/// Makes a cluster, audited or not.
-pub fn cluster_of(alloc: Global, made: Made) -> Option<Cluster<OpenGate>> {
-    if made.is_audited {
-        new_audited(alloc, made.nodes).ok()
-    } else {
-        new_cluster(alloc, made.nodes, 0, OpenGate).ok()
+/// Makes a cluster of this many nodes that is audited, or none if it cannot be made.
+fn audited_clusters(alloc: Global, nodes: u16) -> Vec<Cluster<OpenGate>> {
+    let mut all = Vec::new(alloc);
+    if let Ok(cluster) = new_audited(alloc, nodes) {
+        let _added = all.push(cluster);
     }
+    all
 }
 
-/// Closes a cluster, and returns whether its books have ended so.
-pub fn has_ended(alloc: Global, cluster: Cluster<OpenGate>, ended: &[Ended]) -> bool {
-    have_ended(&closed(alloc, cluster), ended)
+/// Makes a cluster, audited or not, or none if it cannot be made.
+pub fn clusters_as(alloc: Global, made: Made) -> Vec<Cluster<OpenGate>> {
+    if made.is_audited {
+        audited_clusters(alloc, made.nodes)
+    } else {
+        clusters_of(alloc, made.nodes, 0, OpenGate)
+    }
 }
 
 /// What is done with a cluster and its auditor, in a few words, and how its books end.
@@ -315,17 +337,30 @@ pub struct Row {
     pub ended: &'static [Ended],
 }
 
+/// Has a cluster and this auditor do and show all of this, and closes the cluster. Returns how many were done up to the first that was
+/// not, or one more if the books have ended so, too; or `None` if there is no such cluster.
+fn outcome_with<R: Wait>(rt: &R, alloc: Global, row: &Row, auditor: &mut Auditor) -> Option<usize> {
+    let Some(name) = r() else {
+        return None;
+    };
+    let mut clusters = clusters_as(alloc, row.made);
+    let done = match clusters.get_mut(0) {
+        Some(cluster) => Some(done(rt, alloc, cluster, auditor, name, row.acts)),
+        None => None,
+    };
+    let have_ended = have_ended(&books_at_the_end(alloc, clusters), row.ended);
+    match done {
+        Some(done) => Some(done.saturating_add(usize::from(have_ended))),
+        None => None,
+    }
+}
+
 /// Has a cluster and an auditor do and show all of this, and closes the cluster. Returns how many were done up to the first that was
 /// not, or one more if the books have ended so, too; or `None` if there are no such cluster and auditor.
 fn outcome<R: Wait>(rt: &R, alloc: Global, row: &Row) -> Option<usize> {
-    let name = r()?;
-    let mut auditor = Auditor::new(alloc, row.made.auditor.0, row.made.auditor.1).ok()?;
-    let mut cluster = cluster_of(alloc, row.made)?;
-    let done = done(rt, alloc, &mut cluster, &mut auditor, name, row.acts);
-    if has_ended(alloc, cluster, row.ended) {
-        Some(done.saturating_add(1))
-    } else {
-        Some(done)
+    match Auditor::new(alloc, row.made.auditor.0, row.made.auditor.1) {
+        Ok(mut auditor) => outcome_with(rt, alloc, row, &mut auditor),
+        Err(_) => None,
     }
 }
 

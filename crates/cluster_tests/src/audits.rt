@@ -3,7 +3,7 @@ use crate::books::Call::{Ask, Receive};
 use crate::books::Step::Takes;
 use crate::books::{ASK, ASKS, Wire, message};
 use crate::growth_of_settling::ONE_LOCK;
-use crate::helpers::{entry, r};
+use crate::helpers::{assert_at, entry, r};
 use crate::histories::Done::At;
 use crate::histories::{Done, ONE, TWO, books_after};
 use Act::{Advances, AdvancesInParts, Finds, Gets, Has, Leaves};
@@ -125,10 +125,16 @@ fn gets_part(
     part: Part,
 ) -> Option<Tried> {
     let Part(number, first, until, after) = part;
-    let node = NodeId::new(number)?;
-    let book = books.get(usize::from(number).wrapping_sub(1))?;
-    let events = book.events().as_slice().get(first..until)?;
-    Some(gets(auditor, observer, node, after, events))
+    let (Some(node), Some(book)) = (
+        NodeId::new(number),
+        books.get(usize::from(number).wrapping_sub(1)),
+    ) else {
+        return None;
+    };
+    match book.events().as_slice().get(first..until) {
+        Some(events) => Some(gets(auditor, observer, node, after, events)),
+        None => None,
+    }
 }
 
 /// Puts all that can be put into the run, of which callers know the answer alone, so that their proofs are short.
@@ -161,12 +167,16 @@ fn advances(
 /// Returns the event with its node.
 pub fn fault_of(name: Name, came: Came) -> Option<AuditFault> {
     let Came(number, clock, sent, wire) = came;
-    let node = NodeId::new(number)?;
-    let frame = Frame {
-        clock: sent,
-        message: message(name, wire)?,
+    let Some(node) = NodeId::new(number) else {
+        return None;
     };
-    let kind = BookKind::Got(frame);
+    let Some(message) = message(name, wire) else {
+        return None;
+    };
+    let kind = BookKind::Got(Frame {
+        clock: sent,
+        message,
+    });
     Some(AuditFault {
         node,
         event: BookEvent { clock, kind },
@@ -258,17 +268,34 @@ fn all_acts(
     Ok(tried)
 }
 
-/// Has an auditor of two nodes do all of this with their books. Returns `None` if memory ran out before.
-pub fn audited(alloc: Global, books: &[Book], all: &[Act]) -> Option<Result<Tried, usize>> {
-    let name = r()?;
-    let mut auditor = Auditor::new(alloc, 2, 0).ok()?;
+/// Has this auditor do all of this with the books of two nodes.
+fn audited_by(
+    alloc: Global,
+    auditor: &mut Auditor,
+    books: &[Book],
+    all: &[Act],
+) -> Option<Result<Tried, usize>> {
+    let Some(name) = r() else {
+        return None;
+    };
+    let Some(entry) = entry(name, 1, 1, Mode::Exclusive, 1) else {
+        return None;
+    };
     let mut observer = Compares {
         told: Told::new(),
-        entry: entry(name, 1, 1, Mode::Exclusive, 1)?,
+        entry,
         place: 0,
         are_equal: true,
     };
-    Some(all_acts(alloc, &mut auditor, &mut observer, books, name, all))
+    Some(all_acts(alloc, auditor, &mut observer, books, name, all))
+}
+
+/// Has an auditor of two nodes do all of this with their books. Returns `None` if memory ran out before.
+pub fn audited(alloc: Global, books: &[Book], all: &[Act]) -> Option<Result<Tried, usize>> {
+    match Auditor::new(alloc, 2, 0) {
+        Ok(mut auditor) => audited_by(alloc, &mut auditor, books, all),
+        Err(_) => None,
+    }
 }
 
 /// What is done to the books of two nodes, in a few words, and what an auditor does and shows then.
@@ -280,13 +307,18 @@ struct Row {
 
 /// Ends the test unless an auditor does and shows all of a row.
 fn assert_audited<R: Abort + AllocGlobal>(rt: &R, row: &Row) {
-    let Ok(books) = books_after(rt.alloc(), &[ONE, TWO], row.done) else {
-        panic!(rt; "{}: the books are made", row.words);
-    };
-    match audited(rt.alloc(), &books, row.acts) {
+    let past = books_after(rt.alloc(), &[ONE, TWO], row.done);
+    assert_at(
+        rt,
+        past.is_whole,
+        row.words,
+        "what is done to the books at",
+        past.done,
+    );
+    match audited(rt.alloc(), &past.books, row.acts) {
         Some(Ok(_)) => {}
-        Some(Err(place)) => panic!(rt; "{}: act {place}, counted from 0", row.words),
-        None => panic!(rt; "{}: the auditor is made", row.words),
+        Some(Err(place)) => assert_at(rt, false, row.words, "act", place),
+        None => assert_at(rt, false, row.words, "there is no auditor for act", 0),
     }
 }
 

@@ -1,6 +1,6 @@
 //! What the tests of books share: the steps that a book does or shows, one after another.
 use crate::helpers;
-use crate::helpers::{bytes_of, new_book, r};
+use crate::helpers::bytes_of;
 use Call::{Ask, Leave, Receive};
 use Step::{
     Asked, Fails, Gave, Got, Has, HasFault, IsFree, IsHeld, IsNew, Loses, Posts, Refuses,
@@ -118,12 +118,7 @@ pub fn message(name: Name, wire: Wire) -> Option<Message> {
 }
 
 /// Makes a call of a book.
-pub fn make(
-    alloc: Global,
-    book: &mut Book,
-    name: Name,
-    call: Call<'_>,
-) -> Result<Posted, BookError> {
+fn make(alloc: Global, book: &mut Book, name: Name, call: Call<'_>) -> Result<Posted, BookError> {
     match call {
         Ask(client, mode) => book.ask(alloc, client, name, mode),
         Leave(client) => book.leave(alloc, client, name),
@@ -131,14 +126,11 @@ pub fn make(
     }
 }
 
-fn takes(alloc: Global, book: &mut Book, name: Name, call: Call<'_>) -> bool {
-    make(alloc, book, name, call).is_ok()
-}
-
-fn refuses(alloc: Global, book: &mut Book, name: Name, call: Call<'_>, fault: BookError) -> bool {
+/// Makes a call of a book. Returns why it is refused, or `None` if it is taken.
+pub fn refusal(alloc: Global, book: &mut Book, name: Name, call: Call<'_>) -> Option<BookError> {
     match make(alloc, book, name, call) {
-        Ok(_) => false,
-        Err(found) => found == fault,
+        Ok(_) => None,
+        Err(fault) => Some(fault),
     }
 }
 
@@ -162,7 +154,9 @@ fn has_frame(alloc: Global, posted: &Posted, text: Option<&[u8; 25]>) -> bool {
 
 /// Returns the mark for what becomes of client 1's request.
 fn mark(name: Name, turn: Turn) -> Option<Mark> {
-    let entry = entry(name)?;
+    let Some(entry) = entry(name) else {
+        return None;
+    };
     match turn {
         Turn::Requested => Some(Mark::Requested(entry)),
         Turn::Entered => Some(Mark::Entered(entry)),
@@ -249,19 +243,10 @@ fn is_new(book: &Book, name: &Name) -> bool {
         && book.node().highest(name) == 7
 }
 
-/// Returns whether a book does or shows this step.
-pub fn does(alloc: Global, book: &mut Book, name: Name, step: Step<'_>) -> bool {
+/// Returns whether a book shows this.
+fn shows(book: &Book, name: Name, step: Step<'_>) -> bool {
     match step {
-        Takes(call) => takes(alloc, book, name, call),
-        Posts(call, text, turn) => posts(alloc, book, name, call, text, turn),
-        Refuses(call, fault) => refuses(alloc, book, name, call, fault),
-        Fails(stop) => {
-            book.fail(stop);
-            true
-        }
         HasFault(stop) => book.fault() == Some(stop),
-        Loses(clock) => loses(book, name, clock, None),
-        RefusesToLose(clock, fault) => loses(book, name, clock, Some(fault)),
         Has(events, sent, clock) => has(book, events, sent, clock),
         WasSent(place, clock, wire, lost) => was_sent(book, name, place, clock, wire, lost),
         Asked(place, clock) => {
@@ -273,31 +258,22 @@ pub fn does(alloc: Global, book: &mut Book, name: Name, step: Step<'_>) -> bool 
         IsFree => book.holder(&name).is_none(),
         IsHeld => book.holder(&name) == entry(name),
         IsNew => is_new(book, &name),
+        Takes(_) | Posts(..) | Refuses(..) | Fails(_) | Loses(_) | RefusesToLose(..) => false,
     }
 }
 
-/// Returns how many of these steps a book does and shows, in order, before the first that it does not.
-fn done(alloc: Global, book: &mut Book, name: Name, steps: &[Step<'_>]) -> usize {
-    for place in 0..steps.len() {
-        if !does(alloc, book, name, steps[place]) {
-            return place;
+/// Returns whether a book does or shows this step.
+pub fn does(alloc: Global, book: &mut Book, name: Name, step: Step<'_>) -> bool {
+    match step {
+        Takes(call) => refusal(alloc, book, name, call).is_none(),
+        Posts(call, text, turn) => posts(alloc, book, name, call, text, turn),
+        Refuses(call, fault) => refusal(alloc, book, name, call) == Some(fault),
+        Fails(stop) => {
+            book.fail(stop);
+            true
         }
-    }
-    steps.len()
-}
-
-/// Returns how many of these steps the book of node `me` of `nodes` that begins at `start` does and shows, in order,
-/// before the first that it does not, or `None` if there is no such book.
-pub fn done_by(
-    alloc: Global,
-    me: u16,
-    nodes: u16,
-    start: u64,
-    steps: &[Step<'_>],
-) -> Option<usize> {
-    let name = r()?;
-    match new_book(alloc, me, nodes, start) {
-        Ok(mut book) => Some(done(alloc, &mut book, name, steps)),
-        Err(_) => None,
+        Loses(clock) => loses(book, name, clock, None),
+        RefusesToLose(clock, fault) => loses(book, name, clock, Some(fault)),
+        shown => shows(book, name, shown),
     }
 }

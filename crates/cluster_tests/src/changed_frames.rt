@@ -1,8 +1,9 @@
 //! Frames of which one byte is another, or of which the last bytes are missing: whether a book takes them, and that it is as before
 //! where it does not.
 use crate::books::Call::Receive;
-use crate::books::{ASK, ASKS, ASKS_1, has, make};
-use crate::helpers::{new_book, r};
+use crate::books::{ASK, ASKS, ASKS_1, has, refusal};
+use crate::helpers::r;
+use crate::histories::{Made, new_books};
 use ra_cluster::{Book, BookError};
 use ra_frame::FrameError;
 use ra_stamp::Name;
@@ -55,22 +56,32 @@ fn outcome_at(
     name: &Name,
     bytes: &[u8],
 ) -> Option<Result<(), BookError>> {
-    if make(alloc, book, *name, ASK).is_err() {
+    if refusal(alloc, book, *name, ASK).is_some() {
         return None;
     }
-    match make(alloc, book, *name, Receive(bytes)) {
-        Ok(_) if book.events().len() == 2 => Some(Ok(())),
-        Err(fault) if is_as_before(book, name) => Some(Err(fault)),
+    match refusal(alloc, book, *name, Receive(bytes)) {
+        None if book.events().len() == 2 => Some(Ok(())),
+        Some(fault) if is_as_before(book, name) => Some(Err(fault)),
         _ => None,
     }
 }
 
+/// The book of node 2 of three.
+const TWO_OF_THREE: Made = Made {
+    me: 2,
+    nodes: 3,
+    start: 0,
+};
+
 /// The same for the book of node 2 of 3 and the name `r`.
 fn outcome(alloc: Global, bytes: &[u8]) -> Option<Result<(), BookError>> {
-    let name = r()?;
-    match new_book(alloc, 2, 3, 0) {
-        Ok(mut book) => outcome_at(alloc, &mut book, &name, bytes),
-        Err(_) => None,
+    let Some(name) = r() else {
+        return None;
+    };
+    let mut books = new_books(alloc, &[TWO_OF_THREE]);
+    match books.get_mut(0) {
+        Some(book) => outcome_at(alloc, book, &name, bytes),
+        None => None,
     }
 }
 

@@ -5,7 +5,7 @@ use Act::{
     HasGranted, HasNoNode, HaveEnded, LetsSleep, Locks, RefusesToLock, RefusesToUnlock,
     RefusesToUse, Sees, Starts, Stops, Unlocks, UsesUntilAStop,
 };
-use ra_cluster::{CallError, Cluster, Grant, SiteError, Stop};
+use ra_cluster::{Book, CallError, Cluster, Grant, SiteError, Stop};
 use ra_stamp::{Mode, Name, NodeId};
 use std::alloc::Global;
 use std::process::Abort;
@@ -129,7 +129,9 @@ struct Stage {
 
 /// Returns what a watchdog sees of a node once its book has this many events, for which it looks many times.
 fn seen_after<R: Wait>(rt: &R, stage: &Stage, number: u16, events: u64) -> Option<Seen> {
-    let site = site_of(&stage.cluster, number)?;
+    let Some(site) = site_of(&stage.cluster, number) else {
+        return None;
+    };
     for _ in 0..1_000_000u32 {
         if site.events(rt) >= events {
             break;
@@ -261,8 +263,8 @@ fn work<R: Wait>(rt: &R, alloc: Global, stage: &Stage, task: Task) {
     stage.ended.fetch_add(1, Ordering::SeqCst);
 }
 
-/// Returns whether this is done or shown on the thread of the test.
-fn does<R: Wait>(rt: &R, alloc: Global, stage: &Stage, act: Act) -> bool {
+/// Returns whether a client does this, or is refused, on the thread of the test.
+fn calls<R: Wait>(rt: &R, alloc: Global, stage: &Stage, act: Act) -> bool {
     let r = &stage.r;
     match act {
         Locks(number, client, seq) => locks(rt, alloc, stage, number, client, r, Ok(seq)),
@@ -287,6 +289,13 @@ fn does<R: Wait>(rt: &R, alloc: Global, stage: &Stage, act: Act) -> bool {
         RefusesToUse(number, client, fault) => {
             uses(rt, alloc, stage, number, client, None, Err(fault))
         }
+        _ => false,
+    }
+}
+
+/// Returns whether this is done or shown on the thread of the test.
+fn does<R: Wait>(rt: &R, alloc: Global, stage: &Stage, act: Act) -> bool {
+    match act {
         HasGranted(number, client, seq) => is_granted(rt, stage, number, client, seq),
         HasNoNode(number) => {
             carries(rt, alloc, stage, number) && site_of(&stage.cluster, number).is_none()
@@ -294,10 +303,11 @@ fn does<R: Wait>(rt: &R, alloc: Global, stage: &Stage, act: Act) -> bool {
         Sees(number, seen) => sees(rt, stage, number, seen),
         HaveEnded(threads) => comes_to(&stage.ended, threads),
         LetsSleep => lets_sleep(),
-        Stops | Starts(_) => {
+        Stops => {
             stage.cluster.stop(rt, stage.cause);
             true
         }
+        call => calls(rt, alloc, stage, call),
     }
 }
 
@@ -341,26 +351,30 @@ fn done<R: Threads + Wait + Abort + Sync>(
 #[derive(Clone, Copy)]
 struct Wrong(&'static str, usize);
 
-/// Makes the cluster of a row, and what its threads share.
-fn stage_of(alloc: Global, row: &Row, cause: Stop) -> Option<Stage> {
-    let (r, s) = (Name::new(b"r").ok()?, Name::new(b"s").ok()?);
-    let cluster = new_cluster(alloc, row.nodes, row.start, Counting::open()).ok()?;
-    Some(Stage {
-        cluster,
-        r,
-        s,
-        cause,
-        grant: Mutex::new(None),
-        came: Mutex::new(None),
-        ended: AtomicU64::new(0),
-        failed: AtomicU64::new(0),
-    })
+/// Makes the cluster of a row, and what its threads share, or nothing if it cannot be made.
+fn stages_of(alloc: Global, row: &Row, cause: Stop) -> Vec<Stage> {
+    let mut stages = Vec::new(alloc);
+    if let (Ok(r), Ok(s)) = (Name::new(b"r"), Name::new(b"s")) {
+        if let Ok(cluster) = new_cluster(alloc, row.nodes, row.start, Counting::open()) {
+            let _added = stages.push(Stage {
+                cluster,
+                r,
+                s,
+                cause,
+                grant: Mutex::new(None),
+                came: Mutex::new(None),
+                ended: AtomicU64::new(0),
+                failed: AtomicU64::new(0),
+            });
+        }
+    }
+    stages
 }
 
 /// Returns whether the books settle with a grant into a run with this many requests and messages.
 fn settle_into(
     alloc: Global,
-    cluster: Cluster<Counting>,
+    books: &[Book],
     grant: Option<Grant>,
     requests: u128,
     sent: u128,
@@ -368,49 +382,81 @@ fn settle_into(
     let Some(grant) = grant else {
         return false;
     };
-    let books = closed(alloc, cluster);
-    match settled(alloc, &books, &[grant]) {
-        Some(Ok(settled)) => settled.report.requests == requests && settled.report.sent == sent,
-        _ => false,
+    match settled(alloc, books, &[grant]) {
+        Ok(settled) => settled.report.requests == requests && settled.report.sent == sent,
+        Err(_) => false,
     }
 }
 
-/// Looks at the end of a cluster of which this many acts were done.
-fn wrong_at_the_end(alloc: Global, stage: Stage, row: &Row, done: usize) -> Option<Wrong> {
+/// Closes a cluster, and returns whether its books settle so with the last grant that was told.
+fn settles(alloc: Global, stage: Stage, requests: u128, sent: u128) -> bool {
+    let grant = stage.grant.into_inner();
+    let books = closed(alloc, stage.cluster);
+    settle_into(alloc, &books, grant, requests, sent)
+}
+
+/// Returns what is not as it should be with the books of a cluster that did all acts of a row.
+fn wrong_books(alloc: Global, mut stages: Vec<Stage>, row: &Row) -> Option<Wrong> {
+    let Some((requests, sent)) = row.settles else {
+        return None;
+    };
+    let is_settled = match stages.pop() {
+        Some(stage) => settles(alloc, stage, requests, sent),
+        None => false,
+    };
+    if is_settled {
+        None
+    } else {
+        Some(Wrong(
+            "the books, which do not settle so after act",
+            row.acts.len(),
+        ))
+    }
+}
+
+/// Looks whether a cluster did all acts of a row, of which it did this many, and so did its threads.
+fn wrong_in_acts(stage: &Stage, row: &Row, done: usize) -> Option<Wrong> {
     if done < row.acts.len() {
         return Some(Wrong("act", done));
     }
     if stage.failed.load(Ordering::SeqCst) != 0 {
         return Some(Wrong("a thread that was started before act", done));
     }
-    match row.settles {
-        Some((requests, sent)) => {
-            let grant = stage.grant.into_inner();
-            if settle_into(alloc, stage.cluster, grant, requests, sent) {
-                None
-            } else {
-                Some(Wrong("the books, which do not settle so after act", done))
-            }
-        }
+    None
+}
+
+/// Has a cluster do all acts of a row. Returns what is not as it should be, and what came, or `None` if all is as it should be.
+fn wrong_while<R: Threads + Wait + Abort + Sync>(
+    rt: &R,
+    alloc: Global,
+    stages: &[Stage],
+    row: &'static Row,
+) -> Option<(Wrong, Option<Came>)> {
+    let Some(stage) = stages.first() else {
+        return Some((Wrong("there is no such cluster, for act", 0), None));
+    };
+    let done = done(rt, alloc, stage, row);
+    match wrong_in_acts(stage, row, done) {
+        Some(wrong) => Some((wrong, *stage.came.lock(rt))),
         None => None,
     }
 }
 
-/// Has a cluster do and show all of a row. If it is stopped, that is for this cause. Returns what is not as it should be, and what
-/// came, or `None` if all is as it should be.
+/// Has a cluster do and show all of a row. If it is stopped, that is for this cause. Returns what is not as it should be, and
+/// what came, or `None` if all is as it should be.
 fn find_wrong<R: Threads + Wait + Abort + Sync>(
     rt: &R,
     alloc: Global,
     row: &'static Row,
     cause: Stop,
 ) -> Option<(Wrong, Option<Came>)> {
-    let Some(stage) = stage_of(alloc, row, cause) else {
-        return Some((Wrong("there is no such cluster, for act", 0), None));
-    };
-    let done = done(rt, alloc, &stage, row);
-    let came = *stage.came.lock(rt);
-    match wrong_at_the_end(alloc, stage, row, done) {
-        Some(wrong) => Some((wrong, came)),
+    let stages = stages_of(alloc, row, cause);
+    let wrong = wrong_while(rt, alloc, &stages, row);
+    if wrong.is_some() {
+        return wrong;
+    }
+    match wrong_books(alloc, stages, row) {
+        Some(wrong) => Some((wrong, None)),
         None => None,
     }
 }

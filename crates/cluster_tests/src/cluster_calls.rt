@@ -1,6 +1,6 @@
 //! Calls of a cluster. Their contracts are long, so tests make them by these functions, which have none.
 use crate::helpers::entry;
-use ra_cluster::{CallError, Cluster, Gate, Grant, Held, NewPostError, Site, Stop};
+use ra_cluster::{Book, CallError, Cluster, Gate, Grant, Held, NewPostError, Site, Stop};
 use ra_stamp::{Mode, Name, NodeId};
 use std::alloc::Global;
 use std::sync::Wait;
@@ -19,9 +19,36 @@ pub fn new_cluster<G: Gate + Drop>(
     Cluster::new(alloc, nodes, start, gate)
 }
 
+/// Makes a cluster that is not audited, or none if it cannot be made.
+///
+/// A cluster that a function owns is expensive to prove, so it is in a list that tests lend.
+pub fn clusters_of<G: Gate + Drop>(
+    alloc: Global,
+    nodes: u16,
+    start: u64,
+    gate: G,
+) -> Vec<Cluster<G>> {
+    let mut all = Vec::new(alloc);
+    if let Ok(cluster) = Cluster::new(alloc, nodes, start, gate) {
+        let _added = all.push(cluster);
+    }
+    all
+}
+
+/// Closes the cluster, and returns its books.
+pub fn books_at_the_end<G: Gate + Drop>(alloc: Global, mut all: Vec<Cluster<G>>) -> Vec<Book> {
+    match all.pop() {
+        Some(cluster) => cluster.close(alloc),
+        None => Vec::new(alloc),
+    }
+}
+
 /// Returns the site of a node.
 pub fn site_of<G: Gate + Drop>(cluster: &Cluster<G>, number: u16) -> Option<&Site> {
-    cluster.site(NodeId::new(number)?)
+    match NodeId::new(number) {
+        Some(node) => cluster.site(node),
+        None => None,
+    }
 }
 
 /// Has a client of a node lock a name.

@@ -1,6 +1,6 @@
 //! What a whole cluster answers if its gate or a stop ends it, and what its clients get.
-use crate::cluster_calls::{lock, new_cluster, site_of, use_name};
-use crate::helpers::{CAUSES, Counting, assert_prints, closed, in_a_thread, r};
+use crate::cluster_calls::{books_at_the_end, clusters_of, lock, site_of, use_name};
+use crate::helpers::{CAUSES, Counting, assert_prints, in_a_thread, r};
 use ra_cluster::{Book, BookError, CallError, Cluster, OpenGate, SiteError, Stop};
 use ra_stamp::{Mode, Name, NodeId};
 use std::alloc::Global;
@@ -60,14 +60,17 @@ fn work<R: Wait>(rt: &R, alloc: Global, cluster: &Cluster<&Counting>, name: &Nam
     }
 }
 
-/// Has it do so while the nodes carry their frames.
+/// Has it do so while the nodes carry their frames. Returns `None` if there is no cluster.
 fn work_while_carried<R: Threads + Wait + Sync>(
     rt: &R,
     alloc: Global,
-    cluster: &Cluster<&Counting>,
+    clusters: &[Cluster<&Counting>],
     name: &Name,
-) -> Met {
-    cluster.run(rt, alloc, || work(rt, alloc, cluster, name))
+) -> Option<Met> {
+    match clusters.first() {
+        Some(cluster) => Some(cluster.run(rt, alloc, || work(rt, alloc, cluster, name))),
+        None => None,
+    }
 }
 
 /// Returns how many events the books of two nodes have.
@@ -85,11 +88,17 @@ fn came<R: Threads + Wait + Sync>(
     alloc: Global,
     steps: u64,
 ) -> Option<(Met, u64, (u64, u64))> {
-    let (name, gate) = (r()?, Counting::new(steps, true));
-    let cluster = new_cluster(alloc, 2, 0, &gate).ok()?;
-    let met = work_while_carried(rt, alloc, &cluster, &name);
-    let events = events_of(&closed(alloc, cluster))?;
-    Some((met, gate.steps.load(Ordering::SeqCst), events))
+    let Some(name) = r() else {
+        return None;
+    };
+    let gate = Counting::new(steps, true);
+    let clusters = clusters_of(alloc, 2, 0, &gate);
+    let met = work_while_carried(rt, alloc, &clusters, &name);
+    let events = events_of(&books_at_the_end(alloc, clusters));
+    match (met, events) {
+        (Some(met), Some(events)) => Some((met, gate.steps.load(Ordering::SeqCst), events)),
+        _ => None,
+    }
 }
 
 /// Ends the test unless a client meets what a row says.
@@ -137,24 +146,50 @@ fn not_stopped_for<R: Wait>(
     None
 }
 
-/// Stops a cluster of this many nodes for this cause, and waits until the pumps end. Returns the first node that is not
-/// stopped for it, and why a client of the last node is refused then.
-fn after_a_stop<R: Wait>(
+/// Has the nodes carry their frames, one after the other. Returns whether there are such nodes.
+fn pumps_end<R: Wait>(rt: &R, alloc: Global, cluster: &Cluster<OpenGate>, nodes: u16) -> bool {
+    for number in 1..=nodes {
+        match NodeId::new(number) {
+            // It would wait forever if the post were open.
+            Some(node) => cluster.pump(rt, alloc, node),
+            None => return false,
+        }
+    }
+    true
+}
+
+/// What is seen of a cluster after a stop: the first node that is not stopped for its cause, with the cause for which it is stopped, and
+/// why a client of the last node is refused.
+type Stopped = (Option<(u16, Option<Stop>)>, Option<CallError>);
+
+/// Stops a cluster of this many nodes for this cause, and waits until the pumps end. Returns what is seen of it then.
+fn stop_and_look<R: Wait>(
     rt: &R,
     alloc: Global,
+    cluster: &Cluster<OpenGate>,
     nodes: u16,
     cause: Stop,
-) -> Option<(Option<(u16, Option<Stop>)>, Option<CallError>)> {
-    let (name, cluster) = (r()?, new_cluster(alloc, nodes, 0, OpenGate).ok()?);
+) -> Option<Stopped> {
+    let Some(name) = r() else {
+        return None;
+    };
     cluster.stop(rt, cause);
     // The first cause is kept.
     cluster.stop(rt, Stop::Gate);
-    for number in 1..=nodes {
-        // These would wait forever if the post were open.
-        cluster.pump(rt, alloc, NodeId::new(number)?);
+    if !pumps_end(rt, alloc, cluster, nodes) {
+        return None;
     }
-    let refused = lock(rt, alloc, &cluster, nodes, 1, &name, Mode::Shared).err();
-    Some((not_stopped_for(rt, &cluster, cause), refused))
+    let refused = lock(rt, alloc, cluster, nodes, 1, &name, Mode::Shared).err();
+    Some((not_stopped_for(rt, cluster, cause), refused))
+}
+
+/// Does this with a new cluster.
+fn after_a_stop<R: Wait>(rt: &R, alloc: Global, nodes: u16, cause: Stop) -> Option<Stopped> {
+    let clusters = clusters_of(alloc, nodes, 0, OpenGate);
+    match clusters.first() {
+        Some(cluster) => stop_and_look(rt, alloc, cluster, nodes, cause),
+        None => None,
+    }
 }
 
 /// Ends the test unless all nodes are stopped for this cause, and a client is refused since its node is stopped.
@@ -176,13 +211,29 @@ fn a_stop_of_a_cluster_stops_all_nodes_for_its_cause_and_ends_the_pumps(rt: Host
     }
 }
 
+/// Has a client lock a name twice. Returns why it is refused, or `None` if it is not.
+fn second_refusal<R: Wait>(
+    rt: &R,
+    alloc: Global,
+    cluster: &Cluster<OpenGate>,
+    name: &Name,
+) -> Option<CallError> {
+    let x = Mode::Exclusive;
+    match lock(rt, alloc, cluster, 1, 1, name, x) {
+        Ok(_) => lock(rt, alloc, cluster, 1, 1, name, x).err(),
+        Err(refused) => Some(refused),
+    }
+}
+
 /// Returns why a client of a single node, which locks a name twice, is refused, or `None` if it is not. Numbers begin after `start`.
 fn refusal_of<R: Wait>(rt: &R, alloc: Global, start: u64) -> Option<CallError> {
-    let (name, cluster) = (r()?, new_cluster(alloc, 1, start, OpenGate).ok()?);
-    let x = Mode::Exclusive;
-    match lock(rt, alloc, &cluster, 1, 1, &name, x) {
-        Ok(_) => lock(rt, alloc, &cluster, 1, 1, &name, x).err(),
-        Err(refused) => Some(refused),
+    let Some(name) = r() else {
+        return None;
+    };
+    let clusters = clusters_of(alloc, 1, start, OpenGate);
+    match clusters.first() {
+        Some(cluster) => second_refusal(rt, alloc, cluster, &name),
+        None => None,
     }
 }
 
@@ -215,9 +266,12 @@ fn why_a_call_of_a_cluster_failed_is_printed_as_its_word(rt: HostRuntime) {
 
 /// Returns what a closure returned that starts no client, and how many books there are then.
 fn runs_nothing<R: Threads + Wait + Sync>(rt: &R, alloc: Global) -> Option<(u8, usize)> {
-    let cluster = new_cluster(alloc, 3, 0, OpenGate).ok()?;
-    let value = cluster.run(rt, alloc, || -> u8 { 7 });
-    Some((value, closed(alloc, cluster).len()))
+    let clusters = clusters_of(alloc, 3, 0, OpenGate);
+    let value = match clusters.first() {
+        Some(cluster) => cluster.run(rt, alloc, || -> u8 { 7 }),
+        None => return None,
+    };
+    Some((value, books_at_the_end(alloc, clusters).len()))
 }
 
 #[test]

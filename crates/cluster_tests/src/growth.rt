@@ -1,7 +1,7 @@
 //! Each growth of a book is refused: the call answers that memory ran out, leaves everything as it was, and does what it
 //! should when it is made again.
 use crate::books::Call::{Ask, Receive};
-use crate::books::{ASK, ASKS, Call, LEAVE, REPLIES, has, make};
+use crate::books::{ASK, ASKS, Call, LEAVE, REPLIES, has, refusal};
 use crate::helpers::{new_book, r};
 use ra_cluster::{Book, BookError};
 use ra_stamp::{Mode, Name};
@@ -27,9 +27,9 @@ struct Kept(u64, u64, u64);
 
 /// Makes a call of a book. If it is refused, returns whether memory ran out.
 fn made_once(alloc: Global, book: &mut Book, name: Name, call: Call<'_>) -> Result<(), bool> {
-    match make(alloc, book, name, call) {
-        Ok(_) => Ok(()),
-        Err(fault) => Err(fault == BookError::Memory),
+    match refusal(alloc, book, name, call) {
+        None => Ok(()),
+        Some(fault) => Err(fault == BookError::Memory),
     }
 }
 
@@ -124,14 +124,22 @@ enum Calls {
 }
 
 /// Makes the book of a node of this many, which takes no memory, and makes these calls of it.
-fn try_book(alloc: Global, number: u16, nodes: u16, calls: Calls) -> Tried {
-    let (Some(name), Ok(mut book)) = (r(), new_book(alloc, number, nodes, 0)) else {
+fn try_book(alloc: Global, me: u16, nodes: u16, calls: Calls) -> Tried {
+    let Some(name) = r() else {
         return Tried::Wrong;
     };
+    match new_book(alloc, me, nodes, 0) {
+        Ok(mut book) => try_calls(alloc, &mut book, name, calls),
+        Err(_) => Tried::Wrong,
+    }
+}
+
+/// Makes these calls of a book.
+fn try_calls(alloc: Global, book: &mut Book, name: Name, calls: Calls) -> Tried {
     match calls {
-        Calls::Lock => try_rows(alloc, &mut book, name, LOCKS, Kept(3, 1, 4)),
-        Calls::Answer => try_rows(alloc, &mut book, name, ANSWERS, Kept(6, 4, 10)),
-        Calls::Many => try_many_calls(alloc, &mut book, name),
+        Calls::Lock => try_rows(alloc, book, name, LOCKS, Kept(3, 1, 4)),
+        Calls::Answer => try_rows(alloc, book, name, ANSWERS, Kept(6, 4, 10)),
+        Calls::Many => try_many_calls(alloc, book, name),
     }
 }
 

@@ -10,10 +10,11 @@ use test_support::{Tried, again};
 
 /// Has an auditor of the books of [`ONE_LOCK`] do all of this. If these cannot be made, memory ran out.
 fn try_auditor(alloc: Global, all: &[Act]) -> Result<Tried, bool> {
-    let Ok(books) = books_after(alloc, &[ONE, TWO], ONE_LOCK) else {
+    let past = books_after(alloc, &[ONE, TWO], ONE_LOCK);
+    if !past.is_whole {
         return Err(true);
-    };
-    match audited(alloc, &books, all) {
+    }
+    match audited(alloc, &past.books, all) {
         Some(answer) => Ok(answer.unwrap_or(Tried::Wrong)),
         None => Err(true),
     }

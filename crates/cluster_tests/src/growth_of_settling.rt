@@ -1,10 +1,10 @@
 //! Each growth of a settling is refused: it answers that memory ran out, and does what it should when it is done again.
 use crate::books::Step::Takes;
-use crate::books::{ASK, LEAVE, make};
+use crate::books::{ASK, LEAVE, refusal};
 use crate::growth::end;
-use crate::helpers::{new_book, r, settled};
+use crate::helpers::{r, settled};
 use crate::histories::Done::{At, Passes};
-use crate::histories::{Done, Granted, ONE, TWO, books_after, grants_of};
+use crate::histories::{Done, Granted, Made, ONE, TWO, books_after, grants_of, new_books};
 use ra_cluster::{Book, Grant, SettleError, Settled};
 use ra_stamp::{Mode, Name};
 use std::alloc::Global;
@@ -47,9 +47,8 @@ fn judge(settled: &Settled, due: Due) -> Tried {
 /// Settles books. If that is refused, returns whether memory ran out.
 fn try_to_settle(alloc: Global, books: &[Book], grants: &[Grant], due: Due) -> Result<Tried, bool> {
     match settled(alloc, books, grants) {
-        Some(Ok(settled)) => Ok(judge(&settled, due)),
-        Some(Err(fault)) => Err(fault == SettleError::Memory),
-        None => Err(false),
+        Ok(settled) => Ok(judge(&settled, due)),
+        Err(fault) => Err(fault == Some(SettleError::Memory)),
     }
 }
 
@@ -64,9 +63,11 @@ const ONE_RUN: Due = Due {
 
 /// Settles two books. If that is refused, returns whether memory ran out.
 fn try_settling(alloc: Global) -> Result<Tried, bool> {
-    match books_after(alloc, &[ONE, TWO], ONE_LOCK) {
-        Ok(books) => try_to_settle(alloc, &books, &[], ONE_RUN),
-        Err(_) => Err(true),
+    let past = books_after(alloc, &[ONE, TWO], ONE_LOCK);
+    if past.is_whole {
+        try_to_settle(alloc, &past.books, &[], ONE_RUN)
+    } else {
+        Err(true)
     }
 }
 
@@ -99,24 +100,14 @@ const LOSING_RUN: Due = Due {
     waiting: 1,
 };
 
-/// Makes the two books, with the last REQUEST lost, or returns `None` if memory ran out.
-fn books_with_a_loss(alloc: Global) -> Option<Vec<Book>> {
-    let mut books = books_after(alloc, &[ONE, TWO], ASKS_AGAIN).ok()?;
-    if loses_second(&mut books) {
-        Some(books)
-    } else {
-        None
-    }
-}
-
 /// Settles two books with a grant, and with the last REQUEST lost. If that is refused, returns whether memory ran out.
 fn try_settling_a_loss(alloc: Global) -> Result<Tried, bool> {
-    let Some(grants) = grants_of(alloc, &[Granted(1, 1, Mode::Exclusive, 1)]) else {
-        return Err(true);
-    };
-    match books_with_a_loss(alloc) {
-        Some(books) => try_to_settle(alloc, &books, &grants, LOSING_RUN),
-        None => Err(true),
+    let mut past = books_after(alloc, &[ONE, TWO], ASKS_AGAIN);
+    let grants = grants_of(alloc, &[Granted(1, 1, Mode::Exclusive, 1)]);
+    if grants.len() == 1 && past.is_whole && loses_second(&mut past.books) {
+        try_to_settle(alloc, &past.books, &grants, LOSING_RUN)
+    } else {
+        Err(true)
     }
 }
 
@@ -132,27 +123,33 @@ fn growth_of_settling_with_a_grant_and_a_loss(rt: HostRuntime) {
 /// How often a client asks for `r` and leaves it in the book that is settled. Each time takes two events.
 const VERY_MANY: u64 = 50_000;
 
-/// Has a client ask for a name and leave it very often. Returns whether that succeeds.
+/// Has a client ask for a name and leave it. Returns whether that succeeds.
 fn asks_and_leaves(alloc: Global, book: &mut Book, name: Name) -> bool {
+    refusal(alloc, book, name, ASK).is_none() && refusal(alloc, book, name, LEAVE).is_none()
+}
+
+/// Has a client of the first book do so very often. Returns whether that succeeds.
+fn become_large(alloc: Global, books: &mut [Book]) -> bool {
+    let Some(name) = r() else {
+        return false;
+    };
+    let Some(book) = books.get_mut(0) else {
+        return false;
+    };
     for _ in 0..VERY_MANY {
-        if make(alloc, book, name, ASK).is_err() || make(alloc, book, name, LEAVE).is_err() {
+        if !asks_and_leaves(alloc, book, name) {
             return false;
         }
     }
     true
 }
 
-/// Makes the books of a single node, with very many events, or returns `None` if memory ran out.
-fn large_books(alloc: Global) -> Option<Vec<Book>> {
-    let name = r()?;
-    let mut books = Vec::new(alloc);
-    books.push(new_book(alloc, 1, 1, 0).ok()?).ok()?;
-    let is_large = match books.get_mut(0) {
-        Some(book) => asks_and_leaves(alloc, book, name),
-        None => false,
-    };
-    if is_large { Some(books) } else { None }
-}
+/// The book of a single node.
+const ALONE: Made = Made {
+    me: 1,
+    nodes: 1,
+    start: 0,
+};
 
 /// The run of that client.
 const LARGE_RUN: Due = Due {
@@ -165,9 +162,11 @@ const LARGE_RUN: Due = Due {
 
 /// Settles books with very many events. If that is refused, returns whether memory ran out.
 fn try_large_settling(alloc: Global) -> Result<Tried, bool> {
-    match large_books(alloc) {
-        Some(books) => try_to_settle(alloc, &books, &[], LARGE_RUN),
-        None => Err(true),
+    let mut books = new_books(alloc, &[ALONE]);
+    if become_large(alloc, books.as_mut_slice()) {
+        try_to_settle(alloc, &books, &[], LARGE_RUN)
+    } else {
+        Err(true)
     }
 }
 

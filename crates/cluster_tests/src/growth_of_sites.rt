@@ -1,9 +1,9 @@
 //! Each growth of a post or a site is refused: the call answers that memory ran out, and does what it should when it is
 //! made again; or a frame is lost, and all sites are stopped.
 use crate::growth::end;
-use crate::helpers::{books_of, r, request};
+use crate::helpers::{r, request};
 use crate::shown::{Ended, have_ended};
-use crate::site_cluster::{Cluster, loses_inbox, make_cluster, send};
+use crate::site_cluster::{Cluster, books_at_the_end, loses_inbox, make_cluster, send, takes_all};
 use ra_cluster::{
     Book, BookError, Inbox, NewPostError, OpenGate, Post, SendError, Site, SiteError, Stop,
 };
@@ -14,7 +14,10 @@ use test_support::{Tried, again};
 
 /// Returns a REQUEST from node 1 to node 2.
 fn asks() -> Option<Message> {
-    request(r()?, 1, 2, Mode::Exclusive)
+    match r() {
+        Some(name) => request(name, 1, 2, Mode::Exclusive),
+        None => None,
+    }
 }
 
 /// Sends a frame from node 1 to node 2, and sends it again if it was refused.
@@ -114,9 +117,13 @@ fn try_site<R: Wait>(rt: &R, alloc: Global, name: &Name, all: &Cluster) -> Tried
 
 /// Makes a cluster of one site, at which a client locks `r` and unlocks it. If it cannot be made, memory ran out.
 fn try_sites<R: Wait>(rt: &R, alloc: Global) -> Result<Tried, bool> {
-    match (r(), make_cluster(alloc, 1)) {
-        (Some(name), Some(all)) => Ok(try_site(rt, alloc, &name, &all)),
-        _ => Err(true),
+    let Some(name) = r() else {
+        return Err(true);
+    };
+    let clusters = make_cluster(alloc, 1);
+    match clusters.first() {
+        Some(all) => Ok(try_site(rt, alloc, &name, all)),
+        None => Err(true),
     }
 }
 
@@ -129,15 +136,26 @@ fn growth_of_a_site(rt: HostRuntime) {
 /// The answer of a call that found no memory and did nothing.
 pub const WANTING: SiteError = SiteError::Refused(BookError::Memory);
 
+/// Returns how many events the site of a node has, or `None` if it is stopped since memory ran out.
+fn events_unless_memory<R: Wait>(rt: &R, all: &[Cluster], number: u16) -> Option<u64> {
+    let Some(cluster) = all.first() else {
+        return None;
+    };
+    match cluster.site(number) {
+        Some(site) if site.fault(rt) != Some(Stop::Memory) => Some(site.events(rt)),
+        _ => None,
+    }
+}
+
 /// Returns how many frames are left in the inbox at a place, that of the node with this number, which a new site of the
 /// node takes. The post has to be closed before. Returns `None` if memory ran out.
 fn frames_left<R: Wait>(rt: &R, alloc: Global, inbox: &Inbox, number: u16) -> Option<u64> {
-    let fresh = make_cluster(alloc, 3)?;
-    let site = fresh.site(number)?;
-    if !fresh.pump_at(rt, alloc, site, inbox, &OpenGate) || site.fault(rt) == Some(Stop::Memory) {
-        return None;
+    let fresh = make_cluster(alloc, 3);
+    if takes_all(rt, alloc, &fresh, number, inbox) {
+        events_unless_memory(rt, &fresh, number)
+    } else {
+        None
     }
-    Some(site.events(rt))
 }
 
 /// The books of three nodes, of which the first has lost a frame.
@@ -174,18 +192,31 @@ fn loses<R: Wait>(rt: &R, alloc: Global, all: &Cluster, name: &Name) -> Result<u
     frames_left(rt, alloc, inbox, 3).ok_or(true)
 }
 
-/// Makes the three nodes, and does so. If it cannot be done, returns whether memory ran out.
-fn try_losing<R: Wait>(rt: &R, alloc: Global) -> Result<Tried, bool> {
-    let (Some(name), Some(mut all)) = (r(), make_cluster(alloc, 3)) else {
+/// Loses the inbox of node 2, and does so. If it cannot be done, returns whether memory ran out.
+fn loses_two<R: Wait>(rt: &R, alloc: Global, clusters: &mut Vec<Cluster>) -> Result<u64, bool> {
+    let Some(name) = r() else {
         return Err(true);
     };
-    if !loses_inbox(&mut all, 1) {
-        return Err(false);
+    let Some(all) = clusters.get_mut(0) else {
+        return Err(true);
+    };
+    if loses_inbox(all, 1) {
+        loses(rt, alloc, all, &name)
+    } else {
+        Err(false)
     }
-    let left = loses(rt, alloc, &all, &name)?;
-    match books_of(alloc, all.sites) {
-        Some(books) => Ok(are_accounted_for(&books, left)),
-        None => Err(true),
+}
+
+/// Makes the three nodes, and does so. If it cannot be done, returns whether memory ran out.
+fn try_losing<R: Wait>(rt: &R, alloc: Global) -> Result<Tried, bool> {
+    let mut clusters = make_cluster(alloc, 3);
+    let left = loses_two(rt, alloc, &mut clusters);
+    let books = books_at_the_end(alloc, clusters);
+    match left {
+        // Memory ran out while the books were put together.
+        Ok(_) if books.len() != 3 => Err(true),
+        Ok(left) => Ok(are_accounted_for(&books, left)),
+        Err(memory) => Err(memory),
     }
 }
 

@@ -80,20 +80,28 @@ pub fn r() -> Option<Name> {
 
 /// Returns the request of a client on a name at a node, with this number, or `None` if there is no such node.
 pub fn entry(name: Name, node: u16, client: u32, mode: Mode, seq: u64) -> Option<Entry> {
-    let node = NodeId::new(node)?;
-    Some(Entry {
-        name,
-        stamp: Stamp { seq, node },
-        client,
-        mode,
-    })
+    match NodeId::new(node) {
+        Some(node) => Some(Entry {
+            name,
+            stamp: Stamp { seq, node },
+            client,
+            mode,
+        }),
+        None => None,
+    }
 }
 
 /// Returns the REQUEST with number 1 for a name between these nodes, or `None` if there is no such node.
 pub fn request(name: Name, from: u16, to: u16, mode: Mode) -> Option<Message> {
+    let Some(from) = NodeId::new(from) else {
+        return None;
+    };
+    let Some(to) = NodeId::new(to) else {
+        return None;
+    };
     Some(Message::Request {
-        from: NodeId::new(from)?,
-        to: NodeId::new(to)?,
+        from,
+        to,
         name,
         mode,
         seq: 1,
@@ -102,9 +110,15 @@ pub fn request(name: Name, from: u16, to: u16, mode: Mode) -> Option<Message> {
 
 /// Returns the REPLY to such a REQUEST, which goes between these nodes.
 pub fn reply(name: Name, from: u16, to: u16) -> Option<Message> {
+    let Some(from) = NodeId::new(from) else {
+        return None;
+    };
+    let Some(to) = NodeId::new(to) else {
+        return None;
+    };
     Some(Message::Reply {
-        from: NodeId::new(from)?,
-        to: NodeId::new(to)?,
+        from,
+        to,
         name,
         seq: 1,
     })
@@ -131,18 +145,31 @@ pub fn bytes_of(alloc: Global, frame: &Frame) -> Option<Vec<u8>> {
     }
 }
 
+/// Ends the test unless this is so. Tells in which row what was not so, and at which place.
+///
+/// An `assert!` with a text is expensive to prove, so tests share this one.
+pub fn assert_at<R: Abort>(rt: &R, is_so: bool, row: &str, what: &str, place: usize) {
+    assert!(rt; is_so, "{row}: {what} {place}, counted from 0");
+}
+
+/// Ends the test unless this text came. Tells both.
+fn assert_text<R: Abort>(rt: &R, came: &str, expected: &str) {
+    assert!(rt; came == expected, "expected {expected}; {came} came");
+}
+
+/// Returns what a value prints, or nothing if memory runs out.
+fn text_of<T: Display>(alloc: Global, value: &T) -> String {
+    match value.to_string(alloc) {
+        Ok(text) => text,
+        Err(_) => String::new(alloc),
+    }
+}
+
 /// Ends the test if one of these values does not print as the text beside it.
 pub fn assert_prints<R: Abort + AllocGlobal, T: Display>(rt: &R, rows: &[(T, &str)]) {
     for row in rows {
-        match row.0.to_string(rt.alloc()) {
-            Ok(printed) => assert!(rt;
-                printed.as_str() == row.1,
-                "expected {}; {} came",
-                row.1,
-                printed.as_str()
-            ),
-            Err(_) => panic!(rt; "{}: memory ran out", row.1),
-        }
+        let came = text_of(rt.alloc(), &row.0);
+        assert_text(rt, came.as_str(), row.1);
     }
 }
 
@@ -157,33 +184,26 @@ fn adds_site(alloc: Global, sites: &mut Vec<Site>, number: u16, nodes: u16, star
     }
 }
 
-/// Adds the sites of a cluster of this many nodes. Returns whether that succeeds.
-fn adds_sites(alloc: Global, sites: &mut Vec<Site>, nodes: u16, start: u64) -> bool {
+/// Makes the sites of a cluster of this many nodes, whose numbers begin at `start`. There are fewer if memory runs out.
+pub fn sites_of(alloc: Global, nodes: u16, start: u64) -> Vec<Site> {
+    let mut sites = Vec::new(alloc);
     for place in 0..nodes {
-        if !adds_site(alloc, sites, place + 1, nodes, start) {
-            return false;
+        if !adds_site(alloc, &mut sites, place + 1, nodes, start) {
+            break;
         }
     }
-    true
+    sites
 }
 
-/// Makes the sites of a cluster of this many nodes, whose numbers begin at `start`.
-pub fn sites_of(alloc: Global, nodes: u16, start: u64) -> Option<Vec<Site>> {
-    let mut sites = Vec::new(alloc);
-    if adds_sites(alloc, &mut sites, nodes, start) {
-        Some(sites)
-    } else {
-        None
-    }
-}
-
-/// Gives up the locks of the sites, and returns their books.
-pub fn books_of(alloc: Global, sites: Vec<Site>) -> Option<Vec<Book>> {
+/// Gives up the locks of the sites, and returns their books. There are fewer if memory runs out.
+pub fn books_of(alloc: Global, sites: Vec<Site>) -> Vec<Book> {
     let mut books = Vec::new(alloc);
     for site in sites {
-        books.push(site.close()).ok()?;
+        if books.push(site.close()).is_err() {
+            break;
+        }
     }
-    Some(books)
+    books
 }
 
 /// Closes a cluster, and returns its books. The contracts of `close`, of `settle` and of some other calls are long, so their callers
@@ -192,16 +212,22 @@ pub fn closed<G: Gate + Drop>(alloc: Global, cluster: Cluster<G>) -> Vec<Book> {
     cluster.close(alloc)
 }
 
-/// Settles books with grants, or returns `None` if they are not a cluster.
+/// Settles books with grants.
+///
+/// # Errors
+///
+/// Why they do not settle, or `None` if they are not a cluster.
 pub fn settled(
     alloc: Global,
     books: &[Book],
     grants: &[Grant],
-) -> Option<Result<Settled, SettleError>> {
-    if is_cluster(books) {
-        Some(settle(alloc, books, grants))
-    } else {
-        None
+) -> Result<Settled, Option<SettleError>> {
+    if !is_cluster(books) {
+        return Err(None);
+    }
+    match settle(alloc, books, grants) {
+        Ok(settled) => Ok(settled),
+        Err(refused) => Err(Some(refused)),
     }
 }
 

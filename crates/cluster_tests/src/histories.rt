@@ -1,6 +1,6 @@
 //! Books to which something was done, and grants that clients got.
 use crate::books::Call::Receive;
-use crate::books::{Step, does, make};
+use crate::books::{Step, does, refusal};
 use crate::helpers::{bytes_of, entry, new_book, r};
 use Done::{At, Passes};
 use ra_cluster::{Book, Grant};
@@ -55,28 +55,37 @@ fn adds_book(alloc: Global, books: &mut Vec<Book>, made: Made) -> bool {
     }
 }
 
-/// Adds books to the others. Returns whether that succeeds.
-fn adds_books(alloc: Global, books: &mut Vec<Book>, all: &[Made]) -> bool {
+/// Makes these books, up to the first that cannot be made.
+///
+/// A book that a function owns is expensive to prove, so tests make books here, and lend them.
+pub fn new_books(alloc: Global, all: &[Made]) -> Vec<Book> {
+    let mut books = Vec::new(alloc);
     for made in all {
-        if !adds_book(alloc, books, *made) {
-            return false;
+        if !adds_book(alloc, &mut books, *made) {
+            break;
         }
     }
-    true
+    books
 }
 
 /// Returns the frame that the book of a node sent at this place.
 fn sent(books: &[Book], number: u16, place: u64) -> Option<Frame> {
-    let book = books.get(usize::from(number).wrapping_sub(1))?;
-    let sent = book.sent(place)?;
-    Some(sent.frame)
+    let Some(book) = books.get(usize::from(number).wrapping_sub(1)) else {
+        return None;
+    };
+    match book.sent(place) {
+        Some(sent) => Some(sent.frame),
+        None => None,
+    }
 }
 
 /// Delivers a frame to its destination node. Returns whether that node's book takes it.
 fn takes(alloc: Global, books: &mut [Book], name: Name, frame: &Frame) -> bool {
     let place = usize::from(frame.message.to().get()).wrapping_sub(1);
     match (books.get_mut(place), bytes_of(alloc, frame)) {
-        (Some(book), Some(bytes)) => make(alloc, book, name, Receive(bytes.as_slice())).is_ok(),
+        (Some(book), Some(bytes)) => {
+            refusal(alloc, book, name, Receive(bytes.as_slice())).is_none()
+        }
         _ => false,
     }
 }
@@ -105,24 +114,56 @@ fn count_done(alloc: Global, books: &mut [Book], name: Name, all: &[Done]) -> us
     all.len()
 }
 
-/// Makes these books, and does all of this to them, in order.
-///
-/// # Errors
-///
-/// How many of these could be done before the first that could not: 0 if there are no such books.
-pub fn books_after(alloc: Global, made: &[Made], all: &[Done]) -> Result<Vec<Book>, usize> {
-    let mut books = Vec::new(alloc);
-    let Some(name) = r() else {
-        return Err(0);
-    };
-    if !adds_books(alloc, &mut books, made) {
-        return Err(0);
+/// Books to which something was done.
+#[derive(Drop)]
+pub struct Past {
+    /// The books, each at the place of its node.
+    pub books: Vec<Book>,
+    /// How much of it could be done before the first that could not: nothing if there are no such books.
+    pub done: usize,
+    /// Whether all of it was done.
+    pub is_whole: bool,
+}
+
+/// Does all of this to books, in order, if they are as many as they should be.
+fn do_all(alloc: Global, books: &mut [Book], count: usize, all: &[Done]) -> Option<usize> {
+    match r() {
+        Some(name) if books.len() == count => Some(count_done(alloc, books, name, all)),
+        _ => None,
     }
-    let done = count_done(alloc, &mut books, name, all);
-    if done == all.len() {
-        Ok(books)
-    } else {
-        Err(done)
+}
+
+/// Makes these books, and does all of this to them, in order.
+pub fn books_after(alloc: Global, made: &[Made], all: &[Done]) -> Past {
+    let mut books = new_books(alloc, made);
+    let done = do_all(alloc, books.as_mut_slice(), made.len(), all);
+    Past {
+        books,
+        done: done.unwrap_or(0),
+        is_whole: done == Some(all.len()),
+    }
+}
+
+/// Returns how many of these steps a book does and shows, in order, before the first that it does not.
+fn count_shown(alloc: Global, book: &mut Book, name: Name, steps: &[Step<'_>]) -> usize {
+    for place in 0..steps.len() {
+        if !does(alloc, book, name, steps[place]) {
+            return place;
+        }
+    }
+    steps.len()
+}
+
+/// Returns how many of these steps this book does and shows, in order, before the first that it does not, or 0 if there is no such
+/// book.
+pub fn done_by(alloc: Global, made: Made, steps: &[Step<'_>]) -> usize {
+    let Some(name) = r() else {
+        return 0;
+    };
+    let mut books = new_books(alloc, &[made]);
+    match books.get_mut(0) {
+        Some(book) => count_shown(alloc, book, name, steps),
+        None => 0,
     }
 }
 
@@ -135,14 +176,16 @@ fn adds_grant(grants: &mut Vec<Grant>, name: Name, granted: Granted) -> bool {
     }
 }
 
-/// Returns these grants for `r`.
-pub fn grants_of(alloc: Global, all: &[Granted]) -> Option<Vec<Grant>> {
-    let name = r()?;
+/// Returns these grants for `r`, up to the first that cannot be made.
+pub fn grants_of(alloc: Global, all: &[Granted]) -> Vec<Grant> {
     let mut grants = Vec::new(alloc);
+    let Some(name) = r() else {
+        return grants;
+    };
     for granted in all {
         if !adds_grant(&mut grants, name, *granted) {
-            return None;
+            break;
         }
     }
-    Some(grants)
+    grants
 }

@@ -1,6 +1,7 @@
 //! The book of a node: what it keeps and sends, what it refuses, and the words for its refusals.
-use crate::books::{ASK, ASKS, ASKS_1, Call, LEAVE, REPLIES, REPLIES_1, Step, Turn, Wire, done_by};
-use crate::helpers::{assert_prints, new_book};
+use crate::books::{ASK, ASKS, ASKS_1, Call, LEAVE, REPLIES, REPLIES_1, Step, Turn, Wire};
+use crate::helpers::{assert_at, assert_prints, new_book};
+use crate::histories::{Made, done_by};
 use Call::{Ask, Receive};
 use Step::{
     Asked, Fails, Gave, Got, Has, HasFault, IsFree, IsHeld, IsNew, Loses, Posts, Refuses,
@@ -54,12 +55,13 @@ struct Row {
 /// Ends the test if a book does not do or show all of its row.
 fn assert_rows<R: Abort + AllocGlobal>(rt: &R, rows: &[Row]) {
     for row in rows {
-        let done = done_by(rt.alloc(), row.me, row.nodes, row.start, row.steps).unwrap_or(0);
-        assert!(rt;
-            done == row.steps.len(),
-            "{}: step {done}, counted from 0",
-            row.shows
-        );
+        let made = Made {
+            me: row.me,
+            nodes: row.nodes,
+            start: row.start,
+        };
+        let done = done_by(rt.alloc(), made, row.steps);
+        assert_at(rt, done == row.steps.len(), row.shows, "step", done);
     }
 }
 

@@ -38,17 +38,20 @@ fn comes(
     }
 }
 
+/// Returns whether settling the books and the grants of a case, of which this is the script, has its outcome.
+fn has_outcome_of(alloc: Global, case: &Case, script: &Script) -> bool {
+    let past = books_after(alloc, case.made, case.done);
+    let grants = grants_of(alloc, case.granted);
+    past.is_whole
+        && grants.len() == case.granted.len()
+        && comes(alloc, script, &past.books, &grants, case.refusal)
+}
+
 /// Returns whether settling the books and the grants of a case has its outcome.
 fn has_outcome(alloc: Global, case: &Case) -> bool {
-    match (
-        script_of(alloc, case.nodes, case.clients),
-        books_after(alloc, case.made, case.done),
-        grants_of(alloc, case.granted),
-    ) {
-        (Some(script), Ok(books), Some(grants)) => {
-            comes(alloc, &script, &books, &grants, case.refusal)
-        }
-        _ => false,
+    match script_of(alloc, case.nodes, case.clients) {
+        Some(script) => has_outcome_of(alloc, case, &script),
+        None => false,
     }
 }
 

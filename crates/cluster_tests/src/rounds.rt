@@ -4,13 +4,13 @@ use crate::audit_acts::Act::{
 };
 use crate::audit_acts::Answer::{Finds, Fine, NeverSent, NotAudited, OtherCluster, OutOfTurn};
 use crate::audit_acts::{
-    Made, ONE_NODE, Row, TWO_NODES, assert_does, cluster_of, has_ended, last_round, round, shows,
+    Made, ONE_NODE, Row, TWO_NODES, assert_does, clusters_as, last_round, round, shows,
 };
 use crate::audits::{Came, Shown};
 use crate::books::Wire;
-use crate::cluster_calls::{lock, unlock};
+use crate::cluster_calls::{books_at_the_end, lock, unlock};
 use crate::helpers::{in_a_thread, r};
-use crate::shown::Ended;
+use crate::shown::{Ended, have_ended};
 use ra_audit::Auditor;
 use ra_cluster::{Cluster, OpenGate, Stop};
 use ra_stamp::{Mode, Name};
@@ -286,28 +286,43 @@ fn takes_all<R: Threads + Wait + Sync>(
     alloc: Global,
     cluster: &mut Cluster<OpenGate>,
     auditor: &mut Auditor,
-    name: &Name,
 ) -> bool {
+    let Some(name) = r() else {
+        return false;
+    };
     let shared = &*cluster;
-    let are_given = shared.run(rt, alloc, || lock_in_turn(rt, alloc, shared, auditor, name));
+    let are_given = shared.run(
+        rt,
+        alloc,
+        || lock_in_turn(rt, alloc, shared, auditor, &name),
+    );
     are_given
         && last_round(rt, alloc, cluster, auditor).is_ok()
         && shows(auditor, Shown(8, 2, 4, 0, 0))
 }
 
-/// Makes the cluster and the auditor, and returns whether all is taken.
-fn is_audited<R: Threads + Wait + Sync>(rt: &R, alloc: Global) -> Option<bool> {
-    let name = r()?;
-    let mut auditor = Auditor::new(alloc, 2, 0).ok()?;
-    let mut cluster = cluster_of(alloc, TWO_NODES)?;
-    let are_taken = takes_all(rt, alloc, &mut cluster, &mut auditor, &name);
-    Some(has_ended(alloc, cluster, &[TAKEN, TAKEN]) && are_taken)
+/// Makes the cluster, and returns whether this auditor takes all.
+fn is_audited_by<R: Threads + Wait + Sync>(rt: &R, alloc: Global, auditor: &mut Auditor) -> bool {
+    let mut clusters = clusters_as(alloc, TWO_NODES);
+    let are_taken = match clusters.get_mut(0) {
+        Some(cluster) => takes_all(rt, alloc, cluster, auditor),
+        None => false,
+    };
+    have_ended(&books_at_the_end(alloc, clusters), &[TAKEN, TAKEN]) && are_taken
+}
+
+/// Makes the auditor, and returns whether it takes all.
+fn is_audited<R: Threads + Wait + Sync>(rt: &R, alloc: Global) -> bool {
+    match Auditor::new(alloc, 2, 0) {
+        Ok(mut auditor) => is_audited_by(rt, alloc, &mut auditor),
+        Err(_) => false,
+    }
 }
 
 #[test]
 fn rounds_take_all_that_happens_on_the_threads_of_a_cluster(rt: HostRuntime) {
     assert!(rt;
-        in_a_thread(&rt, || is_audited(&rt, rt.alloc()) == Some(true)),
+        in_a_thread(&rt, || is_audited(&rt, rt.alloc())),
         "8 steps, 2 requests, 4 messages, none under way, no events in the books"
     );
 }

@@ -4,7 +4,7 @@ use crate::books::Step::{Loses, Takes};
 use crate::books::{ASK, ASKS, LEAVE};
 use crate::helpers::{assert_prints, r, reply, request, settled};
 use crate::histories::Done::{At, Passes};
-use crate::histories::{Done, Granted, Made, ONE, TWO, books_after, grants_of};
+use crate::histories::{Done, Granted, Made, ONE, Past, TWO, books_after, grants_of, new_books};
 use Mode::{Exclusive, Shared};
 use Outcome::{Refused, Settles};
 use Seen::{Asked, Left, Lost, Replied, Requested};
@@ -109,6 +109,25 @@ fn unlike_run(alloc: Global, settled: &Settled, steps: &[Seen], text: &str) -> O
     }
 }
 
+/// Returns what is unlike this outcome if books settle so.
+fn unlike_settled(alloc: Global, settled: &Settled, outcome: Outcome) -> Option<Unlike> {
+    match outcome {
+        Settles(steps, text) => unlike_run(alloc, settled, steps, text),
+        Refused(_) => Some(Unlike("it settles, and not before step", 0, None)),
+    }
+}
+
+/// Returns what is unlike this outcome if books do not settle for this reason, or are not a cluster.
+fn unlike_refused(found: Option<SettleError>, outcome: Outcome) -> Option<Unlike> {
+    if found.is_none() {
+        return Some(Unlike("the books are not a cluster after step", 0, None));
+    }
+    match outcome {
+        Refused(fault) if found == Some(fault) => None,
+        _ => Some(Unlike("it is refused at step", 0, found)),
+    }
+}
+
 /// Returns what is unlike this outcome if books settle with grants.
 fn find_unlike(
     alloc: Global,
@@ -117,15 +136,8 @@ fn find_unlike(
     outcome: Outcome,
 ) -> Option<Unlike> {
     match settled(alloc, books, grants) {
-        None => Some(Unlike("the books are not a cluster after step", 0, None)),
-        Some(Err(found)) => match outcome {
-            Refused(fault) if found == fault => None,
-            _ => Some(Unlike("it is refused at step", 0, Some(found))),
-        },
-        Some(Ok(settled)) => match outcome {
-            Settles(steps, text) => unlike_run(alloc, &settled, steps, text),
-            Refused(_) => Some(Unlike("it settles, and not before step", 0, None)),
-        },
+        Ok(settled) => unlike_settled(alloc, &settled, outcome),
+        Err(found) => unlike_refused(found, outcome),
     }
 }
 
@@ -142,16 +154,22 @@ struct Row {
     outcome: Outcome,
 }
 
+/// Returns what is unlike the outcome of a row after all of it was done.
+fn unlike_after(alloc: Global, past: &Past, grants: &[Grant], row: &Row) -> Option<Unlike> {
+    if !past.is_whole {
+        return Some(Unlike("this can not be done:", past.done, None));
+    }
+    if grants.len() != row.granted.len() {
+        return Some(Unlike("there are no such grants for step", 0, None));
+    }
+    find_unlike(alloc, &past.books, grants, row.outcome)
+}
+
 /// Does all of a row. Returns what is unlike its outcome.
 fn unlike_row(alloc: Global, row: &Row) -> Option<Unlike> {
-    let books = match books_after(alloc, &[ONE, TWO], row.done) {
-        Ok(books) => books,
-        Err(place) => return Some(Unlike("this can not be done:", place, None)),
-    };
-    match grants_of(alloc, row.granted) {
-        Some(grants) => find_unlike(alloc, &books, &grants, row.outcome),
-        None => Some(Unlike("there are no such grants for step", 0, None)),
-    }
+    let past = books_after(alloc, &[ONE, TWO], row.done);
+    let grants = grants_of(alloc, row.granted);
+    unlike_after(alloc, &past, &grants, row)
 }
 
 /// Ends the test if a row has another outcome.
@@ -165,9 +183,11 @@ fn assert_outcomes<R: Abort + AllocGlobal>(rt: &R, rows: &[Row]) {
 
 /// Returns whether these books are a cluster, or `None` if there are no such books.
 fn are_cluster(alloc: Global, made: &[Made]) -> Option<bool> {
-    match books_after(alloc, made, &[]) {
-        Ok(books) => Some(is_cluster(&books)),
-        Err(_) => None,
+    let books = new_books(alloc, made);
+    if books.len() == made.len() {
+        Some(is_cluster(&books))
+    } else {
+        None
     }
 }
 
@@ -358,15 +378,20 @@ fn has_four_clocks(book: &Book) -> bool {
     book.events().len() == 4
 }
 
+/// Returns whether this is so for each of the books.
+fn all_have_four_clocks(books: &[Book]) -> bool {
+    for book in books {
+        if !has_four_clocks(book) {
+            return false;
+        }
+    }
+    true
+}
+
 /// Returns whether this is so for the book of each node when both read at once.
 fn both_have_four_clocks(alloc: Global) -> bool {
-    match books_after(alloc, &[ONE, TWO], READ_AT_ONCE) {
-        Ok(books) => match books.as_slice() {
-            [one, two] => has_four_clocks(one) && has_four_clocks(two),
-            _ => false,
-        },
-        Err(_) => false,
-    }
+    let past = books_after(alloc, &[ONE, TWO], READ_AT_ONCE);
+    past.is_whole && all_have_four_clocks(&past.books)
 }
 
 #[test]

@@ -99,16 +99,16 @@ fn is_granted(after: &After, client: u32, seq: u64) -> bool {
 /// Returns whether one client is queued in the run into which the books settle, and no request waits.
 fn has_one_queued(alloc: Global, books: &[Book]) -> bool {
     match settled(alloc, books, &[]) {
-        Some(Ok(settled)) => settled.report.queued == 1 && settled.report.waiting == 0,
-        _ => false,
+        Ok(settled) => settled.report.queued == 1 && settled.report.waiting == 0,
+        Err(_) => false,
     }
 }
 
 /// Returns whether the books settle with the grants into a run that tells of a loss.
 fn settle_into_a_loss(alloc: Global, books: &[Book], grants: &[Grant]) -> bool {
     match settled(alloc, books, grants) {
-        Some(Ok(settled)) => settled.report.lost > 0,
-        _ => false,
+        Ok(settled) => settled.report.lost > 0,
+        Err(_) => false,
     }
 }
 
@@ -142,12 +142,12 @@ pub fn count_shown(alloc: Global, after: &After, all: &[Shown]) -> usize {
     all.len()
 }
 
-/// Returns what there is after the steps, or `None` if memory runs out.
-pub fn after_all(alloc: Global, all: Cluster, name: Name) -> Option<After> {
-    Some(After {
+/// Returns what there is after the steps.
+pub fn after_all(alloc: Global, all: Cluster, name: Name) -> After {
+    After {
         name,
         answer: all.answer.into_inner(),
         grants: all.grants.into_inner(),
-        books: books_of(alloc, all.sites)?,
-    })
+        books: books_of(alloc, all.sites),
+    }
 }

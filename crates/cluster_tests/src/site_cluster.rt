@@ -1,7 +1,7 @@
 //! The sites of a cluster with a post, and what is done with them.
 use crate::helpers::{Counting, books_of, comes_to, sites_of};
 use ra_cluster::{
-    BookError, BookEvent, Gate, Grant, Inbox, OpenGate, Post, SendError, Site, SiteError,
+    Book, BookError, BookEvent, Gate, Grant, Inbox, OpenGate, Post, SendError, Site, SiteError,
     is_site_of,
 };
 use ra_frame::Frame;
@@ -147,26 +147,19 @@ impl Cluster {
     }
 }
 
-/// Makes a cluster of this many nodes. Its numbers begin after `start`. Its gate lets `most` steps pass, and keeps a thread that steps
-/// at the node `kept`.
-pub fn cluster_behind(
+/// Puts a cluster together.
+fn whole(
     alloc: Global,
     nodes: u16,
     start: u64,
-    most: u64,
-    kept: u16,
-) -> Option<Cluster> {
-    let sites = sites_of(alloc, nodes, start)?;
-    let (post, inboxes) = Post::new(alloc, nodes).ok()?;
-    let gate = Keeps {
-        counting: Counting::new(most, true),
-        node: kept,
-        goes: AtomicU64::new(0),
-    };
-    Some(Cluster {
+    gate: Keeps,
+    post: Post,
+    inboxes: Vec<Inbox>,
+) -> Cluster {
+    Cluster {
         nodes,
         start,
-        sites,
+        sites: sites_of(alloc, nodes, start),
         post,
         inboxes,
         gate,
@@ -174,12 +167,44 @@ pub fn cluster_behind(
         grants: Mutex::new(Vec::new(alloc)),
         ended: AtomicU64::new(0),
         failed: AtomicU64::new(0),
-    })
+    }
+}
+
+/// Adds a cluster if it has all its sites, which it lacks if memory ran out.
+fn add_whole(all: &mut Vec<Cluster>, cluster: Cluster) {
+    if cluster.sites.len() == usize::from(cluster.nodes) {
+        let _added = all.push(cluster);
+    }
+}
+
+/// Makes a cluster of this many nodes, or none if memory runs out. Its numbers begin after `start`. Its gate lets `most` steps pass, and
+/// keeps a thread that steps at the node `kept`.
+///
+/// A cluster that a function owns is expensive to prove, so it is in a list that tests lend.
+pub fn cluster_behind(alloc: Global, nodes: u16, start: u64, most: u64, kept: u16) -> Vec<Cluster> {
+    let mut all = Vec::new(alloc);
+    let gate = Keeps {
+        counting: Counting::new(most, true),
+        node: kept,
+        goes: AtomicU64::new(0),
+    };
+    if let Ok((post, inboxes)) = Post::new(alloc, nodes) {
+        add_whole(&mut all, whole(alloc, nodes, start, gate, post, inboxes));
+    }
+    all
 }
 
 /// Makes a cluster of this many nodes, whose numbers begin after 0, with a gate that lets all steps pass.
-pub fn make_cluster(alloc: Global, nodes: u16) -> Option<Cluster> {
+pub fn make_cluster(alloc: Global, nodes: u16) -> Vec<Cluster> {
     cluster_behind(alloc, nodes, 0, u64::MAX, 0)
+}
+
+/// Closes the cluster, and returns its books.
+pub fn books_at_the_end(alloc: Global, mut all: Vec<Cluster>) -> Vec<Book> {
+    match all.pop() {
+        Some(cluster) => books_of(alloc, cluster.sites),
+        None => Vec::new(alloc),
+    }
 }
 
 /// Sends a message in a frame with this clock.
@@ -207,6 +232,31 @@ pub fn send<R: Wait>(
     }
 }
 
+/// Has the site of a node take all frames that are left in an inbox. Returns whether there are such a cluster and site.
+pub fn takes_all<R: Wait>(
+    rt: &R,
+    alloc: Global,
+    all: &[Cluster],
+    number: u16,
+    inbox: &Inbox,
+) -> bool {
+    let Some(cluster) = all.first() else {
+        return false;
+    };
+    match cluster.site(number) {
+        Some(site) => cluster.pump_at(rt, alloc, site, inbox, &OpenGate),
+        None => false,
+    }
+}
+
+/// Returns how many events the book of a node has, and the first of them.
+fn events_at(books: &[Book], number: u16) -> Option<(u64, Option<BookEvent>)> {
+    match books.get(usize::from(number).wrapping_sub(1)) {
+        Some(book) => Some((book.events().len(), book.events().at(0))),
+        None => None,
+    }
+}
+
 /// Makes a new cluster of this many nodes, whose site of this node takes all frames that are left in an inbox, and sends
 /// through the new post. Returns how many events its book then has, and the first of them.
 fn taken<R: Wait>(
@@ -216,17 +266,14 @@ fn taken<R: Wait>(
     nodes: u16,
     inbox: &Inbox,
 ) -> Option<(u64, Option<BookEvent>)> {
-    let fresh = make_cluster(alloc, nodes)?;
-    if !fresh.pump_at(rt, alloc, fresh.site(number)?, inbox, &OpenGate) {
-        return None;
+    let fresh = make_cluster(alloc, nodes);
+    let is_taken = takes_all(rt, alloc, &fresh, number, inbox);
+    let books = books_at_the_end(alloc, fresh);
+    if is_taken {
+        events_at(&books, number)
+    } else {
+        None
     }
-    let mut books = books_of(alloc, fresh.sites)?;
-    let place = usize::from(number).wrapping_sub(1);
-    if books.len() <= place {
-        return None;
-    }
-    let book = books.swap_remove(place);
-    Some((book.events().len(), book.events().at(0)))
 }
 
 /// Does this for the inbox at a place, that of the node with this number. The post has to be closed before.
@@ -237,7 +284,10 @@ pub fn taken_from<R: Wait>(
     place: usize,
     number: u16,
 ) -> Option<(u64, Option<BookEvent>)> {
-    taken(rt, alloc, number, all.nodes, all.inboxes.get(place)?)
+    match all.inboxes.get(place) {
+        Some(inbox) => taken(rt, alloc, number, all.nodes, inbox),
+        None => None,
+    }
 }
 
 /// Drops the inbox at a place. Returns whether there was one.

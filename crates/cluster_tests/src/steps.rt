@@ -1,5 +1,5 @@
 //! What a cluster of sites with a post does and shows, step by step, with clients on threads of their own.
-use crate::helpers::{comes_to, entry, in_a_thread, r, request};
+use crate::helpers::{assert_at, comes_to, entry, in_a_thread, r, request};
 use crate::shown::{Shown, after_all, count_shown};
 use crate::site_cluster::{Answer, Cluster, cluster_behind, loses_inbox, send, taken_from};
 use Step::{
@@ -150,8 +150,10 @@ fn lock<R: Wait>(
     number: u16,
     client: u32,
 ) -> Answer {
-    let site = all.site(number)?;
-    Some(all.lock_at(rt, alloc, site, client, name, Mode::Exclusive, &all.gate))
+    match all.site(number) {
+        Some(site) => Some(all.lock_at(rt, alloc, site, client, name, Mode::Exclusive, &all.gate)),
+        None => None,
+    }
 }
 
 /// Returns whether client 1 of a node locks the name, with the first number.
@@ -172,8 +174,10 @@ fn unlock<R: Wait>(
     number: u16,
     client: u32,
 ) -> Option<Result<(), SiteError>> {
-    let site = all.site(number)?;
-    Some(all.unlock_at(rt, alloc, site, client, name, &all.gate))
+    match all.site(number) {
+        Some(site) => Some(all.unlock_at(rt, alloc, site, client, name, &all.gate)),
+        None => None,
+    }
 }
 
 /// Returns why client 2, which holds nothing, cannot unlock the name at a node: `NotHeld`, or `Failed` if the site is stopped. No gate
@@ -450,24 +454,9 @@ fn lose(all: &mut Cluster, gone: Gone) -> bool {
     }
 }
 
-/// Makes the cluster of a row.
-fn cluster_of(alloc: Global, row: &Row) -> Option<Cluster> {
-    let mut all = cluster_behind(alloc, row.nodes, row.start, row.most, row.kept)?;
-    if lose(&mut all, row.gone) {
-        Some(all)
-    } else {
-        None
-    }
-}
-
-/// Looks at the end of a cluster that did all steps of a row.
-fn wrong_at_the_end(alloc: Global, all: Cluster, name: Name, row: &Row) -> Option<Wrong> {
-    if all.failed.load(Ordering::SeqCst) != 0 {
-        return Some(Wrong("a thread that was started before step", row.steps.len()));
-    }
-    let Some(after) = after_all(alloc, all, name) else {
-        return Some(Wrong("there is no such cluster, for step", 0));
-    };
+/// Looks at what is shown when a cluster has done all steps of a row.
+fn wrong_after(alloc: Global, all: Cluster, name: Name, row: &Row) -> Option<Wrong> {
+    let after = after_all(alloc, all, name);
     let shown = count_shown(alloc, &after, row.shown);
     if shown < row.shown.len() {
         Some(Wrong("what is shown at", shown))
@@ -476,20 +465,51 @@ fn wrong_at_the_end(alloc: Global, all: Cluster, name: Name, row: &Row) -> Optio
     }
 }
 
+/// Looks whether a cluster did all steps of a row, of which it did this many, and so did its threads.
+fn wrong_in_steps(all: &Cluster, row: &Row, done: usize) -> Option<Wrong> {
+    if done < row.steps.len() {
+        return Some(Wrong("step", done));
+    }
+    if all.failed.load(Ordering::SeqCst) != 0 {
+        return Some(Wrong("a thread that was started before step", row.steps.len()));
+    }
+    None
+}
+
+/// Has a cluster do all steps of a row. Returns what is not as it should be, or `None` if all is.
+fn wrong_while<R: Threads + Wait + Abort + Sync>(
+    rt: &R,
+    alloc: Global,
+    clusters: &mut Vec<Cluster>,
+    name: &Name,
+    row: &'static Row,
+) -> Option<Wrong> {
+    let missing = Wrong("there is no such cluster, for step", 0);
+    let Some(all) = clusters.get_mut(0) else {
+        return Some(missing);
+    };
+    if !lose(all, row.gone) {
+        return Some(missing);
+    }
+    let done = done(rt, alloc, all, name, row);
+    wrong_in_steps(all, row, done)
+}
+
 /// Has a cluster do and show all of a row. Returns what is not as it should be, or `None` if all is.
 fn find_wrong<R: Threads + Wait + Abort + Sync>(
     rt: &R,
     alloc: Global,
     row: &'static Row,
 ) -> Option<Wrong> {
-    let (Some(name), Some(all)) = (r(), cluster_of(alloc, row)) else {
-        return Some(Wrong("there is no such cluster, for step", 0));
+    let Some(name) = r() else {
+        return Some(Wrong("there is no such name, for step", 0));
     };
-    let done = done(rt, alloc, &all, &name, row);
-    if done < row.steps.len() {
-        return Some(Wrong("step", done));
+    let mut clusters = cluster_behind(alloc, row.nodes, row.start, row.most, row.kept);
+    let wrong = wrong_while(rt, alloc, &mut clusters, &name, row);
+    match (wrong, clusters.pop()) {
+        (None, Some(all)) => wrong_after(alloc, all, name, row),
+        _ => wrong,
     }
-    wrong_at_the_end(alloc, all, name, row)
 }
 
 /// Ends the test if something in a row is not as it should be. What a row does has to end within a minute or so.
@@ -497,7 +517,7 @@ pub fn assert_rows<R: AllocGlobal + Threads + Wait + Abort + Sync>(rt: &R, rows:
     for row in rows {
         let wrong = in_a_thread(rt, move || find_wrong(rt, rt.alloc(), row));
         if let Some(Wrong(what, place)) = wrong {
-            panic!(rt; "{}: {what} {place}, counted from 0", row.words);
+            assert_at(rt, false, row.words, what, place);
         }
     }
 }

@@ -1,6 +1,6 @@
 //! The threads that do a script, in a cluster that the test makes.
-use crate::cluster_calls::{new_cluster, site_of};
-use crate::helpers::{closed, entry, in_a_thread, r};
+use crate::cluster_calls::{books_at_the_end, clusters_of, site_of};
+use crate::helpers::{entry, in_a_thread, r};
 use crate::histories::Granted;
 use crate::plans::Does::{Locks, Shares, Unlocks};
 use crate::plans::{Client, USES_R, script_of};
@@ -67,22 +67,45 @@ fn stops<R: Wait>(rt: &R, cluster: &Cluster<OpenGate>, stopped: Option<(u16, Sto
     }
 }
 
-/// Returns whether the grants of a row are kept and the books end as it says.
-fn is_so<R: Threads + Wait + Sync>(rt: &R, alloc: Global, row: &Row) -> Option<bool> {
-    let (name, script) = (r()?, script_of(alloc, 2, &[row.client])?);
-    let cluster = new_cluster(alloc, 2, row.start, OpenGate).ok()?;
-    if !stops(rt, &cluster, row.stopped) {
-        return None;
+/// Has the client of a row do its script in a cluster. Returns whether the grants that the row says are kept.
+fn keeps<R: Threads + Wait + Sync>(
+    rt: &R,
+    alloc: Global,
+    script: &Script,
+    cluster: &Cluster<OpenGate>,
+    row: &Row,
+) -> bool {
+    let Some(name) = r() else {
+        return false;
+    };
+    if !stops(rt, cluster, row.stopped) {
+        return false;
     }
-    let grants = run_in(rt, alloc, &script, &cluster);
-    let books = closed(alloc, cluster);
-    Some(are_granted(&grants, name, row.granted) && have_ended(&books, row.ended))
+    are_granted(&run_in(rt, alloc, script, cluster), name, row.granted)
+}
+
+/// Returns whether the grants of a row are kept and the books end as it says, if the client does this script.
+fn ends_so<R: Threads + Wait + Sync>(rt: &R, alloc: Global, script: &Script, row: &Row) -> bool {
+    let clusters = clusters_of(alloc, 2, row.start, OpenGate);
+    let are_kept = match clusters.first() {
+        Some(cluster) => keeps(rt, alloc, script, cluster, row),
+        None => false,
+    };
+    have_ended(&books_at_the_end(alloc, clusters), row.ended) && are_kept
+}
+
+/// Returns whether the grants of a row are kept and the books end as it says.
+fn is_so<R: Threads + Wait + Sync>(rt: &R, alloc: Global, row: &Row) -> bool {
+    match script_of(alloc, 2, &[row.client]) {
+        Some(script) => ends_so(rt, alloc, &script, row),
+        None => false,
+    }
 }
 
 /// Ends the test unless it is so.
 fn assert_row<R: Threads + Wait + Abort + Sync + AllocGlobal>(rt: &R, row: &'static Row) {
     let is_so = in_a_thread(rt, move || is_so(rt, rt.alloc(), row));
-    assert!(rt; is_so == Some(true), "{}", row.words);
+    assert!(rt; is_so, "{}", row.words);
 }
 
 /// A client locks `r` exclusively and unlocks it, and then shared.
