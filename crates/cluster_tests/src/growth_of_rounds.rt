@@ -130,14 +130,23 @@ fn new_cluster(alloc: Global) -> Result<Cluster<OpenGate>, bool> {
     }
 }
 
-/// Makes a cluster and an auditor, and does all of it. If they can't be made, returns whether memory ran out.
-fn try_rounds<R: Wait>(rt: &R, alloc: Global) -> Result<Tried, bool> {
+/// Makes a cluster, and does all of it with this auditor. If it can't be made, returns whether memory ran out.
+fn try_rounds_of<R: Wait>(rt: &R, alloc: Global, auditor: &mut Auditor) -> Result<Tried, bool> {
     let Some(name) = r() else {
         return Ok(Tried::Wrong);
     };
-    let mut auditor = new_auditor(alloc)?;
-    let mut cluster = new_cluster(alloc)?;
-    Ok(try_acts(rt, alloc, &mut cluster, &mut auditor, &name))
+    match new_cluster(alloc) {
+        Ok(mut cluster) => Ok(try_acts(rt, alloc, &mut cluster, auditor, &name)),
+        Err(is_memory) => Err(is_memory),
+    }
+}
+
+/// Makes a cluster and an auditor, and does all of it. If they can't be made, returns whether memory ran out.
+fn try_rounds<R: Wait>(rt: &R, alloc: Global) -> Result<Tried, bool> {
+    match new_auditor(alloc) {
+        Ok(mut auditor) => try_rounds_of(rt, alloc, &mut auditor),
+        Err(is_memory) => Err(is_memory),
+    }
 }
 
 #[test]
