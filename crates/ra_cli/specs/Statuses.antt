@@ -94,7 +94,7 @@ pub record Serves (words : List (List ℕ)) (old new before after : Option (List
   -- they are the program's name and `sim` alone, that for words that are no command line of `ra`.
   pub only_memory : SimsFaithfully words → GivesNoChoices words → status ≡ 2 → IfSome old (λ input. IsOrderly input
       → Appends before after (refused_line (codes "Memory"))
-        ⊎ ((AreSimWords words → ⊥) × Appends before after (refused_line (codes "Usage"))))
+      ⊎ ((AreSimWords words → ⊥) × Appends before after (refused_line (codes "Usage"))))
   -- Status 2 comes only with the line of a refusal that is neither the reader's nor the writer's.
   pub refused : status ≡ 2 → IsRefused before after
   -- Status 1 comes only if the reader or the writer failed, with the line that says so of the reader, or a prefix of what
