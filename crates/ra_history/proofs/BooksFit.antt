@@ -83,15 +83,14 @@ taken_by_losses : (ms : List Message) → flat_map taken_in (losses ms) ≡ ms
 taken_by_losses [] = refl
 taken_by_losses (m ∷ ms) = ap (λ (xs : List Message). m ∷ xs) (taken_by_losses ms)
 
-names : (n i : ℕ) (kind : BookKind) → (1 ≤ i) × (i ≤ n) → NamesNode n (step_at i kind)
+pub names : (n i : ℕ) (kind : BookKind) → (1 ≤ i) × (i ≤ n) → NamesNode n (step_at i kind)
 names n i (Asked client name mode) within = within
 names n i (Gave client name) within = within
 names n i (Got frame) within = tt
 
 -- ---- The steps fit together
 
-module _ (books : List BookState) (placed : List Placed) (cluster : IsCluster books) (histories : All HasWholeHistory books) (order : IsSettledOrder books placed)
-    (all_sent : All (λ f. WasSent books f) (all_received books)) (came : AreDifferent (map (λ f. f.message) (all_received books))) where
+module _ (books : List BookState) (placed : List Placed) (cluster : IsCluster books) (histories : All HasWholeHistory books) (order : IsSettledOrder books placed) where
   abbrev n : ℕ
   n = length books
 
@@ -130,7 +129,7 @@ module _ (books : List BookState) (placed : List Placed) (cluster : IsCluster bo
         happened_is = found.1;
       }
 
-  history_of : (i : ℕ) → 1 ≤ i → i ≤ n → (node : NodeState) × NodeEvents (opening_node i n start) (happens i) node
+  pub history_of : (i : ℕ) → 1 ≤ i → i ≤ n → (node : NodeState) × NodeEvents (opening_node i n start) (happens i) node
   history_of i low high =
       let it = of_node i low high in
       let node = it.history.node in (
@@ -139,7 +138,7 @@ module _ (books : List BookState) (placed : List Placed) (cluster : IsCluster bo
             (subst (λ (x : NodeState). NodeEvents x (map happening_of it.history.leads.postings) node) (λ j. opening_node (it.me_is j) (it.nodes_is j) (it.start_is j)) it.history.leads.leads),
       )
 
-  events_are : (i : ℕ) → 1 ≤ i → i ≤ n → (ms : List Message) → map (λ h. h.event) (happens i) ≡ flat_map (events_at i) (steps_of placed ++ losses ms)
+  pub events_are : (i : ℕ) → 1 ≤ i → i ≤ n → (ms : List Message) → map (λ h. h.event) (happens i) ≡ flat_map (events_at i) (steps_of placed ++ losses ms)
   events_are i low high ms =
       let it = of_node i low high in
       ap (map (λ h. h.event)) it.happened_is
@@ -150,106 +149,108 @@ module _ (books : List BookState) (placed : List Placed) (cluster : IsCluster bo
       ∙ ap (λ (es : List Event). flat_map (events_at i) (steps_of placed) ++ es) (sym (nothing_by_losses i ms))
       ∙ sym (flat_map-append (events_at i) (steps_of placed) (losses ms))
 
-  -- after all events all that happened at a node has happened
-  all_done : (i : ℕ) → 1 ≤ i → i ≤ n → (ms : List Message) → happened_by (happens i) i (steps_of placed ++ losses ms) ≡ happens i
-  all_done i low high ms =
-      take_all (length (flat_map (events_at i) (steps_of placed ++ losses ms))) (happens i)
-      (omega (arith, ap length (events_are i low high ms), length-map (happens i) (λ (h : Happening). h.event)))
+  -- if all that came was sent, and no message came twice
+  module _ (all_sent : All (λ f. WasSent books f) (all_received books)) (came : AreDifferent (map (λ f. f.message) (all_received books))) where
+    -- after all events all that happened at a node has happened
+    all_done : (i : ℕ) → 1 ≤ i → i ≤ n → (ms : List Message) → happened_by (happens i) i (steps_of placed ++ losses ms) ≡ happens i
+    all_done i low high ms =
+        take_all (length (flat_map (events_at i) (steps_of placed ++ losses ms))) (happens i)
+        (omega (arith, ap length (events_are i low high ms), length-map (happens i) (λ (h : Happening). h.event)))
 
-  -- some node sent the message
-  abbrev WentOut : Message → Type 0
-  WentOut m = (i : ℕ) × (1 ≤ i) × (i ≤ n) × Contains (sent_in (happens i)) m
+    -- some node sent the message
+    abbrev WentOut : Message → Type 0
+    WentOut m = (i : ℕ) × (1 ≤ i) × (i ≤ n) × Contains (sent_in (happens i)) m
 
-  -- so a message that went out is lost after its sending
-  loss_in_time : (before : List Message) (m : Message) → WentOut m → All (WasSentBy n happens (steps_of placed ++ losses before)) (m ∷ [])
-  loss_in_time before m out =
-      let P : Message → Type 0 = WasSentBy n happens (steps_of placed ++ losses before) in
-      let done = all_done out.0 out.1 out.2 before in
-      All-cons P m [] (out.0, out.1, out.2, subst (λ (hs : List Happening). Contains (sent_in hs) m) (sym done) out.3) (All-nil P)
+    -- so a message that went out is lost after its sending
+    loss_in_time : (before : List Message) (m : Message) → WentOut m → All (WasSentBy n happens (steps_of placed ++ losses before)) (m ∷ [])
+    loss_in_time before m out =
+        let P : Message → Type 0 = WasSentBy n happens (steps_of placed ++ losses before) in
+        let done = all_done out.0 out.1 out.2 before in
+        All-cons P m [] (out.0, out.1, out.2, subst (λ (hs : List Happening). Contains (sent_in hs) m) (sym done) out.3) (All-nil P)
 
-  -- with losses of messages that were sent, which are different from each other and from those that came
-  module _ (ms : List Message) (went_out : All WentOut ms) (apart : AreDifferent (delivered placed ++ ms)) where
-    abbrev steps : List Step
-    steps = steps_of placed ++ losses ms
+    -- with losses of messages that were sent, which are different from each other and from those that came
+    module _ (ms : List Message) (went_out : All WentOut ms) (apart : AreDifferent (delivered placed ++ ms)) where
+      abbrev steps : List Step
+      steps = steps_of placed ++ losses ms
 
-    sent_in_time : (prefix : List Step) (step : Step) (suffix : List Step) → steps ≡ prefix ++ step ∷ suffix → All (WasSentBy n happens prefix) (taken_in step)
-    sent_in_time prefix step suffix parts =
-        elim (place_in (steps_of placed) (losses ms) prefix step suffix parts) [
-          | inl found ↦
-              let at = cut (λ p. step_at p.node p.event.kind) placed prefix step found.0 found.1 in
-              subst (λ (s : Step). All (WasSentBy n happens prefix) (taken_in s)) at.this_is
-              (subst (λ (ss : List Step). All (WasSentBy n happens ss) (taken_in (step_at at.this.node at.this.event.kind))) at.before_is
-              (sent_before books placed cluster histories order all_sent at.before at.this at.behind at.parts))
-          | inr found ↦
-              let at = cut (λ m. Lose m) ms found.0 step suffix found.2 in
-              let out : WentOut at.this = All-contains WentOut ms at.this went_out
-              (subst (λ (xs : List Message). Contains xs at.this) (sym at.parts) (Contains-append_right at.before (at.this ∷ at.behind) at.this (0, omega arith, refl)))
-              in
-              let prefix_is : steps_of placed ++ losses at.before ≡ prefix = ap (λ (ss : List Step). steps_of placed ++ ss) at.before_is ∙ sym found.1 in
-              subst (λ (s : Step). All (WasSentBy n happens prefix) (taken_in s)) at.this_is
-              (subst (λ (ss : List Step). All (WasSentBy n happens ss) (at.this ∷ [])) prefix_is (loss_in_time at.before at.this out))
-        ]
+      sent_in_time : (prefix : List Step) (step : Step) (suffix : List Step) → steps ≡ prefix ++ step ∷ suffix → All (WasSentBy n happens prefix) (taken_in step)
+      sent_in_time prefix step suffix parts =
+          elim (place_in (steps_of placed) (losses ms) prefix step suffix parts) [
+            | inl found ↦
+                let at = cut (λ p. step_at p.node p.event.kind) placed prefix step found.0 found.1 in
+                subst (λ (s : Step). All (WasSentBy n happens prefix) (taken_in s)) at.this_is
+                (subst (λ (ss : List Step). All (WasSentBy n happens ss) (taken_in (step_at at.this.node at.this.event.kind))) at.before_is
+                (sent_before books placed cluster histories order all_sent at.before at.this at.behind at.parts))
+            | inr found ↦
+                let at = cut (λ m. Lose m) ms found.0 step suffix found.2 in
+                let out : WentOut at.this = All-contains WentOut ms at.this went_out
+                (subst (λ (xs : List Message). Contains xs at.this) (sym at.parts) (Contains-append_right at.before (at.this ∷ at.behind) at.this (0, omega arith, refl)))
+                in
+                let prefix_is : steps_of placed ++ losses at.before ≡ prefix = ap (λ (ss : List Step). steps_of placed ++ ss) at.before_is ∙ sym found.1 in
+                subst (λ (s : Step). All (WasSentBy n happens prefix) (taken_in s)) at.this_is
+                (subst (λ (ss : List Step). All (WasSentBy n happens ss) (at.this ∷ [])) prefix_is (loss_in_time at.before at.this out))
+          ]
 
-    fit : FitTogether n start steps happens
-    fit = record {
-      nodes = history_of;
-      events = λ i low high. events_are i low high ms;
-      named =
-          All-append (NamesNode n) (steps_of placed) (losses ms)
-          (All-map (NamesNode n) (λ p. step_at p.node p.event.kind) placed (λ k d low. names n (get_or placed k d).node (get_or placed k d).event.kind (order.no_others k d low)))
-          (All-map (NamesNode n) (λ m. Lose m) ms (λ k d low. tt));
-      sent = sent_in_time;
-      once =
-          subst AreDifferent
-          (sym (flat_map-append taken_in (steps_of placed) (losses ms) ∙ ap (λ (xs : List Message). delivered placed ++ xs) (taken_by_losses ms))) apart;
-      unrepeated = none_repeated placed ms;
-    }
+      fit : FitTogether n start steps happens
+      fit = record {
+        nodes = history_of;
+        events = λ i low high. events_are i low high ms;
+        named =
+            All-append (NamesNode n) (steps_of placed) (losses ms)
+            (All-map (NamesNode n) (λ p. step_at p.node p.event.kind) placed (λ k d low. names n (get_or placed k d).node (get_or placed k d).event.kind (order.no_others k d low)))
+            (All-map (NamesNode n) (λ m. Lose m) ms (λ k d low. tt));
+        sent = sent_in_time;
+        once =
+            subst AreDifferent
+            (sym (flat_map-append taken_in (steps_of placed) (losses ms) ∙ ap (λ (xs : List Message). delivered placed ++ xs) (taken_by_losses ms))) apart;
+        unrepeated = none_repeated placed ms;
+      }
 
-  -- ---- They are a run
+    -- ---- They are a run
 
-  module _ (count : IsNodeNumber n)
-      (fitting : (n start : ℕ) (steps : List Step) (happened : ℕ → List Happening) → IsNodeNumber n → FitTogether n start steps happened
-      → (moves : List Move) × (map (λ move. move.step) moves ≡ steps) × IsRun n start moves × ((i : ℕ) → 1 ≤ i → i ≤ n → happened_at i moves ≡ happened i))
-      (differ : (n start : ℕ) (moves : List Move) → IsNodeNumber n → IsRun n start moves → repeated_by moves ≡ [] → AreDifferent (sent_by moves))
-      (own : All (λ b. All (λ s. from_of s.frame.message ≡ b.me) b.sent) books) where
-    came_once : AreDifferent (delivered placed)
-    came_once = delivered_apart books placed cluster histories order came
+    module _ (count : IsNodeNumber n)
+        (fitting : (n start : ℕ) (steps : List Step) (happened : ℕ → List Happening) → IsNodeNumber n → FitTogether n start steps happened
+        → (moves : List Move) × (map (λ move. move.step) moves ≡ steps) × IsRun n start moves × ((i : ℕ) → 1 ≤ i → i ≤ n → happened_at i moves ≡ happened i))
+        (differ : (n start : ℕ) (moves : List Move) → IsNodeNumber n → IsRun n start moves → repeated_by moves ≡ [] → AreDifferent (sent_by moves))
+        (own : All (λ b. All (λ s. from_of s.frame.message ≡ b.me) b.sent) books) where
+      came_once : AreDifferent (delivered placed)
+      came_once = delivered_apart books placed cluster histories order came
 
-    -- the events alone are a run, so all messages that a book sent are different
-    abbrev Ran : List Step → Type 0
-    Ran steps = (moves : List Move) × (map (λ move. move.step) moves ≡ steps) × IsRun n start moves × ((i : ℕ) → 1 ≤ i → i ≤ n → happened_at i moves ≡ happens i)
+      -- the events alone are a run, so all messages that a book sent are different
+      abbrev Ran : List Step → Type 0
+      Ran steps = (moves : List Move) × (map (λ move. move.step) moves ≡ steps) × IsRun n start moves × ((i : ℕ) → 1 ≤ i → i ≤ n → happened_at i moves ≡ happens i)
 
-    events_ran : Ran (steps_of placed ++ losses [])
-    events_ran = fitting n start (steps_of placed ++ losses []) happens count
-        (fit [] (All-nil WentOut) (subst AreDifferent (sym (append-nil (delivered placed))) came_once))
+      events_ran : Ran (steps_of placed ++ losses [])
+      events_ran = fitting n start (steps_of placed ++ losses []) happens count
+          (fit [] (All-nil WentOut) (subst AreDifferent (sym (append-nil (delivered placed))) came_once))
 
-    sent_there : (k : ℕ) (d : BookState) → k < n → sent_in (happens (k + 1)) ≡ messages_of (get_or books k d)
-    sent_there k d low =
-        let found = happened_at_place books histories k d low in
-        let same : happens (k + 1) ≡ map happening_of found.0.leads.postings = ap (happened_in books histories) (omega arith) ∙ found.1 in
-        ap sent_in same ∙ sent_of_book (get_or books k d) found.0
+      sent_there : (k : ℕ) (d : BookState) → k < n → sent_in (happens (k + 1)) ≡ messages_of (get_or books k d)
+      sent_there k d low =
+          let found = happened_at_place books histories k d low in
+          let same : happens (k + 1) ≡ map happening_of found.0.leads.postings = ap (happened_in books histories) (omega arith) ∙ found.1 in
+          ap sent_in same ∙ sent_of_book (get_or books k d) found.0
 
-    each_different : All (λ b. AreDifferent (messages_of b)) books
-    each_different k d low =
-        let once : repeated_by events_ran.0 ≡ [] = nothing_repeated events_ran.0 placed [] events_ran.1 in
-        let here = different_at (k + 1) events_ran.0 (differ n start events_ran.0 count events_ran.2 once) in
-        subst AreDifferent (ap sent_in (events_ran.3 (k + 1) (omega arith) (omega (arith, low))) ∙ sent_there k d low) here
+      each_different : All (λ b. AreDifferent (messages_of b)) books
+      each_different k d low =
+          let once : repeated_by events_ran.0 ≡ [] = nothing_repeated events_ran.0 placed [] events_ran.1 in
+          let here = different_at (k + 1) events_ran.0 (differ n start events_ran.0 count events_ran.2 once) in
+          subst AreDifferent (ap sent_in (events_ran.3 (k + 1) (omega arith) (omega (arith, low))) ∙ sent_there k d low) here
 
-    lost_went_out : All WentOut (all_lost books)
-    lost_went_out =
-        all_of_each WentOut (λ b. lost_among b.sent) books
-        (λ k d low j e within.
-        let b = get_or books k d in
-        let m = get_or (lost_among b.sent) j e in
-        (k + 1, omega arith, omega (arith, low), subst (λ (ms : List Message). Contains ms m) (sym (sent_there k d low)) (lost_is_sent b.sent m (Contains-get_or (lost_among b.sent) j e within))))
+      lost_went_out : All WentOut (all_lost books)
+      lost_went_out =
+          all_of_each WentOut (λ b. lost_among b.sent) books
+          (λ k d low j e within.
+          let b = get_or books k d in
+          let m = get_or (lost_among b.sent) j e in
+          (k + 1, omega arith, omega (arith, low), subst (λ (ms : List Message). Contains ms m) (sym (sent_there k d low)) (lost_is_sent b.sent m (Contains-get_or (lost_among b.sent) j e within))))
 
-    settled_ran : Ran (settled_steps books placed)
-    settled_ran = fitting n start (settled_steps books placed) happens count
-        (fit (all_lost books) lost_went_out
-        (all_apart books cluster own each_different placed (sent_all books placed cluster histories order all_sent) came_once))
+      settled_ran : Ran (settled_steps books placed)
+      settled_ran = fitting n start (settled_steps books placed) happens count
+          (fit (all_lost books) lost_went_out
+          (all_apart books cluster own each_different placed (sent_all books placed cluster histories order all_sent) came_once))
 
-    pub is_run : WorldRun n start (settled_steps books placed)
-    is_run = (settled_ran.0, settled_ran.1, settled_ran.2)
+      pub is_run : WorldRun n start (settled_steps books placed)
+      is_run = (settled_ran.0, settled_ran.1, settled_ran.2)
 
 -- there are as many nodes as books
 pub node_count : (books : List BookState) → IsCluster books → All HasHistory books → IsNodeNumber (length books)

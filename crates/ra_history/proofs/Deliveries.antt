@@ -3,10 +3,10 @@ use Rattle.std.proofs.Common.{◌≡◌, ◌≢◌, ℕ, ◌+◌, ◌-◌, ◌<�
 use Rattle.std.specs.Prelude.{All, AllPairs, Contains}
 use Rattle.std.specs.List.{filter, flat_map}
 use Rattle.std.proofs.lemmas.Bool.{eq-eqb}
-use Rattle.std.proofs.lemmas.List.{map-append, length-map, get_or_default}
-use Rattle.std.proofs.lemmas.List.Elements.{All-nil, All-cons, All-head, All-tail, All-map, All-weaker, All-append, All-filter, filter-append}
+use Rattle.std.proofs.lemmas.List.{map-append, length-map, length-append, take-map, get_or_default, get_or_append_left, get_or_at}
+use Rattle.std.proofs.lemmas.List.Elements.{All-nil, All-cons, All-head, All-tail, All-map, All-weaker, All-append, All-contains, All-filter, filter-append}
 use Rattle.ra_stamp.specs.declared.message.Message.{Message}
-use Rattle.ra_stamp.specs.Message.{to_of}
+use Rattle.ra_stamp.specs.Message.{from_of, to_of}
 use Rattle.ra_frame.specs.declared.frame.Frame.{Frame}
 use Rattle.ra_node.specs.Events.{Happening}
 use Rattle.ra_world.specs.Traffic.{taken_in}
@@ -15,15 +15,16 @@ use Rattle.ra_world.specs.Fitting.{sent_in, happened_by, WasSentBy}
 use Rattle.ra_history.specs.declared.event.BookKind.{BookKind}
 use Rattle.ra_history.specs.declared.event.BookKind.TheVariants.{Asked, Gave, Got}
 use Rattle.ra_history.specs.declared.event.BookEvent.{BookEvent}
-use Rattle.ra_history.specs.History.{AreClocked, clock_after, node_event, happening_of}
+use Rattle.ra_history.specs.History.{AreClocked, clock_after, node_event, happening_of, frames_of}
 use Rattle.ra_history.specs.Book.{BookState, nothing_taken}
 use Rattle.ra_history.specs.Keys.{messages_among}
 use Rattle.ra_history.specs.Settled.{IsCluster, IsSettledOrder, IsBefore, Placed, WasSent, events_of, step_at, steps_of, frames_in, received_among, all_received}
+use Rattle.ra_history.specs.Repeats.{ComesBy, frames_by}
 use Rattle.ra_history.proofs.Merging.{number_at}
 use Rattle.ra_history.proofs.Projections.{IsAddressed, projected, all_placed, all_addressed}
 use Rattle.ra_history.proofs.Received.{all_received_split}
-use Rattle.ra_history.proofs.Distinct.{AreDifferent, all_left, all_right, pairs_left, pairs_right, pairs_first, kept_apart}
-use Rattle.ra_history.proofs.Happened.{happened_in, happened_at_place, sent_by_first}
+use Rattle.ra_history.proofs.Distinct.{AreDifferent, all_left, all_right, pairs_left, pairs_right, pairs_first, kept_apart, in_map}
+use Rattle.ra_history.proofs.Happened.{happened_in, postings_in, posted_at_place, sent_by_first, sent_in_frames}
 use Rattle.ra_history.proofs.Whole.{HasWholeHistory}
 
 -- ---- The clocks of the frames that came
@@ -131,6 +132,15 @@ module _ (books : List BookState) (placed : List Placed) (cluster : IsCluster bo
   earlier_all : All (λ p. AreEarlier p.event) placed
   earlier_all = all_placed (λ i e. AreEarlier e) books placed cluster order (λ k d low. all_earlier 0 (get_or books k d).events (histories k d low).leads.clocked)
 
+  -- the frames that a node sent in its events among these, and their messages
+  abbrev pub frames_first : ℕ → List Placed → List Frame
+  frames_first i prefix = frames_of (take (length (flat_map (events_at i) (steps_of prefix))) (postings_in books histories (i - 1)))
+
+  pub messages_first : (i : ℕ) (prefix : List Placed) → sent_in (happened_by (happened i) i (steps_of prefix)) ≡ map (λ f. f.message) (frames_first i prefix)
+  messages_first i prefix =
+      let many = length (flat_map (events_at i) (steps_of prefix)) in
+      ap sent_in (take-map happening_of many (postings_in books histories (i - 1))) ∙ sent_in_frames (take many (postings_in books histories (i - 1)))
+
   -- all frames that came were sent and kept
   module _ (all_sent : All (λ f. WasSent books f) (all_received books)) where
     pub sent_all : All (λ p. All (λ f. WasSent books f) (frames_in p.event.kind)) placed
@@ -150,32 +160,72 @@ module _ (books : List BookState) (placed : List Placed) (cluster : IsCluster bo
       late : (i : ℕ) → All (λ e. p.event.clock ≤ e.clock) (events_of i (p ∷ suffix))
       late i = events_late p.event.clock i (p ∷ suffix) (from_there prefix p suffix (subst (AllPairs IsBefore) parts order.sorted))
 
-      frame_before : (f : Frame) → f.clock < p.event.clock → WasSent books f → WasSentBy n happened (steps_of prefix) f.message
+      -- a frame of this clock or an earlier one is among those that its sender's events before sent
+      pub frame_before : (f : Frame) → f.clock < p.event.clock → WasSent books f
+          → (1 ≤ from_of f.message) × (from_of f.message ≤ n) × Contains (frames_first (from_of f.message) prefix) f
       frame_before f less (k, b, low, at, is) =
-          let i : ℕ = k + 1 in
-          let found = happened_at_place books histories k b low in
+          let found = posted_at_place books histories k b low in
           let it = get_or books k b in
-          let number : it.me ≡ i = number_at books cluster k b low in
+          let i : ℕ = from_of f.message in
+          let number : it.me ≡ k + 1 = number_at books cluster k b low in
+          let me : it.me ≡ i = ap (λ (x : BookState). x.me) at ∙ is.0 in
           let parts_are : it.events ≡ events_of i prefix ++ events_of i (p ∷ suffix) =
-          sym (order.each k b low) ∙ ap (λ (m : ℕ). events_of m placed) number ∙ ap (events_of i) parts ∙ events_of_parts i prefix (p ∷ suffix)
+          sym (order.each k b low) ∙ ap (λ (m : ℕ). events_of m placed) me ∙ ap (events_of i) parts ∙ events_of_parts i prefix (p ∷ suffix)
           in
           let kept : Contains it.sent (record { frame = f; lost = false }) = subst (λ (x : BookState). Contains x.sent (record { frame = f; lost = false })) (sym at) is.1 in
           let first = sent_by_first it found.0 f p.event.clock (events_of i prefix) (events_of i (p ∷ suffix)) parts_are (late i) less kept in
-          let many : length (flat_map (events_at i) (steps_of prefix)) ≡ length (events_of i prefix) =
-          ap length (projected i prefix addressed_prefix) ∙ length-map (events_of i prefix) (λ e. node_event e.kind)
+          let many : length (events_of i prefix) ≡ length (flat_map (events_at i) (steps_of prefix)) =
+          sym (ap length (projected i prefix addressed_prefix) ∙ length-map (events_of i prefix) (λ e. node_event e.kind))
           in
-          let same : happened i ≡ map happening_of found.0.leads.postings = ap (happened_in books histories) (omega arith) ∙ found.1 in
-          let done : happened_by (happened i) i (steps_of prefix) ≡ take (length (events_of i prefix)) (map happening_of found.0.leads.postings) = λ j. take (many j) (same j) in
-          (i, omega arith, omega (arith, low), subst (λ (hs : List Happening). Contains (sent_in hs) f.message) (sym done) first)
+          let same : found.0.leads.postings ≡ postings_in books histories (i - 1) = sym found.1 ∙ ap (postings_in books histories) (omega (arith, number, me)) in (
+            omega (arith, number, me),
+            omega (arith, number, me, low),
+            subst (λ (fs : List Frame). Contains fs f) (λ j. frames_of (take (many j) (same j))) first,
+          )
+
+      -- the frames that come with the event have earlier clocks, and were sent
+      pub come_before : All (λ f. (f.clock < p.event.clock) × WasSent books f) (frames_in p.event.kind)
+      come_before k d low =
+          (here (λ q. AreEarlier q.event) earlier_all k d low, here (λ q. All (λ f. WasSent books f) (frames_in q.event.kind)) sent_all k d low)
+
+      -- and so have those that came by the events before it
+      pub came_before : (f : Frame) → ComesBy prefix f → (f.clock < p.event.clock) × WasSent books f
+      came_before f came =
+          All-contains (λ f. (f.clock < p.event.clock) × WasSent books f) (frames_by prefix) f
+          (all_of_each (λ f. (f.clock < p.event.clock) × WasSent books f) (λ q. frames_in q.event.kind) prefix
+          (λ k d low i e within.
+          let early : (get_or prefix k d).event.clock ≤ p.event.clock = not_after (get_or prefix k d) p (in_order k d low) in
+          let less = all_left (λ q. AreEarlier q.event) prefix (p ∷ suffix) (subst (All (λ q. AreEarlier q.event)) parts earlier_all) k d low i e within in
+          let sent = all_left (λ q. All (λ f. WasSent books f) (frames_in q.event.kind)) prefix (p ∷ suffix)
+          (subst (All (λ q. All (λ f. WasSent books f) (frames_in q.event.kind))) parts sent_all) k d low i e within
+          in
+          (omega (arith, early, less), sent))) came
+        where
+          in_order : (k : ℕ) (d : Placed) → k < length prefix → IsBefore (get_or prefix k d) p
+          in_order k d low =
+              let whole = prefix ++ p ∷ suffix in
+              let pair : IsBefore (get_or whole k d) (get_or whole (length prefix) d) =
+              subst (AllPairs IsBefore) parts order.sorted k (length prefix) d low (omega (arith, length-append prefix (p ∷ suffix)))
+              in
+              subst (λ (q : Placed). IsBefore q p) (get_or_append_left prefix (p ∷ suffix) d k low)
+              (subst (λ (q : Placed). IsBefore (get_or whole k d) q) (get_or_at prefix p suffix d (length prefix) refl) pair)
+
+      was_before : (f : Frame) → f.clock < p.event.clock → WasSent books f → WasSentBy n happened (steps_of prefix) f.message
+      was_before f less sent =
+          let i : ℕ = from_of f.message in
+          let was = frame_before f less sent in (
+            i,
+            was.0,
+            was.1,
+            subst (λ (ms : List Message). Contains ms f.message) (sym (messages_first i prefix)) (in_map (λ g. g.message) (frames_first i prefix) f was.2),
+          )
 
       -- a frame that comes was sent by what its sender did before
       pub sent_before : All (WasSentBy n happened (steps_of prefix)) (taken_in (step_at p.node p.event.kind))
       sent_before =
-          let earlier = here (λ q. AreEarlier q.event) earlier_all in
-          let sent = here (λ q. All (λ f. WasSent books f) (frames_in q.event.kind)) sent_all in
           subst (All (WasSentBy n happened (steps_of prefix))) (sym (taken_is p.node p.event.kind))
           (All-map (WasSentBy n happened (steps_of prefix)) (λ f. f.message) (frames_in p.event.kind)
-          (λ k d low. frame_before (get_or (frames_in p.event.kind) k d) (earlier k d low) (sent k d low)))
+          (λ k d low. let come = come_before k d low in was_before (get_or (frames_in p.event.kind) k d) come.0 come.1))
 
   -- ---- No message came twice
 

@@ -1,7 +1,7 @@
 -- What happened at each node, by the books, and what a node had sent by its first events.
 use Rattle.std.proofs.Common.{◌≡◌, ℕ, zero, suc, ◌<◌, ◌≤◌, List, [], ◌∷◌, ◌++◌, map, length, get_or, take, drop, false, refl, sym, ap, ◌∙◌, subst, arith, inl, inr}
 use Rattle.std.specs.Prelude.{All, Contains}
-use Rattle.std.proofs.lemmas.List.{map-append, drop-map, drop_at, take-map, take-append-drop}
+use Rattle.std.proofs.lemmas.List.{map-append, drop-map, drop_at, take-append-drop}
 use Rattle.std.proofs.lemmas.List.Elements.{All-nil, All-head, All-tail, All-map, All-append, All-contains, Contains-append_cases, Contains-append_left, Contains-append_right}
 use Rattle.ra_stamp.specs.declared.message.Message.{Message}
 use Rattle.ra_frame.specs.declared.frame.Frame.{Frame}
@@ -14,17 +14,26 @@ use Rattle.ra_history.specs.Book.{BookState}
 use Rattle.ra_history.proofs.Distinct.{all_of_map, in_map}
 use Rattle.ra_history.proofs.Whole.{HasWholeHistory}
 
--- what happened at the node whose book has this place
+-- the postings of the node whose book has this place, and what happened there
+abbrev pub postings_in : (books : List BookState) → All HasWholeHistory books → ℕ → List Posting
+postings_in [] histories place = []
+postings_in (b ∷ books) histories zero = (All-head HasWholeHistory b books histories).leads.postings
+postings_in (b ∷ books) histories (suc place) = postings_in books (All-tail HasWholeHistory b books histories) place
+
 abbrev pub happened_in : (books : List BookState) → All HasWholeHistory books → ℕ → List Happening
-happened_in [] histories place = []
-happened_in (b ∷ books) histories zero = map happening_of (All-head HasWholeHistory b books histories).leads.postings
-happened_in (b ∷ books) histories (suc place) = happened_in books (All-tail HasWholeHistory b books histories) place
+happened_in books histories place = map happening_of (postings_in books histories place)
+
+pub posted_at_place : (books : List BookState) (histories : All HasWholeHistory books) (place : ℕ) (d : BookState) → place < length books
+    → (history : HasWholeHistory (get_or books place d)) × (postings_in books histories place ≡ history.leads.postings)
+posted_at_place [] histories place d low = absurd (omega (arith, low))
+posted_at_place (b ∷ books) histories zero d low = (All-head HasWholeHistory b books histories, refl)
+posted_at_place (b ∷ books) histories (suc place) d low = posted_at_place books (All-tail HasWholeHistory b books histories) place d (omega (arith, low))
 
 pub happened_at_place : (books : List BookState) (histories : All HasWholeHistory books) (place : ℕ) (d : BookState) → place < length books
     → (history : HasWholeHistory (get_or books place d)) × (happened_in books histories place ≡ map happening_of history.leads.postings)
-happened_at_place [] histories place d low = absurd (omega (arith, low))
-happened_at_place (b ∷ books) histories zero d low = (All-head HasWholeHistory b books histories, refl)
-happened_at_place (b ∷ books) histories (suc place) d low = happened_at_place books (All-tail HasWholeHistory b books histories) place d (omega (arith, low))
+happened_at_place books histories place d low =
+    let posted = posted_at_place books histories place d low in
+    (posted.0, ap (map happening_of) posted.1)
 
 -- ---- The events of postings
 
@@ -41,7 +50,7 @@ out_again : (clock : ℕ) (messages : List Message) → map (λ (f : Frame). f.m
 out_again clock [] = refl
 out_again clock (m ∷ messages) = ap (λ (ms : List Message). m ∷ ms) (out_again clock messages)
 
-sent_in_frames : (postings : List Posting) → sent_in (map happening_of postings) ≡ map (λ f. f.message) (frames_of postings)
+pub sent_in_frames : (postings : List Posting) → sent_in (map happening_of postings) ≡ map (λ f. f.message) (frames_of postings)
 sent_in_frames [] = refl
 sent_in_frames (p ∷ postings) =
     (λ j. sym (out_again p.event.clock p.sends) j ++ sent_in_frames postings j)
@@ -66,21 +75,19 @@ late_frames clock (p ∷ postings) late =
 
 -- a frame with a lesser clock than all later events went out before them
 sent_earlier : (clock : ℕ) (prefix rest : List Posting) (f : Frame) → All (λ p. clock ≤ p.event.clock) rest → f.clock < clock → Contains (frames_of (prefix ++ rest)) f
-    → Contains (sent_in (map happening_of prefix)) f.message
+    → Contains (frames_of prefix) f
 sent_earlier clock [] rest f late less is =
     let low : clock ≤ f.clock = All-contains (λ g. clock ≤ g.clock) (frames_of rest) f (late_frames clock rest late) is in
     absurd (omega (arith, low, less))
 sent_earlier clock (p ∷ prefix) rest f late less is =
     elim (Contains-append_cases (frames_at p.event.clock p.sends) (frames_of (prefix ++ rest)) f is) [
-      | inl here ↦
-          Contains-append_left p.sends (sent_in (map happening_of prefix)) f.message
-          (subst (λ (ms : List Message). Contains ms f.message) (out_again p.event.clock p.sends) (in_map (λ g. g.message) (frames_at p.event.clock p.sends) f here))
-      | inr behind ↦ Contains-append_right p.sends (sent_in (map happening_of prefix)) f.message (sent_earlier clock prefix rest f late less behind)
+      | inl here ↦ Contains-append_left (frames_at p.event.clock p.sends) (frames_of prefix) f here
+      | inr behind ↦ Contains-append_right (frames_at p.event.clock p.sends) (frames_of prefix) f (sent_earlier clock prefix rest f late less behind)
     ]
 
 -- the same, of the events of a book
 pub sent_by_first : (b : BookState) (history : HasWholeHistory b) (f : Frame) (clock : ℕ) (done left : List BookEvent) → b.events ≡ done ++ left → All (λ e. clock ≤ e.clock) left → f.clock < clock
-    → Contains b.sent (record { frame = f; lost = false }) → Contains (sent_in (take (length done) (map happening_of history.leads.postings))) f.message
+    → Contains b.sent (record { frame = f; lost = false }) → Contains (frames_of (take (length done) history.leads.postings)) f
 sent_by_first b history f clock done left parts late less kept =
     let postings = history.leads.postings in
     let many = length done in
@@ -93,6 +100,5 @@ sent_by_first b history f clock done left parts late less kept =
     let went_out : Contains (frames_of postings) f =
     subst (λ (fs : List Frame). Contains fs f) history.leads.sent_are (in_map (λ s. s.frame) b.sent (record { frame = f; lost = false }) kept)
     in
-    subst (λ (hs : List Happening). Contains (sent_in hs) f.message) (sym (take-map happening_of many postings))
-    (sent_earlier clock (take many postings) (drop many postings) f late_postings less
-    (subst (λ (ps : List Posting). Contains (frames_of ps) f) (sym (take-append-drop many postings)) went_out))
+    sent_earlier clock (take many postings) (drop many postings) f late_postings less
+    (subst (λ (ps : List Posting). Contains (frames_of ps) f) (sym (take-append-drop many postings)) went_out)

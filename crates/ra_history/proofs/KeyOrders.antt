@@ -1,4 +1,4 @@
--- Keys are in a total order, in which different keys differ. Different requests and messages have different keys.
+-- Keys are in a total order, in which different keys differ. Different requests, messages and frames have different keys.
 use Rattle.std.proofs.Common.{◌≡◌, ℕ, zero, suc, List, Ordering, refl, sym, ap, ◌∙◌}
 use Rattle.std.specs.Ordering.{nat_cmp, ordering_then}
 use Rattle.std.specs.Cmp.{IsTotalOrder, nat_cmp_total, on_total, then_total}
@@ -9,9 +9,11 @@ use Rattle.ra_stamp.specs.declared.mode.Mode.TheVariants.{Shared, Exclusive, Int
 use Rattle.ra_stamp.specs.declared.entry.Entry.{Entry}
 use Rattle.ra_stamp.specs.declared.message.Message.{Message}
 use Rattle.ra_stamp.specs.declared.message.Message.TheVariants.{Request, Reply}
+use Rattle.ra_frame.specs.declared.frame.Frame.{Frame}
 use Rattle.ra_history.specs.declared.keys.EntryKey.{EntryKey}
+use Rattle.ra_history.specs.declared.keys.FrameKey.{FrameKey}
 use Rattle.ra_history.specs.declared.keys.MessageKey.{MessageKey}
-use Rattle.ra_history.specs.Keys.{mode_number, entry_key, message_key}
+use Rattle.ra_history.specs.Keys.{mode_number, entry_key, message_key, frame_key}
 
 -- a pair of orders, one after the other
 abbrev then : {A B : Type 0} → (A → A → Ordering) → (B → B → Ordering) → A × B → A × B → Ordering
@@ -114,3 +116,21 @@ one_message (Request from to name mode seq) (Reply from' to' name' seq') e =
 one_message (Reply from to name seq) (Request from' to' name' mode' seq') e =
     absurd (no_reply mode' (sym (ap (λ (k : MessageKey). k.mode) e)))
 one_message (Reply from to name seq) (Reply from' to' name' seq') e = λ i. Reply (e i).from (e i).to (e i).name (e i).seq
+
+-- ---- Frames
+
+abbrev pub frame_cmp : FrameKey → FrameKey → Ordering
+frame_cmp a b = ordering_then (nat_cmp a.clock b.clock) (message_cmp a.message b.message)
+
+pub frame_total : IsTotalOrder frame_cmp
+frame_total = then_total (on_total (λ k. k.clock) nat_cmp_total) (on_total (λ k. k.message) message_total)
+
+pub frame_exact : CmpEqualImpliesEq frame_cmp
+frame_exact a b h =
+    ap (λ (p : ℕ × MessageKey). record { clock = p.0; message = p.1 })
+    (exact_pairs nat_cmp message_cmp exact_unsigned message_exact (a.clock, a.message) (b.clock, b.message) h)
+
+pub one_frame : (a b : Frame) → frame_key a ≡ frame_key b → a ≡ b
+one_frame a b e =
+    let message = one_message a.message b.message (ap (λ (k : FrameKey). k.message) e) in
+    λ i. record { clock = (e i).clock; message = message i }

@@ -35,6 +35,10 @@ mod Happened
 mod Deliveries
 mod LossesApart
 mod SentApart
-mod BooksFit
+pub mod BooksFit
+mod Copied
+mod CopiesFit
+pub mod CopiesBack
+mod CopiesSettled
 mod Departing
 mod TakenEvents

@@ -10,10 +10,11 @@ use Rattle.std.proofs.lemmas.List.FromFn.{get_or-range_with_len}
 use Rattle.std.proofs.lemmas.Option.{slice_get_within, get_or_from_slice_get, slice_get-get_or, slice_get_read, same_Some, none-some}
 use Rattle.ra_world.specs.declared.step.Step.{Step}
 use Rattle.ra_history.specs.declared.event.BookEvent.{BookEvent}
+use Rattle.ra_history.specs.declared.event_merge.PlacedEvent.{PlacedEvent}
 use Rattle.ra_history.specs.declared.event_merge.Turn.{Turn}
 use Rattle.ra_history.specs.Book.{BookState, IsWhole, HasHistory}
 use Rattle.ra_history.specs.Settled.{IsCluster, IsSettledOrder, Placed, IsBefore, events_of, steps_of, step_at}
-use Rattle.ra_history.specs.EventMerge.{IsNextOfBook, IsNotAfter, IsEarliest}
+use Rattle.ra_history.specs.EventMerge.{IsNextOfBook, IsNotAfter, IsEarliest, placed_at, all_placed_at}
 use Rattle.ra_history.proofs.Taking.{clocks_rise}
 use Rattle.ra_history.proofs.Whole.{HasWholeHistory, whole_history}
 
@@ -197,12 +198,13 @@ one_less (b ∷ books) (n ∷ taken) (suc k) e low is =
 
 -- ---- One turn of the loop
 
--- the earliest event is taken, and the step that it is comes after the others; fewer events are left then
-pub turn_taken : (books : List BookState) (taken seen : List ℕ) (placed : List Placed) (turn : Turn) (book : BookState) (written node : ℕ) (step : Step) (steps steps' : List Step)
+-- the earliest event is taken, and comes after the others; fewer events are left then
+pub event_taken : (books : List BookState) (taken seen : List ℕ) (placed : List Placed) (turn : Turn) (book : BookState) (written node : ℕ)
     → IsCluster books → Merges books taken placed → seen ≡ taken → IsEarliest books seen (length books) (Some turn) → book ≡ get_or books turn.place book → HasHistory book
-    → written ≡ get_or taken turn.place written → node ≡ book.me → step ≡ step_at node turn.event.kind → steps ≡ steps_of placed → steps' ≡ steps ++ step ∷ []
-    → ((more : List Placed) × (steps' ≡ steps_of more) × Merges books (set taken turn.place (written + 1)) more) × (left books (set taken turn.place (written + 1)) < left books taken)
-turn_taken books taken seen placed turn book written node step steps steps' cluster before same found is history wrote node_is step_is steps_are more =
+    → written ≡ get_or taken turn.place written → node ≡ book.me
+    → Merges books (set taken turn.place (written + 1)) (placed ++ record { node = node; event = turn.event } ∷ [])
+    × (left books (set taken turn.place (written + 1)) < left books taken)
+event_taken books taken seen placed turn book written node cluster before same found is history wrote node_is =
     let place = turn.place in
     let earliest : IsEarliest books taken (length books) (Some turn) = subst (λ (ts : List ℕ). IsEarliest books ts (length books) (Some turn)) same found in
     let within : place < length taken = omega (arith, earliest.0, before.long) in
@@ -212,13 +214,29 @@ turn_taken books taken seen placed turn book written node step steps steps' clus
     let here : slice_get book.events (slice_index taken place) ≡ Some turn.event = ap (λ (b : BookState). slice_get b.events (slice_index taken place)) (sym one) ∙ earliest.1.2 in
     let number : node ≡ place + 1 = node_is ∙ ap (λ (b : BookState). b.me) is ∙ number_at books cluster place book earliest.0 in
     let whole : IsWhole book = subst IsWhole (sym is) (cluster.whole place book earliest.0) in
-    let next : List Placed = placed ++ at_place place turn.event ∷ [] in (
-      (
-        next,
-        more ∙ (λ i. steps_are i ++ (step_is ∙ ap (λ (n : ℕ). step_at n turn.event.kind) number) i ∷ [])
-            ∙ sym (map-append (λ (p : Placed). step_at p.node p.event.kind) placed (at_place place turn.event ∷ [])),
-        subst (λ (n : ℕ). Merges books (set taken place (n + 1)) next) value
-            (merges_more books taken placed turn book (whole_history book whole history) at here earliest.2 before),
-      ),
+    let merged = merges_more books taken placed turn book (whole_history book whole history) at here earliest.2 before in (
+      subst (λ (n : ℕ). Merges books (set taken place (n + 1)) (placed ++ record { node = node; event = turn.event } ∷ [])) value
+          (subst (λ (n : ℕ). Merges books (set taken place (slice_index taken place + 1)) (placed ++ record { node = n; event = turn.event } ∷ [])) (sym number) merged),
       subst (λ (n : ℕ). left books (set taken place (n + 1)) < left books taken) value (one_less books taken place turn.event within earliest.1),
     )
+
+-- the same, of the steps that the events are
+pub turn_taken : (books : List BookState) (taken seen : List ℕ) (placed : List Placed) (turn : Turn) (book : BookState) (written node : ℕ) (step : Step) (steps steps' : List Step)
+    → IsCluster books → Merges books taken placed → seen ≡ taken → IsEarliest books seen (length books) (Some turn) → book ≡ get_or books turn.place book → HasHistory book
+    → written ≡ get_or taken turn.place written → node ≡ book.me → step ≡ step_at node turn.event.kind → steps ≡ steps_of placed → steps' ≡ steps ++ step ∷ []
+    → ((more : List Placed) × (steps' ≡ steps_of more) × Merges books (set taken turn.place (written + 1)) more) × (left books (set taken turn.place (written + 1)) < left books taken)
+turn_taken books taken seen placed turn book written node step steps steps' cluster before same found is history wrote node_is step_is steps_are more =
+    let this : Placed = record { node = node; event = turn.event } in
+    let one = event_taken books taken seen placed turn book written node cluster before same found is history wrote node_is in
+    ((placed ++ this ∷ [], more ∙ (λ i. steps_are i ++ step_is i ∷ []) ∙ sym (map-append (λ (p : Placed). step_at p.node p.event.kind) placed (this ∷ [])), one.0), one.1)
+
+-- the same, of a list of the events with their nodes
+pub placed_more : (books : List BookState) (taken seen : List ℕ) (placed : List Placed) (turn : Turn) (book : BookState) (written node : ℕ) (events events' : List PlacedEvent)
+    → IsCluster books → Merges books taken placed → seen ≡ taken → IsEarliest books seen (length books) (Some turn) → book ≡ get_or books turn.place book → HasHistory book
+    → written ≡ get_or taken turn.place written → node ≡ book.me → all_placed_at events ≡ placed → events' ≡ events ++ record { node = node; event = turn.event } ∷ []
+    → ((more : List Placed) × (all_placed_at events' ≡ more) × Merges books (set taken turn.place (written + 1)) more) × (left books (set taken turn.place (written + 1)) < left books taken)
+placed_more books taken seen placed turn book written node events events' cluster before same found is history wrote node_is events_are more =
+    let this : Placed = record { node = node; event = turn.event } in
+    let one = event_taken books taken seen placed turn book written node cluster before same found is history wrote node_is in
+    let last : PlacedEvent = record { node = node; event = turn.event } in
+    ((placed ++ this ∷ [], ap all_placed_at more ∙ map-append placed_at events (last ∷ []) ∙ ap (λ (ps : List Placed). ps ++ this ∷ []) events_are, one.0), one.1)

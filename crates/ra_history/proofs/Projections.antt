@@ -57,7 +57,7 @@ lost_in_event i (Asked client name mode) = refl
 lost_in_event i (Gave client name) = refl
 lost_in_event i (Got frame) = refl
 
-nothing_lost : (placed : List Placed) → flat_map lost_in (steps_of placed) ≡ []
+pub nothing_lost : (placed : List Placed) → flat_map lost_in (steps_of placed) ≡ []
 nothing_lost [] = refl
 nothing_lost (p ∷ placed) = (λ j. lost_in_event p.node p.event.kind j ++ nothing_lost placed j)
 

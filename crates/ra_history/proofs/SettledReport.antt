@@ -1,6 +1,6 @@
 -- A run of the settled steps is the settled run of the books, and what it grants was granted.
-use Rattle.std.proofs.Common.{◌≡◌, ◌≢◌, ℕ, ◌≤◌, List, [], ◌∷◌, length, map, get_or, sym, ap, ◌∙◌, subst, arith}
-use Rattle.std.specs.Prelude.{All, AllPairs, Contains}
+use Rattle.std.proofs.Common.{◌≡◌, ◌≢◌, ℕ, ◌≤◌, List, [], ◌∷◌, length, map, get_or, refl, sym, ap, ◌∙◌, subst, arith}
+use Rattle.std.specs.Prelude.{All, AllPairs, Contains, MatchResult, Result, Ok, Err}
 use Rattle.std.specs.List.{Any}
 use Rattle.std.proofs.lemmas.List.Elements.{All-weaker}
 use Rattle.ra_stamp.specs.declared.entry.Mark.{Mark}
@@ -18,12 +18,11 @@ use Rattle.ra_history.specs.declared.grant.Grant.{Grant}
 use Rattle.ra_history.specs.declared.settled.Settled.{Settled}
 use Rattle.ra_history.specs.Book.{BookState, HasHistory}
 use Rattle.ra_history.specs.Settled.{IsCluster, IsSettledOrder, IsSettledRun, IsGranted, BooksFit, Placed, settled_steps, start_of}
-use Rattle.ra_history.specs.SettlingParts.{StepsMakeSettledRuns, GrantsAreInTheBooks, RefusesGrants, SettlesBooks, Settles, Refuses}
-use Rattle.ra_history.proofs.BooksFit.{node_count}
+use Rattle.ra_history.specs.SettlingParts.{HasRun, StepsMakeSettledRuns, GrantsAreInTheBooks, RefusesGrants, SettlesBooks, Settles, Refuses}
 
 -- a run of these steps
-abbrev pub HasRun : ℕ → ℕ → List Step → Report → Type 0
-HasRun n start steps report = (moves : List Move) × (map (λ move. move.step) moves ≡ steps) × IsRun n start moves × Reports n start moves report
+abbrev pub RunOf : ℕ → ℕ → List Step → Report → Type 0
+RunOf n start steps report = (moves : List Move) × (map (λ move. move.step) moves ≡ steps) × IsRun n start moves × Reports n start moves report
 
 -- the first book has the number of the books and their start
 same_count : (books : List BookState) (b : BookState) (n : ℕ) → IsCluster books → b ≡ get_or books 0 b → n ≡ b.nodes → n ≡ length books
@@ -38,19 +37,18 @@ same_start books b start cluster is starts =
 
 -- the same, with the number of the books and their start
 pub run_of_all : (books : List BookState) (b : BookState) (n start : ℕ) (steps : List Step) (report : Report) → IsCluster books → b ≡ get_or books 0 b → n ≡ b.nodes → start ≡ b.start
-    → HasRun n start steps report → HasRun (length books) (start_of books) steps report
+    → RunOf n start steps report → RunOf (length books) (start_of books) steps report
 run_of_all books b n start steps report cluster is nodes starts has =
-    subst (λ (n : ℕ). HasRun n (start_of books) steps report) (same_count books b n cluster is nodes)
-    (subst (λ (s : ℕ). HasRun n s steps report) (same_start books b start cluster is starts) has)
+    subst (λ (n : ℕ). RunOf n (start_of books) steps report) (same_count books b n cluster is nodes)
+    (subst (λ (s : ℕ). RunOf n s steps report) (same_start books b start cluster is starts) has)
 
--- the steps of books that fit together are not refused, with the number of nodes and the start of the first one
-pub never_refused : (books : List BookState) (b : BookState) (n start : ℕ) (placed : List Placed) (steps : List Step) → IsCluster books → All HasHistory books → b ≡ get_or books 0 b → n ≡ b.nodes → start ≡ b.start
-    → steps ≡ settled_steps books placed → WorldRun (length books) (start_of books) (settled_steps books placed) → IsNodeNumber n × WorldRun n start steps
-never_refused books b n start placed steps cluster histories is nodes starts are runs = (
-  subst IsNodeNumber (sym (same_count books b n cluster is nodes)) (node_count books cluster histories),
+-- steps that are a run of the cluster are not refused, with the number of nodes and the start of the first book
+pub never_refused : (books : List BookState) (b : BookState) (n start : ℕ) (steps : List Step) → IsCluster books → HasHistory b → b ≡ get_or books 0 b → n ≡ b.nodes → start ≡ b.start
+    → WorldRun (length books) (start_of books) steps → IsNodeNumber n × WorldRun n start steps
+never_refused books b n start steps cluster history is nodes starts runs = (
+  subst IsNodeNumber (sym nodes) history.count,
   subst (λ (m : ℕ). WorldRun m start steps) (sym (same_count books b n cluster is nodes))
-      (subst (λ (s : ℕ). WorldRun (length books) s steps) (sym (same_start books b start cluster is starts))
-      (subst (λ (ss : List Step). WorldRun (length books) (start_of books) ss) (sym are) runs)),
+      (subst (λ (s : ℕ). WorldRun (length books) s steps) (sym (same_start books b start cluster is starts)) runs),
 )
 
 -- where all books start at 0, so does the cluster
@@ -60,30 +58,43 @@ from_zero (b ∷ books) some all = all 0 b (omega arith)
 
 -- a settled run of this many books from 0 is a run of this many nodes from 0
 pub run_from_zero : (books : List BookState) (nodes : ℕ) (steps : List Step) (report : Report) → IsCluster books → length books ≡ nodes → All (λ b. b.start ≡ 0) books
-    → (moves : List Move) × (map (λ move. move.step) moves ≡ steps) × IsSettledRun books moves × Reports (length books) (start_of books) moves report → HasRun nodes 0 steps report
+    → (moves : List Move) × (map (λ move. move.step) moves ≡ steps) × IsSettledRun books moves × Reports (length books) (start_of books) moves report → RunOf nodes 0 steps report
 run_from_zero books nodes steps report cluster count zero (moves, steps_are, settled, reports) =
-    subst (λ (n : ℕ). HasRun n 0 steps report) count
-    (subst (λ (s : ℕ). HasRun (length books) s steps report) (from_zero books cluster.some zero) (moves, steps_are, settled.run, reports))
+    subst (λ (n : ℕ). RunOf n 0 steps report) count
+    (subst (λ (s : ℕ). RunOf (length books) s steps report) (from_zero books cluster.some zero) (moves, steps_are, settled.run, reports))
 
--- the main theorem of so many nodes is that of the books
-pub main_of_all : (books : List BookState) (b : BookState) (n : ℕ) (report : Report) → IsCluster books → b ≡ get_or books 0 b → n ≡ b.nodes
-    → MainTheorem n report → MainTheorem (length books) report
-main_of_all books b n report cluster is nodes main = subst (λ (k : ℕ). MainTheorem k report) (same_count books b n cluster is nodes) main
+-- what came of the steps, with the number of the books
+pub has_run : (books : List BookState) (b : BookState) (n start : ℕ) (settled : Settled) → IsCluster books → b ≡ get_or books 0 b → n ≡ b.nodes → start ≡ b.start
+    → RunOf n start settled.steps.items settled.report → MainTheorem n settled.report → HasRun books settled.steps.items settled
+has_run books b n start settled cluster is nodes starts ran main =
+    let run = run_of_all books b n start settled.steps.items settled.report cluster is nodes starts ran in
+    record {
+      steps_are = refl;
+      moves = run.0;
+      moves_are = run.1;
+      run = run.2;
+      reports = run.3;
+      main = subst (λ (k : ℕ). MainTheorem k settled.report) (same_count books b n cluster is nodes) main;
+    }
 
-pub settles : StepsMakeSettledRuns → (books : List BookState) → IsCluster books → All HasHistory books → (placed : List Placed) (settled : Settled) → IsSettledOrder books placed
-    → settled.steps.items ≡ settled_steps books placed → HasRun (length books) (start_of books) settled.steps.items settled.report
-    → MainTheorem (length books) settled.report → SettlesBooks books settled
-settles make books cluster histories placed settled order are has main =
+-- what follows from what is said of a result follows if it is Ok
+pub where_ok : (A B : Settled → Type 0) → ((settled : Settled) → A settled → B settled) → (r : Result Settled SettleError) → MatchResult r A (λ e. e ≡ Memory) → MatchResult r B (λ e. e ≡ Memory)
+where_ok A B to (Ok settled) is = to settled is
+where_ok A B to (Err e) is = is
+
+pub settles : StepsMakeSettledRuns → (books : List BookState) → IsCluster books → All HasHistory books → (placed : List Placed) (steps : List Step) (settled : Settled) → IsSettledOrder books placed
+    → steps ≡ settled_steps books placed → HasRun books steps settled → SettlesBooks books settled
+settles make books cluster histories placed steps settled order are has =
     record {
       histories = histories;
       placed = placed;
       order = order;
-      steps_are = are;
-      moves = has.0;
-      moves_are = has.1;
-      run = make books placed has.0 cluster histories order has.2 (has.1 ∙ are);
-      reports = has.3;
-      main = main;
+      steps_are = has.steps_are ∙ are;
+      moves = has.moves;
+      moves_are = has.moves_are ∙ sym has.steps_are;
+      run = make books placed has.moves cluster histories order has.run (has.moves_are ∙ are);
+      reports = has.reports;
+      main = has.main;
     }
 
 module _ (grant : GrantsAreInTheBooks) (books : List BookState) (cluster : IsCluster books) (grants : List Grant) (settled : Settled) (of : SettlesBooks books settled)

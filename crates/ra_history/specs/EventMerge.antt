@@ -1,9 +1,11 @@
 -- How the events of books are put in order, when this many of each book are taken. No public contract speaks of it.
-use Rattle.std.specs.Prelude.{◌≡◌, ◌⊎◌, ℕ, ◌<◌, ◌≤◌, List, Option, Some, None, if◌then◌else◌, nat_le, option_map, slice_get, slice_index}
+use Rattle.std.specs.Prelude.{◌≡◌, ◌⊎◌, ℕ, ◌<◌, ◌≤◌, List, map, Option, Some, None, if◌then◌else◌, nat_le, option_map, slice_get, slice_index}
 use Rattle.ra_history.specs.declared.event.BookEvent.{BookEvent}
 use Rattle.ra_history.specs.declared.event_merge.Head.{Head}
 use Rattle.ra_history.specs.declared.event_merge.Turn.{Turn}
+use Rattle.ra_history.specs.declared.event_merge.PlacedEvent.{PlacedEvent}
 use Rattle.ra_history.specs.Book.{BookState}
+use Rattle.ra_history.specs.Settled.{Placed}
 
 -- this event of the book at this place comes next
 abbrev pub IsNextOfBook : List BookState → List ℕ → ℕ → BookEvent → Type 0
@@ -36,3 +38,10 @@ IsHeadOfEarliest books taken count head =
 abbrev pub lesser_of : Option Head → Head → Head
 lesser_of None other = other
 lesser_of (Some head) other = if nat_le head.clock other.clock then head else other
+
+-- the events with their nodes
+abbrev pub placed_at : PlacedEvent → Placed
+placed_at one = record { node = one.node; event = one.event }
+
+abbrev pub all_placed_at : List PlacedEvent → List Placed
+all_placed_at events = map placed_at events

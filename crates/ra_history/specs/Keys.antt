@@ -1,5 +1,5 @@
--- Requests and messages as keys with which they are looked up: their fields, the mode as a number. No public contract
--- speaks of them.
+-- Requests, messages and frames as keys with which they are looked up: their fields, the mode as a number. No public
+-- contract speaks of them.
 use Rattle.std.specs.Prelude.{◌↔◌, ◌≢◌, ℕ, List, [], ◌∷◌, map, AllPairs, Contains}
 use Rattle.std.specs.BTreeSet.{BTreeSet}
 use Rattle.ra_stamp.specs.declared.mode.Mode.{Mode}
@@ -9,7 +9,9 @@ use Rattle.ra_stamp.specs.declared.entry.Mark.{Mark}
 use Rattle.ra_stamp.specs.declared.entry.Mark.TheVariants.{Requested, Entered, Left}
 use Rattle.ra_stamp.specs.declared.message.Message.{Message}
 use Rattle.ra_stamp.specs.declared.message.Message.TheVariants.{Request, Reply}
+use Rattle.ra_frame.specs.declared.frame.Frame.{Frame}
 use Rattle.ra_history.specs.declared.keys.EntryKey.{EntryKey}
+use Rattle.ra_history.specs.declared.keys.FrameKey.{FrameKey}
 use Rattle.ra_history.specs.declared.keys.MessageKey.{MessageKey}
 use Rattle.ra_history.specs.declared.event.BookEvent.{BookEvent}
 use Rattle.ra_history.specs.Settled.{received_among}
@@ -36,6 +38,10 @@ entry_key entry = record {
 abbrev pub message_key : Message → MessageKey
 message_key (Request from to name mode seq) = record { seq = seq; from = from; to = to; mode = mode_number mode; name = name }
 message_key (Reply from to name seq) = record { seq = seq; from = from; to = to; mode = 0; name = name }
+
+-- the key of a frame
+abbrev pub frame_key : Frame → FrameKey
+frame_key frame = record { clock = frame.clock; message = message_key frame.message }
 
 -- the set has the keys of the list, and no others
 abbrev pub HasKeys : {K : Type 0} → BTreeSet K → List K → Type 0

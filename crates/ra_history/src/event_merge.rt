@@ -3,13 +3,20 @@ ghost use Rattle.std.specs.Prelude.{◌≡◌, ◌+◌, ◌<◌, ◌^◌, ℕ, L
 ghost use Rattle.ra_history.specs.declared.event.BookEvent.{BookEvent};
 ghost use Rattle.ra_history.specs.Book.{HasHistory};
 ghost use Rattle.ra_history.specs.Settled.{IsCluster, IsSettledOrder, Placed, steps_of, step_at};
-ghost use Rattle.ra_history.specs.EventMerge.{IsNextOfBook, IsEarliest, IsHeadOfEarliest};
+ghost use Rattle.ra_history.specs.EventMerge.{IsNextOfBook, IsEarliest, IsHeadOfEarliest, all_placed_at};
 ghost use Rattle.ra_history.specs.EventMerge as spec;
 
 use crate::{Book, BookEvent, BookKind};
-use ra_stamp::{Memory, NodeId};
+use ra_stamp::{Memory, NodeId, Sequence};
 use ra_world::{Step, Steps};
 use std::alloc::{AllocError, Global};
+
+/// An event, and the node at which it happened.
+#[derive(Clone, Copy)]
+pub struct PlacedEvent {
+    pub node: NodeId,
+    pub event: BookEvent,
+}
 
 /// The next event of the book at a place.
 #[derive(Clone, Copy)]
@@ -40,6 +47,23 @@ pub fn steps_in_order(alloc: Global, books: &[Book]) -> Result<Steps, Memory>
         taken[turn.place] += 1;
     }
     Ok(steps)
+}
+
+/// Returns the events of all books, by clock and then by node, with their nodes. The cost is that of [`steps_in_order`].
+pub fn events_in_order(alloc: Global, books: &[Book]) -> Result<Sequence<PlacedEvent>, Memory>
+    requires { IsCluster books.now }
+    ensures { IfOk result (λ events. IsSettledOrder books.now (all_placed_at events.items)) }
+{
+    let mut events = Sequence::new(alloc);
+    let mut taken = none_taken(alloc, books.len())?;
+    while let Some(turn) = earliest(books, &taken) {
+        events.push(PlacedEvent {
+            node: books[turn.place].me(),
+            event: turn.event,
+        })?;
+        taken[turn.place] += 1;
+    }
+    Ok(events)
 }
 
 /// Returns a list of this many zeros.

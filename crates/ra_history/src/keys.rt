@@ -1,7 +1,9 @@
-//! Requests and messages as keys, by which sets order them and look them up: their own types have no order that means anything.
+//! Requests, messages and frames as keys, by which sets order them and look them up: their own types have no order that means
+//! anything.
 ghost use Rattle.std.specs.Prelude.{◌≡◌};
 ghost use Rattle.ra_history.specs.Keys as spec;
 
+use ra_frame::Frame;
 use ra_stamp::{Entry, Message, Mode, Name, NodeId};
 
 /// All of a request.
@@ -22,6 +24,13 @@ pub struct MessageKey {
     to: NodeId,
     mode: u8,
     name: Name,
+}
+
+/// All of a frame.
+#[derive(Clone, Copy, PartialEq, Eq, PartialOrd, Ord)]
+pub struct FrameKey {
+    clock: u64,
+    message: MessageKey,
 }
 
 /// Returns the key of a request.
@@ -51,6 +60,16 @@ pub fn message_key(message: &Message) -> MessageKey
         to: message.to(),
         mode,
         name: message.name(),
+    }
+}
+
+/// Returns the key of a frame.
+pub fn frame_key(frame: &Frame) -> FrameKey
+    ensures { result ≡ spec.frame_key frame.now }
+{
+    FrameKey {
+        clock: frame.clock,
+        message: message_key(&frame.message),
     }
 }
 

@@ -8,6 +8,7 @@
 #![tactic(auto)]
 
 mod book;
+mod copies;
 mod departure;
 mod error;
 mod event;
@@ -31,6 +32,7 @@ mod stop;
 mod taken;
 
 pub use book::Book;
+pub use copies::settle_with_copies;
 pub use error::{BookError, MarkLostError, SettleError};
 pub use event::{BookEvent, BookKind, Events};
 pub use event_effect::Posted;
@@ -43,5 +45,5 @@ pub use ra_node::NewError;
 pub use sent::{Frames, Sent};
 pub use settle_books::{is_cluster, settle};
 pub use settled::Settled;
-pub use settled_laws::clients_of_settled_books_never_deadlock;
+pub use settled_laws::{books_settle_with_copies, clients_of_settled_books_never_deadlock};
 pub use stop::Stop;

@@ -38,7 +38,7 @@ pub fn check_received(alloc: Global, books: &[Book]) -> Result<(), SettleError>
 }
 
 /// Returns whether each frame that came was sent and not lost. It does not allocate.
-fn were_sent(books: &[Book]) -> bool
+pub fn were_sent(books: &[Book]) -> bool
     requires { IsCluster books.now }
     ensures { MatchBool result (All (λ f. WasSent books.now f) (all_received books.now)) (HasUnsent books.now) }
 {

@@ -1,11 +1,12 @@
 ghost use Rattle.std.specs.Prelude.{◌≡◌, ◌≢◌, ◌↔◌, ◌⊎◌, ℕ, ◌+◌, List, All, AllPairs, map, length, IsTrue, IsErrOf, IsOkUnless, IfOk, OnOk, MatchResult};
 ghost use Rattle.std.specs.List.{Any};
 ghost use Rattle.ra_world.specs.Traffic.{Move};
+ghost use Rattle.ra_world.specs.Run.{WorldRun};
 ghost use Rattle.ra_world.specs.World.{Reports};
 ghost use Rattle.ra_world.specs.MainTheorem.{MainTheorem};
 ghost use Rattle.ra_history.specs.Book.{IsWhole};
 ghost use Rattle.ra_history.specs.Settled.{IsCluster, IsSettledOrder, IsSettledRun, Placed, settled_steps, start_of, IsGranted, HasUnsent, HasTwice, BooksFit, Repeats};
-ghost use Rattle.ra_history.specs.SettlingParts.{Settles, SettlesBooks, Refuses};
+ghost use Rattle.ra_history.specs.SettlingParts.{HasRun, Settles, SettlesBooks, Refuses};
 
 use crate::event_merge::steps_in_order;
 use crate::grant_checks::check_grants;
@@ -16,7 +17,7 @@ use crate::settled_laws::{
     settled_steps_make_settled_runs,
 };
 use crate::{Book, Grant, SettleError, Settled};
-use ra_world::{RunError, run};
+use ra_world::{RunError, Steps, run};
 use std::alloc::Global;
 
 /// Returns whether the books are those of nodes 1 to n, in order, each of n nodes and all from one start, and nothing was
@@ -135,6 +136,19 @@ fn settle_books(alloc: Global, books: &[Book]) -> Result<Settled, SettleError>
     books_that_fit_together_settle();
     let mut steps = steps_in_order(alloc, books)?;
     push_losses(&mut steps, books)?;
+    run_steps(alloc, books, steps)
+}
+
+/// Runs steps, which are a run of the cluster of these books.
+///
+/// # Errors
+///
+/// `Memory`: memory ran out.
+pub fn run_steps(alloc: Global, books: &[Book], steps: Steps) -> Result<Settled, SettleError>
+    requires cluster { IsCluster books.now }
+    requires run { WorldRun (length books.now) (start_of books.now) steps.items }
+    ensures { MatchResult result (HasRun books.now steps.items) (λ e. e ≡ SettleError.Memory) }
+{
     let first = &books[0];
     match run(alloc, first.nodes(), first.start(), &steps) {
         Ok(report) => Ok(Settled { steps, report }),

@@ -10,7 +10,7 @@ ghost use Rattle.ra_schedule.specs.Orderly.{WaitsForName};
 ghost use Rattle.ra_history.specs.Book.{BookState, HasHistory, LeadsTo};
 ghost use Rattle.ra_history.specs.Progress.{TakesNamesInOrder, SomeoneCanGoOn, IsHeldInOrder};
 ghost use Rattle.ra_history.specs.Settled.{IsCluster, IsSettledRun, start_of};
-ghost use Rattle.ra_history.specs.SettlingParts.{FramesAreFromTheirNodes, StepsMakeSettledRuns, FittingBooksSettle, GrantsAreInTheBooks};
+ghost use Rattle.ra_history.specs.SettlingParts.{FramesAreFromTheirNodes, StepsMakeSettledRuns, FittingBooksSettle, BooksSettleWithCopies, GrantsAreInTheBooks};
 
 use crate::histories_are_determined;
 use ra_node::{events_keep_a_node_consistent, events_leave_other_names};
@@ -18,6 +18,7 @@ use ra_schedule::clients_in_order_never_deadlock;
 use ra_world::{
     messages_of_runs_are_different, messages_under_way_are_between_nodes,
     prefixes_of_runs_are_runs, steps_that_fit_together_are_runs,
+    steps_that_fit_with_copies_are_runs,
 };
 
 /// All that a book sent is from its node.
@@ -41,6 +42,14 @@ pub fn books_that_fit_together_settle()
     steps_that_fit_together_are_runs();
     messages_of_runs_are_different();
     frames_of_books_are_from_their_nodes();
+}
+
+/// Books settle with copies if each frame that came was sent, however often it came: the events in the settled order, with a
+/// repeat before each by which a frame comes that comes again later, are a run, and it is a settled run with copies.
+pub fn books_settle_with_copies()
+    ensures { BooksSettleWithCopies }
+{
+    steps_that_fit_with_copies_are_runs();
 }
 
 /// What a settled run grants is what was granted at the nodes.

@@ -1,15 +1,14 @@
 -- Steps that fit together are a run: going through them in order, each is the next event of its node, and a message
 -- that it takes is under way.
-use Rattle.std.proofs.Common.{◌≡◌, ◌≢◌, ℕ, zero, suc, ◌≤◌, List, [], ◌∷◌, ◌++◌, map, take, length, All, Contains, refl, sym, ap, ◌∙◌, subst, append_assoc, arith, inl, inr}
-use Rattle.std.specs.Prelude.{flat_map}
+use Rattle.std.proofs.Common.{◌≡◌, ◌≢◌, ℕ, suc, Bool, ◌≤◌, List, [], ◌∷◌, ◌++◌, map, take, length, All, Contains, refl, sym, ap, ◌∙◌, subst, append_assoc, arith, inl, inr}
+use Rattle.std.specs.Prelude.{flat_map, IsTrue, ◌↔◌}
 use Rattle.std.proofs.lemmas.List.{append-nil, length-append, length_push, length-map, map_push, take_all, flat_map_more, get_or_append_left, get_or_at}
 use Rattle.std.proofs.lemmas.List.Concat.{flat_map-append}
-use Rattle.std.proofs.lemmas.List.Elements.{All-head, All-tail, All-contains, Contains-append_left, Contains-append_right, Contains-append_cases}
+use Rattle.std.proofs.lemmas.List.Elements.{All-nil, All-cons, All-head, All-contains, Contains-append_right}
 use Rattle.ra_stamp.specs.declared.message.Message.{Message}
 use Rattle.ra_stamp.specs.declared.entry.Mark.{Mark}
 use Rattle.ra_stamp.specs.Message.{from_of, to_of}
 use Rattle.ra_stamp.specs.NodeId.{IsNodeNumber}
-use Rattle.ra_bag.specs.Bag.{TakesFirst}
 use Rattle.ra_automaton.specs.State.{IsOtherNode}
 use Rattle.ra_automaton.proofs.Apart.{cases_same}
 use Rattle.ra_node.specs.Node.{NodeState, opening_node}
@@ -17,14 +16,15 @@ use Rattle.ra_node.specs.Events.{Event, Happening, NodeEvent, NodeEvents}
 use Rattle.ra_node.specs.Events.Event.{Ask as AskedFor, Leave as GivenBack, Receive as Received}
 use Rattle.ra_world.specs.declared.step.Step.{Step}
 use Rattle.ra_world.specs.declared.step.Step.TheVariants.{Ask, Leave, Deliver, Lose, Repeat}
-use Rattle.ra_world.specs.Traffic.{Move, TakesEach, LeavesUnderWay, IsUnderWay, sent_by, put_in, put_by, taken_in, taken_by, repeated_in}
+use Rattle.ra_world.specs.Traffic.{Move, LeavesUnderWay, IsUnderWay, put_by, taken_in, taken_by, repeated_in}
 use Rattle.ra_world.specs.Run.{IsFit, IsRun, EndsWith, events_at, happened_at, with_node}
-use Rattle.ra_world.specs.Fitting.{sent_in, happened_by, WasSentBy, NamesNode, FitTogether}
+use Rattle.ra_world.specs.Fitting.{sent_in, happened_by, WasSentBy, NamesNode, FitTogether, TellsApart, IsLeftBy, FitWithCopies}
 use Rattle.ra_world.proofs.Lists.{head_of, tail_of, none_some}
 use Rattle.ra_world.proofs.Moves.{happens, happened_more, at_node, only_at}
 use Rattle.ra_world.proofs.DifferentLists.{AreDifferent}
 use Rattle.ra_world.proofs.Protocol.{IsNode}
 use Rattle.ra_world.proofs.Nodes.{happens_here}
+use Rattle.ra_world.proofs.Times.{times, times_append, some_there, there_once, never_there, times_each, times_put, times_sent, repeated_of}
 use Rattle.ra_world.proofs.Runs.{nothing_happened}
 
 -- ---- The next happening of a node
@@ -83,36 +83,6 @@ nothing_more i moves move none =
 
 -- ---- What is under way
 
--- what was sent at a node was sent by the moves
-sent_by_one : (move : Move) (message : Message) (events : List Event)
-    → Contains (sent_in (map (λ event. record { event = event; sends = move.sends; marks = move.marks }) events)) message → Contains move.sends message
-sent_by_one move message [] at = absurd (omega (arith, at.1))
-sent_by_one move message (event ∷ events) at =
-    elim (Contains-append_cases move.sends (sent_in (map (λ event. record { event = event; sends = move.sends; marks = move.marks }) events)) message at) [
-      | inl here ↦ here
-      | inr later ↦ sent_by_one move message events later
-    ]
-
-sent_at : (i : ℕ) (moves : List Move) (message : Message) → Contains (sent_in (happened_at i moves)) message → Contains (sent_by moves) message
-sent_at i [] message at = at
-sent_at i (move ∷ moves) message at =
-    let both : Contains (sent_in (happens i move) ++ sent_in (happened_at i moves)) message =
-    subst (λ (ms : List Message). Contains ms message) (flat_map-append (λ (h : Happening). h.sends) (happens i move) (happened_at i moves)) at
-    in
-    elim (Contains-append_cases (sent_in (happens i move)) (sent_in (happened_at i moves)) message both) [
-      | inl here ↦ Contains-append_left move.sends (sent_by moves) message (sent_by_one move message (events_at i move.step) here)
-      | inr later ↦ Contains-append_right move.sends (sent_by moves) message (sent_at i moves message later)
-    ]
-
--- and put under way
-sent_is_put : (moves : List Move) (message : Message) → Contains (sent_by moves) message → Contains (put_by moves) message
-sent_is_put [] message at = at
-sent_is_put (move ∷ moves) message at =
-    elim (Contains-append_cases move.sends (sent_by moves) message at) [
-      | inl here ↦ Contains-append_left (put_in move) (put_by moves) message (Contains-append_left move.sends (repeated_in move.step) message here)
-      | inr later ↦ Contains-append_right (put_in move) (put_by moves) message (sent_is_put moves message later)
-    ]
-
 -- what the moves took their steps took
 taken_of : (moves : List Move) → taken_by moves ≡ flat_map taken_in (map (λ move. move.step) moves)
 taken_of [] = refl
@@ -124,26 +94,56 @@ others_before prefix suffix message different k d within is =
     different k (length prefix) d within (omega (arith, length-append prefix (message ∷ suffix)))
     (get_or_append_left prefix (message ∷ suffix) d k within ∙ is ∙ sym (get_or_at prefix message suffix d (length prefix) refl))
 
--- where another message is taken, one that was there is still there
-stays_in : (old : List Message) (taken : Message) (new : List Message) (message : Message) → TakesFirst old taken new → taken ≢ message
-    → Contains old message → Contains new message
-stays_in old taken new message takes apart at =
-    subst (λ (ms : List Message). Contains ms message) (sym takes.new_is)
-    (elim (Contains-append_cases takes.prefix (taken ∷ takes.suffix) message (subst (λ (ms : List Message). Contains ms message) takes.old_is at)) [
-      | inl before ↦ Contains-append_left takes.prefix takes.suffix message before
-      | inr from ↦ Contains-append_right takes.prefix takes.suffix message (behind takes.suffix from)
-    ])
-  where
-    behind : (suffix : List Message) → Contains (taken ∷ suffix) message → Contains suffix message
-    behind suffix (zero, lt, is) = absurd (apart is)
-    behind suffix (suc k, lt, is) = (k, omega (arith, lt), is)
+-- steps that fit together fit with copies: no message was taken before, and none is repeated
+not_none : (xs : List Message) (x : Message) (ys : List Message) → xs ++ x ∷ ys ≡ [] → ⊥
+not_none xs x ys e = omega (arith, ap length e, length-append xs (x ∷ ys))
 
-left_in : (sent taken left : List Message) (message : Message) → TakesEach sent taken left → All (λ m. m ≢ message) taken
-    → Contains sent message → Contains left message
-left_in sent [] left message less other at = subst (λ (ms : List Message). Contains ms message) (sym less) at
-left_in sent (m ∷ taken) left message less other at =
-    left_in less.0 taken left message less.2 (All-tail (λ x. x ≢ message) m taken other)
-    (stays_in sent m less.0 message less.1 (All-head (λ x. x ≢ message) m taken other) at)
+module _ (n start : ℕ) (steps : List Step) (happened : ℕ → List Happening) (fit : FitTogether n start steps happened) where
+  module _ (prefix : List Step) (step : Step) (suffix : List Step) (parts : steps ≡ prefix ++ step ∷ suffix) where
+    none_repeated_here : repeated_in step ≡ []
+    none_repeated_here = by_parts (flat_map repeated_in prefix) (repeated_in step) (flat_map repeated_in suffix)
+        (sym (ap (flat_map repeated_in) parts ∙ flat_map-append repeated_in prefix (step ∷ suffix)) ∙ fit.unrepeated)
+      where
+        by_parts : (xs ys zs : List Message) → xs ++ (ys ++ zs) ≡ [] → ys ≡ []
+        by_parts xs [] zs e = refl
+        by_parts xs (y ∷ ys) zs e = absurd (not_none xs y (ys ++ zs) e)
+
+    left_once : (m : Message) → taken_in step ≡ m ∷ [] → IsLeftBy n happened prefix m
+    left_once m takes =
+        let was = All-head (WasSentBy n happened prefix) m [] (subst (All (WasSentBy n happened prefix)) takes (fit.sent prefix step suffix parts)) in
+        let whole : flat_map taken_in steps ≡ flat_map taken_in prefix ++ m ∷ flat_map taken_in suffix =
+        ap (flat_map taken_in) parts ∙ flat_map-append taken_in prefix (step ∷ suffix)
+        ∙ ap (λ (ms : List Message). flat_map taken_in prefix ++ (ms ++ flat_map taken_in suffix)) takes
+        in
+        let others = others_before (flat_map taken_in prefix) (flat_map taken_in suffix) m (subst AreDifferent whole fit.once) in (
+          was.0,
+          was.1,
+          was.2,
+          λ is tells.
+              let none = never_there is m (flat_map taken_in prefix) tells others in
+              let some = there_once is m (sent_in (happened_by (happened was.0) was.0 prefix)) tells was.3 in
+              let both = times_append is (sent_in (happened_by (happened was.0) was.0 prefix)) (flat_map repeated_in prefix) in
+              omega (arith, none, some, both),
+        )
+
+    all_left_once : All (IsLeftBy n happened prefix) (taken_in step ++ repeated_in step)
+    all_left_once = subst (λ (ms : List Message). All (IsLeftBy n happened prefix) (taken_in step ++ ms)) (sym none_repeated_here)
+        (subst (All (IsLeftBy n happened prefix)) (sym (append-nil (taken_in step))) (by_list (taken_in step) refl (one_taken step)))
+      where
+        by_list : (ms : List Message) → taken_in step ≡ ms → length ms ≤ 1 → All (IsLeftBy n happened prefix) ms
+        by_list [] e few = All-nil (IsLeftBy n happened prefix)
+        by_list (m ∷ []) e few = All-cons (IsLeftBy n happened prefix) m [] (left_once m e) (All-nil (IsLeftBy n happened prefix))
+        by_list (m ∷ x ∷ ms) e few = absurd (omega (arith, few))
+
+        one_taken : (s : Step) → length (taken_in s) ≤ 1
+        one_taken (Ask node client name mode) = omega arith
+        one_taken (Leave node client name) = omega arith
+        one_taken (Deliver message) = omega arith
+        one_taken (Lose message) = omega arith
+        one_taken (Repeat message) = omega arith
+
+  pub fit_with_copies : FitWithCopies n start steps happened
+  fit_with_copies = record { nodes = fit.nodes; events = fit.events; named = fit.named; left = all_left_once }
 
 -- ---- Step by step
 
@@ -181,29 +181,37 @@ module _
     → IsRun n start moves → EndsWith n start moves nodes → IsUnderWay moves message
     → IsRun n start (moves ++ record { step = Lose message; sends = []; marks = [] } ∷ [])
     × EndsWith n start (moves ++ record { step = Lose message; sends = []; marks = [] } ∷ []) nodes)
-    (n start : ℕ) (steps : List Step) (happened : ℕ → List Happening) (count : IsNodeNumber n) (fit : FitTogether n start steps happened)
+    (by_copy : (n start : ℕ) (moves : List Move) (nodes : ℕ → NodeState) (message : Message)
+    → IsRun n start moves → EndsWith n start moves nodes → IsUnderWay moves message
+    → IsRun n start (moves ++ record { step = Repeat message; sends = []; marks = [] } ∷ [])
+    × EndsWith n start (moves ++ record { step = Repeat message; sends = []; marks = [] } ∷ []) nodes)
+    (eq : Message → Message → Bool) (tells_same : (a b : Message) → IsTrue (eq a b) ↔ (a ≡ b))
+    (n start : ℕ) (steps : List Step) (happened : ℕ → List Happening) (count : IsNodeNumber n) (fit : FitWithCopies n start steps happened)
   where
     module _ (prefix : List Step) (step : Step) (suffix : List Step) (parts : steps ≡ prefix ++ step ∷ suffix) (before : GoneBy n start happened prefix) where
       names : NamesNode n step
       names = All-contains (NamesNode n) (prefix ++ step ∷ suffix) step (subst (All (NamesNode n)) parts fit.named)
           (Contains-append_right prefix (step ∷ suffix) step (0, omega arith, refl))
 
-      -- a message that the step takes is under way
-      other_taken : (message : Message) → taken_in step ≡ message ∷ [] → All (λ m. m ≢ message) (taken_by before.moves)
-      other_taken message takes =
-          let whole : flat_map taken_in steps ≡ flat_map taken_in prefix ++ message ∷ flat_map taken_in suffix =
-          ap (flat_map taken_in) parts ∙ flat_map-append taken_in prefix (step ∷ suffix)
-          ∙ ap (λ (ms : List Message). flat_map taken_in prefix ++ (ms ++ flat_map taken_in suffix)) takes
-          in
-          let others = others_before (flat_map taken_in prefix) (flat_map taken_in suffix) message (subst AreDifferent whole fit.once) in
-          subst (All (λ m. m ≢ message)) (sym (taken_of before.moves ∙ ap (flat_map taken_in) before.steps_are)) others
-
-      under_way : (message : Message) → taken_in step ≡ message ∷ [] → IsUnderWay before.moves message
-      under_way message takes =
-          let was = All-head (WasSentBy n happened prefix) message [] (subst (All (WasSentBy n happened prefix)) takes (fit.sent prefix step suffix parts)) in
-          let sent = sent_at was.0 before.moves message (subst (λ (hs : List Happening). Contains (sent_in hs) message) (sym (before.each was.0 was.1 was.2)) was.3) in
-          let left = exist n start before.moves count before.run in
-          (left.0, left.1, left_in (put_by before.moves) (taken_by before.moves) left.0 message left.1 (other_taken message takes) (sent_is_put before.moves message sent))
+      -- a message that the step takes or repeats is under way
+      under_way : (message : Message) → Contains (taken_in step ++ repeated_in step) message → IsUnderWay before.moves message
+      under_way message touched =
+          let was = All-contains (IsLeftBy n happened prefix) (taken_in step ++ repeated_in step) message (fit.left prefix step suffix parts) touched in
+          let i = was.0 in
+          let moves = before.moves in
+          let left = exist n start moves count before.run in
+          let is : Message → Bool = λ m. eq m message in
+          let tells : TellsApart is message = λ m. tells_same m message in
+          let more = was.3 is tells in
+          let sends = sent_in (happened_by (happened i) i prefix) in
+          let puts = times_append is sends (flat_map repeated_in prefix) in
+          let sent = times_sent is i moves in
+          let same = ap (λ (hs : List Happening). times is (sent_in hs)) (before.each i was.1 was.2) in
+          let copies = ap (times is) (repeated_of moves ∙ ap (flat_map repeated_in) before.steps_are) in
+          let takes = ap (times is) (taken_of moves ∙ ap (flat_map taken_in) before.steps_are) in
+          let all = times_put is moves in
+          let each = times_each is (put_by moves) (taken_by moves) left.0 left.1 in
+          (left.0, left.1, some_there is message left.0 tells (omega (arith, more, puts, sent, same, copies, takes, all, each)))
 
       -- the step is the next event of a node
       module _ (p : ℕ) (within : IsNode n p) (event : Event) (here : events_at p step ≡ event ∷ []) where
@@ -264,7 +272,7 @@ module _
         → GoneBy n start happened (prefix ++ Lose message ∷ [])
     on_by_loss prefix message suffix parts before =
         let move : Move = record { step = Lose message; sends = []; marks = [] } in
-        let on = by_loss n start before.moves before.nodes message before.run before.ends (under_way prefix (Lose message) suffix parts before message refl) in
+        let on = by_loss n start before.moves before.nodes message before.run before.ends (under_way prefix (Lose message) suffix parts before message (0, omega arith, refl)) in
         record {
           moves = before.moves ++ move ∷ [];
           steps_are = map_push (λ (m : Move). m.step) before.moves move ∙ ap (λ (ss : List Step). ss ++ Lose message ∷ []) before.steps_are;
@@ -272,6 +280,20 @@ module _
           nodes = before.nodes;
           ends = on.1;
           each = λ i low high. nothing_more i before.moves move refl ∙ before.each i low high ∙ sym (done_same (happened i) i prefix (Lose message) refl);
+        }
+
+    on_by_copy : (prefix : List Step) (message : Message) (suffix : List Step) → steps ≡ prefix ++ Repeat message ∷ suffix → GoneBy n start happened prefix
+        → GoneBy n start happened (prefix ++ Repeat message ∷ [])
+    on_by_copy prefix message suffix parts before =
+        let move : Move = record { step = Repeat message; sends = []; marks = [] } in
+        let on = by_copy n start before.moves before.nodes message before.run before.ends (under_way prefix (Repeat message) suffix parts before message (0, omega arith, refl)) in
+        record {
+          moves = before.moves ++ move ∷ [];
+          steps_are = map_push (λ (m : Move). m.step) before.moves move ∙ ap (λ (ss : List Step). ss ++ Repeat message ∷ []) before.steps_are;
+          run = on.0;
+          nodes = before.nodes;
+          ends = on.1;
+          each = λ i low high. nothing_more i before.moves move refl ∙ before.each i low high ∙ sym (done_same (happened i) i prefix (Repeat message) refl);
         }
 
     -- one more step of any kind
@@ -290,16 +312,11 @@ module _
     one_on prefix (Deliver message) suffix parts before =
         let step = Deliver message in
         let event = Received message in
-        let was = under_way prefix step suffix parts before message refl in
+        let was = under_way prefix step suffix parts before message (0, omega arith, refl) in
         let within = (between n start before.moves message count before.run was).0 in
         on_by_event prefix step suffix parts before (to_of message) within event (at_node (to_of message) event) (λ _ _. was)
     one_on prefix (Lose message) suffix parts before = on_by_loss prefix message suffix parts before
-    one_on prefix (Repeat message) suffix parts before =
-        absurd (not_none (flat_map repeated_in prefix) message (flat_map repeated_in suffix)
-        (sym (ap (flat_map repeated_in) parts ∙ flat_map-append repeated_in prefix (Repeat message ∷ suffix)) ∙ fit.unrepeated))
-      where
-        not_none : (xs : List Message) (x : Message) (ys : List Message) → xs ++ x ∷ ys ≡ [] → ⊥
-        not_none xs x ys e = omega (arith, ap length e, length-append xs (x ∷ ys))
+    one_on prefix (Repeat message) suffix parts before = on_by_copy prefix message suffix parts before
 
     all_on : (suffix prefix : List Step) → steps ≡ prefix ++ suffix → GoneBy n start happened prefix → GoneBy n start happened (prefix ++ suffix)
     all_on [] prefix parts before = subst (GoneBy n start happened) (sym (append-nil prefix)) before

@@ -1,5 +1,5 @@
 mod Deciding
-mod Lists
+pub mod Lists
 mod Dialogs
 mod Members
 mod Protocol
@@ -49,6 +49,7 @@ pub mod Refusing
 mod NameText
 mod Written
 mod Elsewhere
+pub mod Times
 pub mod FittingRuns
 mod Pieces
 mod Adding

@@ -1,4 +1,4 @@
-//! Which lists of steps are runs, in terms of each node's own history and of the step that sent each message. The
+//! Which lists of steps are runs, in terms of each node's own history and of the step that sent each message. Each
 //! function does nothing, and its contract is the law.
 ghost use Rattle.std.specs.Prelude.{◌≡◌, ◌≤◌, ℕ, List, map};
 ghost use Rattle.ra_stamp.specs.NodeId.{IsNodeNumber};
@@ -6,10 +6,11 @@ ghost use Rattle.ra_node.specs.Events.{Happening};
 ghost use Rattle.ra_world.specs.declared.step.Step.{Step};
 ghost use Rattle.ra_world.specs.Traffic.{Move};
 ghost use Rattle.ra_world.specs.Run.{IsRun, WorldRun, happened_at};
-ghost use Rattle.ra_world.specs.Fitting.{FitTogether};
+ghost use Rattle.ra_world.specs.Fitting.{FitTogether, FitWithCopies};
 
 use crate::laws::{messages_under_way_are_between_nodes, runs_go_on_by_events};
 use ra_node::{events_are_determined, events_go_on};
+use ra_stamp::equal_is_same;
 
 /// Steps that fit together are a run. They fit together if
 ///
@@ -27,8 +28,25 @@ pub fn steps_that_fit_together_are_runs()
         → (moves : List Move) × (map (λ move. move.step) moves ≡ steps) × IsRun n start moves
         × ((i : ℕ) → 1 ≤ i → i ≤ n → happened_at i moves ≡ happened i) }
 {
+    steps_that_fit_with_copies_are_runs();
+}
+
+/// Steps that repeat messages are a run, too, if they fit together. They do if
+///
+/// - each client's step names an existing node,
+/// - the steps that name a node are the events of a history of that node, and
+/// - each message that a step takes or repeats was sent and repeated by earlier steps more often than they took it.
+///
+/// Then a run has these steps, and what happens at each node in it is that history.
+pub fn steps_that_fit_with_copies_are_runs()
+    ensures { (n start : ℕ) (steps : List Step) (happened : ℕ → List Happening)
+        → IsNodeNumber n → FitWithCopies n start steps happened
+        → (moves : List Move) × (map (λ move. move.step) moves ≡ steps) × IsRun n start moves
+        × ((i : ℕ) → 1 ≤ i → i ≤ n → happened_at i moves ≡ happened i) }
+{
     events_go_on();
     events_are_determined();
     messages_under_way_are_between_nodes();
     runs_go_on_by_events();
+    equal_is_same();
 }

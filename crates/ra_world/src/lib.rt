@@ -19,7 +19,7 @@ mod target;
 mod world;
 
 pub use error::{NewError, NodeRefusal, ReadFault, RunError, StepError, WriteFault};
-pub use fitting::steps_that_fit_together_are_runs;
+pub use fitting::{steps_that_fit_together_are_runs, steps_that_fit_with_copies_are_runs};
 pub use input::read_up_to;
 pub use laws::{
     asks_make_requests_or_are_queued, marks_of_runs_are_numbered, marks_of_runs_are_table_runs,

@@ -1,15 +1,12 @@
-use Rattle.ra_world.proofs.FittingRuns.{fit_is_run}
+use Rattle.ra_world.proofs.FittingRuns.{fit_with_copies}
 use Rattle.ra_world.proofs.fitting.steps_that_fit_together_are_runs.Goals as goal
 
 pub returns : goal.returns
 returns c =
-    let go = c.events_go_on.ensures in
-    let one = c.events_are_determined.ensures in
-    let traffic = c.messages_under_way_are_between_nodes.ensures in
-    let on = c.runs_go_on_by_events.ensures in
+    let runs = c.steps_that_fit_with_copies_are_runs.ensures in
     record {
       run = λ n start steps happened count fit.
-          let all = fit_is_run go.splits one.events traffic.exist traffic.between_nodes on.event on.loss n start steps happened count fit in
+          let all = runs n start steps happened count (fit_with_copies n start steps happened fit) in
           (all.0, all.1, all.2);
-      moves = fit_is_run go.splits one.events traffic.exist traffic.between_nodes on.event on.loss;
+      moves = λ n start steps happened count fit. runs n start steps happened count (fit_with_copies n start steps happened fit);
     }
