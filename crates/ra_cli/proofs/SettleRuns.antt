@@ -4,7 +4,7 @@ use Rattle.std.specs.Io.KnownBytes.{Appends, Consumes}
 use Rattle.ra_world.specs.Input.{Reads}
 use Rattle.ra_trace.specs.declared.error.TraceError.{TraceError}
 use Rattle.ra_trace.specs.declared.error.TraceError.TheVariants as fault
-use Rattle.ra_cli.specs.declared.cluster_output.ClusterOutput.{ClusterOutput}
+use Rattle.ra_cli.specs.declared.settle_task.SettleTask.{SettleTask}
 use Rattle.ra_cli.specs.declared.refusal.Refusal.TheVariants.{Check}
 use Rattle.ra_cli.specs.Refusals.{IsOfReader, IsOfWriter, refused_line, trace_word, word_of}
 use Rattle.ra_cli.specs.SettleRun.{Contradicts, ReadsBooks, RefusesInput, ServesSettle, Settles, TellsSettled}
@@ -38,9 +38,9 @@ module _ (why : TraceError) (before after : Option (List ℕ)) (status : ℕ) (r
   }
 
 -- that memory ran out
-pub no_memory : (printed : ClusterOutput) (input : List ℕ) (before after : Option (List ℕ)) (status : ℕ) → RefusesInput fault.Memory before after status
-    → TellsSettled printed input before after status
-no_memory printed input before after status h = record {
+pub no_memory : (asked : SettleTask) (input : List ℕ) (before after : Option (List ℕ)) (status : ℕ) → RefusesInput fault.Memory before after status
+    → TellsSettled asked input before after status
+no_memory asked input before after status h = record {
   range = omega (arith, h.range.1);
   done = λ is. absurd (omega (arith, is, h.range.0));
   unfinished = λ is. absurd (omega (arith, is, h.range.1));
@@ -51,7 +51,7 @@ no_memory printed input before after status h = record {
     of_broken : ((fault.Memory ≡ fault.Read) × Appends before after (codes "refused Read\n"))
         ⊎ ((prefix : List ℕ) × (rest : List ℕ) × (rest ≢ []) × Appends before after prefix × (prefix ++ rest ≡ refused_line (codes "Memory")))
         → (prefix : List ℕ) × (rest : List ℕ) × (rest ≢ []) × Appends before after prefix
-        × (Settles printed input (prefix ++ rest) ⊎ Contradicts input (prefix ++ rest) ⊎ (prefix ++ rest ≡ refused_line (codes "Memory")))
+        × (Settles asked input (prefix ++ rest) ⊎ Contradicts asked input (prefix ++ rest) ⊎ (prefix ++ rest ≡ refused_line (codes "Memory")))
     of_broken (inl read) = absurd (let clash = read.0 in cc)
     of_broken (inr (prefix, rest, left, some, is)) = (prefix, rest, left, some, inr (inr is))
 
@@ -60,45 +60,45 @@ abbrev Writes : List ℕ → (before after : Option (List ℕ)) → (status good
 Writes output before after status good = ((status ≡ good) × Appends before after output)
     ⊎ ((status ≡ 1) × (prefix : List ℕ) × (rest : List ℕ) × (output ≡ prefix ++ rest) × (rest ≢ []) × Appends before after prefix)
 
-pub shown : (printed : ClusterOutput) (input output : List ℕ) (before after : Option (List ℕ)) (status : ℕ) → status ≤ 3 → Settles printed input output
-    → Writes output before after status 0 → TellsSettled printed input before after status
-shown printed input output before after status range is (inl (zero, all)) = record {
+pub shown : (asked : SettleTask) (input output : List ℕ) (before after : Option (List ℕ)) (status : ℕ) → status ≤ 3 → Settles asked input output
+    → Writes output before after status 0 → TellsSettled asked input before after status
+shown asked input output before after status range is (inl (zero, all)) = record {
   range = range;
   done = λ _. (output, is, all);
   unfinished = λ three. absurd (omega (arith, zero, three));
   refused = λ two. absurd (omega (arith, zero, two));
   broken = λ one. absurd (omega (arith, zero, one));
 }
-shown printed input output before after status range is (inr (one, prefix, rest, parts, left, some)) = record {
+shown asked input output before after status range is (inr (one, prefix, rest, parts, left, some)) = record {
   range = range;
   done = λ zero. absurd (omega (arith, zero, one));
   unfinished = λ three. absurd (omega (arith, one, three));
   refused = λ two. absurd (omega (arith, one, two));
-  broken = λ _. (prefix, rest, left, some, inl (subst (Settles printed input) parts is));
+  broken = λ _. (prefix, rest, left, some, inl (subst (Settles asked input) parts is));
 }
 
-pub contradicted : (printed : ClusterOutput) (input output : List ℕ) (before after : Option (List ℕ)) (status : ℕ) → status ≤ 3 → Contradicts input output
-    → Writes output before after status 3 → TellsSettled printed input before after status
-contradicted printed input output before after status range is (inl (three, all)) = record {
+pub contradicted : (asked : SettleTask) (input output : List ℕ) (before after : Option (List ℕ)) (status : ℕ) → status ≤ 3 → Contradicts asked input output
+    → Writes output before after status 3 → TellsSettled asked input before after status
+contradicted asked input output before after status range is (inl (three, all)) = record {
   range = range;
   done = λ zero. absurd (omega (arith, three, zero));
   unfinished = λ _. (output, is, all);
   refused = λ two. absurd (omega (arith, three, two));
   broken = λ one. absurd (omega (arith, three, one));
 }
-contradicted printed input output before after status range is (inr (one, prefix, rest, parts, left, some)) = record {
+contradicted asked input output before after status range is (inr (one, prefix, rest, parts, left, some)) = record {
   range = range;
   done = λ zero. absurd (omega (arith, zero, one));
   unfinished = λ three. absurd (omega (arith, one, three));
   refused = λ two. absurd (omega (arith, one, two));
-  broken = λ _. (prefix, rest, left, some, inr (inl (subst (Contradicts input) parts is)));
+  broken = λ _. (prefix, rest, left, some, inr (inl (subst (Contradicts asked input) parts is)));
 }
 
 -- ---- With what was read
 
-pub served : (printed : ClusterOutput) (input : List ℕ) (old new before after : Option (List ℕ)) (status : ℕ) → Reads old new 1073741825 input → length input ≤ 1073741824
-    → TellsSettled printed input before after status → ServesSettle printed old new before after status
-served printed input old new before after status reads short h = record {
+pub served : (asked : SettleTask) (input : List ℕ) (old new before after : Option (List ℕ)) (status : ℕ) → Reads old new 1073741825 input → length input ≤ 1073741824
+    → TellsSettled asked input before after status → ServesSettle asked old new before after status
+served asked input old new before after status reads short h = record {
   range = h.range;
   done = λ is. let (output, settles, all) = h.done is in (input, output, read, settles, all);
   unfinished = λ is. let (output, wrong, all) = h.unfinished is in (input, output, read, wrong, all);
@@ -110,18 +110,18 @@ served printed input old new before after status reads short h = record {
     read = record { taken = reads.taken; ended = reads.ended (omega (arith, short)); short = short }
 
     of_broken : (prefix : List ℕ) × (rest : List ℕ) × (rest ≢ []) × Appends before after prefix
-        × (Settles printed input (prefix ++ rest) ⊎ Contradicts input (prefix ++ rest) ⊎ (prefix ++ rest ≡ refused_line (codes "Memory")))
+        × (Settles asked input (prefix ++ rest) ⊎ Contradicts asked input (prefix ++ rest) ⊎ (prefix ++ rest ≡ refused_line (codes "Memory")))
         → (prefix : List ℕ) × (rest : List ℕ) × (rest ≢ []) × Appends before after prefix
-        × (((text : List ℕ) × ReadsBooks old new text × (Settles printed text (prefix ++ rest) ⊎ Contradicts text (prefix ++ rest)))
+        × (((text : List ℕ) × ReadsBooks old new text × (Settles asked text (prefix ++ rest) ⊎ Contradicts asked text (prefix ++ rest)))
         ⊎ ((w : TraceError) × (prefix ++ rest ≡ refused_line (trace_word w))))
     of_broken (prefix, rest, left, some, inl settles) = (prefix, rest, left, some, inl (input, read, inl settles))
     of_broken (prefix, rest, left, some, inr (inl wrong)) = (prefix, rest, left, some, inl (input, read, inr wrong))
     of_broken (prefix, rest, left, some, inr (inr is)) = (prefix, rest, left, some, inr (fault.Memory, is))
 
 -- or without: it was not all read
-pub unread : (printed : ClusterOutput) (why : TraceError) (old new before after : Option (List ℕ)) (status : ℕ) → RefusesInput why before after status
-    → (why ≡ fault.Limit → (input : List ℕ) × Consumes old new input × (2 ^ 30 < length input)) → ServesSettle printed old new before after status
-unread printed why old new before after status h too_long = record {
+pub unread : (asked : SettleTask) (why : TraceError) (old new before after : Option (List ℕ)) (status : ℕ) → RefusesInput why before after status
+    → (why ≡ fault.Limit → (input : List ℕ) × Consumes old new input × (2 ^ 30 < length input)) → ServesSettle asked old new before after status
+unread asked why old new before after status h too_long = record {
   range = omega (arith, h.range.1);
   done = λ is. absurd (omega (arith, is, h.range.0));
   unfinished = λ is. absurd (omega (arith, is, h.range.1));
@@ -141,16 +141,16 @@ unread printed why old new before after status h too_long = record {
         ⊎ ((prefix : List ℕ) × (rest : List ℕ) × (rest ≢ []) × Appends before after prefix × (prefix ++ rest ≡ refused_line (trace_word why)))
         → Appends before after (codes "refused Read\n")
         ⊎ ((prefix : List ℕ) × (rest : List ℕ) × (rest ≢ []) × Appends before after prefix
-        × (((input : List ℕ) × ReadsBooks old new input × (Settles printed input (prefix ++ rest) ⊎ Contradicts input (prefix ++ rest)))
+        × (((input : List ℕ) × ReadsBooks old new input × (Settles asked input (prefix ++ rest) ⊎ Contradicts asked input (prefix ++ rest)))
         ⊎ ((w : TraceError) × (prefix ++ rest ≡ refused_line (trace_word w)))))
     of_broken (inl (is, all)) = inl all
     of_broken (inr (prefix, rest, left, some, is)) = inr (prefix, rest, left, some, inr (why, is))
 
 -- ---- As the statuses tell it
 
-pub two_refuses : (printed : ClusterOutput) (old new before after : Option (List ℕ)) (status : ℕ) → ServesSettle printed old new before after status → status ≡ 2
+pub two_refuses : (asked : SettleTask) (old new before after : Option (List ℕ)) (status : ℕ) → ServesSettle asked old new before after status → status ≡ 2
     → IsRefused before after
-two_refuses printed old new before after status h two = by_word (h.refused two)
+two_refuses asked old new before after status h two = by_word (h.refused two)
   where
     not_reader : (why : TraceError) → (why ≢ fault.Read) → IsOfReader (Check why) → ⊥
     not_reader why other is = other (of_reader why is)

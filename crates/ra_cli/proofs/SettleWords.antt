@@ -1,49 +1,65 @@
 -- The words that ask to settle books.
-use Rattle.std.proofs.Common.{◌≡◌, ℕ, List, [], ◌∷◌, length, map, slice_get, slice_index_or, MatchOption, None, Option, Some, String, Global, string_bytes, codes, ap, sym, refl, ◌∙◌, arith}
-use Rattle.std.proofs.lemmas.List.{length-map}
+use Rattle.std.proofs.Common.{◌≡◌, ℕ, ◌+◌, Bool, true, false, List, [], ◌∷◌, length, slice_get, MatchOption, None, Option, Some, codes, ap, sym, refl, ◌∙◌, inl, inr, arith}
 use Rattle.std.proofs.lemmas.Option.{same_Some}
 use Rattle.ra_cli.specs.declared.cluster_output.ClusterOutput.{ClusterOutput}
 use Rattle.ra_cli.specs.declared.cluster_output.ClusterOutput.TheVariants.{Lines, Trace}
+use Rattle.ra_cli.specs.declared.settle_task.SettleTask.{SettleTask}
 use Rattle.ra_cli.specs.NodeRun.{AreNodeWords}
-use Rattle.ra_cli.specs.SettleRun.{AreSettleWords, AsksToSettle}
+use Rattle.ra_cli.specs.SettleRun.{AreOptionsOf, AreSettleWords, AsksToSettle}
 
-abbrev Words : Type 0
-Words = List (String Global)
+-- ---- How many bytes the options have
 
--- how many words they are
-long : (words : List (List ℕ)) (printed : ClusterOutput) → AsksToSettle words printed → (printed ≡ Lines → length words ≡ 2) × (printed ≡ Trace → length words ≡ 3)
-long words Lines (name, are) = (λ _. ap length are, λ is. absurd cc)
-long words Trace (name, are) = (λ is. absurd cc, λ _. ap length are)
+abbrev all_bytes : List (List ℕ) → ℕ
+all_bytes [] = 0
+all_bytes (word ∷ words) = length word + all_bytes words
 
--- of three words that ask, the others are `settle` and `--trace`
-others : (words : Words) (word option : String Global) → length words ≡ 3 → slice_index_or words 1 word ≡ word → slice_index_or words 2 option ≡ option
-    → AsksToSettle (map string_bytes words) Trace → (string_bytes word ≡ codes "settle") × (string_bytes option ≡ codes "--trace")
-others [] word option count at next are = absurd (omega (arith, count))
-others (a ∷ []) word option count at next are = absurd (omega (arith, count))
-others (a ∷ b ∷ []) word option count at next are = absurd (omega (arith, count))
-others (a ∷ b ∷ c ∷ []) word option count at next (name, are) =
-    let second : string_bytes b ≡ codes "settle" = cc in
-    let third : string_bytes c ≡ codes "--trace" = cc in
-    (sym (ap string_bytes at) ∙ second, sym (ap string_bytes next) ∙ third)
-others (a ∷ b ∷ c ∷ d ∷ words) word option count at next are = absurd (omega (arith, count))
+abbrev bytes_of : Bool → ClusterOutput → ℕ
+bytes_of false Lines = 0
+bytes_of false Trace = 7
+bytes_of true Lines = 9
+bytes_of true Trace = 16
 
-pub not_three : (words : Words) (word option : String Global) → length words ≡ 3 → slice_index_or words 1 word ≡ word → slice_index_or words 2 option ≡ option
-    → ((string_bytes word ≡ codes "settle") × (string_bytes option ≡ codes "--trace") → ⊥) → AreSettleWords (map string_bytes words) → ⊥
-not_three words word option count at next other (Trace, asks) = other (others words word option count at next asks)
-not_three words word option count at next other (Lines, asks) =
-    omega (arith, count, (long (map string_bytes words) Lines asks).0 refl, length-map words string_bytes)
+bytes_are : (repeats : Bool) (printed : ClusterOutput) (options : List (List ℕ)) → AreOptionsOf repeats printed options → all_bytes options ≡ bytes_of repeats printed
+bytes_are false Lines options are = ap all_bytes are
+bytes_are false Trace options are = ap all_bytes are
+bytes_are true Lines options are = ap all_bytes are
+bytes_are true Trace options (inl are) = ap all_bytes are
+bytes_are true Trace options (inr are) = ap all_bytes are
+
+-- so they ask for one thing
+one_task : (repeats repeats' : Bool) (printed printed' : ClusterOutput) → bytes_of repeats printed ≡ bytes_of repeats' printed' → (repeats ≡ repeats') × (printed ≡ printed')
+one_task false false Lines Lines same = (refl, refl)
+one_task false false Trace Trace same = (refl, refl)
+one_task true true Lines Lines same = (refl, refl)
+one_task true true Trace Trace same = (refl, refl)
+one_task false false Lines Trace same = absurd (omega (arith, same))
+one_task false false Trace Lines same = absurd (omega (arith, same))
+one_task true true Lines Trace same = absurd (omega (arith, same))
+one_task true true Trace Lines same = absurd (omega (arith, same))
+one_task false true Lines Lines same = absurd (omega (arith, same))
+one_task false true Lines Trace same = absurd (omega (arith, same))
+one_task false true Trace Lines same = absurd (omega (arith, same))
+one_task false true Trace Trace same = absurd (omega (arith, same))
+one_task true false Lines Lines same = absurd (omega (arith, same))
+one_task true false Lines Trace same = absurd (omega (arith, same))
+one_task true false Trace Lines same = absurd (omega (arith, same))
+one_task true false Trace Trace same = absurd (omega (arith, same))
+
+-- ---- Words that ask
+
+tail_of : {X : Type 0} {x y : X} {xs ys : List X} → x ∷ xs ≡ y ∷ ys → xs ≡ ys
+tail_of e = cc
 
 -- words that are found to ask for nothing do not ask
-pub none_asked : (words : List (List ℕ)) (asked : Option ClusterOutput) → MatchOption asked (AreSettleWords words → ⊥) (AsksToSettle words)
-    → ((printed : ClusterOutput) → asked ≡ Some printed → ⊥) → AreSettleWords words → ⊥
+pub none_asked : (words : List (List ℕ)) (found : Option SettleTask) → MatchOption found (AreSettleWords words → ⊥) (AsksToSettle words)
+    → ((asked : SettleTask) → found ≡ Some asked → ⊥) → AreSettleWords words → ⊥
 none_asked words None never other are = never are
-none_asked words (Some printed) asks other are = other printed refl
+none_asked words (Some asked) asks other are = other asked refl
 
 -- ---- They are those of no other command
 
 second : (words : List (List ℕ)) → AreSettleWords words → slice_get words 1 ≡ Some (codes "settle")
-second words (Lines, asks) = ap (λ (ws : List (List ℕ)). slice_get ws 1) asks.1
-second words (Trace, asks) = ap (λ (ws : List (List ℕ)). slice_get ws 1) asks.1
+second words (asked, asks) = ap (λ (ws : List (List ℕ)). slice_get ws 1) asks.2
 
 pub no_sim_words : (words : List (List ℕ)) → AreSettleWords words → slice_get words 1 ≡ Some (codes "sim") → ⊥
 no_sim_words words are sim =
@@ -56,8 +72,9 @@ no_node_words words are (name, is) =
     absurd (omega (arith, ap length same))
 
 -- and they ask for one thing
-pub one_thing : (words : List (List ℕ)) (a b : ClusterOutput) → AsksToSettle words a → AsksToSettle words b → a ≡ b
-one_thing words Lines Lines x y = refl
-one_thing words Trace Trace x y = refl
-one_thing words Lines Trace x y = absurd (omega (arith, (long words Lines x).0 refl, (long words Trace y).1 refl))
-one_thing words Trace Lines x y = absurd (omega (arith, (long words Trace x).1 refl, (long words Lines y).0 refl))
+pub one_thing : (words : List (List ℕ)) (a b : SettleTask) → AsksToSettle words a → AsksToSettle words b → a ≡ b
+one_thing words a b (name, options, is, are) (name', options', is', are') =
+    let same : options ≡ options' = tail_of (tail_of (sym is ∙ is')) in
+    let bytes = sym (bytes_are a.repeats a.printed options are) ∙ ap all_bytes same ∙ bytes_are b.repeats b.printed options' are' in
+    let (repeats, printed) = one_task a.repeats b.repeats a.printed b.printed bytes in
+    λ i. record { repeats = repeats i; printed = printed i }

@@ -1,5 +1,5 @@
 -- What `ra settle` reads and prints, and its exit status.
-use Rattle.std.specs.Prelude.{◌≡◌, ◌≢◌, ◌⊎◌, ℕ, ◌<◌, ◌≤◌, ◌^◌, List, [], ◌∷◌, ◌++◌, Option, codes, decimal, length, map}
+use Rattle.std.specs.Prelude.{◌≡◌, ◌≢◌, ◌⊎◌, ℕ, ◌<◌, ◌≤◌, ◌^◌, Bool, false, true, List, [], ◌∷◌, ◌++◌, Option, codes, decimal, length, map}
 use Rattle.std.specs.Io.KnownBytes.{Appends, Consumes, IsAtEnd}
 use Rattle.ra_world.specs.Lines.{field, report_text}
 use Rattle.ra_world.specs.Traffic.{Move}
@@ -12,15 +12,31 @@ use Rattle.ra_trace.specs.declared.error.TraceError.{TraceError}
 use Rattle.ra_trace.specs.declared.error.TraceError.TheVariants as trace_fault
 use Rattle.ra_cli.specs.declared.cluster_output.ClusterOutput.{ClusterOutput}
 use Rattle.ra_cli.specs.declared.cluster_output.ClusterOutput.TheVariants.{Lines, Trace}
+use Rattle.ra_cli.specs.declared.settle_task.SettleTask.{SettleTask}
 use Rattle.ra_cli.specs.Refusals.{refused_line, trace_word}
 
--- the words are the program's name and `settle`, and `--trace` if the trace of the run is to be printed
-abbrev pub AsksToSettle : (words : List (List ℕ)) → ClusterOutput → Type 0
-AsksToSettle words Lines = (name : List ℕ) × (words ≡ name ∷ codes "settle" ∷ [])
-AsksToSettle words Trace = (name : List ℕ) × (words ≡ name ∷ codes "settle" ∷ codes "--trace" ∷ [])
+-- these options of `settle` ask that messages may come again, or not, and that this is printed: in either order
+abbrev pub AreOptionsOf : (repeats : Bool) → (printed : ClusterOutput) → (options : List (List ℕ)) → Type 0
+AreOptionsOf false Lines options = options ≡ []
+AreOptionsOf false Trace options = options ≡ codes "--trace" ∷ []
+AreOptionsOf true Lines options = options ≡ codes "--repeats" ∷ []
+AreOptionsOf true Trace options =
+    (options ≡ codes "--repeats" ∷ codes "--trace" ∷ []) ⊎ (options ≡ codes "--trace" ∷ codes "--repeats" ∷ [])
+
+abbrev pub AreOptionsFor : (options : List (List ℕ)) → SettleTask → Type 0
+AreOptionsFor options asked = AreOptionsOf asked.repeats asked.printed options
+
+-- these ask for nothing
+abbrev pub AreNoOptions : (options : List (List ℕ)) → Type 0
+AreNoOptions options = (asked : SettleTask) → AreOptionsFor options asked → ⊥
+
+-- the words are the program's name, `settle`, and options that ask for this
+abbrev pub AsksToSettle : (words : List (List ℕ)) → SettleTask → Type 0
+AsksToSettle words asked = (name : List ℕ) × (options : List (List ℕ)) × (words ≡ name ∷ codes "settle" ∷ options)
+    × AreOptionsFor options asked
 
 abbrev pub AreSettleWords : (words : List (List ℕ)) → Type 0
-AreSettleWords words = (printed : ClusterOutput) × AsksToSettle words printed
+AreSettleWords words = (asked : SettleTask) × AsksToSettle words asked
 
 -- what is printed of the settled run: the lines of its report, or its trace
 abbrev pub Prints : ClusterOutput → SettledText → List ℕ → Type 0
@@ -29,8 +45,8 @@ Prints Trace text output = (moves : List Move) × (map (λ move. move.step) move
     × IsTrace text.nodes text.start moves output
 
 -- the input is a text of books that settle, and this is printed of their run
-abbrev pub Settles : ClusterOutput → (input output : List ℕ) → Type 0
-Settles printed input output = (text : SettledText) × IsSettledText input text × Prints printed text output
+abbrev pub Settles : SettleTask → (input output : List ℕ) → Type 0
+Settles asked input output = (text : SettledText) × IsSettledText asked.repeats input text × Prints asked.printed text output
 
 -- the word for why a text does not settle
 abbrev pub text_cause_word : TextCause → List ℕ
@@ -45,18 +61,19 @@ abbrev pub unsettled_line : ℕ → TextCause → List ℕ
 unsettled_line number why = codes "invalid" ++ field (decimal number) ++ field (text_cause_word why) ++ codes "\n"
 
 -- the input does not settle, and this says at which line, and why
-abbrev pub Contradicts : (input output : List ℕ) → Type 0
-Contradicts input output = (number : ℕ) × (why : TextCause) × IsWrong input number why × (output ≡ unsettled_line number why)
+abbrev pub Contradicts : SettleTask → (input output : List ℕ) → Type 0
+Contradicts asked input output =
+    (number : ℕ) × (why : TextCause) × IsWrong asked.repeats input number why × (output ≡ unsettled_line number why)
 
 -- what comes of an input that was read, by the status
-pub record TellsSettled (printed : ClusterOutput) (input : List ℕ) (before after : Option (List ℕ)) (status : ℕ) : Type 0 where
+pub record TellsSettled (asked : SettleTask) (input : List ℕ) (before after : Option (List ℕ)) (status : ℕ) : Type 0 where
   pub range : status ≤ 3
-  pub done : status ≡ 0 → (output : List ℕ) × Settles printed input output × Appends before after output
-  pub unfinished : status ≡ 3 → (output : List ℕ) × Contradicts input output × Appends before after output
+  pub done : status ≡ 0 → (output : List ℕ) × Settles asked input output × Appends before after output
+  pub unfinished : status ≡ 3 → (output : List ℕ) × Contradicts asked input output × Appends before after output
   pub refused : status ≡ 2 → Appends before after (refused_line (codes "Memory"))
   -- only a prefix of one of these was written
   pub broken : status ≡ 1 → (prefix : List ℕ) × (rest : List ℕ) × (rest ≢ []) × Appends before after prefix
-      × (Settles printed input (prefix ++ rest) ⊎ Contradicts input (prefix ++ rest)
+      × (Settles asked input (prefix ++ rest) ⊎ Contradicts asked input (prefix ++ rest)
       ⊎ (prefix ++ rest ≡ refused_line (codes "Memory")))
 
 -- the input was read to its end, and has at most as many bytes as a text may
@@ -69,17 +86,17 @@ pub record ReadsBooks (old new : Option (List ℕ)) (input : List ℕ) : Type 0 
 -- Status 3: it is none, and exactly the line that says where and why was written. Status 2: it is too long, or memory
 -- ran out, and the line that says so was written. Status 1: the reader failed, and the line that says so was written; or
 -- the writer failed, and only a prefix of what is printed was written.
-pub record ServesSettle (printed : ClusterOutput) (old new before after : Option (List ℕ)) (status : ℕ) : Type 0 where
+pub record ServesSettle (asked : SettleTask) (old new before after : Option (List ℕ)) (status : ℕ) : Type 0 where
   pub range : status ≤ 3
   pub done : status ≡ 0
-      → (input : List ℕ) × (output : List ℕ) × ReadsBooks old new input × Settles printed input output × Appends before after output
+      → (input : List ℕ) × (output : List ℕ) × ReadsBooks old new input × Settles asked input output × Appends before after output
   pub unfinished : status ≡ 3
-      → (input : List ℕ) × (output : List ℕ) × ReadsBooks old new input × Contradicts input output × Appends before after output
+      → (input : List ℕ) × (output : List ℕ) × ReadsBooks old new input × Contradicts asked input output × Appends before after output
   pub refused : status ≡ 2 → Appends before after (refused_line (codes "Memory"))
       ⊎ (Appends before after (refused_line (codes "Limit")) × ((input : List ℕ) × Consumes old new input × (2 ^ 30 < length input)))
   pub broken : status ≡ 1 → Appends before after (codes "refused Read\n")
       ⊎ ((prefix : List ℕ) × (rest : List ℕ) × (rest ≢ []) × Appends before after prefix
-      × (((input : List ℕ) × ReadsBooks old new input × (Settles printed input (prefix ++ rest) ⊎ Contradicts input (prefix ++ rest)))
+      × (((input : List ℕ) × ReadsBooks old new input × (Settles asked input (prefix ++ rest) ⊎ Contradicts asked input (prefix ++ rest)))
       ⊎ ((fault : TraceError) × (prefix ++ rest ≡ refused_line (trace_word fault)))))
 
 -- what comes of an input that was not read to its end: the status is 1 if the reader failed, and otherwise 2, or 1 if the

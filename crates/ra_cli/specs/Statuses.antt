@@ -6,6 +6,7 @@ use Rattle.ra_schedule.specs.Faults.{FaultRates}
 use Rattle.ra_script.specs.declared.format.Format.{Format}
 use Rattle.ra_script.specs.Performed.{IsOrderly, IsPerformedAs}
 use Rattle.ra_cli.specs.declared.cluster_output.ClusterOutput.{ClusterOutput}
+use Rattle.ra_cli.specs.declared.settle_task.SettleTask.{SettleTask}
 use Rattle.ra_cli.specs.declared.refusal.Refusal.{Refusal}
 use Rattle.ra_cli.specs.declared.search.Search.{Search}
 use Rattle.ra_cli.specs.Answer.{IsAnswered}
@@ -104,4 +105,4 @@ pub record Serves (words : List (List ℕ)) (old new before after : Option (List
   -- `ra node` answers what it reads line by line, and its status says how that ended.
   pub node : AreNodeWords words → ServesNode old new before after status
   -- `ra settle` prints the report or the trace of the run into which the books settle that it reads, or why they do not.
-  pub settle : (printed : ClusterOutput) → AsksToSettle words printed → ServesSettle printed old new before after status
+  pub settle : (asked : SettleTask) → AsksToSettle words asked → ServesSettle asked old new before after status

@@ -273,6 +273,10 @@ with its clock, and no message came twice. If they are, print its marks and
 totals, or with --trace its trace, which `ra check` and `ra draw` read.
 Example: cat *.book | ra settle
 
+With --repeats, frames may come more than once, as they do if a host hands its
+node what was sent again. A frame that comes n times is repeated n - 1 times in
+the run, as `repeat` does in a trace.
+
 A line that is cut off at the end of the text, without a line feed, is passed
 over. If the books do not settle, print `invalid`, the line, counted over the
 whole text, and the cause:
@@ -282,7 +286,7 @@ whole text, and the cause:
            of a node is missing
   Refused  the node does not take the event, or the frame has a fault
   NotSent  a frame comes that its sender did not send with this clock
-  Twice    a message comes that came by an earlier line
+  Twice    a message comes that came by an earlier line; not with --repeats
 The first line that is Line, Books or Refused comes before a missing book, then
 the first that is NotSent, and then the first that is Twice.
 

@@ -129,6 +129,8 @@ pub fn text_cause_text(cause: TextCause) -> &'static str {
         TextCause::NotSent => {
             "its sender's book did not send this frame with this clock: expected one that ra node prints for that book"
         }
-        TextCause::Twice => "this message came by an earlier line: expected each message once",
+        TextCause::Twice => {
+            "this message came by an earlier line: expected each message once, unless --repeats is given"
+        }
     }
 }

@@ -133,12 +133,19 @@ const CLUSTER_OPTIONS: &[OptionRow] = &[OptionRow {
     ..FLAG
 }];
 
-/// The option of the command `settle`.
-const SETTLE_OPTIONS: &[OptionRow] = &[OptionRow {
-    name: "trace",
-    help: "Print the trace in place of marks and totals",
-    ..FLAG
-}];
+/// The options of the command `settle`.
+const SETTLE_OPTIONS: &[OptionRow] = &[
+    OptionRow {
+        name: "repeats",
+        help: "Let frames come more than once",
+        ..FLAG
+    },
+    OptionRow {
+        name: "trace",
+        help: "Print the trace in place of marks and totals",
+        ..FLAG
+    },
+];
 
 /// The option of the command `check`.
 const CHECK_OPTIONS: &[OptionRow] = &[OptionRow {

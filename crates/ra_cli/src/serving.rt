@@ -503,8 +503,8 @@ fn outcome_of<T: Threads + Wait + Sync, R: BufRead, W: Write, O: Observer>(
     if are_node_words(words) {
         return be_a_node(alloc, reader, writer);
     }
-    if let Some(printed) = settle_words(words) {
-        return settle_books(alloc, printed, reader, writer);
+    if let Some(asked) = settle_words(words) {
+        return settle_books(alloc, asked, reader, writer);
     }
     match parse(alloc, words) {
         Ok(task) => do_task(rt, alloc, task, reader, writer, observer),

@@ -1,9 +1,10 @@
 //! The command `settle`.
-ghost use Rattle.std.specs.Prelude.{◌≡◌, ◌↔◌, List, ℕ, map, string_bytes, IfOk, IsTrue, MatchOption};
+ghost use Rattle.std.specs.Prelude.{◌≡◌, ◌↔◌, ◌∷◌, [], List, ℕ, map, string_bytes, IfOk, IsTrue, MatchOption};
 ghost use Rattle.ra_settle.specs.Verdicts.{IsSettledText, IsWrong};
 ghost use Rattle.ra_cli.specs.declared.cluster_output.ClusterOutput.{ClusterOutput};
+ghost use Rattle.ra_cli.specs.declared.settle_task.SettleTask.{SettleTask};
 ghost use Rattle.ra_cli.specs.SettleRun as spec;
-ghost use Rattle.ra_cli.specs.SettleRun.{AreSettleWords, AsksToSettle, Prints, RefusesInput, ServesSettle, TellsSettled, unsettled_line};
+ghost use Rattle.ra_cli.specs.SettleRun.{AreNoOptions, AreOptionsFor, AreSettleWords, AsksToSettle, Prints, RefusesInput, ServesSettle, TellsSettled, unsettled_line};
 
 use crate::cluster_output::ClusterOutput;
 use crate::outcome::{Outcome, Remark, UNFINISHED};
@@ -20,6 +21,15 @@ use std::io::{Read, Write};
 /// The most bytes that a text of books may have.
 const MAX_TEXT: usize = 1 << 30;
 
+/// How books are settled.
+#[derive(Clone, Copy)]
+pub struct SettleTask {
+    /// Whether messages may come more than once.
+    pub repeats: bool,
+    /// What is printed of the run.
+    pub printed: ClusterOutput,
+}
+
 /// Returns whether a word is this text. It does not allocate.
 fn is_text(word: &String, text: &str) -> bool
     ensures { IsTrue result ↔ (string_bytes word.now ≡ text.now) }
@@ -27,23 +37,75 @@ fn is_text(word: &String, text: &str) -> bool
     word.as_str() == text
 }
 
-/// Returns what the words ask to be printed of the run into which books settle, or `None` if they do not ask to settle any: they
-/// are the program's name, `settle`, and perhaps `--trace`. It does not allocate.
-pub fn settle_words(words: &[String]) -> Option<ClusterOutput>
+/// Returns whether two words are these texts. It does not allocate.
+fn are_texts(one: &String, other: &String, first: &str, second: &str) -> bool
+    ensures { IsTrue result ↔ ((string_bytes one.now ≡ first.now) × (string_bytes other.now ≡ second.now)) }
+{
+    is_text(one, first) && is_text(other, second)
+}
+
+/// Returns what one option of `settle` asks for, or `None` if it is none. It does not allocate.
+fn one_option(one: &String) -> Option<SettleTask>
+    ensures { MatchOption result (AreNoOptions (string_bytes one.now ∷ [])) (AreOptionsFor (string_bytes one.now ∷ [])) }
+{
+    if is_text(one, "--repeats") {
+        return Some(SettleTask {
+            repeats: true,
+            printed: ClusterOutput::Lines,
+        });
+    }
+    if is_text(one, "--trace") {
+        return Some(SettleTask {
+            repeats: false,
+            printed: ClusterOutput::Trace,
+        });
+    }
+    None
+}
+
+/// Returns what two options of `settle` ask for, or `None` if they are not two of it. It does not allocate.
+fn two_options(one: &String, other: &String) -> Option<SettleTask>
+    ensures { MatchOption result (AreNoOptions (string_bytes one.now ∷ string_bytes other.now ∷ []))
+        (AreOptionsFor (string_bytes one.now ∷ string_bytes other.now ∷ [])) }
+{
+    let both = SettleTask {
+        repeats: true,
+        printed: ClusterOutput::Trace,
+    };
+    if are_texts(one, other, "--repeats", "--trace") {
+        return Some(both);
+    }
+    if are_texts(one, other, "--trace", "--repeats") {
+        return Some(both);
+    }
+    None
+}
+
+/// Returns what the words after `settle` ask for, or `None` if they are not its options, each at most once. It does not allocate.
+fn options_of(options: &[String]) -> Option<SettleTask>
+    ensures { MatchOption result (AreNoOptions (map string_bytes options.now)) (AreOptionsFor (map string_bytes options.now)) }
+{
+    match options {
+        [] => Some(SettleTask {
+            repeats: false,
+            printed: ClusterOutput::Lines,
+        }),
+        [one] => one_option(one),
+        [one, other] => two_options(one, other),
+        _ => None,
+    }
+}
+
+/// Returns how the words ask to settle books, or `None` if they do not: they are the program's name, `settle`, and perhaps
+/// `--repeats` and `--trace`, in either order. It does not allocate.
+pub fn settle_words(words: &[String]) -> Option<SettleTask>
     ensures { MatchOption result (AreSettleWords (map string_bytes words.now) → ⊥)
         (AsksToSettle (map string_bytes words.now)) }
 {
     match words {
-        [_, word] => {
+        [_, word, options @ ..] => {
             if is_text(word, "settle") {
-                Some(ClusterOutput::Lines)
-            } else {
-                None
-            }
-        }
-        [_, word, option] => {
-            if is_text(word, "settle") && is_text(option, "--trace") {
-                Some(ClusterOutput::Trace)
+                options_of(options)
             } else {
                 None
             }
@@ -109,23 +171,18 @@ fn run_text(alloc: Global, printed: ClusterOutput, text: &SettledText) -> Result
 
 /// Prints that memory ran out.
 fn refuse_memory<W: Write>(writer: &mut W) -> Outcome
-    ensures { (printed : ClusterOutput) (input : List ℕ)
-        → TellsSettled printed input (W.contents writer.old) (W.contents writer.new) result.status }
+    ensures { (asked : SettleTask) (input : List ℕ)
+        → TellsSettled asked input (W.contents writer.old) (W.contents writer.new) result.status }
 {
     refuse(writer, Refusal::Check(TraceError::Memory))
 }
 
 /// Prints the settled run of a text.
-fn show<W: Write>(
-    alloc: Global,
-    printed: ClusterOutput,
-    text: &SettledText,
-    writer: &mut W,
-) -> Outcome
-    ensures { (input : List ℕ) → IsSettledText input text.now
-        → TellsSettled printed input (W.contents writer.old) (W.contents writer.new) result.status }
+fn show<W: Write>(alloc: Global, asked: SettleTask, text: &SettledText, writer: &mut W) -> Outcome
+    ensures { (input : List ℕ) → IsSettledText asked.repeats input text.now
+        → TellsSettled asked input (W.contents writer.old) (W.contents writer.new) result.status }
 {
-    match run_text(alloc, printed, text) {
+    match run_text(alloc, asked.printed, text) {
         Ok(output) => Outcome::new(written(writer, output.as_bytes(), DONE), None),
         Err(_) => refuse_memory(writer),
     }
@@ -133,8 +190,8 @@ fn show<W: Write>(
 
 /// Prints the line of a text that does not settle.
 fn contradict<W: Write>(alloc: Global, line: u64, cause: TextCause, writer: &mut W) -> Outcome
-    ensures { (printed : ClusterOutput) (input : List ℕ) → IsWrong input line cause
-        → TellsSettled printed input (W.contents writer.old) (W.contents writer.new) result.status }
+    ensures { (asked : SettleTask) (input : List ℕ) → IsWrong asked.repeats input line cause
+        → TellsSettled asked input (W.contents writer.old) (W.contents writer.new) result.status }
 {
     match unsettled_text(alloc, line, cause) {
         Ok(text) => {
@@ -146,16 +203,11 @@ fn contradict<W: Write>(alloc: Global, line: u64, cause: TextCause, writer: &mut
 }
 
 /// Settles the books of a text, and prints what comes of it.
-fn settle_input<W: Write>(
-    alloc: Global,
-    printed: ClusterOutput,
-    input: &[u8],
-    writer: &mut W,
-) -> Outcome
-    ensures { TellsSettled printed input.now (W.contents writer.old) (W.contents writer.new) result.status }
+fn settle_input<W: Write>(alloc: Global, asked: SettleTask, input: &[u8], writer: &mut W) -> Outcome
+    ensures { TellsSettled asked input.now (W.contents writer.old) (W.contents writer.new) result.status }
 {
-    match settle_text(alloc, input) {
-        Ok(text) => show(alloc, printed, &text, writer),
+    match settle_text(alloc, input, asked.repeats) {
+        Ok(text) => show(alloc, asked, &text, writer),
         Err(SettleTextError::Invalid { line, cause }) => contradict(alloc, line, cause, writer),
         Err(SettleTextError::Memory) => refuse_memory(writer),
     }
@@ -172,16 +224,16 @@ fn refuse_input<W: Write>(writer: &mut W, fault: TraceError) -> Outcome
     }
 }
 
-/// Reads the books of all nodes, one after the other in one text, and prints the report of the run into which they settle, or its
-/// trace, with status 0. If they do not settle, it prints the line that is wrong, and the cause, with status 3. The status is 2 if
+/// Reads the books of all nodes, one after the other in one text, and prints the report of the run into which they settle as
+/// asked, or its trace, with status 0. If they do not settle, it prints the line that is wrong, and the cause, with status 3. The status is 2 if
 /// the text has more than 1,073,741,824 bytes or memory ran out, and 1 if the reader or the writer failed.
 pub fn settle_books<R: Read, W: Write>(
     alloc: Global,
-    printed: ClusterOutput,
+    asked: SettleTask,
     reader: &mut R,
     writer: &mut W,
 ) -> Outcome
-    ensures { ServesSettle printed (R.remaining reader.old) (R.remaining reader.new)
+    ensures { ServesSettle asked (R.remaining reader.old) (R.remaining reader.new)
         (W.contents writer.old) (W.contents writer.new) result.status }
 {
     let input = match read_up_to(alloc, reader, MAX_TEXT + 1) {
@@ -192,5 +244,5 @@ pub fn settle_books<R: Read, W: Write>(
     if input.len() > MAX_TEXT {
         return refuse_input(writer, TraceError::Limit);
     }
-    settle_input(alloc, printed, &input, writer)
+    settle_input(alloc, asked, &input, writer)
 }

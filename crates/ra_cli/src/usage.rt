@@ -34,7 +34,8 @@ const PART_TEXT: &str = "--from must be at least 1, and at most --to; see ra dra
 const NODE_TEXT: &str = "node takes no arguments; see ra node --help";
 
 /// What is said if `settle` has an argument that the parser passes over, which only `--` is.
-const SETTLE_TEXT: &str = "settle takes no arguments but --trace; see ra settle --help";
+const SETTLE_TEXT: &str =
+    "settle takes no arguments but --repeats and --trace; see ra settle --help";
 
 /// An option that takes a number, and which ones it takes.
 struct Range {

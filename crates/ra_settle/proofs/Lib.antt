@@ -5,3 +5,4 @@ mod Order
 mod Sent
 mod Taken
 mod Outcome
+mod Settlements

@@ -1,5 +1,6 @@
 -- What comes of the books that were gathered from a text.
-use Rattle.std.proofs.Common.{◌≡◌, ℕ, List, [], ◌∷◌, length, length-append, Result, Ok, Err, inr, ap, subst, ◌∙◌, arith}
+use Rattle.std.proofs.Common.{◌≡◌, ℕ, Bool, true, List, [], ◌∷◌, length, length-append, Result, Ok, Err, inr, ap, subst, sym, ◌∙◌, arith}
+use Rattle.std.proofs.lemmas.Bool.{false≢true}
 use Rattle.std.specs.Prelude.{All, MatchResult}
 use Rattle.ra_history.specs.Book.{BookState}
 use Rattle.ra_settle.specs.declared.came.Came.{Came}
@@ -24,8 +25,8 @@ module _ (g : Gathered) (books : List BookState) (nodes : ℕ) (same : books ≡
   read_of lines ordered is h = all_read lines g.earlier.items g.last is.right ordered (arranged ordered h)
 
   -- a book is missing
-  pub lacks : (text : List ℕ) (next : ℕ) → HasGathered text g next → LacksSome books nodes → IsWrong text next cause.Books
-  lacks text next h few = inr (
+  pub lacks : (text : List ℕ) (next : ℕ) → HasGathered text g next → LacksSome books nodes → (repeats : Bool) → IsWrong repeats text next cause.Books
+  lacks text next h few repeats = inr (
     h.lines,
     books_of g,
     h.is_text,
@@ -37,8 +38,8 @@ module _ (g : Gathered) (books : List BookState) (nodes : ℕ) (same : books ≡
   )
 
   module _ (text : List ℕ) (next : ℕ) (h : HasGathered text g next) (ordered : List BookState) (all : IsAllArranged books nodes ordered) (came : List Came)
-      (came_is : came ≡ g.came.items) where
-    unfit : (why : SettleTextError) → IsUnfit ordered came why → IsUnsettled text why
+      (came_is : came ≡ g.came.items) (repeats : Bool) where
+    unfit : (why : SettleTextError) → IsUnfit repeats ordered came why → IsUnsettled repeats text why
     unfit fault.Memory u = tt
     unfit (fault.Invalid number cause.Line) u = absurd u
     unfit (fault.Invalid number cause.Books) u = absurd u
@@ -58,11 +59,12 @@ module _ (g : Gathered) (books : List BookState) (nodes : ℕ) (same : books ≡
       h.is_text,
       whole_of h.lines ordered h.gathered all,
       u.0,
-      subst (λ (cs : List Came). IsFirstAgain cs number) (came_is ∙ h.gathered.came_is) u.1,
+      u.1,
+      subst (λ (cs : List Came). IsFirstAgain cs number) (came_is ∙ h.gathered.came_is) u.2,
     )
 
-    pub result_of : (r : Result SettledText SettleTextError) → MatchResult r (IsSettledBy ordered) (IsUnfit ordered came)
-        → MatchResult r (IsSettledText text) (IsUnsettled text)
+    pub result_of : (r : Result SettledText SettleTextError) → MatchResult r (IsSettledBy repeats ordered) (IsUnfit repeats ordered came)
+        → MatchResult r (IsSettledText repeats text) (IsUnsettled repeats text)
     result_of (Ok settled) by = record {
       lines = h.lines;
       books = books_of g;
@@ -72,3 +74,12 @@ module _ (g : Gathered) (books : List BookState) (nodes : ℕ) (same : books ≡
       settled_by = by;
     }
     result_of (Err why) u = unfit why u
+
+-- a text that is not read is not read whether messages may come again or not
+pub unread : (repeats : Bool) (text : List ℕ) (why : SettleTextError) → IsUnsettled true text why → IsUnsettled repeats text why
+unread repeats text fault.Memory u = tt
+unread repeats text (fault.Invalid number cause.Line) u = u
+unread repeats text (fault.Invalid number cause.Books) u = u
+unread repeats text (fault.Invalid number cause.Refused) u = u
+unread repeats text (fault.Invalid number cause.NotSent) u = u
+unread repeats text (fault.Invalid number cause.Twice) u = absurd (false≢true (sym u.5))

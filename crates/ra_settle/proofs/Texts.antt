@@ -1,5 +1,5 @@
 -- The lines of a text, one after the other.
-use Rattle.std.proofs.Common.{◌≡◌, ℕ, ◌+◌, ◌<◌, List, [], ◌∷◌, ◌++◌, length, Result, Ok, Err, inl, inr, refl, sym, ap, subst, ◌∙◌, append_assoc, arith}
+use Rattle.std.proofs.Common.{◌≡◌, ℕ, ◌+◌, ◌<◌, true, List, [], ◌∷◌, ◌++◌, length, Result, Ok, Err, inl, inr, refl, sym, ap, subst, ◌∙◌, append_assoc, arith}
 use Rattle.std.proofs.lemmas.List.{flat_map_more, length_push}
 use Rattle.std.proofs.lemmas.List.Elements.{All-nil, All-push}
 use Rattle.ra_history.specs.Book.{BookState}
@@ -66,7 +66,7 @@ all_read text rest turn number g h free number_is = record {
 
 -- ---- A wrong line
 
-wrong_at : (text : List ℕ) (number : ℕ) (why : TextCause) → IsWrongAt text number why → IsWrong text number why
+wrong_at : (text : List ℕ) (number : ℕ) (why : TextCause) → IsWrongAt text number why → IsWrong true text number why
 wrong_at text number cause.Line at = inr at
 wrong_at text number cause.Books at = inl at
 wrong_at text number cause.Refused at = at
@@ -74,7 +74,7 @@ wrong_at text number cause.NotSent at = absurd at.wrong
 wrong_at text number cause.Twice at = absurd at.wrong
 
 pub line_wrong : (text rest line behind : List ℕ) (turn number : ℕ) (why : TextCause) (old new : Gathered) → SoFar text rest turn old → rest ≡ line ++ 10 ∷ behind
-    → HasNoFeed line → number ≡ turn + 2 → TakesLine old number line new (Err (line_fault.Wrong why)) → IsWrong text number why
+    → HasNoFeed line → number ≡ turn + 2 → TakesLine old number line new (Err (line_fault.Wrong why)) → IsWrong true text number why
 line_wrong text rest line behind turn number why old new h is free number_is wrong = wrong_at text number why (record {
   before = h.lines;
   line = line;
@@ -87,9 +87,9 @@ line_wrong text rest line behind turn number why old new h is free number_is wro
 })
 
 -- the first line is none of a book
-pub no_beginning : (text line rest : List ℕ) (fault : SettleTextError) → Begins text (line ∷ []) rest → IsNoBeginning line fault → IsUnsettled text fault
+pub no_beginning : (text line rest : List ℕ) (fault : SettleTextError) → Begins text (line ∷ []) rest → IsNoBeginning line fault → IsUnsettled true text fault
 no_beginning text line rest fault.Memory begins h = tt
-no_beginning text line rest (fault.Invalid number why) begins h = subst (IsWrong text number) (sym h.1) (inr (record {
+no_beginning text line rest (fault.Invalid number why) begins h = subst (IsWrong true text number) (sym h.1) (inr (record {
   before = [];
   line = line;
   rest = rest;

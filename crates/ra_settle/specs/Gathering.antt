@@ -1,11 +1,13 @@
 -- The parts of reading a text of books and of settling it. No public contract speaks of them.
-use Rattle.std.specs.Prelude.{◌≡◌, ◌≢◌, ◌⊎◌, ℕ, ◌+◌, ◌≤◌, List, [], ◌∷◌, ◌++◌, All, Contains, Result, Ok, Err, length, map}
+use Rattle.std.specs.Prelude.{◌≡◌, ◌≢◌, ◌⊎◌, ℕ, ◌+◌, ◌≤◌, Bool, false, List, [], ◌∷◌, ◌++◌, All, Contains, Result, Ok, Err, length, map}
 use Rattle.std.specs.List.{Any, range_with_len}
 use Rattle.std.specs.List.Sorted.{IsPermutation}
 use Rattle.ra_stamp.specs.Message.{from_of}
 use Rattle.ra_frame.specs.declared.frame.Frame.{Frame}
 use Rattle.ra_history.specs.declared.error.BookError.{BookError}
 use Rattle.ra_history.specs.declared.error.BookError.TheVariants as refused
+use Rattle.ra_history.specs.declared.error.SettleError.{SettleError}
+use Rattle.ra_history.specs.declared.error.SettleError.TheVariants.{Twice}
 use Rattle.ra_history.specs.declared.event.BookKind.{BookKind}
 use Rattle.ra_history.specs.Book.{BookState, HasHistory, opening_book, with_event}
 use Rattle.ra_history.specs.Settled.{HasUnsent}
@@ -150,10 +152,15 @@ pub record IsUnsentAmong (senders : List Sender) (came : List Came) (number : �
   pub sent : All (λ earlier. IsSentBy senders earlier.frame) before
 
 -- why books of a cluster do not settle, with what came to them in the order of the text
-abbrev pub IsUnfit : List BookState → List Came → SettleTextError → Type 0
-IsUnfit ordered came (fault.Invalid number cause.NotSent) = IsFirstUnsent ordered came number
-IsUnfit ordered came (fault.Invalid number cause.Twice) = (HasUnsent ordered → ⊥) × IsFirstAgain came number
-IsUnfit ordered came (fault.Invalid number cause.Line) = ⊥
-IsUnfit ordered came (fault.Invalid number cause.Books) = ⊥
-IsUnfit ordered came (fault.Invalid number cause.Refused) = ⊥
-IsUnfit ordered came fault.Memory = Unit {0}
+abbrev pub IsUnfit : (repeats : Bool) → List BookState → List Came → SettleTextError → Type 0
+IsUnfit repeats ordered came (fault.Invalid number cause.NotSent) = IsFirstUnsent ordered came number
+IsUnfit repeats ordered came (fault.Invalid number cause.Twice) =
+    (repeats ≡ false) × (HasUnsent ordered → ⊥) × IsFirstAgain came number
+IsUnfit repeats ordered came (fault.Invalid number cause.Line) = ⊥
+IsUnfit repeats ordered came (fault.Invalid number cause.Books) = ⊥
+IsUnfit repeats ordered came (fault.Invalid number cause.Refused) = ⊥
+IsUnfit repeats ordered came fault.Memory = Unit {0}
+
+-- books are refused as `Twice` only if no message may come again, and each frame that came was sent
+abbrev pub IsTwiceBy : (repeats : Bool) → List BookState → SettleError → Type 0
+IsTwiceBy repeats books why = why ≡ Twice → (repeats ≡ false) × (HasUnsent books → ⊥)

@@ -1,5 +1,5 @@
 -- What comes of a text of books: when it settles, and otherwise what is wrong with it, and at which line.
-use Rattle.std.specs.Prelude.{◌≡◌, ◌≢◌, ◌⊎◌, ℕ, ◌+◌, ◌≤◌, List, [], ◌∷◌, ◌++◌, All, AllPairs, Contains, map, length}
+use Rattle.std.specs.Prelude.{◌≡◌, ◌≢◌, ◌⊎◌, ℕ, ◌+◌, ◌≤◌, Bool, false, List, [], ◌∷◌, ◌++◌, All, AllPairs, Contains, MatchBool, map, length}
 use Rattle.std.specs.List.{Any}
 use Rattle.ra_stamp.specs.declared.message.Message.{Message}
 use Rattle.ra_world.specs.MainTheorem.{MainTheorem}
@@ -7,6 +7,8 @@ use Rattle.ra_world.specs.Traffic.{Move}
 use Rattle.ra_world.specs.World.{Reports}
 use Rattle.ra_history.specs.declared.event.BookKind.{BookKind}
 use Rattle.ra_history.specs.Book.{BookState}
+use Rattle.ra_history.specs.Repeats.{IsSettledRunWithCopies}
+use Rattle.ra_history.specs.declared.settled.Settled.{Settled}
 use Rattle.ra_history.specs.Settled.{BooksFit, HasUnsent, IsSettledOrder, IsSettledRun, Placed, WasSent, settled_steps, start_of}
 use Rattle.ra_book.specs.BookText.{Form, HasForm, IsEvent, IsFirst, IsUnread}
 use Rattle.ra_book.specs.Input.{HasNoFeed}
@@ -88,44 +90,62 @@ pub record IsFirstAgain (came : List Came) (number : ℕ) : Type 0 where
   pub once : AllPairs (λ a b. a ≢ b) (messages_of before)
 
 -- What is wrong with a text, and at which line: the first that there is, in this order. A line is wrong, or there is none;
--- after the last line a book is missing; a frame comes that was not sent; a message comes again.
-abbrev pub IsWrong : List ℕ → ℕ → TextCause → Type 0
-IsWrong text number cause.Line = (HasNoFeed text × (number ≡ 1)) ⊎ IsWrongAt text number cause.Line
-IsWrong text number cause.Books = IsWrongAt text number cause.Books
+-- after the last line a book is missing; a frame comes that was not sent; a message comes again, if no message may.
+abbrev pub IsWrong : (repeats : Bool) → List ℕ → ℕ → TextCause → Type 0
+IsWrong repeats text number cause.Line = (HasNoFeed text × (number ≡ 1)) ⊎ IsWrongAt text number cause.Line
+IsWrong repeats text number cause.Books = IsWrongAt text number cause.Books
     ⊎ ((lines : List (List ℕ)) × (books : List BookState) × IsText text lines × AreRight lines books × (books ≢ [])
     × (number ≡ length lines + 1) × IsMissing books)
-IsWrong text number cause.Refused = IsWrongAt text number cause.Refused
-IsWrong text number cause.NotSent = (lines : List (List ℕ)) × (books : List BookState) × (ordered : List BookState)
+IsWrong repeats text number cause.Refused = IsWrongAt text number cause.Refused
+IsWrong repeats text number cause.NotSent = (lines : List (List ℕ)) × (books : List BookState) × (ordered : List BookState)
     × IsText text lines × AreWhole lines books ordered × IsFirstUnsent ordered (came_in books) number
-IsWrong text number cause.Twice = (lines : List (List ℕ)) × (books : List BookState) × (ordered : List BookState)
-    × IsText text lines × AreWhole lines books ordered × (HasUnsent ordered → ⊥) × IsFirstAgain (came_in books) number
+IsWrong repeats text number cause.Twice = (lines : List (List ℕ)) × (books : List BookState) × (ordered : List BookState)
+    × IsText text lines × AreWhole lines books ordered × (repeats ≡ false) × (HasUnsent ordered → ⊥)
+    × IsFirstAgain (came_in books) number
 
 -- why a text does not settle; that memory runs out comes from outside
-abbrev pub IsUnsettled : List ℕ → SettleTextError → Type 0
-IsUnsettled text (Invalid number why) = IsWrong text number why
-IsUnsettled text Memory = Unit {0}
+abbrev pub IsUnsettled : (repeats : Bool) → List ℕ → SettleTextError → Type 0
+IsUnsettled repeats text (Invalid number why) = IsWrong repeats text number why
+IsUnsettled repeats text Memory = Unit {0}
 
 -- ---- A text that settles
 
--- the steps and the report are those of the settled run of these books, with the main theorem
-pub record IsSettledBy (ordered : List BookState) (text : SettledText) : Type 0 where
-  pub nodes_is : text.nodes ≡ length ordered
-  pub start_is : text.start ≡ start_of ordered
+-- the steps and the report are those of the settled run of these books, which fit together, with the main theorem
+pub record IsRunOf (ordered : List BookState) (settled : Settled) : Type 0 where
   pub fit : BooksFit ordered
   pub moves : List Move
-  pub steps_are : map (λ move. move.step) moves ≡ text.settled.steps.items
+  pub steps_are : map (λ move. move.step) moves ≡ settled.steps.items
   pub run : IsSettledRun ordered moves
-  pub reports : Reports (length ordered) (start_of ordered) moves text.settled.report
-  pub main : MainTheorem (length ordered) text.settled.report
+  pub reports : Reports (length ordered) (start_of ordered) moves settled.report
+  pub main : MainTheorem (length ordered) settled.report
   pub placed : List Placed
   pub order : IsSettledOrder ordered placed
-  pub in_order : text.settled.steps.items ≡ settled_steps ordered placed
+  pub in_order : settled.steps.items ≡ settled_steps ordered placed
 
--- the text is that of all books of a cluster, each a history, which fit together, and this is their settled run
-pub record IsSettledText (input : List ℕ) (text : SettledText) : Type 0 where
+-- the same of the settled run with copies of these books, to which only frames came that were sent
+pub record IsRunWithCopiesOf (ordered : List BookState) (settled : Settled) : Type 0 where
+  pub sent : HasUnsent ordered → ⊥
+  pub moves : List Move
+  pub steps_are : map (λ move. move.step) moves ≡ settled.steps.items
+  pub run : IsSettledRunWithCopies ordered moves
+  pub reports : Reports (length ordered) (start_of ordered) moves settled.report
+  pub main : MainTheorem (length ordered) settled.report
+
+-- the one if messages may come again, and the other if not
+abbrev pub IsRunBy : (repeats : Bool) → List BookState → Settled → Type 0
+IsRunBy repeats ordered settled = MatchBool repeats (IsRunWithCopiesOf ordered settled) (IsRunOf ordered settled)
+
+-- these books of a cluster settle into this
+pub record IsSettledBy (repeats : Bool) (ordered : List BookState) (text : SettledText) : Type 0 where
+  pub nodes_is : text.nodes ≡ length ordered
+  pub start_is : text.start ≡ start_of ordered
+  pub run_is : IsRunBy repeats ordered text.settled
+
+-- the text is that of all books of a cluster, each a history, and this is the run into which they settle
+pub record IsSettledText (repeats : Bool) (input : List ℕ) (text : SettledText) : Type 0 where
   pub lines : List (List ℕ)
   pub books : List BookState
   pub ordered : List BookState
   pub is_text : IsText input lines
   pub whole : AreWhole lines books ordered
-  pub settled_by : IsSettledBy ordered text
+  pub settled_by : IsSettledBy repeats ordered text

@@ -1,5 +1,5 @@
 //! A text of books that is read line by line.
-ghost use Rattle.std.specs.Prelude.{◌≡◌, ◌∷◌, [], ℕ, List, MatchOption, MatchResult};
+ghost use Rattle.std.specs.Prelude.{◌≡◌, ◌∷◌, [], ℕ, true, List, MatchOption, MatchResult};
 ghost use Rattle.ra_book.specs.BookText.{IsFirst};
 ghost use Rattle.ra_settle.specs.Texts.{Begins};
 ghost use Rattle.ra_settle.specs.Gathering.{HasBegun, HasGathered, IsGathered, IsNoBeginning};
@@ -53,8 +53,8 @@ fn begin(alloc: Global, line: &[u8]) -> Result<Gathered, SettleTextError>
 
 /// Returns why reading ends at the line of this number.
 fn fault_at(number: u64, fault: LineFault) -> SettleTextError
-    ensures { (text : List ℕ) → ((why : TextCause) → fault ≡ LineFault.Wrong why → IsWrong text number why)
-        → IsUnsettled text result }
+    ensures { (text : List ℕ) → ((why : TextCause) → fault ≡ LineFault.Wrong why → IsWrong true text number why)
+        → IsUnsettled true text result }
 {
     match fault {
         LineFault::Wrong(cause) => SettleTextError::Invalid {
@@ -72,7 +72,7 @@ fn fault_at(number: u64, fault: LineFault) -> SettleTextError
 /// `Invalid` at the first wrong line, with `Line`, `Books` or `Refused`. `Memory`.
 fn read_lines(alloc: Global, gathered: &mut Gathered, text: &[u8]) -> Result<u64, SettleTextError>
     ensures { (whole first : List ℕ) → Begins whole (first ∷ []) text.now → IsGathered (first ∷ []) gathered.old
-        → MatchResult result (HasGathered whole gathered.new) (IsUnsettled whole) }
+        → MatchResult result (HasGathered whole gathered.new) (IsUnsettled true whole) }
 {
     let mut rest = text;
     for turn in 0..text.len() {
@@ -102,7 +102,7 @@ fn read_lines(alloc: Global, gathered: &mut Gathered, text: &[u8]) -> Result<u64
 /// 2. `Invalid` at the first wrong line, with `Line`, `Books` or `Refused`.
 /// 3. `Memory`, which may come before it.
 pub fn read_books(alloc: Global, text: &[u8]) -> Result<(Gathered, u64), SettleTextError>
-    ensures { MatchResult result (λ read. HasGathered text.now read.0 read.1) (IsUnsettled text.now) }
+    ensures { MatchResult result (λ read. HasGathered text.now read.0 read.1) (IsUnsettled true text.now) }
 {
     let (line, after) = cut(text, b'\n');
     let Some(rest) = after else {

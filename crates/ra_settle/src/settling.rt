@@ -1,9 +1,9 @@
-ghost use Rattle.std.specs.Prelude.{ℕ, List, All, IfErr, IfOk, MatchResult};
+ghost use Rattle.std.specs.Prelude.{ℕ, Bool, false, List, All, IfErr, IfOk, MatchResult};
 ghost use Rattle.ra_history.specs.Book.{BookState};
 ghost use Rattle.ra_history.specs.Settled.{HasUnsent, IsCluster};
 ghost use Rattle.ra_settle.specs.Texts.{IsRead};
-ghost use Rattle.ra_settle.specs.Gathering.{HasGathered, IsGathered, IsUnfit};
-ghost use Rattle.ra_settle.specs.Verdicts.{IsSettledBy, IsSettledText, IsUnsettled};
+ghost use Rattle.ra_settle.specs.Gathering.{HasGathered, IsGathered, IsTwiceBy, IsUnfit};
+ghost use Rattle.ra_settle.specs.Verdicts.{IsRunBy, IsSettledBy, IsSettledText, IsUnsettled};
 
 use crate::arranging::all_arranged;
 use crate::came::Came;
@@ -11,7 +11,7 @@ use crate::gathering::Gathered;
 use crate::reading::read_books;
 use crate::searching::{first_again, first_unsent};
 use crate::{SettleTextError, TextCause};
-use ra_history::{Book, SettleError, Settled, settle};
+use ra_history::{Book, SettleError, Settled, settle, settle_with_copies};
 use std::alloc::Global;
 
 /// The one run into which the books of a text settle.
@@ -29,7 +29,7 @@ pub struct SettledText {
 fn unsent(books: &mut [Book], came: &[Came]) -> SettleTextError
     requires cluster { IsCluster books.old }
     requires each { All IsRead books.old }
-    ensures { IsUnfit books.old came.now result }
+    ensures { (repeats : Bool) → IsUnfit repeats books.old came.now result }
 {
     match first_unsent(books, came) {
         Some(line) => SettleTextError::Invalid {
@@ -44,7 +44,7 @@ fn unsent(books: &mut [Book], came: &[Came]) -> SettleTextError
 /// Returns why books do not settle to which a message came twice, but no frame that was not sent: the first line of the text by
 /// which one came again.
 fn again(alloc: Global, came: &[Came]) -> SettleTextError
-    ensures { (books : List BookState) → (HasUnsent books → ⊥) → IsUnfit books came.now result }
+    ensures { (books : List BookState) → (HasUnsent books → ⊥) → IsUnfit false books came.now result }
 {
     match first_again(alloc, came) {
         Ok(Some(line)) => SettleTextError::Invalid {
@@ -53,6 +53,23 @@ fn again(alloc: Global, came: &[Came]) -> SettleTextError
         },
         // It never comes to `Ok(None)`, as all that came is in `came`.
         Ok(None) | Err(_) => SettleTextError::Memory,
+    }
+}
+
+/// Settles the books of a cluster, with copies if messages may come again.
+///
+/// # Errors
+///
+/// `NotSent`; `Twice`, if no message may; `Memory`.
+fn settle_by(alloc: Global, books: &[Book], repeats: bool) -> Result<Settled, SettleError>
+    requires cluster { IsCluster books.now }
+    requires each { All IsRead books.now }
+    ensures { MatchResult result (IsRunBy repeats books.now) (IsTwiceBy repeats books.now) }
+{
+    if repeats {
+        settle_with_copies(alloc, books)
+    } else {
+        settle(alloc, books, &[])
     }
 }
 
@@ -65,12 +82,13 @@ fn settle_ordered(
     alloc: Global,
     mut books: Vec<Book>,
     came: &[Came],
+    repeats: bool,
 ) -> Result<SettledText, SettleTextError>
     requires cluster { IsCluster books.items }
     requires each { All IsRead books.items }
-    ensures { MatchResult result (IsSettledBy books.items) (IsUnfit books.items came.now) }
+    ensures { MatchResult result (IsSettledBy repeats books.items) (IsUnfit repeats books.items came.now) }
 {
-    match settle(alloc, &books, &[]) {
+    match settle_by(alloc, &books, repeats) {
         Ok(settled) => {
             let first = &books[0];
             Ok(SettledText {
@@ -94,10 +112,11 @@ fn settle_gathered(
     alloc: Global,
     gathered: Gathered,
     next: u64,
+    repeats: bool,
 ) -> Result<SettledText, SettleTextError>
     requires { (lines : List (List ℕ)) × IsGathered lines gathered }
     ensures { (text : List ℕ) → HasGathered text gathered next
-        → MatchResult result (IsSettledText text) (IsUnsettled text) }
+        → MatchResult result (IsSettledText repeats text) (IsUnsettled repeats text) }
 {
     let Gathered {
         earlier,
@@ -110,7 +129,7 @@ fn settle_gathered(
         return Err(SettleTextError::Memory);
     }
     match all_arranged(alloc, books, nodes) {
-        Ok(Some(ordered)) => settle_ordered(alloc, ordered, came.as_slice()),
+        Ok(Some(ordered)) => settle_ordered(alloc, ordered, came.as_slice(), repeats),
         Ok(None) => Err(SettleTextError::Invalid {
             line: next,
             cause: TextCause::Books,
@@ -120,7 +139,8 @@ fn settle_gathered(
 }
 
 /// Reads the books of all nodes, one after the other in one text, and settles them into one run. Each begins with its first line,
-/// and they may be in any order of the nodes. A last line without a line feed is passed over.
+/// and they may be in any order of the nodes. A last line without a line feed is passed over. With `repeats` a message may come
+/// more than once: a frame that comes n times is repeated n - 1 times in the run, as [`settle_with_copies`] says.
 ///
 /// It keeps the books, and the frames that came with the numbers of their lines, so that memory is linear in the text. With n
 /// lines the cost is that of the events at their nodes, and of [`settle`], which is n log n at most. If memory for an index is
@@ -134,16 +154,20 @@ fn settle_gathered(
 /// 2. `Invalid` with `Books`, at the number of lines plus 1: the book of a node is missing.
 /// 3. `Invalid` with `NotSent`, at the first line by which a frame comes that is not among those that its sender's book sent with
 ///    its clock.
-/// 4. `Invalid` with `Twice`, at the first line by which a message comes that came by an earlier line.
+/// 4. `Invalid` with `Twice`, without `repeats`, at the first line by which a message comes that came by an earlier line.
 /// 5. `Memory`, which may come before any of them.
-pub fn settle_text(alloc: Global, text: &[u8]) -> Result<SettledText, SettleTextError>
+pub fn settle_text(
+    alloc: Global,
+    text: &[u8],
+    repeats: bool,
+) -> Result<SettledText, SettleTextError>
     // The books are those of a cluster and fit together, and this is their one run, with the main theorem.
-    ensures settled { IfOk result (IsSettledText text.now) }
+    ensures settled { IfOk result (IsSettledText repeats text.now) }
     // A refusal comes only for its cause, at its line.
-    ensures refused { IfErr result (IsUnsettled text.now) }
+    ensures refused { IfErr result (IsUnsettled repeats text.now) }
 {
     match read_books(alloc, text) {
-        Ok((gathered, next)) => settle_gathered(alloc, gathered, next),
+        Ok((gathered, next)) => settle_gathered(alloc, gathered, next, repeats),
         Err(fault) => Err(fault),
     }
 }

@@ -31,5 +31,6 @@ complete -c ra -n '__fish_seen_subcommand_from draw' -l from -x -a '' -d 'Draw f
 complete -c ra -n '__fish_seen_subcommand_from draw' -l to -x -a '' -d 'Draw up to and including this line [default: the last]'
 complete -c ra -n '__fish_seen_subcommand_from draw' -s h -l help -d 'Print help, or a summary with -h'
 complete -c ra -n '__fish_seen_subcommand_from node' -s h -l help -d 'Print help, or a summary with -h'
+complete -c ra -n '__fish_seen_subcommand_from settle' -l repeats -d 'Let frames come more than once'
 complete -c ra -n '__fish_seen_subcommand_from settle' -l trace -d 'Print the trace in place of marks and totals'
 complete -c ra -n '__fish_seen_subcommand_from settle' -s h -l help -d 'Print help, or a summary with -h'

@@ -5,7 +5,7 @@ use Rattle.ra_script.specs.Performed.{IsOrderly}
 use Rattle.ra_cli.specs.declared.refusal.Refusal.TheVariants.{Command}
 use Rattle.ra_cli.specs.Finishing.{HasNoChoices, RunsFaithfully}
 use Rattle.ra_cli.specs.Refusals.{command_word, refused_line}
-use Rattle.ra_cli.specs.declared.cluster_output.ClusterOutput.{ClusterOutput}
+use Rattle.ra_cli.specs.declared.settle_task.SettleTask.{SettleTask}
 use Rattle.ra_cli.specs.declared.command_line.CommandFault.{CommandFault}
 use Rattle.ra_cli.specs.declared.command_line.CommandFault.TheVariants as command
 use Rattle.ra_cli.proofs.ClusterRuns.{of_known}
@@ -54,7 +54,7 @@ pub returns-in-Some : goal.returns-in-Some
 returns-in-Some g c =
     let words = map string_bytes c.args.words.now in
     let asks = c.in-Some.ensures in
-    let are : AreSettleWords words = (c.in-Some.printed, asks) in
+    let are : AreSettleWords words = (c.in-Some.asked, asks) in
     let serves = c.settle_books.ensures in
     let status = c.settle_books.result.status in
     let old = g.R.Read.remaining c.args.reader.now in
@@ -67,10 +67,10 @@ returns-in-Some g c =
       unfinished = λ three. inr are;
       finished = λ sims. absurd (no_sim_words words are sims.command);
       only_memory = λ sims none two. absurd (no_sim_words words are sims.command);
-      refused = two_refuses c.in-Some.printed old new before after status serves;
+      refused = two_refuses c.in-Some.asked old new before after status serves;
       broken = λ one. inr (inr are);
       node = λ node. absurd (no_node_words words are node);
-      settle = λ printed other. subst (λ (p : ClusterOutput). ServesSettle p old new before after status) (one_thing words c.in-Some.printed printed asks other) serves;
+      settle = λ asked other. subst (λ (p : SettleTask). ServesSettle p old new before after status) (one_thing words c.in-Some.asked asked asks other) serves;
     }
 
 -- what was done by other words

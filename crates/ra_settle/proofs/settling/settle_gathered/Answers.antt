@@ -26,7 +26,7 @@ returns-in-Ok-Some c text h =
     let books = c.push.new.self.items in
     let same : books ≡ books_of g = pushed c.push.result g.earlier.items books g.last c.push.ensures.items (sym c.is_err.ensures.value ∙ c.if-is_err.false) in
     result_of g books c.from-nodes.result same (c.from-nodes.ensures ∙ c.nodes.ensures.value) text c.args.next h c.in-Ok-Some.ordered.items
-    (rw c.in-Ok-Some.field-0-is at c.in-Ok-Some.ensures) c.as_slice.result.now c.as_slice.ensures c.settle_ordered.result c.settle_ordered.ensures
+    (rw c.in-Ok-Some.field-0-is at c.in-Ok-Some.ensures) c.as_slice.result.now c.as_slice.ensures c.args.repeats c.settle_ordered.result c.settle_ordered.ensures
 
 pub returns-in-Ok-None : goal.returns-in-Ok-None
 returns-in-Ok-None c text h =
@@ -34,4 +34,4 @@ returns-in-Ok-None c text h =
     let books = c.push.new.self.items in
     let same : books ≡ books_of g = pushed c.push.result g.earlier.items books g.last c.push.ensures.items (sym c.is_err.ensures.value ∙ c.if-is_err.false) in
     lacks g books c.from-nodes.result same (c.from-nodes.ensures ∙ c.nodes.ensures.value) text c.args.next h
-    (rw c.in-Ok-None.field-0-is at c.in-Ok-None.ensures)
+    (rw c.in-Ok-None.field-0-is at c.in-Ok-None.ensures) c.args.repeats
