@@ -1,4 +1,5 @@
 """What cases/check does, and what the tests in test_*.py use."""
+import collections
 import concurrent.futures
 import os
 import subprocess
@@ -155,8 +156,10 @@ def run_tests(is_chosen):
     if not chosen:
         return 0, 0
     result = unittest.TextTestRunner(verbosity=0).run(unittest.TestSuite(chosen))
+    for reason, count in sorted(collections.Counter(why for _, why in result.skipped).items()):
+        print(f"cases/check: tests skipped, since {reason}: {count}", file=sys.stderr)
     failed = len({id(getattr(it, "test_case", it)) for it, _ in [*result.failures, *result.errors]})
-    return result.testsRun - failed, failed
+    return result.testsRun - failed - len(result.skipped), failed
 
 
 def main(words):

@@ -1,0 +1,80 @@
+"""Standard output that fails once after each byte that a command prints: it has the bytes before that, and no more."""
+import errno
+
+from cases import TEXTS
+from preload import PreloadTest, Run, Stream
+
+# A fault of 0 takes nothing.
+FAULTS = (errno.EINTR, errno.EAGAIN, errno.EPIPE, errno.EIO, 0)
+ANSWER = "answer --node 2 --nodes 3"
+# A REPLY to an idle node, which is taken in silence.
+SILENT = "0102010200000000000000000100000000000000010172"
+VERDICT = "valid\nrequests 1\nmessages 2\n"
+LOG_VERDICT = "valid\nrequests 2\ngrants 2\n"
+# The log of a service that lets the second in beside the first.
+BOTH_INSIDE = """request 1 17 orders X 41
+enter 1 17 orders X 41
+request 2 8 orders X 42
+enter 2 8 orders X 42
+leave 1 17 orders X 41
+leave 2 8 orders X 42
+"""
+
+
+def fails_after(words, given, printed, before, fault, piece=1):
+    """Returns a run whose output fails after so many bytes of what it prints, and is not asked again."""
+    came = {"status": 1, "output": printed.encode()[:before], "write_failed": True, "written_after": 0}
+    return Run(words, given, writer=Stream(before, fault, piece), expected=came)
+
+
+class FailingWriters(PreloadTest):
+    def expect_prefixes(self, words, given, printed):
+        """Fails if the output has anything but a prefix of these bytes when it fails before the last of them. It goes byte by
+        byte, and whole."""
+        places = range(len(printed))
+        whole = [fails_after(words, given, printed, it, errno.EINTR, piece=0) for it in places]
+        self.expect_of([fails_after(words, given, printed, it, fault) for fault in FAULTS for it in places] + whole)
+
+    def expect_written(self, words, given, printed, status):
+        """Fails if the output has not all when it would fail after the last byte."""
+        came = {"status": status, "output": printed.encode(), "written": len(printed), "write_failed": False}
+        places = [Stream(len(printed), fault, piece) for fault in FAULTS for piece in (0, 1)]
+        self.expect_of([Run(words, given, writer=it, expected=came) for it in places])
+
+    def test_a_writer_that_fails_has_a_prefix_of_an_answer(self):
+        self.expect_prefixes(ANSWER, TEXTS["REQUEST"], TEXTS["REPLY"])
+        self.expect_prefixes(ANSWER, "zz", "refused Hex\n")
+        self.expect_prefixes("", TEXTS["REQUEST"], "refused Usage\n")
+        self.expect_prefixes("--help", "", "Simulate, run, check")
+
+    def test_a_writer_fails_only_if_something_is_to_be_written(self):
+        self.expect_written(ANSWER, TEXTS["REQUEST"], TEXTS["REPLY"], 0)
+        self.expect_written(ANSWER, SILENT, "", 0)
+
+    def test_a_writer_that_fails_has_a_prefix_of_the_lines(self):
+        for words, printed in (("sim", "ONE_CLIENT_PRINTED"), ("sim --trace", "ONE_CLIENT_TRACE")):
+            self.expect_prefixes(words, TEXTS["ONE_CLIENT"], TEXTS[printed])
+            self.expect_written(words, TEXTS["ONE_CLIENT"], TEXTS[printed], 0)
+
+    def test_a_writer_that_fails_has_a_prefix_of_what_the_threads_did(self):
+        for words, printed in (("cluster", "ONE_CLIENT_PRINTED"), ("cluster --trace", "ONE_CLIENT_TRACE")):
+            self.expect_prefixes(words, TEXTS["ONE_CLIENT"], TEXTS[printed])
+            self.expect_written(words, TEXTS["ONE_CLIENT"], TEXTS[printed], 0)
+        self.expect_prefixes("cluster", TEXTS["TWO_NAMES"], "refused OutOfOrder\n")
+
+    def test_a_writer_that_fails_has_a_prefix_of_the_verdict(self):
+        self.expect_prefixes("check", TEXTS["ONE_CLIENT_TRACE"], VERDICT)
+        self.expect_written("check", TEXTS["ONE_CLIENT_TRACE"], VERDICT, 0)
+
+    def test_a_writer_that_fails_has_a_prefix_of_the_verdict_on_marks(self):
+        self.expect_prefixes("check --marks", TEXTS["IN_TURN_LOG"], LOG_VERDICT)
+        self.expect_written("check --marks", TEXTS["IN_TURN_LOG"], LOG_VERDICT, 0)
+        self.expect_prefixes("check --marks", BOTH_INSIDE, "invalid 4 Held\n")
+
+    def test_a_writer_that_fails_has_a_prefix_of_what_books_come_to(self):
+        books = TEXTS["BOOKS_ONE"] + TEXTS["BOOKS_TWO"]
+        self.expect_prefixes("settle", books, TEXTS["BOOKS_DONE"])
+        self.expect_written("settle", books, TEXTS["BOOKS_DONE"], 0)
+        self.expect_prefixes("settle --trace", books, TEXTS["BOOKS_DONE_TRACE"])
+        self.expect_prefixes("settle", TEXTS["BOOKS_UNASKED"], "invalid 3 NotSent\n")
+        self.expect_written("settle", TEXTS["BOOKS_UNASKED"], "invalid 3 NotSent\n", 3)

@@ -1,0 +1,169 @@
+"""Refused memory: each allocation of a command in turn, until a run makes no more. `ra` does what it should without it,
+or says less on standard error, or prints `refused Memory` and nothing else, with status 2."""
+import itertools
+
+from cases import TEXTS
+from preload import PreloadTest, Run, Stream
+
+ANSWER = "answer --node 2 --nodes 3"
+# A script of one client at the first of two nodes.
+SCRIPT = "nodes = 2\nclient = [{ node = 1, ops = [\"X r\", \"U r\"] }]\n"
+MARKS = "request 1 1 r X 1\nenter 1 1 r X 1\nleave 1 1 r X 1\n"
+# What is said if memory ran out, or threads did, for a node.
+STOPPED = [
+    b"ra: a node was stopped: out of memory\n",
+    b"ra: a node was stopped: cannot start a thread (each node and each client needs one)\n",
+]
+NO_MORE = "ra: standard output says what came of it; no memory is left to say more\n"
+# How many runs are made before it is looked whether one met a refusal: of threads, one run may ask for less memory than another.
+GROUP = 16
+
+REFUSED = """the client may not ask or release here: the node does not exist, the client already waits, is queued or holds the \
+name, it releases a name that it does not hold, or no number is left
+"""
+NOT_DUE = "these are not the marks of the step: one is missing before this line, or this one does not belong here\n"
+NOT_UNDER_WAY = "this message is not under way: it was never sent, or was already delivered or lost\n"
+NOT_ALLOWED = """the lock table does not allow this mark: a conflicting request holds the name or came earlier, its own request \
+does not wait or hold, its node already waits or holds, or its number is not above every number granted
+"""
+NOT_A_MARK = """not a mark: expected request, enter or leave and then NODE CLIENT NAME MODE SEQ, separated by single spaces and \
+ended by a line feed alone
+"""
+NOT_SENT = "its sender's book did not send this frame with this clock: expected one that ra node prints for that book\n"
+
+
+def is_refused(words, done):
+    """Returns whether a run says that memory ran out. Of threads it may stop a node."""
+    if done.status != 2:
+        return False
+    if done.output == b"refused Memory\n":
+        return done.note == b"ra: out of memory\n"
+    return words.split()[0] == "cluster" and done.output == b"refused Fault\n" and done.note in STOPPED
+
+
+class Growth(PreloadTest):
+    def expect_all(self, words, given, is_answer, expected, **how):
+        """Refuses each allocation of a command. Fails if a run neither comes to its answer nor says that memory ran out, or
+        if no run met a refusal."""
+        count = 0
+        for first in itertools.count(1, GROUP):
+            runs = [Run(words, given, refused=it, **how) for it in range(first, first + GROUP)]
+            came = self.expect_of(runs)
+            for run, done in zip(runs, came):
+                if not (is_answer(done) or done.is_refused and is_refused(words, done)):
+                    self.fail(f"ra {words}, allocation {run.refused} refused: expected {expected}, but it is {done}")
+            met = sum(it.is_refused for it in came)
+            count += met
+            if not met:
+                self.assertGreater(count, 0, f"ra {words}: no allocation was refused")
+                return
+
+    def expect_growth(self, words, given, output, status=0, note="", less=()):
+        """Refuses each allocation of a command that answers this, with this note, or says less if memory was refused."""
+
+        def is_answer(done):
+            notes = [note, *less] if done.is_refused else [note]
+            return (done.status, done.output) == (status, output.encode()) and done.note in [it.encode() for it in notes]
+
+        self.expect_all(words, given, is_answer, f"status {status}, {output!r} and {[note, *less]}, or that memory ran out")
+
+    def expect_of_line(self, words, given, output, line, cause, general, quotes=True):
+        """Refuses each allocation of a command that says what is wrong with a line, and may say less: a general cause of the
+        line, which it quotes or not."""
+        number = output.split(" ")[1]
+        less = [f"ra: line {number}: {general}"]
+        if quotes:
+            less.append(f"ra: line {number}, '{line}': {general}")
+        self.expect_growth(words, given, output, 3, f"ra: line {number}, '{line}'{cause}\n", less)
+
+    def test_growth_of_answer(self):
+        self.expect_growth(ANSWER, TEXTS["REQUEST"], TEXTS["REPLY"])
+
+    def test_growth_of_sim(self):
+        self.expect_growth("sim", SCRIPT, TEXTS["ONE_CLIENT_PRINTED"])
+        self.expect_growth("sim --trace", SCRIPT, TEXTS["ONE_CLIENT_TRACE"])
+        self.expect_growth("sim --as-choices", SCRIPT, "c1 m0 m0 c1\n")
+
+    def test_growth_of_sim_with_many_seeds(self):
+        # The client asks, has its answer and leaves, whatever the seed.
+        words = "sim --policy seeded --seeds 5..7"
+        self.expect_growth(words, SCRIPT, "finished 3 first 5\nturns 4 4\nmessages 2 2\n")
+        # The seed is a hint, and is not said if there is no memory for that.
+        found = {"note": "ra: this run has seed 5: --seed 5 in place of --seeds and --find makes it again\n", "less": [""]}
+        self.expect_growth(f"{words} --find finished", SCRIPT, TEXTS["ONE_CLIENT_TRACE"], **found)
+        self.expect_growth(f"{words} --find finished --as-choices", SCRIPT, "c1 m0 m0 c1\n", **found)
+
+    def test_growth_of_the_version(self):
+        self.expect_growth("--version", "", "ra 0.2.0-dev (frames 1 and 2, traces 1 and 2)\n")
+
+    def test_growth_of_draw(self):
+        begins = b'<svg xmlns="http://www.w3.org/2000/svg"'
+
+        def is_begun(done):
+            return done.status == 1 and len(done.output) == 4096 and done.output.startswith(begins)
+
+        def is_whole(done):
+            return (done.status, done.note) == (0, b"") and done.output.startswith(begins) and done.output.endswith(b"</svg>\n")
+
+        given = TEXTS["ONE_CLIENT_TRACE"]
+        self.expect_all("draw", given, is_begun, "the first bytes of a picture, or that memory ran out", writer=Stream(4096))
+        self.expect_all("draw", given, is_whole, "a picture, or that memory ran out")
+
+    def test_growth_of_check(self):
+        self.expect_growth("check", TEXTS["ONE_CLIENT_TRACE"], "valid\nrequests 1\nmessages 2\n")
+        self.expect_growth("check --marks", MARKS, "valid\nrequests 1\ngrants 1\n")
+
+    def test_growth_of_cluster(self):
+        # The one client's marks have one order.
+        self.expect_growth("cluster", SCRIPT, TEXTS["ONE_CLIENT_PRINTED"])
+        self.expect_growth("cluster --trace", SCRIPT, TEXTS["ONE_CLIENT_TRACE"])
+
+    def test_growth_of_settle(self):
+        books = TEXTS["BOOKS_ONE"] + TEXTS["BOOKS_TWO"]
+        self.expect_growth("settle", books, TEXTS["BOOKS_DONE"])
+        self.expect_growth("settle --trace", books, TEXTS["BOOKS_DONE_TRACE"])
+
+    def test_growth_of_a_note_on_a_frame(self):
+        note = "ra: the version at offset 0 is 03: must be 01 or 02\n"
+        self.expect_growth(ANSWER, "0301", "refused Version\n", 2, note, [NO_MORE])
+
+    def test_growth_of_a_note_on_the_words(self):
+        note = "ra: unrecognized subcommand 'simm'; a similar subcommand exists: 'sim'; see ra --help\n"
+        less = ["ra: out of memory; see ra --help\n", "ra: out of memory\n"]
+        self.expect_growth("simm", "", "refused Usage\n", 2, note, less)
+
+    def test_growth_of_a_note_on_a_run(self):
+        output = "request 1 1 r X 1\nrequests 1\nmessages 1\nunder-way 1\nlost 0\nwaiting 1\nqueued 0\n"
+        note = "ra: the run did not finish: client 1 at node 1 waits for 'r' (X): no client blocks it, but a message is under way\n"
+        self.expect_growth("sim --policy listed --choices=c1", SCRIPT, output, 3, note, [NO_MORE])
+
+    def test_growth_of_a_note_on_a_wrong_line(self):
+        self.expect_of_line(
+            "check", "trace 2 2 0\nask 3 1 r X\n", "invalid 2 Refused\n",
+            "ask 3 1 r X", ": there is no node 3: the highest node of the trace is 2", REFUSED)
+
+    def test_growth_of_a_note_on_a_mark_that_is_not_due(self):
+        self.expect_of_line(
+            "check", "trace 2 2 0\nask 1 1 r X\nask 2 2 r X\n", "invalid 3 Marks\n",
+            "ask 2 2 r X", ": expected the mark 'request 1 1 r X 1' here", NOT_DUE)
+
+    def test_growth_of_a_note_on_a_message_that_is_not_under_way(self):
+        given = "trace 2 2 0\nask 1 1 r X\nrequest 1 1 r X 1\ndeliver reply 2 1 r 1\n"
+        cause = ": this message is not under way: it was never sent"
+        self.expect_of_line("check", given, "invalid 4 NotUnderWay\n", "deliver reply 2 1 r 1", cause, NOT_UNDER_WAY)
+
+    def test_growth_of_a_note_on_a_mark_that_the_table_does_not_allow(self):
+        given = "trace 2 2 0\nask 1 1 r S\nrequest 1 1 r S 1\nrequest 1 2 r S 2\n"
+        cause = ": the lock table does not allow this mark: its node already waits for the name or holds it: "
+        cause += "client 1 at node 1 asked for 'r' (S) in line 3"
+        self.expect_of_line("check", given, "invalid 4 Table\n", "request 1 2 r S 2", cause, NOT_ALLOWED)
+
+    def test_growth_of_a_note_on_a_line_of_no_log(self):
+        cause = ": SEQ is missing: expected request NODE CLIENT NAME MODE SEQ"
+        line = "request 1 1 r X"
+        self.expect_of_line("check --marks", f"{line}\n", "invalid 1 Line\n", line, cause, NOT_A_MARK, quotes=False)
+
+    def test_growth_of_a_note_on_a_line_of_books(self):
+        line = "receive 02020002000100000000000000000100000000000000020172"
+        cause = f", in the book of node 1, a frame of node 2 with clock 2: {NOT_SENT.rstrip()}"
+        self.expect_of_line("settle", TEXTS["BOOKS_UNASKED"], "invalid 3 NotSent\n", line, cause, NOT_SENT, quotes=False)
