@@ -1,0 +1,36 @@
+//! Words of refusals that no run of `ra` prints, or only if threads or memory fail.
+use ra_cli::AnswerError;
+use ra_cluster::{ClusterError, Stop};
+use ra_script::ScriptError;
+use std::fmt::Display;
+use std::process::Abort;
+use test_support::prints;
+
+/// Ends the test if one of these values does not print as the text beside it.
+fn assert_prints<R: Abort + AllocGlobal, T: Display>(rt: &R, rows: &[(T, &str)]) {
+    for row in rows {
+        assert!(rt; prints(rt.alloc(), &row.0, row.1), "expected {}", row.1);
+    }
+}
+
+/// Why a frame is not answered.
+const ANSWERS: &[(AnswerError, &str)] = &[
+    (AnswerError::Memory, "Memory"),
+    (AnswerError::Write, "Write"),
+];
+
+/// Why a node was stopped, which is not told.
+const FAULTS: &[(ClusterError, &str)] = &[
+    (ClusterError::Fault(Stop::Send), "Fault"),
+    (ClusterError::Fault(Stop::Memory), "Fault"),
+];
+
+/// Why a script is not read.
+const SCRIPTS: &[(ScriptError, &str)] = &[(ScriptError::Limit, "Limit")];
+
+#[test]
+fn refusals_print_as_their_words(rt: HostRuntime) {
+    assert_prints(&rt, ANSWERS);
+    assert_prints(&rt, FAULTS);
+    assert_prints(&rt, SCRIPTS);
+}
