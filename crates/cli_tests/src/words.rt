@@ -1,4 +1,5 @@
-//! Words of refusals that no run of `ra` prints, or only if threads or memory fail.
+//! How refusals print as words. `ra` prints lines of its own in place of these, some only if threads or memory fail, and one
+//! never.
 use ra_cli::AnswerError;
 use ra_cluster::{ClusterError, Stop};
 use ra_script::ScriptError;
