@@ -1,7 +1,10 @@
 -- How the known clients of a queue follow what comes and goes.
-use Rattle.std.proofs.Common.{◌≡◌, ◌≢◌, ◌↔◌, ℕ, suc, Bool, true, false, cond, ◌||◌, List, [], ◌∷◌, Any, length, refl, sym, ap, ◌∙◌, subst, arith}
+use Rattle.std.proofs.Common.{◌≡◌, ◌≢◌, ◌↔◌, ℕ, suc, Bool, true, false, cond, ◌||◌, List, [], ◌∷◌, ◌++◌, Any, length, refl, sym, ap, ◌∙◌, subst, arith}
 use Rattle.std.specs.Prelude.{nat_eq, IsTrue}
 use Rattle.std.specs.List.{list_any}
+use Rattle.std.specs.Map.{lookup, keys_of}
+use Rattle.std.specs.Option.{is_some}
+use Rattle.std.proofs.Common.{Option, Some, None}
 use Rattle.std.proofs.lemmas.Bool.{true≢false, eq-eqb, eqb-true}
 use Rattle.std.proofs.lemmas.List.Folds.{Any-from_list_any, list_any-from_Any}
 use Rattle.ra_node.specs.declared.queued_client.Queued.{Queued}
@@ -19,9 +22,41 @@ has_queued : (queue : List Queued) (client : ℕ) → Any (λ x. x.client ≡ cl
 has_queued queue client a =
     list_any-from_Any (λ (x : Queued). nat_eq client x.client) queue (a.0, a.1, a.2, a.3, eq-eqb client a.1.client (sym a.4))
 
--- clients of which a test says that there are some
-pub some_known : (known : List ℕ) (empty : Bool) → empty ≡ false → (IsTrue empty ↔ (length known ≡ 0)) → known ≢ []
-some_known known empty not says e = true≢false (sym (says.1 (ap length e)) ∙ not)
+-- entries of which a test says that there are some have keys
+pub some_keys : {X : Type 0} (entries : List (ℕ × X)) (empty : Bool) → empty ≡ false → (IsTrue empty ↔ (length entries ≡ 0)) → keys_of entries ≢ []
+some_keys [] empty not says e = true≢false (sym (says.1 refl) ∙ not)
+some_keys (x ∷ xs) empty not says e = omega (arith, ap length e)
+
+-- ---- What a map says of its keys
+
+some_or : {X : Type 0} (b : Bool) (x : X) (o : Option X) → is_some (cond b (Some x) o) ≡ (b || is_some o)
+some_or true x o = refl
+some_or false x o = refl
+
+none_or : {X : Type 0} (b : Bool) (o : Option X) → is_some (cond b None o) ≡ cond b false (is_some o)
+none_or true o = refl
+none_or false o = refl
+
+-- a map has a value for the keys that it has
+pub has_value : {X : Type 0} (test : ℕ → Bool) (entries : List (ℕ × X)) → is_some (lookup test entries) ≡ list_any test (keys_of entries)
+has_value test [] = refl
+has_value test (e ∷ es) = some_or (test e.0) e.1 (lookup test es) ∙ ap (λ b. test e.0 || b) (has_value test es)
+
+-- the keys after one came
+pub one_key_more : {X : Type 0} (old new : List (ℕ × X)) (client : ℕ) (value : X)
+    → ((q : ℕ) → lookup (nat_eq q) new ≡ cond (nat_eq client q) (Some value) (lookup (nat_eq q) old))
+    → (q : ℕ) → list_any (nat_eq q) (keys_of new) ≡ (nat_eq client q || list_any (nat_eq q) (keys_of old))
+one_key_more old new client value updates = λ q.
+    sym (has_value (nat_eq q) new) ∙ ap is_some (updates q) ∙ some_or (nat_eq client q) value (lookup (nat_eq q) old)
+    ∙ ap (λ b. nat_eq client q || b) (has_value (nat_eq q) old)
+
+-- the keys after one went
+pub one_key_less : {X : Type 0} (old new : List (ℕ × X)) (client : ℕ)
+    → ((q : ℕ) → lookup (nat_eq q) new ≡ cond (nat_eq client q) None (lookup (nat_eq q) old))
+    → (q : ℕ) → list_any (nat_eq q) (keys_of new) ≡ cond (nat_eq client q) false (list_any (nat_eq q) (keys_of old))
+one_key_less old new client updates = λ q.
+    sym (has_value (nat_eq q) new) ∙ ap is_some (updates q) ∙ none_or (nat_eq client q) (lookup (nat_eq q) old)
+    ∙ ap (cond (nat_eq client q) false) (has_value (nat_eq q) old)
 
 -- a look-up among the known clients, of which there are some, finds who is queued
 pub finds : (known : List ℕ) (queue : List Queued) (client : ℕ) (found : Bool) → IsKnown known queue → known ≢ [] → found ≡ list_any (nat_eq client) known
@@ -29,6 +64,28 @@ pub finds : (known : List ℕ) (queue : List Queued) (client : ℕ) (found : Boo
 finds known queue client found knows some is =
     let are = is ∙ knows some client in
     (λ yes. is_queued queue client (sym are ∙ yes), λ any. are ∙ has_queued queue client any)
+
+-- ---- One comes
+
+same_test : (a b : ℕ) → nat_eq a b ≡ nat_eq b a
+same_test a b = grind arith
+
+or_swap : (a b c : Bool) → (a || (b || c)) ≡ (b || (a || c))
+or_swap true true c = refl
+or_swap true false c = refl
+or_swap false b c = refl
+
+after_the_last : (q : ℕ) (before : List Queued) (last : Queued)
+    → list_any (λ x. nat_eq q x.client) (before ++ last ∷ []) ≡ (nat_eq last.client q || list_any (λ x. nat_eq q x.client) before)
+after_the_last q [] last = ap (λ b. b || false) (same_test q last.client)
+after_the_last q (x ∷ xs) last =
+    ap (λ b. nat_eq q x.client || b) (after_the_last q xs last)
+    ∙ or_swap (nat_eq q x.client) (nat_eq last.client q) (list_any (λ (x : Queued). nat_eq q x.client) xs)
+
+pub learned : (known new : List ℕ) (before : List Queued) (last : Queued) → AreClients known before
+    → ((q : ℕ) → list_any (nat_eq q) new ≡ (nat_eq last.client q || list_any (nat_eq q) known)) → AreClients new (before ++ last ∷ [])
+learned known new before last are more = λ q.
+    more q ∙ ap (λ b. nat_eq last.client q || b) (are q) ∙ sym (after_the_last q before last)
 
 -- ---- One goes
 

@@ -1,10 +1,11 @@
 //! The clients that wait for their turns at one resource.
 ghost use Rattle.std.specs.Prelude.{◌≡◌, ◌≢◌, ◌↔◌, ◌++◌, ◌∷◌, [], List, take, length, Any, MatchOption, IsTrue, IsNone, IfSome, OnOk, OnErr};
+ghost use Rattle.indexmap.specs.IndexMap.{keys};
 ghost use Rattle.ra_node.specs.Queue.{AreApart, IsKnown};
 ghost use Rattle.ra_node.specs.declared.queued_client.Queued.{Queued};
 
 use crate::queued_client::Queued;
-use indexmap::IndexSet;
+use indexmap::IndexMap;
 use ra_stamp::Memory;
 use std::alloc::Global;
 use std::collections::VecDeque;
@@ -21,20 +22,22 @@ const MAX_LINEAR_SCAN: usize = 16;
 #[derive(Drop)]
 pub struct Queue {
     clients: VecDeque<Queued>,
-    /// The same clients, in any order, or none where they are not known.
-    known: IndexSet<u32>,
+    /// The same clients as keys, in any order, or none where they are not known. A set would bring more code to prove into each crate
+    /// above, which has maps already.
+    known: IndexMap<u32, ()>,
 }
 
 impl Model for Queue {
     ghost use Rattle.std.specs.Prelude.{List};
     ghost use Rattle.ra_node.specs.declared.queued_client.Queued.{Queued};
+    ghost use Rattle.indexmap.specs.IndexMap.{keys};
     ghost use Rattle.ra_node.specs.Queue.{IsKnown};
 
     ghost Value = { List Queued };
 
     ghost view = { λ q. q.clients.items };
 
-    ghost invariant = { λ q. IsKnown q.known.keys q.clients.items };
+    ghost invariant = { λ q. IsKnown (keys q.known) q.clients.items };
 }
 
 impl Queue {
@@ -44,7 +47,7 @@ impl Queue {
     {
         Queue {
             clients: VecDeque::new(alloc),
-            known: IndexSet::new(alloc),
+            known: IndexMap::new(alloc),
         }
     }
 
@@ -63,7 +66,7 @@ impl Queue {
         if self.known.is_empty() {
             return self.clients.iter().any(|queued| queued.client == client);
         }
-        self.known.contains(&client)
+        self.known.contains_key(&client)
     }
 
     /// Returns the first client, or `None` where no client is queued.
@@ -101,9 +104,9 @@ impl Queue {
 }
 
 /// Learns the last client, which was put after the others, or all where they are many and were not known.
-fn learn_last(known: &mut IndexSet<u32>, clients: &VecDeque<Queued>, last: &Queued)
+fn learn_last(known: &mut IndexMap<u32, ()>, clients: &VecDeque<Queued>, last: &Queued)
     ensures { (before : List Queued) → clients.now.items ≡ before ++ last.now ∷ []
-        → IsKnown known.old.keys before → IsKnown known.new.keys clients.now.items }
+        → IsKnown (keys known.old) before → IsKnown (keys known.new) clients.now.items }
 {
     if !known.is_empty() {
         learn(known, last.client);
@@ -113,12 +116,12 @@ fn learn_last(known: &mut IndexSet<u32>, clients: &VecDeque<Queued>, last: &Queu
 }
 
 /// Learns all clients, of which none is known, or none where memory runs out.
-fn learn_all(known: &mut IndexSet<u32>, clients: &VecDeque<Queued>)
-    requires { known.old.keys ≡ [] }
-    ensures { IsKnown known.new.keys clients.now.items }
+fn learn_all(known: &mut IndexMap<u32, ()>, clients: &VecDeque<Queued>)
+    requires { keys known.old ≡ [] }
+    ensures { IsKnown (keys known.new) clients.now.items }
 {
     for place in 0..clients.len() {
-        if known.insert(clients[place].client).is_err() {
+        if known.insert(clients[place].client, ()).is_err() {
             forget(known);
             return;
         }
@@ -126,19 +129,19 @@ fn learn_all(known: &mut IndexSet<u32>, clients: &VecDeque<Queued>)
 }
 
 /// Learns one client more, or forgets all where memory runs out.
-fn learn(known: &mut IndexSet<u32>, client: u32)
+fn learn(known: &mut IndexMap<u32, ()>, client: u32)
     ensures { (before : List Queued) (last : Queued) → last.client ≡ client
-        → IsKnown known.old.keys before → known.old.keys ≢ [] → IsKnown known.new.keys (before ++ last ∷ []) }
+        → IsKnown (keys known.old) before → keys known.old ≢ [] → IsKnown (keys known.new) (before ++ last ∷ []) }
 {
-    if known.insert(client).is_err() {
+    if known.insert(client, ()).is_err() {
         forget(known);
     }
 }
 
 /// Forgets a client that is no longer queued.
-fn unlearn(known: &mut IndexSet<u32>, gone: &Queued)
+fn unlearn(known: &mut IndexMap<u32, ()>, gone: &Queued)
     ensures { (left : List Queued) → AreApart (gone.now ∷ left)
-        → IsKnown known.old.keys (gone.now ∷ left) → IsKnown known.new.keys left }
+        → IsKnown (keys known.old) (gone.now ∷ left) → IsKnown (keys known.new) left }
 {
     if known.is_empty() {
         return;
@@ -147,8 +150,8 @@ fn unlearn(known: &mut IndexSet<u32>, gone: &Queued)
 }
 
 /// Forgets all clients.
-fn forget(known: &mut IndexSet<u32>)
-    ensures { known.new.keys ≡ [] }
+fn forget(known: &mut IndexMap<u32, ()>)
+    ensures { keys known.new ≡ [] }
 {
     // `clear` would take time linear in the largest number of clients that there ever were.
     known.truncate(0);

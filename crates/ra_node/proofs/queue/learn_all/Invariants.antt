@@ -1,4 +1,5 @@
 use Rattle.std.proofs.Common.{take}
+use Rattle.indexmap.specs.IndexMap.{keys}
 use Rattle.ra_node.specs.Queue.{AreClients}
 use Rattle.ra_node.proofs.queue.learn_all.Given as goal
 
@@ -6,5 +7,5 @@ use Rattle.ra_node.proofs.queue.learn_all.Given as goal
 abbrev pub invariant-loop-place : goal.invariant-loop-place
 invariant-loop-place l =
     record {
-      known : AreClients l.known.keys (take l.place l.clients.items);
+      known : AreClients (keys l.known) (take l.place l.clients.items);
     }

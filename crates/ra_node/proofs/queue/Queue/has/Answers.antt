@@ -1,10 +1,11 @@
-use Rattle.std.proofs.Common.{rules}
+use Rattle.std.proofs.Common.{rules, ◌∙◌, nat_eq, length}
+use Rattle.indexmap.specs.IndexMap.{keys}
 use Rattle.ra_node.specs.Queue.{IsKnown}
-use Rattle.ra_node.proofs.Known.{finds, some_known}
+use Rattle.ra_node.proofs.Known.{finds, has_value, some_keys}
 use Rattle.ra_node.proofs.queue.Queue.has.Goals as goal
 
 pub returns : goal.returns
 returns c =
-    let known = c.self.inside.known.keys in
+    let known = keys c.self.inside.known in
     let follows : IsKnown known c.args.self.now = search rules in
-    finds known c.args.self.now c.args.client c.contains.result follows (some_known known c.is_empty.result c.if-is_empty.false c.is_empty.ensures) c.contains.ensures
+    finds known c.args.self.now c.args.client c.contains_key.result follows (some_keys c.self.inside.known.entries c.is_empty.result c.if-is_empty.false c.is_empty.ensures) (c.contains_key.ensures ∙ has_value (nat_eq c.args.client) c.self.inside.known.entries)

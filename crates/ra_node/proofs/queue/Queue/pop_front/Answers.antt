@@ -1,4 +1,5 @@
 use Rattle.std.proofs.Common.{rules, ◌≡◌, ◌∷◌, List, sym, ◌∙◌, subst}
+use Rattle.indexmap.specs.IndexMap.{keys}
 use Rattle.ra_node.specs.declared.queued_client.Queued.{Queued}
 use Rattle.ra_node.specs.Queue.{AreApart, IsKnown}
 use Rattle.ra_node.proofs.queue.Queue.pop_front.Goals as goal
@@ -9,5 +10,5 @@ invariant_of-self-2 c =
     let first = c.in_ok-first.first in
     let was : c.self.inside.clients.items ≡ first ∷ left = search rules in
     let apart = subst AreApart (sym c.self.view_is ∙ was) c.requires in
-    let known = subst (λ (queue : List Queued). IsKnown c.self.inside.known.keys queue) was c.self.invariant in
+    let known = subst (λ (queue : List Queued). IsKnown (keys c.self.inside.known) queue) was c.self.invariant in
     c.unlearn.ensures left apart known

@@ -1,0 +1,21 @@
+use Rattle.std.proofs.Common.{rules, ◌≡◌, ◌<◌, ◌++◌, ◌∷◌, [], ℕ, suc, ◌+◌, arith, nat_eq, Some, cond, take, length, subst, sym, ap, ◌∙◌}
+use Rattle.std.proofs.Math.Seq.{take-suc}
+use Rattle.std.specs.Map.{lookup}
+use Rattle.indexmap.specs.IndexMap.{keys}
+use Rattle.ra_node.specs.Queue.{AreClients}
+use Rattle.ra_node.proofs.Known.{one_key_more, learned}
+use Rattle.ra_node.proofs.queue.learn_all.Goals as goal
+
+pub loop-place-preserved : goal.loop-place-preserved
+loop-place-preserved c =
+    let old = c.loop-place.known in
+    let new = c.insert.new.self in
+    let clients = c.args.clients.now.items in
+    let place = c.loop-place.place in
+    let last = c.index.result.now in
+    let updates : (q : ℕ) → lookup (nat_eq q) new.entries ≡ cond (nat_eq last.client q) (Some tt) (lookup (nat_eq q) old.entries) = search rules in
+    let within : place < length clients = search rules in
+    let one_more : suc place ≡ place + 1 = omega arith in
+    let next = ap (λ queued. take place clients ++ queued ∷ []) c.index.ensures ∙ sym (take-suc clients place last within) in
+    let more = learned (keys old) (keys new) (take place clients) last c.loop-place.invariant.known (one_key_more old.entries new.entries last.client tt updates) in
+    record { known = subst (λ (count : ℕ). AreClients (keys new) (take count clients)) one_more (subst (AreClients (keys new)) next more) }
