@@ -12,7 +12,7 @@ pub struct Course {
     /// The world after the steps so far. There is none before the first line, or where memory ran out for it.
     world: Option<MarklessWorld>,
     /// How many nodes there are, or 0 before the first line.
-    pub nodes: u16,
+    nodes: u16,
     /// The marks of the last step.
     marks: Marks,
     /// How many of them have come.
@@ -94,11 +94,10 @@ impl Course {
         self.marks.at(self.come)
     }
 
-    /// Returns why a step is not made, or `None` where it is.
-    pub fn refusal(&mut self, alloc: Global, step: &Step) -> Option<StepError> {
-        match &mut self.world {
-            Some(world) => world.step(alloc, step).err(),
-            None => None,
-        }
+    /// Returns why a step is not made, and how many nodes there are, or `None` if it is made.
+    pub fn refusal(&mut self, alloc: Global, step: &Step) -> Option<(StepError, u16)> {
+        let world = self.world.as_mut()?;
+        let why = world.step(alloc, step).err()?;
+        Some((why, self.nodes))
     }
 }

@@ -21,10 +21,14 @@ fn push_mark(alloc: Global, note: &mut Note, mark: &Mark) {
 /// it adds `other`. It is known if the text begins with the first line and ends with that one, and memory does not run
 /// out. The cost is linear in the text, plus that of the steps in it.
 pub fn push_due(alloc: Global, note: &mut Note, line: u64, text: &[u8], other: &str) {
-    let Some(course) = Course::at_line(alloc, note, line, text) else {
-        note.push(other);
-        return;
-    };
+    match Course::at_line(alloc, note, line, text) {
+        Some(course) => push_due_after(alloc, note, &course),
+        None => note.push(other),
+    }
+}
+
+/// Adds which mark is due after a course.
+fn push_due_after(alloc: Global, note: &mut Note, course: &Course) {
     match course.due() {
         Some(mark) => {
             note.push("expected the mark ");

@@ -131,9 +131,21 @@ fn refusal_of(
 ) -> Option<(Wish, StepError, u16)> {
     let step = step_in(shown)?;
     let wish = wish_of(&step)?;
-    let mut course = Course::at_line(alloc, note, line, text)?;
-    let why = course.refusal(alloc, &step)?;
-    Some((wish, why, course.nodes))
+    match Course::at_line(alloc, note, line, text) {
+        Some(mut course) => refusal_after(alloc, &mut course, wish, &step),
+        None => None,
+    }
+}
+
+/// Returns what a client wants with a step, why it is refused after a course, and how many nodes there are.
+fn refusal_after(
+    alloc: Global,
+    course: &mut Course,
+    wish: Wish,
+    step: &Step,
+) -> Option<(Wish, StepError, u16)> {
+    let (why, nodes) = course.refusal(alloc, step)?;
+    Some((wish, why, nodes))
 }
 
 /// Returns the claim of a client before line `line`, if it has one.
