@@ -15,7 +15,7 @@ use Rattle.ra_cli.specs.declared.cluster_output.ClusterOutput.TheVariants.{Lines
 use Rattle.ra_cli.specs.declared.settle_task.SettleTask.{SettleTask}
 use Rattle.ra_cli.specs.Refusals.{refused_line, trace_word}
 
--- these options of `settle` ask that messages may come again, or not, and that this is printed: in either order
+-- these are the options of `settle`, in either order, by which messages may come again or not, and this is printed
 abbrev pub AreOptionsOf : (repeats : Bool) → (printed : ClusterOutput) → (options : List (List ℕ)) → Type 0
 AreOptionsOf false Lines options = options ≡ []
 AreOptionsOf false Trace options = options ≡ codes "--trace" ∷ []
@@ -26,7 +26,7 @@ AreOptionsOf true Trace options =
 abbrev pub AreOptionsFor : (options : List (List ℕ)) → SettleTask → Type 0
 AreOptionsFor options asked = AreOptionsOf asked.repeats asked.printed options
 
--- these ask for nothing
+-- these are not options of `settle`: no task is asked for by them
 abbrev pub AreNoOptions : (options : List (List ℕ)) → Type 0
 AreNoOptions options = (asked : SettleTask) → AreOptionsFor options asked → ⊥
 

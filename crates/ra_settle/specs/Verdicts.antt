@@ -131,7 +131,7 @@ pub record IsRunWithCopiesOf (ordered : List BookState) (settled : Settled) : Ty
   pub reports : Reports (length ordered) (start_of ordered) moves settled.report
   pub main : MainTheorem (length ordered) settled.report
 
--- the one if messages may come again, and the other if not
+-- the settled run with copies if messages may come again, and otherwise the settled run
 abbrev pub IsRunBy : (repeats : Bool) → List BookState → Settled → Type 0
 IsRunBy repeats ordered settled = MatchBool repeats (IsRunWithCopiesOf ordered settled) (IsRunOf ordered settled)
 

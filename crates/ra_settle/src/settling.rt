@@ -161,7 +161,7 @@ pub fn settle_text(
     text: &[u8],
     repeats: bool,
 ) -> Result<SettledText, SettleTextError>
-    // The books are those of a cluster and fit together, and this is their one run, with the main theorem.
+    // The books are those of a cluster, and this is their one run, with the main theorem. Without `repeats` they fit together.
     ensures settled { IfOk result (IsSettledText repeats text.now) }
     // A refusal comes only for its cause, at its line.
     ensures refused { IfErr result (IsUnsettled repeats text.now) }

@@ -1,5 +1,5 @@
 -- Steps that fit together: the steps at each node are its own history, and each message is sent before it is taken, and
--- is taken once, or as often as there are copies of it.
+-- is taken at most once, or with copies at most once more for each copy.
 use Rattle.std.specs.Prelude.{◌≡◌, ◌≢◌, ◌↔◌, ℕ, ◌≤◌, ◌<◌, Bool, IsTrue, List, [], ◌∷◌, ◌++◌, All, AllPairs, Contains, map, take, length, flat_map}
 use Rattle.std.specs.List.{filter}
 use Rattle.ra_stamp.specs.declared.message.Message.{Message}
@@ -54,7 +54,8 @@ TellsApart is message = (m : Message) → IsTrue (is m) ↔ (m ≡ message)
 abbrev pub IsMoreOften : Message → List Message → List Message → Type 0
 IsMoreOften message puts takes = (is : Message → Bool) → TellsApart is message → length (filter is takes) < length (filter is puts)
 
--- one of the nodes sent the message and these steps repeated it, together more often than they took it
+-- of one of the nodes: how often it sent the message and these steps repeated it is, together, more than how often they
+-- took it
 abbrev pub IsLeftBy : ℕ → (ℕ → List Happening) → List Step → Message → Type 0
 IsLeftBy n happened steps message =
     (i : ℕ) × (1 ≤ i) × (i ≤ n)
