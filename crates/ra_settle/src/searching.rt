@@ -65,6 +65,20 @@ fn put(alloc: Global, bag: &mut Bag, message: Message) -> Result<(), Memory>
     bag.put_all(&messages)
 }
 
+/// Looks for a message that came again, with a bag that is empty so far, and puts all before it into the bag.
+fn again_among(alloc: Global, bag: &mut Bag, came: &[Came]) -> Result<Option<u64>, Memory>
+    requires { bag.old.items ≡ [] }
+    ensures { IfOk result (λ found. MatchOption found (AllPairs (λ a b. a ≢ b) (messages_of came.now)) (IsFirstAgain came.now)) }
+{
+    for one in came {
+        if bag.find(&one.frame.message, 0).is_some() {
+            return Ok(Some(one.line));
+        }
+        put(alloc, bag, one.frame.message)?;
+    }
+    Ok(None)
+}
+
 /// Returns the number of the first line by which a message comes again, or `None`. The cost of each frame is constant on average.
 /// If there is no memory to know where each message is in the bag, all before it are looked through.
 ///
@@ -74,12 +88,7 @@ fn put(alloc: Global, bag: &mut Bag, message: Message) -> Result<(), Memory>
 pub fn first_again(alloc: Global, came: &[Came]) -> Result<Option<u64>, Memory>
     ensures { IfOk result (λ found. MatchOption found (AllPairs (λ a b. a ≢ b) (messages_of came.now)) (IsFirstAgain came.now)) }
 {
+    // The bag is lent, so that it is dropped at one exit.
     let mut bag = Bag::new(alloc)?;
-    for one in came {
-        if bag.find(&one.frame.message, 0).is_some() {
-            return Ok(Some(one.line));
-        }
-        put(alloc, &mut bag, one.frame.message)?;
-    }
-    Ok(None)
+    again_among(alloc, &mut bag, came)
 }

@@ -6,7 +6,7 @@ use Rattle.ra_stamp.specs.declared.message.Message.{Message}
 use Rattle.ra_settle.specs.declared.came.Came.{Came}
 use Rattle.ra_settle.specs.Verdicts.{messages_of}
 use Rattle.ra_settle.proofs.Sent.{again_at, apart_more}
-use Rattle.ra_settle.proofs.searching.first_again.Goals as goal
+use Rattle.ra_settle.proofs.searching.again_among.Goals as goal
 
 abbrev message_of : Came → Message
 message_of one = one.frame.message

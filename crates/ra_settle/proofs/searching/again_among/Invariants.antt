@@ -1,7 +1,7 @@
 use Rattle.std.proofs.Common.{◌≡◌, take}
 use Rattle.std.specs.Prelude.{◌≢◌, AllPairs}
 use Rattle.ra_settle.specs.Verdicts.{messages_of}
-use Rattle.ra_settle.proofs.searching.first_again.Given as goal
+use Rattle.ra_settle.proofs.searching.again_among.Given as goal
 
 -- the messages so far are in the bag, and are different
 abbrev pub invariant-loop-one : goal.invariant-loop-one
