@@ -1,6 +1,7 @@
 -- What was put out, one text after the other.
-use Rattle.std.proofs.Common.{◌≡◌, ℕ, true, false, List, [], ◌++◌, Option, Some, None, refl, sym, ap, subst, ◌∙◌, append_assoc}
+use Rattle.std.proofs.Common.{◌≡◌, ◌≢◌, ℕ, true, false, List, [], ◌++◌, Option, Some, None, Result, Ok, Err, refl, sym, ap, subst, ◌∙◌, append_assoc}
 use Rattle.std.proofs.lemmas.List.{append-nil}
+use Rattle.std.specs.Result.{OnOk, OnErr, is_err}
 use Rattle.std.specs.Io.KnownBytes.{Appends, Keeps}
 use Rattle.std.proofs.KnownBytes.{Appends-trans, Appends-nil}
 use Rattle.ra_book.specs.declared.output.Output.{Output}
@@ -59,6 +60,13 @@ broken a b x y prefix rest works is went failed first earlier h = record {
   text_is = append-nil earlier ∙ (h.text_is ∙ (ap (λ (t : List ℕ). h.sent ++ t) (h.waits works ∙ is) ∙ sym (append_assoc h.sent prefix rest)));
   waits = λ e. absurd (let clash : true ≡ false = sym failed ∙ e in cc);
 }
+
+-- all that waited was to be written, and it is, or a part of it
+pub tried : {E : Type 0} (a b : Option (List ℕ)) (x y : Output) (bytes : List ℕ) (went : Result (Unit {0}) E) → x.failed ≡ false → bytes ≡ x.waiting.items
+    → y.failed ≡ is_err went → y.waiting.items ≡ [] → OnOk went (Appends a b bytes)
+    → OnErr went ((prefix : List ℕ) × (rest : List ℕ) × (bytes ≡ prefix ++ rest) × (rest ≢ []) × Appends a b prefix) → Puts a b x y []
+tried a b x y bytes (Ok done) works all fails empty ok err = written a b x y works (subst (Appends a b) all ok) empty
+tried a b x y bytes (Err fault) works all fails empty ok err = broken a b x y err.0 err.1 works (sym all ∙ err.2) err.4 fails
 
 -- what a writer keeps
 Appends-kept : (a b c : Option (List ℕ)) (bs : List ℕ) → Appends a b bs → Keeps b c → Appends a c bs
