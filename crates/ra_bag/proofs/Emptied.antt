@@ -5,7 +5,7 @@ use Rattle.std.specs.Option.{is_some}
 use Rattle.std.specs.List.{filter, remove}
 use Rattle.ra_stamp.proofs.Places.{split_at}
 use Rattle.ra_stamp.specs.declared.message.Message.{Message}
-use Rattle.ra_bag.specs.Bag.{TakesFirst, TakesOne, TakesAt, IsAt, messages_in, HasEmpty, FewEmpty}
+use Rattle.ra_bag.specs.Bag.{TakesFirst, TakesOne, TakesAt, StandsIn, IsAt, messages_in, HasEmpty, FewEmpty}
 use Rattle.std.proofs.lemmas.List.{length-append, set_split, length-take-le, length-drop, get_or_append_left, get_or-append-add, get_or-take, get_or_default, append-nil, drop_all, length-map, get_or_past}
 use Rattle.std.proofs.lemmas.List.Elements.{filter_map-append}
 use Rattle.std.proofs.lemmas.Bool.Decides.{leb_tells}
@@ -230,6 +230,33 @@ in_neither front back m no_front no_back there =
       | inr near ↦ no_front (k, near.1, sym (get_or_append_left front back (Some m) k near.1) ∙ is)
     ]
 
+pub stands_in_front : (front back slots : List (Option Message)) (m : Message) (i : ℕ) → front ++ back ≡ slots → StandsIn front m i → StandsIn slots m i
+stands_in_front front back slots m i all there =
+    subst (λ (l : List (Option Message)). StandsIn l m i) all
+    (omega (arith, there.0, length-append front back), get_or_append_left front back (Some m) i there.0 ∙ there.1)
+
+pub stands_in_back : (front back slots : List (Option Message)) (m : Message) (i : ℕ) → front ++ back ≡ slots → StandsIn back m i → StandsIn slots m (length front + i)
+stands_in_back front back slots m i all there =
+    subst (λ (l : List (Option Message)). StandsIn l m (length front + i)) all
+    (omega (arith, there.0, length-append front back), get_or-append-add front back i (Some m) ∙ there.1)
+
+-- no slot before this one has the message
+abbrev pub NoneBefore : List (Option Message) → Message → ℕ → Type 0
+NoneBefore slots m i = (k : ℕ) → k < i → get_or slots k (Some m) ≢ Some m
+
+pub first_in_front : (front back slots : List (Option Message)) (m : Message) (i : ℕ) → front ++ back ≡ slots → i < length front → NoneBefore front m i → NoneBefore slots m i
+first_in_front front back slots m i all within first = subst (λ (l : List (Option Message)). NoneBefore l m i) all (λ k lt is.
+    let near : k < length front = omega (arith, lt, within) in
+    first k lt (sym (get_or_append_left front back (Some m) k near) ∙ is))
+
+pub first_in_back : (front back slots : List (Option Message)) (m : Message) (i : ℕ) → front ++ back ≡ slots → (Contains front (Some m) → ⊥) → NoneBefore back m i
+    → NoneBefore slots m (length front + i)
+first_in_back front back slots m i all no_front first = subst (λ (l : List (Option Message)). NoneBefore l m (length front + i)) all (λ k lt is.
+    elim (leb_tells (length front) k) [
+      | inl past ↦ first (k - length front) (omega (arith, past.1, lt)) (sym (get_or-append_right front back k (Some m) past.1) ∙ is)
+      | inr near ↦ no_front (k, near.1, sym (get_or_append_left front back (Some m) k near.1) ∙ is)
+    ])
+
 -- ---- What is appended
 
 pub put_behind : (slots : List (Option Message)) (ms : List Message) → messages_in (slots ++ map Some ms) ≡ messages_in slots ++ ms
@@ -266,6 +293,13 @@ pub length_without : (slots : List (Option Message)) (i : ℕ) → i < length sl
 length_without slots i lt =
     omega (arith, lt, length-append (take i slots) (drop (suc i) slots), length-take-le i slots (omega (arith, lt)), length-drop (suc i) slots)
 
-pub some_and_none : (slot : Option ℕ) → IsSome slot → IsNone slot → ⊥
-some_and_none None some none = absurd cc
-some_and_none (Some i) some none = absurd cc
+-- ---- Where nothing was found
+
+-- what holds of each value that was found
+pub of_none : {A : Type 0} (P : A → Type 0) (found : Option A) → found ≡ None → IfSome found P
+of_none P None is = tt
+of_none P (Some x) is = absurd cc
+
+pub none_is_some : {A P : Type 0} (found : Option A) → found ≡ None → (P → ⊥) → IsSome found ↔ P
+none_is_some None is none = (λ some. absurd cc, λ there. absurd (none there))
+none_is_some (Some x) is none = absurd cc
