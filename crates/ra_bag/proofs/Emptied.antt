@@ -5,6 +5,7 @@ use Rattle.std.specs.Option.{is_some}
 use Rattle.std.specs.List.{filter, remove}
 use Rattle.ra_stamp.proofs.Places.{split_at}
 use Rattle.ra_stamp.specs.declared.message.Message.{Message}
+use Rattle.ra_bag.specs.declared.found.Found.TheVariants.{At, In}
 use Rattle.ra_bag.specs.Bag.{TakesFirst, TakesOne, TakesAt, StandsIn, IsAt, messages_in, HasEmpty, FewEmpty}
 use Rattle.std.proofs.lemmas.List.{length-append, set_split, length-take-le, length-drop, get_or_append_left, get_or-append-add, get_or-take, get_or_default, append-nil, drop_all, length-map, get_or_past}
 use Rattle.std.proofs.lemmas.List.Elements.{filter_map-append}
@@ -289,9 +290,39 @@ pub is_at_place : (slots : List (Option Message)) (slot : ℕ) (m : Message) (pl
     → get_or slots slot None ≡ slice_get (messages_in slots) place → slice_get (messages_in slots) place ≡ Some m
 is_at_place slots slot m place lt is at = sym at ∙ get_or_default slots slot None (Some m) lt ∙ is
 
+-- the slot of the place of a message contains it
+pub stands_at : (slots : List (Option Message)) (slot : ℕ) (m : Message) (place : ℕ) → get_or slots slot None ≡ slice_get (messages_in slots) place
+    → slice_get (messages_in slots) place ≡ Some m → StandsIn slots m slot
+stands_at slots slot m place at is = elim (leb_tells (length slots) slot) [
+  | inl past ↦ absurd (let clash : None ≡ Some m = sym (get_or_past slots slot None past.1) ∙ at ∙ is in cc)
+  | inr near ↦ (near.1, get_or_default slots slot (Some m) None near.1 ∙ at ∙ is)
+]
+
 pub length_without : (slots : List (Option Message)) (i : ℕ) → i < length slots → length (remove slots i) + 1 ≡ length slots
 length_without slots i lt =
     omega (arith, lt, length-append (take i slots) (drop (suc i) slots), length-take-le i slots (omega (arith, lt)), length-drop (suc i) slots)
+
+pub length_dropped : (slots : List (Option Message)) → 0 < length slots → length (drop 1 slots) + 1 ≡ length slots
+length_dropped [] lt = absurd (omega (arith, lt))
+length_dropped (slot ∷ slots) lt = omega arith
+
+pub first_removed : (slots : List (Option Message)) (i : ℕ) → i ≡ 0 → messages_in (drop 1 slots) ≡ before slots i ++ behind slots i
+first_removed slots zero is = refl
+first_removed slots (suc i) is = absurd (omega (arith, is))
+
+pub not_empty : (slots : List (Option Message)) (i : ℕ) → i < length slots → 0 < length slots
+not_empty slots i lt = omega (arith, lt)
+
+pub no_more : (a b c : ℕ) → a ≤ b → b ≤ c → a ≤ c
+no_more a b c first second = omega (arith, first, second)
+
+-- ---- Where a message was found
+
+pub same_place : (near place : ℕ) → At near ≡ At place → near ≡ place
+same_place near place is = cc
+
+pub in_no_place : (slot place : ℕ) → In slot ≡ At place → ⊥
+in_no_place slot place is = cc
 
 -- ---- Where nothing was found
 

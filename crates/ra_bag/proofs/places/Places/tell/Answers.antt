@@ -1,14 +1,12 @@
 use Rattle.std.proofs.Common.{rules, ◌≡◌, ◌+◌, ◌<◌, refl, sym}
-use Rattle.std.specs.Prelude.{IsNone}
-use Rattle.ra_bag.proofs.Emptied.{out_there, some_and_none}
+use Rattle.ra_bag.proofs.Emptied.{out_there, none_is_some}
 use Rattle.ra_bag.proofs.Told.{first_told, none_told, number_told}
 use Rattle.ra_bag.proofs.places.Places.tell.Goals as goal
 
 pub returns-in_err-number-clause-some : goal.returns-in_err-number-clause-some
 returns-in_err-number-clause-some c = λ slots told.
-    let is_none : IsNone c.from_residual.result = search rules in
-    let none = none_told _ c.equal_is_same.ensures.messages c.args.self.now slots c.args.message.now (sym c.in_err-number.ensures.value) (told c.requires) in
-    (λ some. absurd (some_and_none c.from_residual.result some is_none), λ there. absurd (none there))
+    none_is_some c.from_residual.result c.from_residual.ensures
+    (none_told _ c.equal_is_same.ensures.messages c.args.self.now slots c.args.message.now (sym c.in_err-number.ensures.value) (told c.requires))
 
 pub returns-in_err-slot-clause-some : goal.returns-in_err-slot-clause-some
 returns-in_err-slot-clause-some c = λ slots told.
