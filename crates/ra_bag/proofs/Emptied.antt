@@ -316,6 +316,20 @@ not_empty slots i lt = omega (arith, lt)
 pub no_more : (a b c : ℕ) → a ≤ b → b ≤ c → a ≤ c
 no_more a b c first second = omega (arith, first, second)
 
+not_below_zero : (k : ℕ) → k < 0 → ⊥
+not_below_zero k lt = omega (arith, lt)
+
+-- no slot is before the first
+pub first_of_all : (slots : List (Option Message)) (m : Message) → NoneBefore slots m 0
+first_of_all slots m k lt is = not_below_zero k lt
+
+-- the spare does not shrink
+pub same_spare : (spare capacity len : ℕ) → capacity - len ≡ spare → spare ≤ capacity - len
+same_spare spare capacity len is = omega (arith, is)
+
+pub more_spare : (spare capacity len new_capacity new_len : ℕ) → capacity - len ≡ spare → new_capacity ≡ capacity → new_len ≤ len → spare ≤ new_capacity - new_len
+more_spare spare capacity len new_capacity new_len is same less = omega (arith, is, same, less)
+
 -- ---- Where a message was found
 
 pub same_place : (near place : ℕ) → At near ≡ At place → near ≡ place
@@ -334,3 +348,11 @@ of_none P (Some x) is = absurd cc
 pub none_is_some : {A P : Type 0} (found : Option A) → found ≡ None → (P → ⊥) → IsSome found ↔ P
 none_is_some None is none = (λ some. absurd cc, λ there. absurd (none there))
 none_is_some (Some x) is none = absurd cc
+
+pub none_is_none : {A P : Type 0} (found : Option A) → found ≡ None → (P → ⊥) → IsNone found ↔ (P → ⊥)
+none_is_none None is none = (λ _. none, λ _. refl)
+none_is_none (Some x) is none = absurd cc
+
+pub both_hold : {A : Type 0} (P Q : A → Type 0) (found : Option A) → IfSome found P → IfSome found Q → IfSome found (λ x. P x × Q x)
+both_hold P Q None p q = tt
+both_hold P Q (Some x) p q = (p, q)
