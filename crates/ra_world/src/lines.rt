@@ -1,6 +1,6 @@
 //! The lines of a report. Those calls that write parts of a line are public, since traces have the same fields and mark lines, and nothing
 //! is to be allocated for each line.
-ghost use Rattle.std.specs.Prelude.{◌≡◌, ◌++◌, codes, string_bytes, IfOk, OnOk, OnErr};
+ghost use Rattle.std.specs.Prelude.{◌≡◌, ◌++◌, codes, flat_map, string_bytes, IfOk, OnOk, OnErr};
 ghost use Rattle.ra_world.specs.Lines as spec;
 
 use crate::Report;
@@ -132,6 +132,16 @@ pub fn mark_line(alloc: Global, mark: &Mark) -> Result<String, Memory>
     Ok(line)
 }
 
+/// Adds the lines of marks, in order.
+fn push_mark_lines(text: &mut String, marks: &[Mark]) -> Result<(), Memory>
+    ensures { OnOk result (string_bytes text.new ≡ string_bytes text.old ++ flat_map spec.mark_line marks.now) }
+{
+    for mark in marks {
+        push_mark_line(text, mark)?;
+    }
+    Ok(())
+}
+
 /// Returns the lines of a report: one for each mark, in order, and then those of the six totals. The cost is linear in
 /// the text.
 ///
@@ -142,9 +152,7 @@ pub fn report_text(alloc: Global, report: &Report) -> Result<String, Memory>
     ensures { IfOk result (λ text. string_bytes text ≡ spec.report_text report.now) }
 {
     let mut text = String::new(alloc);
-    for mark in report.marks.as_slice() {
-        push_mark_line(&mut text, mark)?;
-    }
+    push_mark_lines(&mut text, report.marks.as_slice())?;
     push_totals(&mut text, report)?;
     Ok(text)
 }
