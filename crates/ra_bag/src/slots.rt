@@ -194,6 +194,7 @@ fn is_of(kept: &Option<Message>, message: &Message) -> bool
 fn is_same(a: &Message, b: &Message) -> bool
     ensures { IsTrue result ↔ (a.now ≡ b.now) }
 {
+    // Each `*` saves the step of comparing references.
     match a {
         Message::Request {
             from,
@@ -209,11 +210,11 @@ fn is_same(a: &Message, b: &Message) -> bool
                 mode: other_mode,
                 seq: other_seq,
             } => {
-                seq == other_seq
-                    && to == other_to
-                    && from == other_from
-                    && mode == other_mode
-                    && name == other_name
+                *seq == *other_seq
+                    && *to == *other_to
+                    && *from == *other_from
+                    && *mode == *other_mode
+                    && *name == *other_name
             }
             Message::Reply { .. } => false,
         },
@@ -228,7 +229,12 @@ fn is_same(a: &Message, b: &Message) -> bool
                 to: other_to,
                 name: other_name,
                 seq: other_seq,
-            } => { seq == other_seq && to == other_to && from == other_from && name == other_name }
+            } => {
+                *seq == *other_seq
+                    && *to == *other_to
+                    && *from == *other_from
+                    && *name == *other_name
+            }
             Message::Request { .. } => false,
         },
     }
