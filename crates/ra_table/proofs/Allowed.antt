@@ -45,5 +45,3 @@ MayEnter-not_held table e may held = not_any-All (λ x. Excludes x e) table.hold
 pub MayEnter-no_earlier : (table : LockTable) (e : Entry) → MayEnter table e → HasEarlier table e → ⊥
 MayEnter-no_earlier table e may earlier =
     not_any-All (λ x. Excludes x e × IsEarlier x.stamp e.stamp) table.waiting (λ k d lt s. may.no_earlier k d lt s.0 s.1) earlier
-
-pub ruleset allowed = (MayRequest-not_refused, MayRequest-not_busy, MayRequest-not_overtaken)

@@ -1,6 +1,7 @@
 -- What the end of a request and of an entry tells, and that a refusal leaves the table as it was.
-use Rattle.std.proofs.Common.{◌≡◌, ◌↔◌, ℕ, List, Contains, Result, Ok, Err, IfErr, IsOk, IsErrOf, sym, ap, ◌∙◌, subst}
+use Rattle.std.proofs.Common.{◌≡◌, ◌↔◌, ℕ, List, Contains, Result, Ok, Err, IfErr, IsOk, IsErrOf, refl, sym, ap, ◌∙◌, subst}
 use Rattle.std.specs.Prelude.{IsOkUnless}
+use Rattle.std.specs.Result.{IsErrAnd}
 use Rattle.std.proofs.lemmas.Bool.{false≢true}
 use Rattle.ra_stamp.specs.declared.entry.Entry.{Entry}
 use Rattle.ra_table.specs.declared.error.EnterError.{EnterError}
@@ -12,7 +13,7 @@ use Rattle.ra_table.specs.Refusals.{IsNodeBusy, IsNotAbove, IsHeld, HasEarlier}
 use Rattle.ra_table.specs.Laws.{IsConflictFree}
 use Rattle.ra_table.specs.Highest.{AreHighest, IsKept}
 use Rattle.ra_table.specs.Lanes.{Standing}
-use Rattle.ra_table.proofs.Allowed.{MayRequest-not_busy, MayRequest-not_overtaken, MayEnter-not_held, MayEnter-no_earlier}
+use Rattle.ra_table.proofs.Allowed.{MayRequest-not_refused, MayRequest-not_busy, MayRequest-not_overtaken, MayEnter-not_held, MayEnter-no_earlier}
 use Rattle.ra_table.proofs.Checked.{IsAnswered}
 
 same_error : {X E : Type 0} (e f : E) → IsErrOf {T = X} (Err e) f → e ≡ f
@@ -20,6 +21,15 @@ same_error e f h = cc
 
 ok_apart : {X E : Type 0} (x : X) (e : E) → Ok x ≡ Err e → ⊥
 ok_apart x e h = cc
+
+-- the error that a callee gave, passed on
+pub same_fault : {E : Type 0} (fault : E) (result : Result (Unit {0}) E) → IsErrAnd result (λ e. e ≡ fault) → result ≡ Err fault
+same_fault fault (Ok x) is = absurd is
+same_fault fault (Err e) is = ap Err is
+
+pub fault_is : {E : Type 0} (P : E → Type 0) (result : Result (Unit {0}) E) → IsErrAnd result P → IfErr result P
+fault_is P (Ok x) is = absurd is
+fault_is P (Err e) is = is
 
 -- ---- A request
 
@@ -34,6 +44,40 @@ busy_apart e = cc
 
 not_above_apart : requesting.NotAbove ≡ requesting.Memory → ⊥
 not_above_apart e = cc
+
+busy_and_not_above : requesting.NodeBusy ≡ requesting.NotAbove → ⊥
+busy_and_not_above e = cc
+
+-- what the check of a request tells
+pub record CheckTells (result : Result (Unit {0}) RequestError) (table : LockTable) (e : Entry) : Type 0 where
+  pub allowed : IsOk result ↔ MayRequest table e
+  pub node_busy : IsErrOf result requesting.NodeBusy ↔ IsNodeBusy table e
+  pub not_above : IsErrOf result requesting.NotAbove ↔ ((IsNodeBusy table e → ⊥) × IsNotAbove table e)
+  pub no_memory : IsErrOf result requesting.Memory → ⊥
+
+pub busy_told : (table : LockTable) (e : Entry) → IsNodeBusy table e → CheckTells (Err requesting.NodeBusy) table e
+busy_told table e busy = record {
+  allowed = (λ h. absurd (false≢true h), λ may. absurd (MayRequest-not_busy table e may busy));
+  node_busy = (λ _. busy, λ _. refl);
+  not_above = (λ h. absurd (busy_and_not_above (same_error requesting.NodeBusy requesting.NotAbove h)), λ h. absurd (h.0 busy));
+  no_memory = λ h. busy_apart (same_error requesting.NodeBusy requesting.Memory h);
+}
+
+pub not_above_told : (table : LockTable) (e : Entry) → (IsNodeBusy table e → ⊥) → IsNotAbove table e → CheckTells (Err requesting.NotAbove) table e
+not_above_told table e free reached = record {
+  allowed = (λ h. absurd (false≢true h), λ may. absurd (MayRequest-not_overtaken table e may reached));
+  node_busy = (λ h. absurd (busy_and_not_above (sym (same_error requesting.NotAbove requesting.NodeBusy h))), λ busy. absurd (free busy));
+  not_above = (λ _. (free, reached), λ _. refl);
+  no_memory = λ h. not_above_apart (same_error requesting.NotAbove requesting.Memory h);
+}
+
+pub none_told : (table : LockTable) (e : Entry) → (IsNodeBusy table e → ⊥) → (IsNotAbove table e → ⊥) → CheckTells (Ok tt) table e
+none_told table e free above = record {
+  allowed = (λ _. MayRequest-not_refused table e free above, λ _. refl);
+  node_busy = (λ h. absurd (ok_apart tt requesting.NodeBusy h), λ busy. absurd (free busy));
+  not_above = (λ h. absurd (ok_apart tt requesting.NotAbove h), λ h. absurd (above h.1));
+  no_memory = ok_apart tt requesting.Memory;
+}
 
 -- a request that may not be made is refused for that
 pub request_refused : (fault : RequestError) (table : LockTable) (e : Entry) → IsErrOf {T = Unit {0}} (Err fault) requesting.NodeBusy ↔ IsNodeBusy table e

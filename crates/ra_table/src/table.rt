@@ -190,7 +190,6 @@ impl Table {
     /// # Errors
     ///
     /// Those of `request`, except for `Memory`.
-    #[tactic(auto, using(crate::proofs::Allowed::allowed))]
     fn check_request(&self, entry: &Entry) -> Result<(), RequestError>
         ensures allowed { IsOk result ↔ MayRequest self.now entry.now }
         ensures node_busy { IsErrOf result RequestError.NodeBusy ↔ IsNodeBusy self.now entry.now }

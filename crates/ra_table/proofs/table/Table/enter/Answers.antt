@@ -1,4 +1,4 @@
-use Rattle.std.proofs.Common.{rules, ◌≡◌, ℕ, List, [], ◌∷◌, ◌++◌, Result, Err, Ok, IfErr, refl, sym, ap, ◌∙◌, subst}
+use Rattle.std.proofs.Common.{◌≡◌, ℕ, List, [], ◌∷◌, ◌++◌, Result, Err, Ok, IfErr, refl, sym, ap, ◌∙◌, subst}
 use Rattle.ra_stamp.specs.declared.entry.Entry.{Entry}
 use Rattle.ra_stamp.specs.declared.entry.Mark.TheVariants.{Entered}
 use Rattle.ra_table.specs.Table.{LockTable, Gains, Loses}
@@ -9,7 +9,7 @@ use Rattle.ra_table.specs.Lanes.{Standing, on_name, StandsAt}
 use Rattle.ra_table.proofs.Conflicts.{stays_conflict_free}
 use Rattle.ra_table.proofs.Kept.{on_err}
 use Rattle.ra_table.proofs.Moves.{Gains-push}
-use Rattle.ra_table.proofs.Refused.{EnterTells, enter_refused, enter_made, same_table, kept_as}
+use Rattle.ra_table.proofs.Refused.{EnterTells, same_fault, fault_is, enter_refused, enter_made, same_table, kept_as}
 use Rattle.ra_table.proofs.table.Table.enter.Goals as goal
 
 pub returns-clause-ok : goal.returns-clause-ok
@@ -59,7 +59,7 @@ refused : (c : goal.After-from_residual) → EnterTells c.from_residual.result c
 refused c =
     let fault = c.in_err-place.field-0.0 in
     let told = c.in_err-place.ensures in
-    let is : c.from_residual.result ≡ Err fault = search rules in
+    let is : c.from_residual.result ≡ Err fault = same_fault fault c.from_residual.result c.from_residual.ensures.1 in
     subst (λ (result : Result (Unit {0}) EnterError). EnterTells result c.args.self.now c.args.entry.now) (sym is)
     (enter_refused fault c.args.self.now c.args.entry.now (record { allowed = told.allowed; not_waiting = told.not_waiting; held = told.held; earlier = told.earlier }) told.no_memory)
 
@@ -92,7 +92,7 @@ returns-in_err-make_room-clause-err c =
 
 no_number : (c : goal.After-from_residual-in_err-make_room) → EnterTells c.from_residual-in_err-make_room.result c.args.self.now c.args.entry.now
 no_number c =
-    let memory : IfErr c.from_residual-in_err-make_room.result (λ fault. fault ≡ Memory) = search rules in
+    let memory : IfErr c.from_residual-in_err-make_room.result (λ fault. fault ≡ Memory) = fault_is _ c.from_residual-in_err-make_room.result c.from_residual-in_err-make_room.ensures.1 in
     enter_made c.from_residual-in_err-make_room.result c.args.self.now c.args.entry.now (c.in_ok-place.ensures.allowed.0 refl) memory
 
 pub returns-in_err-make_room-clause-not_waiting : goal.returns-in_err-make_room-clause-not_waiting
@@ -121,7 +121,7 @@ returns-in_err-grant-clause-err c =
 
 no_hold : (c : goal.After-from_residual-in_err-grant) → EnterTells c.from_residual-in_err-grant.result c.args.self.now c.args.entry.now
 no_hold c =
-    let memory : IfErr c.from_residual-in_err-grant.result (λ fault. fault ≡ Memory) = search rules in
+    let memory : IfErr c.from_residual-in_err-grant.result (λ fault. fault ≡ Memory) = fault_is _ c.from_residual-in_err-grant.result c.from_residual-in_err-grant.ensures.1 in
     enter_made c.from_residual-in_err-grant.result c.args.self.now c.args.entry.now (c.in_ok-place.ensures.allowed.0 refl) memory
 
 pub returns-in_err-grant-clause-not_waiting : goal.returns-in_err-grant-clause-not_waiting

@@ -1,10 +1,10 @@
-use Rattle.std.proofs.Common.{rules, ◌≡◌, List, Result, Err, Ok, IfErr, refl, sym, ap, ◌∙◌, subst}
+use Rattle.std.proofs.Common.{◌≡◌, List, Result, Err, Ok, IfErr, refl, sym, ap, ◌∙◌, subst}
 use Rattle.ra_stamp.specs.declared.entry.Entry.{Entry}
 use Rattle.ra_table.specs.declared.error.RequestError.{RequestError}
 use Rattle.ra_table.specs.declared.error.RequestError.TheVariants.{Memory}
 use Rattle.ra_table.specs.Table.{LockTable, Gains, MayRequest}
 use Rattle.ra_table.proofs.Kept.{on_err}
-use Rattle.ra_table.proofs.Refused.{RequestTells, request_refused, request_made, same_table, kept_as}
+use Rattle.ra_table.proofs.Refused.{RequestTells, same_fault, fault_is, request_refused, request_made, same_table, kept_as}
 use Rattle.ra_table.proofs.table.Table.request.Goals as goal
 
 -- ---- The request may not be made
@@ -13,7 +13,7 @@ refused : (c : goal.After-from_residual) → RequestTells c.from_residual.result
 refused c =
     let fault = c.in_err-check_request.field-0.0 in
     let told = c.in_err-check_request.ensures in
-    let is : c.from_residual.result ≡ Err fault = search rules in
+    let is : c.from_residual.result ≡ Err fault = same_fault fault c.from_residual.result c.from_residual.ensures.1 in
     subst (λ (result : Result (Unit {0}) RequestError). RequestTells result c.args.self.now c.args.entry) (sym is)
     (request_refused fault c.args.self.now c.args.entry told.node_busy told.not_above told.allowed told.no_memory)
 
@@ -43,7 +43,7 @@ returns-in_err-wait-clause-err c =
 
 not_made : (c : goal.After-from_residual-in_err-wait) → RequestTells c.from_residual-in_err-wait.result c.args.self.now c.args.entry
 not_made c =
-    let memory : IfErr c.from_residual-in_err-wait.result (λ fault. fault ≡ Memory) = search rules in
+    let memory : IfErr c.from_residual-in_err-wait.result (λ fault. fault ≡ Memory) = fault_is _ c.from_residual-in_err-wait.result c.from_residual-in_err-wait.ensures.1 in
     request_made c.from_residual-in_err-wait.result c.args.self.now c.args.entry (c.in_ok-check_request.ensures.allowed.0 refl) memory
 
 pub returns-in_err-wait-clause-node_busy : goal.returns-in_err-wait-clause-node_busy
