@@ -1,24 +1,101 @@
-use Rattle.std.proofs.Common.{rules}
+use Rattle.std.proofs.Common.{refl, ap, Err}
+use Rattle.std.proofs.lemmas.Result.{IfOk-from_err, IfOk-weaker, IfErr-at_err}
 use Rattle.ra_draw.specs.Drawing.{IsInput}
+use Rattle.ra_draw.proofs.Refused.{no_verdict, reader_failed, no_limit, not_long, no_write, unwritten, limit_no_verdict, limit_no_read, limit_not_long, limit_no_write, few, many, below}
 use Rattle.ra_draw.proofs.log_drawing.draw_marks.Goals as goal
+
+-- the text could not be read
+
+pub returns-in_err-text-clause-ok : goal.returns-in_err-text-clause-ok
+returns-in_err-text-clause-ok g c = IfOk-from_err c.from_residual.result _ c.from_residual.ensures.0
+
+pub returns-in_err-text-clause-invalid : goal.returns-in_err-text-clause-invalid
+returns-in_err-text-clause-invalid g c line why e = no_verdict c.from_residual.result c.in_err-text.field-0.0 _ c.from_residual.ensures.1 e
+
+pub returns-in_err-text-clause-failed : goal.returns-in_err-text-clause-failed
+returns-in_err-text-clause-failed g c e =
+    let failed = c.in_err-text.ensures.failed (ap Err (reader_failed c.from_residual.result c.in_err-text.field-0.0 c.from_residual.ensures.1 e)) in
+    (failed.0, below _ failed.1, failed.2)
+
+pub returns-in_err-text-clause-limit : goal.returns-in_err-text-clause-limit
+returns-in_err-text-clause-limit g c e = no_limit c.from_residual.result c.in_err-text.field-0.0 c.from_residual.ensures.1 e
+
+pub returns-in_err-text-clause-too_long : goal.returns-in_err-text-clause-too_long
+returns-in_err-text-clause-too_long g c e = not_long c.from_residual.result c.in_err-text.field-0.0 c.from_residual.ensures.1 e
+
+pub returns-in_err-text-clause-at_most : goal.returns-in_err-text-clause-at_most
+returns-in_err-text-clause-at_most g c = c.read_up_to.ensures.at_most
+
+pub returns-in_err-text-clause-unwritten : goal.returns-in_err-text-clause-unwritten
+returns-in_err-text-clause-unwritten g c = unwritten c.from_residual.result _ (λ _ _. refl)
+
+pub returns-in_err-text-clause-prefix : goal.returns-in_err-text-clause-prefix
+returns-in_err-text-clause-prefix g c e = no_write c.from_residual.result c.in_err-text.field-0.0 c.from_residual.ensures.1 e
+
+-- it has too many bytes
+
+pub returns-then-len-gt-MAX_TEXT-clause-ok : goal.returns-then-len-gt-MAX_TEXT-clause-ok
+returns-then-len-gt-MAX_TEXT-clause-ok g c = tt
+
+pub returns-then-len-gt-MAX_TEXT-clause-invalid : goal.returns-then-len-gt-MAX_TEXT-clause-invalid
+returns-then-len-gt-MAX_TEXT-clause-invalid g c line why e = limit_no_verdict _ e
+
+pub returns-then-len-gt-MAX_TEXT-clause-failed : goal.returns-then-len-gt-MAX_TEXT-clause-failed
+returns-then-len-gt-MAX_TEXT-clause-failed g c e = limit_no_read e
+
+pub returns-then-len-gt-MAX_TEXT-clause-limit : goal.returns-then-len-gt-MAX_TEXT-clause-limit
+returns-then-len-gt-MAX_TEXT-clause-limit g c e =
+    let read = c.in_ok-text.ensures.bytes in (c.in_ok-text.text.items, many c.len.result _ _ c.len.ensures c.in_ok-text.text.ok.0 c.if-len-gt-MAX_TEXT.true read.at_most, read.taken)
+
+pub returns-then-len-gt-MAX_TEXT-clause-too_long : goal.returns-then-len-gt-MAX_TEXT-clause-too_long
+returns-then-len-gt-MAX_TEXT-clause-too_long g c e = limit_not_long e
+
+pub returns-then-len-gt-MAX_TEXT-clause-at_most : goal.returns-then-len-gt-MAX_TEXT-clause-at_most
+returns-then-len-gt-MAX_TEXT-clause-at_most g c = c.read_up_to.ensures.at_most
+
+pub returns-then-len-gt-MAX_TEXT-clause-unwritten : goal.returns-then-len-gt-MAX_TEXT-clause-unwritten
+returns-then-len-gt-MAX_TEXT-clause-unwritten g c _ = refl
+
+pub returns-then-len-gt-MAX_TEXT-clause-prefix : goal.returns-then-len-gt-MAX_TEXT-clause-prefix
+returns-then-len-gt-MAX_TEXT-clause-prefix g c e = limit_no_write e
+
+-- the text was read to its end
+
+pub returns-clause-ok : goal.returns-clause-ok
+returns-clause-ok g c =
+    let text = c.in_ok-text.text.items in
+    let input : IsInput (g.R.Read.remaining c.args.reader.now) (g.R.Read.remaining c.read_up_to.new.reader) text =
+    record { reads = c.in_ok-text.ensures.bytes; at_most = few c.len.result _ _ c.len.ensures c.in_ok-text.text.ok.0 c.if-len-gt-MAX_TEXT.false } in
+    IfOk-weaker c.draw_log.result _ _ (λ verdict h. (text, input, h.0, h.1)) (rw c.deref.ensures.value at c.draw_log.ensures.ok)
+
+pub returns-clause-invalid : goal.returns-clause-invalid
+returns-clause-invalid g c = c.draw_log.ensures.invalid
+
+pub returns-clause-failed : goal.returns-clause-failed
+returns-clause-failed g c e = (c.in_ok-text.text.items, few c.len.result _ _ c.len.ensures c.in_ok-text.text.ok.0 c.if-len-gt-MAX_TEXT.false, c.in_ok-text.ensures.bytes.taken)
+
+pub returns-clause-limit : goal.returns-clause-limit
+returns-clause-limit g c e = absurd (IfErr-at_err _ e c.draw_log.ensures.no_limit refl)
 
 pub returns-clause-too_long : goal.returns-clause-too_long
 returns-clause-too_long g c e =
     let text = c.in_ok-text.text.items in
-    let input : IsInput (g.R.Read.remaining c.args.reader.now) (g.R.Read.remaining c.read_up_to.new.reader) text = search rules in
+    let input : IsInput (g.R.Read.remaining c.args.reader.now) (g.R.Read.remaining c.read_up_to.new.reader) text =
+    record { reads = c.in_ok-text.ensures.bytes; at_most = few c.len.result _ _ c.len.ensures c.in_ok-text.text.ok.0 c.if-len-gt-MAX_TEXT.false } in
     let refused = rw c.deref.ensures.value at c.draw_log.ensures.too_long in
     let (requests, grants, verdict, long) = refused e in (text, requests, grants, input, verdict, long)
+
+pub returns-clause-at_most : goal.returns-clause-at_most
+returns-clause-at_most g c = (c.in_ok-text.text.items, c.in_ok-text.ensures.bytes.at_most, c.in_ok-text.ensures.bytes.taken)
+
+pub returns-clause-unwritten : goal.returns-clause-unwritten
+returns-clause-unwritten g c = c.draw_log.ensures.unwritten
 
 pub returns-clause-prefix : goal.returns-clause-prefix
 returns-clause-prefix g c e =
     let text = c.in_ok-text.text.items in
-    let input : IsInput (g.R.Read.remaining c.args.reader.now) (g.R.Read.remaining c.read_up_to.new.reader) text = search rules in
+    let input : IsInput (g.R.Read.remaining c.args.reader.now) (g.R.Read.remaining c.read_up_to.new.reader) text =
+    record { reads = c.in_ok-text.ensures.bytes; at_most = few c.len.result _ _ c.len.ensures c.in_ok-text.text.ok.0 c.if-len-gt-MAX_TEXT.false } in
     let broken = rw c.deref.ensures.value at c.draw_log.ensures.prefix in
     let (requests, grants, prefix, rest, verdict, picture, left, appends) = broken e in
     (text, requests, grants, prefix, rest, input, verdict, picture, left, appends)
-
-pub returns-clause-failed : goal.returns-clause-failed
-returns-clause-failed g c e = (c.in_ok-text.text.items, search rules, search rules)
-
-pub returns-clause-at_most : goal.returns-clause-at_most
-returns-clause-at_most g c = (c.in_ok-text.text.items, search rules, search rules)

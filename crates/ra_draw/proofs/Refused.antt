@@ -1,0 +1,62 @@
+-- What the refusal of a fault of reading is, and what it is not.
+use Rattle.std.proofs.Common.{◌≡◌, ◌<◌, ◌≤◌, ℕ, Result, Ok, Err, refl, arith}
+use Rattle.std.specs.Prelude.{IsErrAnd, IfErr}
+use Rattle.ra_world.specs.declared.error.ReadFault.{ReadFault}
+use Rattle.ra_world.specs.declared.error.ReadFault.TheVariants as read
+use Rattle.ra_draw.specs.declared.error.DrawError.{DrawError}
+use Rattle.ra_draw.specs.declared.error.DrawError.TheVariants as draw
+use Rattle.ra_draw.specs.Drawing.{of_read}
+
+-- it is no verdict
+pub no_verdict : {V A : Type 0} (r : Result V DrawError) (fault : ReadFault) (v : V) → IsErrAnd r (λ e. e ≡ of_read fault) → r ≡ Ok v → A
+no_verdict (Ok w) fault v is e = absurd is
+no_verdict (Err f) fault v is e = absurd cc
+
+-- it is that of a reader that failed only if the reader failed
+pub reader_failed : {V : Type 0} (r : Result V DrawError) (fault : ReadFault) → IsErrAnd r (λ e. e ≡ of_read fault) → r ≡ Err draw.Read → fault ≡ read.Read
+reader_failed (Ok v) fault is e = absurd is
+reader_failed (Err f) read.Read is e = refl
+reader_failed (Err f) read.Memory is e = absurd (let clash : draw.Memory ≡ draw.Read = cc in cc)
+
+pub no_limit : {V A : Type 0} (r : Result V DrawError) (fault : ReadFault) → IsErrAnd r (λ e. e ≡ of_read fault) → r ≡ Err draw.Limit → A
+no_limit (Ok v) fault is e = absurd is
+no_limit (Err f) read.Read is e = absurd (let clash : draw.Read ≡ draw.Limit = cc in cc)
+no_limit (Err f) read.Memory is e = absurd (let clash : draw.Memory ≡ draw.Limit = cc in cc)
+
+pub not_long : {V A : Type 0} (r : Result V DrawError) (fault : ReadFault) → IsErrAnd r (λ e. e ≡ of_read fault) → r ≡ Err draw.TooLong → A
+not_long (Ok v) fault is e = absurd is
+not_long (Err f) read.Read is e = absurd (let clash : draw.Read ≡ draw.TooLong = cc in cc)
+not_long (Err f) read.Memory is e = absurd (let clash : draw.Memory ≡ draw.TooLong = cc in cc)
+
+pub no_write : {V A : Type 0} (r : Result V DrawError) (fault : ReadFault) → IsErrAnd r (λ e. e ≡ of_read fault) → r ≡ Err draw.Write → A
+no_write (Ok v) fault is e = absurd is
+no_write (Err f) read.Read is e = absurd (let clash : draw.Read ≡ draw.Write = cc in cc)
+no_write (Err f) read.Memory is e = absurd (let clash : draw.Memory ≡ draw.Write = cc in cc)
+
+-- what holds of every refusal
+pub unwritten : {V : Type 0} (r : Result V DrawError) (P : DrawError → Type 0) → ((fault : DrawError) → P fault) → IfErr r P
+unwritten (Ok v) P all = tt
+unwritten (Err fault) P all = all fault
+
+-- and `Limit` is none of these
+pub limit_no_verdict : {V A : Type 0} (v : V) → Err draw.Limit ≡ Ok v → A
+limit_no_verdict v e = absurd cc
+
+pub limit_no_read : {V A : Type 0} → ◌≡◌ {A = Result V DrawError} (Err draw.Limit) (Err draw.Read) → A
+limit_no_read e = absurd (let clash : draw.Limit ≡ draw.Read = cc in cc)
+
+pub limit_not_long : {V A : Type 0} → ◌≡◌ {A = Result V DrawError} (Err draw.Limit) (Err draw.TooLong) → A
+limit_not_long e = absurd (let clash : draw.Limit ≡ draw.TooLong = cc in cc)
+
+pub limit_no_write : {V A : Type 0} → ◌≡◌ {A = Result V DrawError} (Err draw.Limit) (Err draw.Write) → A
+limit_no_write e = absurd (let clash : draw.Limit ≡ draw.Write = cc in cc)
+
+-- a length that was tested
+pub few : (n v l : ℕ) → n ≡ v → v ≡ l → n ≤ 16777216 → l ≤ 16777216
+few n v l a b h = omega arith
+
+pub many : (n v l : ℕ) → n ≡ v → v ≡ l → 16777216 < n → l ≤ 16777217 → l ≡ 16777217
+many n v l a b h k = omega arith
+
+pub below : (n : ℕ) → n < 16777217 → n ≤ 16777216
+below n h = omega arith
