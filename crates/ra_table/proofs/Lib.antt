@@ -12,3 +12,4 @@ pub mod Joined
 pub mod Kept
 pub mod Checked
 mod Refused
+mod Places
