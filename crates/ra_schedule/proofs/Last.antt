@@ -1,5 +1,6 @@
 -- The last client of a script.
-use Rattle.std.proofs.Common.{◌≡◌, ◌-◌, ◌<◌, ℕ, suc, List, [], ◌∷◌, ◌++◌, length, get_or, set, take, sym, ap, ◌∙◌, subst, length-set, arith}
+use Rattle.std.proofs.Common.{◌≡◌, refl, true, false, ◌-◌, ◌<◌, ℕ, suc, List, [], ◌∷◌, ◌++◌, length, get_or, set, take, sym, ap, ◌∙◌, subst, length-set, arith}
+use Rattle.std.proofs.lemmas.Bool.{false≢true}
 use Rattle.std.proofs.lemmas.List.{same_from_push, drop_all, set_split}
 use Rattle.std.proofs.lemmas.List.Elements.{All-set}
 use Rattle.ra_stamp.proofs.Places.{split_at}
@@ -38,6 +39,15 @@ same_ops script before last ops is has = sym has.3 ∙ ap (λ (c : ScriptClient)
 pub no_last : (script : ScriptState) (before : List ScriptClient) (last : ScriptClient) → script.clients ≡ before ++ last ∷ [] → script.clients ≡ [] → ⊥
 no_last script [] last is none = cc
 no_last script (x ∷ before) last is none = cc
+
+-- where no last client is found, there are no clients
+pub none_there : (clients : List ScriptClient) (n : ℕ) → n ≡ length clients → (0 < n → false ≡ true) → clients ≡ []
+none_there [] n len none = refl
+none_there (x ∷ xs) n len none = absurd (false≢true (none (omega (arith, len))))
+
+-- a script without clients has no last one
+pub no_last_has : (script : ScriptState) (ops : List Op) → script.clients ≡ [] → LastHas script ops → ⊥
+no_last_has script ops none has = no_last script has.0 has.1 has.2 none
 
 -- a script with one more operation of its last client
 pub adds_op : (old : ScriptState) (nodes : ℕ) (clients : List ScriptClient) (n : ℕ) (last new : ScriptClient) (op : Op) → n ≡ length clients → 0 < n → last ≡ get_or clients (n - 1) last

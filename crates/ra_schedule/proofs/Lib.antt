@@ -1,6 +1,7 @@
 mod Held
 mod Plans
 mod Last
+mod OpFaults
 mod Lists
 mod Waiting
 mod Rising

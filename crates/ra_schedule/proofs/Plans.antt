@@ -1,8 +1,9 @@
 -- Operations that fit one after the other.
-use Rattle.std.proofs.Common.{◌≡◌, ◌<◌, ℕ, List, [], ◌∷◌, ◌++◌, sym, ap, ◌∙◌, subst, inl, inr, length, length-append, arith}
+use Rattle.std.proofs.Common.{◌≡◌, ◌<◌, ◌≤◌, ℕ, All, List, [], ◌∷◌, ◌++◌, sym, ap, ◌∙◌, subst, inl, inr, length, length-append, arith}
 use Rattle.std.proofs.lemmas.List.{same_from_push}
+use Rattle.std.proofs.lemmas.List.Elements.{All-push}
 use Rattle.ra_schedule.specs.declared.script.Op.{Op}
-use Rattle.ra_schedule.specs.Script.{ScriptClient, Fits, IsPlan, IsScriptClient}
+use Rattle.ra_schedule.specs.Script.{ScriptClient, ScriptState, Fits, IsPlan, IsScriptClient, IsScript}
 use Rattle.ra_schedule.proofs.Held.{ends, before_last}
 
 -- an operation that fits after a plan makes a plan
@@ -24,4 +25,28 @@ client_pushed nodes old new op room fits node-is ops-is client =
       last = omega (arith, client.last, node-is);
       at_most = omega (arith, ap length ops-is, length-append old.ops (op ∷ []), room);
       plan = subst IsPlan (sym ops-is) (plan_pushed old.ops op client.plan fits);
+    }
+
+-- to do nothing is a plan
+nothing_to_do : IsPlan []
+nothing_to_do [] after op e = absurd cc
+nothing_to_do (x ∷ before) after op e = absurd cc
+
+-- a script with room for one more client, that has nothing to do yet, stays a script with it
+pub script_pushed : (script old : ScriptState) (clients : List ScriptClient) (node member : ℕ) (ops : List Op) → script ≡ old → IsScript script
+    → (length old.clients < 64) × (1 ≤ node) × (node ≤ old.nodes) → member ≡ node → ops ≡ [] → clients ≡ script.clients ++ record { node = member; ops = ops } ∷ []
+    → IsScript (record { nodes = script.nodes; clients = clients })
+script_pushed script old clients node member ops was is-script room same empty is =
+    let P = IsScriptClient script.nodes in
+    let new : ScriptClient = record { node = member; ops = ops } in
+    let client : P new = record {
+      first = omega (arith, same, room.1);
+      last = omega (arith, same, room.2, ap (λ (s : ScriptState). s.nodes) was);
+      at_most = omega (arith, ap length empty);
+      plan = subst IsPlan (sym empty) nothing_to_do;
+    } in
+    record {
+      count = is-script.count;
+      at_most = omega (arith, ap length is, length-append script.clients (new ∷ []), ap (λ (s : ScriptState). length s.clients) was, room.0);
+      each = subst (All P) (sym is) (All-push P script.clients new is-script.each client);
     }

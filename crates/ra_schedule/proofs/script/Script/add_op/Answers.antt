@@ -5,7 +5,8 @@ use Rattle.ra_stamp.specs.declared.mode.Mode.{Mode}
 use Rattle.ra_schedule.specs.declared.script.Op.{Op}
 use Rattle.ra_schedule.specs.declared.script.Op.TheVariants.{Lock, Unlock}
 use Rattle.ra_schedule.specs.Script.{ScriptState, IsHeldAfter, Fits}
-use Rattle.ra_schedule.proofs.Last.{ends_with, with_last, same_ops, no_last, adds_op}
+use Rattle.ra_schedule.proofs.OpFaults.{other, other_fault}
+use Rattle.ra_schedule.proofs.Last.{ends_with, with_last, same_ops, no_last, none_there, no_last_has, adds_op}
 use Rattle.ra_schedule.proofs.script.Script.add_op.Goals as goal
 
 pub invariant_of-self-2 : goal.invariant_of-self-2
@@ -81,3 +82,45 @@ returns-clause-allowed c =
           subst (λ (ops : List Op). (length ops < 1024) × Fits ops c.args.op) (same_ops c.args.self.now before last w.0 is w.1) (w.2, w.3)
           ),
     )
+
+pub invariant_of-self : goal.invariant_of-self
+invariant_of-self c = c.self.invariant
+
+pub returns-in_default-clause-ok : goal.returns-in_default-clause-ok
+returns-in_default-clause-ok c = tt
+
+pub returns-in_default-clause-err : goal.returns-in_default-clause-err
+returns-in_default-clause-err c = c.self.view_is
+
+pub returns-in_default-clause-script : goal.returns-in_default-clause-script
+returns-in_default-clause-script c = c.self.invariant
+
+pub returns-in_default-clause-limit : goal.returns-in_default-clause-limit
+returns-in_default-clause-limit c =
+    let none : c.args.self.now.clients ≡ [] = ap (λ (s : ScriptState). s.clients) (sym c.self.view_is)
+    ∙ none_there c.self.inside.clients.items (vec_len c.self.inside.clients) c.self.inside.clients.ok.0 c.in_default.ensures.variant.1 in
+    (λ e. absurd (other _ _ refl refl e), λ w. absurd (no_last_has c.args.self.now w.0 none w.1))
+
+pub returns-in_default-clause-not_held : goal.returns-in_default-clause-not_held
+returns-in_default-clause-not_held c =
+    let none : c.args.self.now.clients ≡ [] = ap (λ (s : ScriptState). s.clients) (sym c.self.view_is)
+    ∙ none_there c.self.inside.clients.items (vec_len c.self.inside.clients) c.self.inside.clients.ok.0 c.in_default.ensures.variant.1 in
+    (λ e. absurd (other _ _ refl refl e), λ w. absurd (no_last_has c.args.self.now w.0 none w.1))
+
+pub returns-in_default-clause-already_held : goal.returns-in_default-clause-already_held
+returns-in_default-clause-already_held c =
+    let none : c.args.self.now.clients ≡ [] = ap (λ (s : ScriptState). s.clients) (sym c.self.view_is)
+    ∙ none_there c.self.inside.clients.items (vec_len c.self.inside.clients) c.self.inside.clients.ok.0 c.in_default.ensures.variant.1 in
+    (λ e. absurd (other _ _ refl refl e), λ w. absurd (no_last_has c.args.self.now w.0 none w.1))
+
+pub returns-in_default-clause-allowed : goal.returns-in_default-clause-allowed
+returns-in_default-clause-allowed c =
+    let none : c.args.self.now.clients ≡ [] = ap (λ (s : ScriptState). s.clients) (sym c.self.view_is)
+    ∙ none_there c.self.inside.clients.items (vec_len c.self.inside.clients) c.self.inside.clients.ok.0 c.in_default.ensures.variant.1 in
+    (λ e. absurd (other_fault _ _ refl refl e), λ w. absurd (no_last_has c.args.self.now w.0 none w.1))
+
+pub returns-in_default-clause-clients : goal.returns-in_default-clause-clients
+returns-in_default-clause-clients c =
+    let none : c.args.self.now.clients ≡ [] = ap (λ (s : ScriptState). s.clients) (sym c.self.view_is)
+    ∙ none_there c.self.inside.clients.items (vec_len c.self.inside.clients) c.self.inside.clients.ok.0 c.in_default.ensures.variant.1 in
+    (λ e. none, λ e. refl)
