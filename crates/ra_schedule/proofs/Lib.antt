@@ -2,6 +2,7 @@ mod Held
 mod Plans
 mod Last
 mod OpFaults
+mod HandedOn
 mod Lists
 mod Waiting
 mod Rising

@@ -1,0 +1,79 @@
+-- What a function says of a script that it hands to another one.
+use Rattle.std.proofs.Common.{◌≡◌, ℕ, ◌<◌, ◌≤◌, Bool, Result, Ok, Err, IfOk, OnOk, arith, refl, sym, ap, subst, inl, inr}
+use Rattle.ra_schedule.specs.declared.choice.Policy.{Policy}
+use Rattle.ra_schedule.specs.declared.drive_script.Summary.{Summary}
+use Rattle.ra_schedule.specs.declared.error.DriveError.{DriveError}
+use Rattle.ra_schedule.specs.Script.{ScriptState}
+use Rattle.ra_schedule.specs.Drive.{Answers, IsInTime, IsSummary, IsWholeRun}
+use Rattle.ra_schedule.specs.Survey.{HasEnded}
+
+-- the fault of a result, whatever else it could be
+err_as : {X Y : Type 0} {d e : DriveError} → ◌≡◌ {A = Result X DriveError} (Err d) (Err e) → ◌≡◌ {A = Result Y DriveError} (Err d) (Err e)
+err_as {X} {Y} {d} {e} h = let same : d ≡ e = cc in ap Err same
+
+pub no_ok : {X : Type 0} {x : X} {e : DriveError} → Ok x ≡ Err e → ⊥
+no_ok h = absurd cc
+
+-- it is refused for one fault
+pub one_refusal : {X : Type 0} (s : Result X DriveError) (d e : DriveError) → s ≡ Err d → s ≡ Err e → d ≡ e
+one_refusal s d e f g = cc
+
+-- a turn within the limit leaves as many moves as turns
+pub still_within : (moves turns limit : ℕ) → moves ≡ turns → turns < limit → moves ≤ limit
+still_within moves turns limit is less = omega arith
+
+-- a refusal that is handed on says nothing of what is left
+pub no_work : {Y : Type 0} (P : Type 0) (fault : DriveError) (s : Result Y DriveError) → s ≡ Err fault → OnOk s P
+no_work {Y} P fault s is = subst (λ (r : Result Y DriveError). OnOk r P) (sym is) tt
+
+-- a refusal that is handed on says nothing of what would have been returned
+pub no_value : {Y : Type 0} (P : Y → Type 0) (fault : DriveError) (s : Result Y DriveError) → s ≡ Err fault → IfOk s P
+no_value {Y} P fault s is = subst (λ (r : Result Y DriveError). IfOk r P) (sym is) tt
+
+-- it answers as it did
+pub err_answers : {X Y : Type 0} (script : ScriptState) (policy : Policy) (limit : ℕ) (fault : DriveError) (s : Result Y DriveError) → s ≡ Err fault
+    → Answers {X = X} script policy limit (Err fault) → Answers script policy limit s
+err_answers {X} {Y} script policy limit fault s is a =
+    subst (Answers {X = Y} script policy limit) (sym is) (record {
+      refused = λ cause apart e. a.refused cause apart (err_as {X = Y} {Y = X} e);
+      exact = λ cause moves follows stops. elim (a.exact cause moves follows stops) [
+        | inl e ↦ inl (err_as {X = X} {Y = Y} e)
+        | inr e ↦ inr (err_as {X = X} {Y = Y} e)
+      ];
+      allowed = λ moves follows ends within. a.allowed moves follows ends within;
+    })
+
+-- in its time
+pub err_in_time : {X Y : Type 0} (script : ScriptState) (policy : Policy) (limit : ℕ) (fault : DriveError) (s : Result Y DriveError) → s ≡ Err fault
+    → IsInTime {X = X} script policy limit (Err fault) → IsInTime script policy limit s
+err_in_time {X} {Y} script policy limit fault s is t =
+    subst (IsInTime {X = Y} script policy limit) (sym is) (record {
+      below_limit = λ unrepeated less e. t.below_limit unrepeated less (err_as {X = Y} {Y = X} e);
+      only_memory = λ unrepeated itself enough. t.only_memory unrepeated itself enough;
+    })
+
+-- a value that is made of another one answers as that one did
+pub ok_answers : {X Y : Type 0} (script : ScriptState) (policy : Policy) (limit : ℕ) (x : X) (y : Y) → Answers script policy limit (Ok x) → Answers script policy limit (Ok y)
+ok_answers script policy limit x y a = record {
+  refused = λ cause apart e. absurd (no_ok e);
+  exact = λ cause moves follows stops. elim (a.exact cause moves follows stops) [
+    | inl e ↦ absurd (no_ok e)
+    | inr e ↦ absurd (no_ok e)
+  ];
+  allowed = λ moves follows ends within. tt;
+}
+
+-- in its time
+pub ok_in_time : {Y : Type 0} (script : ScriptState) (policy : Policy) (limit : ℕ) (y : Y) → IsInTime script policy limit (Ok y)
+ok_in_time script policy limit y = record { below_limit = λ unrepeated less e. no_ok e; only_memory = λ unrepeated itself enough. tt }
+
+-- what ended is what a summary says
+pub ended_as : (script : ScriptState) (policy : Policy) (limit : ℕ) (summary : Summary) (finished : Bool) → summary.finished ≡ finished → IsSummary script policy limit summary
+    → HasEnded script policy limit (record { turns = summary.turns; messages = summary.report.sent }) finished
+ended_as script policy limit summary finished is s = record {
+  moves = s.moves;
+  report = summary.report;
+  run = subst (IsWholeRun script policy limit s.moves summary.report) is s.run;
+  turns = s.turns;
+  messages = refl;
+}
