@@ -16,6 +16,7 @@ mod Turns
 mod EnabledFlags
 mod Elsewhere
 mod LookingAgain
+mod LookedAt
 mod NodesOfClients
 mod Unrepeated
 mod Tallying
