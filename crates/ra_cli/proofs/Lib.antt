@@ -2,6 +2,7 @@ mod Inputs
 mod Replies
 mod Refusals
 mod AnswerCallLemmas
+mod Passed
 mod Scripts
 mod ClusterRuns
 mod Surveys

@@ -1,13 +1,15 @@
-use Rattle.std.proofs.Common.{◌≡◌, ◌≢◌, ◌++◌, List, ℕ, [], Bool, Ok, Err, string_bytes, ap, subst, sym, ◌∙◌}
-use Rattle.std.proofs.lemmas.Result.{err_from_is_err_and}
+use Rattle.std.proofs.Common.{refl, ◌≡◌, ◌≢◌, ◌++◌, List, ℕ, [], Bool, Ok, Err, string_bytes, ap, subst, sym, ◌∙◌}
+use Rattle.std.proofs.lemmas.Result.{err_from_is_err_and, IfOk-from_err}
+use Rattle.std.specs.Prelude.{IfSome}
 use Rattle.std.specs.Io.KnownBytes.{Consumes, Appends}
 use Rattle.ra_script.specs.ScriptText.{script_of}
 use Rattle.ra_cli.specs.declared.error.RunScriptError.TheVariants.{Write}
-use Rattle.ra_cli.specs.ClusterRun.{of_choices}
+use Rattle.ra_cli.specs.ClusterRun.{RefusesRun, of_choices}
 use Rattle.ra_cli.specs.Surveyed.{IsTold, RefusesSurvey}
 use Rattle.ra_cli.proofs.ClusterRuns.{of_known}
+use Rattle.ra_cli.proofs.Passed.{passed, is_this, choices_no_read, choices_no_write, write_no_read, no_refusal}
 use Rattle.ra_cli.proofs.Refusals.{not_nil}
-use Rattle.ra_cli.proofs.Surveys.{surveys_by, untold}
+use Rattle.ra_cli.proofs.Surveys.{surveys_by, unread, untold}
 use Rattle.ra_cli.proofs.surveying.survey_script.Goals as goal
 
 pub returns-clause-ok : goal.returns-clause-ok
@@ -63,3 +65,80 @@ returns-in_err-write_out-clause-prefix g c e =
       left,
       appends,
     )) c.in_ok-script.ensures.ok
+
+-- no script was read
+
+pub returns-in_err-script-clause-ok : goal.returns-in_err-script-clause-ok
+returns-in_err-script-clause-ok g c = IfOk-from_err c.from_residual.result _ c.from_residual.ensures.0
+
+pub returns-in_err-script-clause-refused : goal.returns-in_err-script-clause-refused
+returns-in_err-script-clause-refused g c =
+    let why = c.in_err-script.field-0.0 in
+    passed c.from_residual.result why (λ fault. IfSome (g.R.Read.remaining c.args.reader.now) (λ input. RefusesSurvey c.args.faults c.args.find c.args.first c.args.last input fault))
+    c.from_residual.ensures.1
+    (of_known (g.R.Read.remaining c.args.reader.now) (λ input. RefusesRun input why) (λ input. RefusesSurvey c.args.faults c.args.find c.args.first c.args.last input why)
+    (λ input h. unread c.args.faults c.args.find c.args.first c.args.last input why c.in_err-script.ensures.early c.in_err-script.ensures.unrun h)
+    c.in_err-script.ensures.refused)
+
+pub returns-in_err-script-clause-unwritten : goal.returns-in_err-script-clause-unwritten
+returns-in_err-script-clause-unwritten g c = passed c.from_residual.result c.in_err-script.field-0.0 _ c.from_residual.ensures.1 (λ _. refl)
+
+pub returns-in_err-script-clause-prefix : goal.returns-in_err-script-clause-prefix
+returns-in_err-script-clause-prefix g c e =
+    absurd (c.in_err-script.ensures.early (is_this c.from_residual.result c.in_err-script.field-0.0 _ c.from_residual.ensures.1 e))
+
+pub returns-in_err-script-clause-failed : goal.returns-in_err-script-clause-failed
+returns-in_err-script-clause-failed g c e =
+    c.in_err-script.ensures.failed (ap Err (is_this c.from_residual.result c.in_err-script.field-0.0 _ c.from_residual.ensures.1 e))
+
+pub returns-in_err-script-clause-at_most : goal.returns-in_err-script-clause-at_most
+returns-in_err-script-clause-at_most g c = c.script_from.ensures.at_most
+
+-- what was found has no words
+
+pub returns-in_err-told-clause-ok : goal.returns-in_err-told-clause-ok
+returns-in_err-told-clause-ok g c = IfOk-from_err c.from_residual-in_err-told.result _ c.from_residual-in_err-told.ensures.0
+
+pub returns-in_err-told-clause-unwritten : goal.returns-in_err-told-clause-unwritten
+returns-in_err-told-clause-unwritten g c =
+    passed c.from_residual-in_err-told.result (of_choices c.in_err-told.field-0.0) _ c.from_residual-in_err-told.ensures.1 (λ _. refl)
+
+pub returns-in_err-told-clause-prefix : goal.returns-in_err-told-clause-prefix
+returns-in_err-told-clause-prefix g c e =
+    let why = c.in_err-told.field-0.0 in
+    choices_no_write why (is_this c.from_residual-in_err-told.result (of_choices why) _ c.from_residual-in_err-told.ensures.1 e)
+
+pub returns-in_err-told-clause-failed : goal.returns-in_err-told-clause-failed
+returns-in_err-told-clause-failed g c e =
+    let why = c.in_err-told.field-0.0 in
+    choices_no_read why (is_this c.from_residual-in_err-told.result (of_choices why) _ c.from_residual-in_err-told.ensures.1 e)
+
+pub returns-in_err-told-clause-at_most : goal.returns-in_err-told-clause-at_most
+returns-in_err-told-clause-at_most g c = c.script_from.ensures.at_most
+
+-- the writer failed
+
+pub returns-in_err-write_out-clause-ok : goal.returns-in_err-write_out-clause-ok
+returns-in_err-write_out-clause-ok g c = IfOk-from_err c.from_residual-in_err-write_out.result _ c.from_residual-in_err-write_out.ensures.0
+
+pub returns-in_err-write_out-clause-unwritten : goal.returns-in_err-write_out-clause-unwritten
+returns-in_err-write_out-clause-unwritten g c =
+    passed c.from_residual-in_err-write_out.result Write _ c.from_residual-in_err-write_out.ensures.1 (λ other. absurd (other refl))
+
+pub returns-in_err-write_out-clause-failed : goal.returns-in_err-write_out-clause-failed
+returns-in_err-write_out-clause-failed g c e =
+    write_no_read (is_this c.from_residual-in_err-write_out.result Write _ c.from_residual-in_err-write_out.ensures.1 e)
+
+pub returns-in_err-write_out-clause-at_most : goal.returns-in_err-write_out-clause-at_most
+returns-in_err-write_out-clause-at_most g c = c.script_from.ensures.at_most
+
+-- what is told of the seeds was written
+
+pub returns-clause-prefix : goal.returns-clause-prefix
+returns-clause-prefix g c e = no_refusal _ _ e
+
+pub returns-clause-failed : goal.returns-clause-failed
+returns-clause-failed g c e = no_refusal _ _ e
+
+pub returns-clause-at_most : goal.returns-clause-at_most
+returns-clause-at_most g c = c.script_from.ensures.at_most

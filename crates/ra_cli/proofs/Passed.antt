@@ -1,0 +1,101 @@
+-- What a refusal is that `?` passes on.
+use Rattle.std.proofs.Common.{◌≡◌, ◌≢◌, Result, Ok, Err, sym, subst, ◌∙◌}
+use Rattle.std.specs.Prelude.{IfErr, IsErrAnd}
+use Rattle.ra_world.specs.declared.error.ReadFault.{ReadFault}
+use Rattle.ra_world.specs.declared.error.ReadFault.TheVariants as read
+use Rattle.ra_script.specs.declared.error.ChoicesError.{ChoicesError}
+use Rattle.ra_script.specs.declared.error.ChoicesError.TheVariants as choices
+use Rattle.ra_script.specs.declared.error.ScriptError.{ScriptError}
+use Rattle.ra_script.specs.declared.error.ScriptError.TheVariants as script
+use Rattle.ra_cluster.specs.declared.cluster_run.ClusterError.{ClusterError}
+use Rattle.ra_cluster.specs.declared.cluster_run.ClusterError.TheVariants as cluster
+use Rattle.ra_cli.specs.declared.error.RunScriptError.TheVariants as fault
+use Rattle.ra_cli.specs.ClusterRun.{of_read, of_script, of_choices, of_cluster}
+
+-- what holds of the refusal holds of the result
+pub passed : {V E : Type 0} (r : Result V E) (x : E) (P : E → Type 0) → IsErrAnd r (λ e. e ≡ x) → P x → IfErr r P
+passed (Ok v) x P is h = absurd is
+passed (Err e) x P is h = subst P (sym is) h
+
+-- it is the one that the result has
+pub is_this : {V E : Type 0} (r : Result V E) (x y : E) → IsErrAnd r (λ e. e ≡ x) → r ≡ Err y → x ≡ y
+is_this (Ok v) x y is e = absurd is
+is_this (Err f) x y is e = let same : f ≡ y = cc in sym is ∙ same
+
+-- ---- That of a reader
+
+pub read_no_write : (why : ReadFault) → of_read why ≢ fault.Write
+read_no_write read.Read e = absurd cc
+read_no_write read.Memory e = absurd cc
+
+pub read_no_cluster : (why : ReadFault) (other : ClusterError) → of_read why ≢ fault.Cluster other
+read_no_cluster read.Read other e = absurd cc
+read_no_cluster read.Memory other e = absurd cc
+
+pub read_failed : (why : ReadFault) → of_read why ≡ fault.Read → why ≡ read.Read
+read_failed read.Read e = cc
+read_failed read.Memory e = absurd cc
+
+-- ---- That of a text that is no script
+
+pub script_no_read : {A : Type 0} (why : ScriptError) → of_script why ≡ fault.Read → A
+script_no_read script.Toml e = absurd cc
+script_no_read script.Shape e = absurd cc
+script_no_read script.Nodes e = absurd cc
+script_no_read script.Clients e = absurd cc
+script_no_read script.Op e = absurd cc
+script_no_read script.NotHeld e = absurd cc
+script_no_read script.AlreadyHeld e = absurd cc
+script_no_read script.Limit e = absurd cc
+script_no_read script.Memory e = absurd cc
+
+pub script_no_cluster : (why : ScriptError) (other : ClusterError) → of_script why ≢ fault.Cluster other
+script_no_cluster script.Toml other e = absurd cc
+script_no_cluster script.Shape other e = absurd cc
+script_no_cluster script.Nodes other e = absurd cc
+script_no_cluster script.Clients other e = absurd cc
+script_no_cluster script.Op other e = absurd cc
+script_no_cluster script.NotHeld other e = absurd cc
+script_no_cluster script.AlreadyHeld other e = absurd cc
+script_no_cluster script.Limit other e = absurd cc
+script_no_cluster script.Memory other e = absurd cc
+
+-- ---- That of threads
+
+pub cluster_no_read : {A : Type 0} (why : ClusterError) → of_cluster why ≡ fault.Read → A
+cluster_no_read cluster.OutOfOrder e = absurd cc
+cluster_no_read cluster.Unreleased e = absurd cc
+cluster_no_read (cluster.Fault stop) e = absurd cc
+cluster_no_read cluster.Settle e = absurd cc
+cluster_no_read cluster.PlanUnmet e = absurd cc
+cluster_no_read cluster.Lost e = absurd cc
+cluster_no_read cluster.UnderWay e = absurd cc
+cluster_no_read cluster.Memory e = absurd cc
+
+pub cluster_no_write : {A : Type 0} (why : ClusterError) → of_cluster why ≡ fault.Write → A
+cluster_no_write cluster.OutOfOrder e = absurd cc
+cluster_no_write cluster.Unreleased e = absurd cc
+cluster_no_write (cluster.Fault stop) e = absurd cc
+cluster_no_write cluster.Settle e = absurd cc
+cluster_no_write cluster.PlanUnmet e = absurd cc
+cluster_no_write cluster.Lost e = absurd cc
+cluster_no_write cluster.UnderWay e = absurd cc
+cluster_no_write cluster.Memory e = absurd cc
+
+-- ---- That of a writer, and none
+
+pub write_no_read : {A : Type 0} → fault.Write ≡ fault.Read → A
+write_no_read e = absurd cc
+
+pub no_refusal : {V E A : Type 0} (v : V) (x : E) → Ok v ≡ Err x → A
+no_refusal v x e = absurd cc
+
+-- ---- That of choices without words
+
+pub choices_no_read : {A : Type 0} (why : ChoicesError) → of_choices why ≡ fault.Read → A
+choices_no_read choices.Choice e = absurd cc
+choices_no_read choices.Memory e = absurd cc
+
+pub choices_no_write : {A : Type 0} (why : ChoicesError) → of_choices why ≡ fault.Write → A
+choices_no_write choices.Choice e = absurd cc
+choices_no_write choices.Memory e = absurd cc
