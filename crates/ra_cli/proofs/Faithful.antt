@@ -1,8 +1,8 @@
 -- Which words ask for a task that neither loses nor repeats a message.
-use Rattle.std.proofs.Common.{◌≡◌, ◌≢◌, ℕ, List, length, Option, Some, None, codes, slice_get, sym, ap, ◌∙◌}
+use Rattle.std.proofs.Common.{◌≡◌, ◌≢◌, ℕ, Bool, true, false, List, length, Option, Some, None, codes, slice_get, sym, ap, ◌∙◌, arith}
 use Rattle.std.specs.Prelude.{IfSome}
 use Rattle.ra_cli.specs.Finishing.{HasNoChoices, RunsFaithfully}
-use Rattle.ra_cli.specs.Words.{OnHelp, SimsFaithfully}
+use Rattle.ra_cli.specs.Words.{ChecksBy, OnAnswer, OnHelp, SimsFaithfully}
 use Rattle.ra_cli.specs.declared.command_line.Task.{Task}
 use Rattle.ra_cli.specs.declared.command_line.Task.TheVariants as task
 
@@ -40,3 +40,40 @@ no_help task.CheckMarks P none = tt
 no_help (task.Draw kind part) P none = tt
 no_help (task.Cluster printed) P none = tt
 no_help (task.Help text) P none = absurd none
+
+-- no numbers are told of what is no answer
+pub no_numbers : (P : ℕ → ℕ → Type 0) (asked : Task) → OnAnswer asked (λ _ _. ⊥) → OnAnswer asked P
+no_numbers P (task.Answer node nodes) none = absurd none
+no_numbers P (task.Sim policy choices format) none = tt
+no_numbers P (task.Survey faults find first last) none = tt
+no_numbers P task.Check none = tt
+no_numbers P task.CheckMarks none = tt
+no_numbers P (task.Draw kind part) none = tt
+no_numbers P (task.Cluster printed) none = tt
+no_numbers P (task.Help text) none = tt
+
+pub none_numbered : (P : ℕ → ℕ → Type 0) (result : Option Task) → IfSome result (λ task. OnAnswer task (λ _ _. ⊥)) → IfSome result (λ task. OnAnswer task P)
+none_numbered P None none = tt
+none_numbered P (Some asked) none = no_numbers P asked none
+
+-- what is so of any words is so of these
+pub of_these : (words : List (List ℕ)) (result : Option Task) → IfSome result (λ task. (any : List (List ℕ)) → ChecksBy any task) → IfSome result (ChecksBy words)
+of_these words None h = tt
+of_these words (Some asked) h = h words
+
+-- the lengths of the commands but `sim`
+pub answer_is_long : length (codes "answer") ≢ 3
+answer_is_long same = omega (arith, same)
+
+pub cluster_is_long : length (codes "cluster") ≢ 3
+cluster_is_long same = omega (arith, same)
+
+pub check_is_long : length (codes "check") ≢ 3
+check_is_long same = omega (arith, same)
+
+pub draw_is_long : length (codes "draw") ≢ 3
+draw_is_long same = omega (arith, same)
+
+-- the words that were found not to be these are not these
+pub sim_words : {A : Type 0} (found : Bool) → found ≡ true → found ≡ false → A
+sim_words found is not = let clash : true ≡ false = cc in absurd cc

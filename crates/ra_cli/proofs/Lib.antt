@@ -3,6 +3,7 @@ mod Replies
 mod Refusals
 mod AnswerCallLemmas
 mod Passed
+mod Numbers
 mod Scripts
 mod ClusterRuns
 mod Surveys

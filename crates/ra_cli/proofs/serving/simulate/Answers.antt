@@ -1,6 +1,7 @@
 use Rattle.std.proofs.Common.{Err, refl, ap, inl, inr}
 use Rattle.ra_cli.specs.declared.refusal.Refusal.TheVariants.{Choices, Perform}
 use Rattle.ra_cli.proofs.Statuses.{none_of_choices, of_perform, of_performed, broken}
+use Rattle.ra_cli.proofs.Numbers.{at_most_3, none_of_done, none_of_3}
 use Rattle.ra_cli.proofs.TaskLemmas.{of_choices, of_named, refused_for}
 use Rattle.ra_cli.proofs.serving.simulate.Goals as goal
 
@@ -50,3 +51,24 @@ returns-clause-broken g c words one =
     (λ is. ap g.W.Write.contents (c.refuse-in-Err-perform_as.ensures.unwritten is).1)
     (λ other. ap g.W.Write.contents (c.in-Err-perform_as.ensures.unwritten (λ e. other (inr (inl (ap Perform e))))))
     (c.refuse-in-Err-perform_as.ensures.broken one)
+
+pub returns-in-Err-clause-range : goal.returns-in-Err-clause-range
+returns-in-Err-clause-range g c = at_most_3 _ c.refuse.ensures.range
+
+pub returns-in-Err-clause-done : goal.returns-in-Err-clause-done
+returns-in-Err-clause-done g c is = none_of_done _ c.refuse.ensures.not_done is
+
+pub returns-in-Err-clause-unfinished : goal.returns-in-Err-clause-unfinished
+returns-in-Err-clause-unfinished g c is = none_of_3 _ c.refuse.ensures.range is
+
+pub returns-clause-range : goal.returns-clause-range
+returns-clause-range g c = at_most_3 _ c.refuse-in-Err-perform_as.ensures.range
+
+pub returns-clause-done : goal.returns-clause-done
+returns-clause-done g c is = none_of_done _ c.refuse-in-Err-perform_as.ensures.not_done is
+
+pub returns-clause-unfinished : goal.returns-clause-unfinished
+returns-clause-unfinished g c is = none_of_3 _ c.refuse-in-Err-perform_as.ensures.range is
+
+pub returns-in-Err-clause-choices_first : goal.returns-in-Err-clause-choices_first
+returns-in-Err-clause-choices_first g c none = (c.refuse.ensures.not_done, refl)
