@@ -2,6 +2,7 @@ use Rattle.std.proofs.Common.{inl, inr, arith}
 use Rattle.ra_cli.specs.Statuses.{IsPrinted}
 use Rattle.ra_cli.proofs.Statuses.{prefix_of}
 use Rattle.ra_cli.proofs.Helping.{for_each}
+use Rattle.ra_cli.proofs.Numbers.{at_most_3, none_of_3}
 use Rattle.ra_cli.proofs.serving.do_alone.Goals as goal
 
 pub returns-in-Answer-clause-done : goal.returns-in-Answer-clause-done
@@ -57,3 +58,24 @@ returns-in-Help-clause-broken g c words fits one =
           prefix_of words old (g.W.Write.contents c.args.writer.now) (g.W.Write.contents c.written.new.writer) text prefix rest
           (for_each old (λ input. IsPrinted words input text) (λ input. inr (inr (inr (inr (inr (inl suits.2))))))) is left some
     ]
+
+pub returns-in-Answer-clause-range : goal.returns-in-Answer-clause-range
+returns-in-Answer-clause-range g c = at_most_3 _ c.respond-outcome.ensures.range
+
+pub returns-in-Answer-clause-unfinished : goal.returns-in-Answer-clause-unfinished
+returns-in-Answer-clause-unfinished g c is = none_of_3 _ c.respond-outcome.ensures.range is
+
+pub returns-in-Sim-clause-range : goal.returns-in-Sim-clause-range
+returns-in-Sim-clause-range g c = c.simulate-outcome.ensures.range
+
+pub returns-in-Survey-clause-range : goal.returns-in-Survey-clause-range
+returns-in-Survey-clause-range g c = c.survey_seeds-outcome.ensures.range
+
+pub returns-in-Draw-clause-range : goal.returns-in-Draw-clause-range
+returns-in-Draw-clause-range g c = c.paint-outcome.ensures.range
+
+pub returns-in-Sim-clause-broken : goal.returns-in-Sim-clause-broken
+returns-in-Sim-clause-broken g c words fits is = c.simulate-outcome.ensures.broken words is
+
+pub returns-in-Survey-clause-broken : goal.returns-in-Survey-clause-broken
+returns-in-Survey-clause-broken g c words fits is = c.survey_seeds-outcome.ensures.broken words is
