@@ -329,10 +329,35 @@ impl Site {
     {
         let me = self.node;
         let book = self.close();
-        if book.me() == me && book.nodes() == nodes && book.start() == start && book.is_whole() {
+        if Site::is_whole_of(&book, me, nodes, start) {
             return book;
         }
-        let cause = book.fault().unwrap_or(Stop::Refused);
+        Site::stopped_book(
+            alloc,
+            me,
+            nodes,
+            start,
+            book.fault().unwrap_or(Stop::Refused),
+        )
+    }
+
+    /// Returns whether a book is whole, and that of this node of so many, from this start.
+    fn is_whole_of(book: &Book, me: NodeId, nodes: u16, start: u64) -> bool
+        ensures { IsTrue result → (book.now.me ≡ me) × (book.now.nodes ≡ nodes) × (book.now.start ≡ start) × IsWhole book.now }
+    {
+        book.me() == me && book.nodes() == nodes && book.start() == start && book.is_whole()
+    }
+
+    /// Makes an empty book of a node, which is stopped for this cause.
+    fn stopped_book(alloc: Global, me: NodeId, nodes: u16, start: u64, cause: Stop) -> Book
+        requires count { IsNodeNumber nodes }
+        requires member { me ≤ nodes }
+        ensures me { result.me ≡ me }
+        ensures nodes { result.nodes ≡ nodes }
+        ensures start { result.start ≡ start }
+        ensures whole { IsWhole result }
+        ensures history { HasHistory result }
+    {
         let Ok(mut empty) = Book::new(alloc, me, nodes, start) else {
             unreachable!()
         };
