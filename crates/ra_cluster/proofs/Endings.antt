@@ -210,3 +210,24 @@ no_fault script books grants stop none r whole = (
 pub some_fault : (books : List BookState) (found : Stop) (Q : ClusterError → Type 0) → Some found ≡ first_fault books → first_fault books ≡ None
     → Q (Fault found)
 some_fault books found Q at none = let wrong = at ∙ none in absurd (cc)
+
+-- ---- What is said of a script before its threads start
+
+-- a refusal that is passed on refuses the same
+pub passed_on : {T U : Type 0} (X : Type 0) (e x : ClusterError) (r : Result T ClusterError) → r ≡ Err e → IsErrOf {T = U} (Err e) x ↔ X → IsErrOf r x ↔ X
+passed_on X e x r is says = (
+  λ h. let same : e ≡ x = cc in says.0 (ap Err same),
+  λ h. let told = says.1 h in let same : e ≡ x = cc in is ∙ ap Err same,
+)
+
+pub not_ok : {T E : Type 0} (Q : E → Type 0) (P : T → Type 0) (r : Result T E) → IsErrAnd r Q → IfOk r P
+not_ok Q P (Ok v) is = absurd is
+not_ok Q P (Err e) is = tt
+
+-- what did not refuse the script before is not what the threads refuse
+pub not_passed : {T U : Type 0} {v : U} (X : Type 0) (x : ClusterError) (P : T → Type 0) (r : Result T ClusterError) → (IsOfThreads x → ⊥) → MatchResult r P IsOfThreads
+    → IsErrOf (Ok v) x ↔ X → IsErrOf r x ↔ X
+not_passed X x P r apart whole says = (
+  λ is. absurd (not_refused P IsOfThreads x apart r whole is),
+  λ h. let told = says.1 h in absurd (cc),
+)
